@@ -1,0 +1,14 @@
+ghost use Rattle.cfg_theory.specs.Path.{PathTablesAreExact};
+ghost use Rattle.cfg_theory.specs.Productive.{ProductiveTablesAreExact};
+
+/// A set of rules that a rule reaches, closed under references, holds exactly the rules that it reaches.
+#[tactic(auto, using(crate::proofs::Paths::path_tables_exact))]
+pub fn path_tables_are_exact()
+    ensures { PathTablesAreExact }
+{}
+
+/// A set of productive rules that is closed under the productions is exact, for rules and for lists.
+#[tactic(auto, using(crate::proofs::Productive::productive_tables_exact))]
+pub fn productive_tables_are_exact()
+    ensures { ProductiveTablesAreExact }
+{}

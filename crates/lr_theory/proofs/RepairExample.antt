@@ -3,7 +3,8 @@ use Rattle.std.proofs.Common.{◌≡◌, ℕ, ◌<◌, [], ◌∷◌, refl, arit
 use Rattle.cfg_theory.specs.Grammar.{head_of, body_of}
 use Rattle.lr_theory.specs.Machine.{accepted, failed, run, start_config}
 use Rattle.lr_theory.specs.Repair.{insert, with_rest, Takes, IsFirstTaken, Parses}
-use Rattle.lr_theory.specs.SmallGrammars.{as_is, single, single_machine, made, offered, single_tree, MissingLexemeIsInserted}
+use Rattle.lr_theory.specs.SmallGrammars.{single, single_machine, made, offered, single_tree, MissingLexemeIsInserted}
+use Rattle.cfg_theory.specs.SmallGrammar.{as_is}
 
 fails : run single single_machine as_is 1 (start_config single_machine []) ≡ failed (start_config single_machine [])
 fails = refl

@@ -1,10 +1,11 @@
 -- Small grammars on which the definitions are met: a contest, a graph with its automaton, sets of one core that stay
 -- apart, and a repair.
 use Rattle.std.specs.Prelude.{◌≡◌, ℕ, zero, suc, Bool, true, false, List, [], ◌∷◌, Option, Some, None}
-use Rattle.cfg_theory.specs.Grammar.{Sym, rule, token, Production, Grammar, WellFormed}
+use Rattle.cfg_theory.specs.Grammar.{Sym, rule, token, Grammar, WellFormed}
 use Rattle.cfg_theory.specs.Derivation.{AllProductive}
 use Rattle.cfg_theory.specs.Tree.{Tree, leaf, node, none, before}
 use Rattle.cfg_theory.specs.Fold.{Span, by_functions}
+use Rattle.cfg_theory.specs.SmallGrammar.{production, as_is}
 use Rattle.lr_theory.specs.Canonical.{Look, Contested}
 use Rattle.lr_theory.specs.Itemset.{Entry, ItemSet, HasItem, HasLook, SameItems, HasCore, WeaklyCompatible}
 use Rattle.lr_theory.specs.Graph.{Graph}
@@ -18,12 +19,6 @@ use Rattle.lr_theory.specs.Prefix.{HasPresent}
 use Rattle.lr_theory.specs.Places.{IsReady}
 use Rattle.lr_theory.specs.Repair.{Edit, insert, Takes, Parses, Advances}
 use Rattle.lr_theory.specs.Values.{StackFolds}
-
-abbrev pub production : ℕ → List Sym → Production
-production A body = record { head = A; body = body }
-
-abbrev pub as_is : ℕ → ℕ
-as_is t = t
 
 -- `S: A x y | B x z; A: a; B: a;`: after a, x leaves two reductions.
 -- x, y, z, a and the end are the tokens 0 to 4; ^, S, A, B the rules 0 to 3.

@@ -1,7 +1,11 @@
 //! Parts of a text.
 
-ghost use Rattle.std.specs.Prelude.{◌≡◌, ◌≤◌, ◌-◌, ◌==◌, ◌&&◌, ◌↔◌, IsTrue, true};
+ghost use Rattle.std.specs.Prelude.{◌≡◌, ◌≤◌, ◌-◌, ◌==◌, ◌&&◌, ◌↔◌, IsTrue, true, List};
+ghost use Rattle.cfg_base.specs.Place.{Places};
+ghost use Rattle.cfg_base.specs.declared.span.SpansKind.{SpansKind};
+ghost use Rattle.cfg_base.specs.declared.span.Location.TheVariants.{Span as InText};
 
+use std::fmt::Display;
 use std::hash::Hash;
 use std::marker::Model;
 
@@ -64,6 +68,47 @@ impl Span {
     {
         self.start == self.end
     }
+}
+
+/// Where something was said: in a text, on a command line, or elsewhere.
+#[derive(Clone, Debug, PartialEq, Eq, Drop)]
+pub enum Location {
+    Span(Span),
+    CommandLine,
+    /// Elsewhere, in words.
+    Other(String),
+}
+
+impl From<Span> for Location {
+    ghost from_gives = { λ span location. location ≡ InText span };
+
+    fn from(span: Span) -> Location {
+        Location::Span(span)
+    }
+}
+
+/// What the spans of an error or a warning are.
+#[derive(Clone, Copy, Debug, PartialEq, Eq)]
+pub enum SpansKind {
+    /// The occurrences of what should stand once, the first one first.
+    DuplicationError,
+    /// Where the error is.
+    Error,
+}
+
+/// An error or a warning about parts of a text.
+pub trait Spanned: Display {
+    ghost spans_of: { Self → List Places };
+
+    ghost spanskind_of: { Self → SpansKind };
+
+    /// The parts of the text, in order.
+    fn spans(&self) -> &[Span]
+        ensures { result.now ≡ spans_of self.now };
+
+    /// What these parts are.
+    fn spanskind(&self) -> SpansKind
+        ensures { result ≡ spanskind_of self.now };
 }
 
 /// A law: spans are equal exactly where both their places are.

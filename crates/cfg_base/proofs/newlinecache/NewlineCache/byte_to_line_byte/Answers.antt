@@ -1,0 +1,14 @@
+use Rattle.std.proofs.Common.{sym, ap, ◌∙◌, Some, refl}
+use Rattle.cfg_base.proofs.Lines.{answers, held_in_order}
+use Rattle.cfg_base.proofs.newlinecache.NewlineCache.byte_to_line_byte.Goals as goal
+
+pub count_before-requires : goal.count_before-requires
+count_before-requires c = rw c.deref-2.ensures.value (held_in_order _ _ c.self.invariant)
+
+pub returns : goal.returns
+returns c text held =
+    let point = rw c.deref-2.ensures.value at c.count_before.ensures.point in
+    let bound = rw c.deref-2.ensures.value at c.count_before.ensures.bound in
+    let start = rw c.deref.ensures.value at c.start_after.ensures in
+    let a = answers c.self.inside.newlines.items c.self.inside.bytes c.args.byte c.count_before.result text (c.self.view_is ∙ held) c.if-byte-self.false bound point in
+    rw (a.inside, a.start, start) refl

@@ -1,0 +1,40 @@
+use Rattle.std.proofs.Common.{◌≡◌, ◌<◌, ◌+◌, true, false, List, ℕ, [], ◌∷◌, ◌++◌, take, drop, length, get_or, count_by, ap, sym, ◌∙◌, arith, append_assoc, append-nil}
+use Rattle.std.proofs.lemmas.Bool.{eq-eqb, ne_eqb}
+use Rattle.std.proofs.Math.Seq.{take-length}
+use Rattle.cfg_base.specs.Newlines.{is_newline, newline_places}
+use Rattle.cfg_base.proofs.Places.{places_more, count_rest}
+use Rattle.cfg_base.proofs.newlinecache.push_newlines.Goals as goal
+use Rattle.cfg_base.proofs.newlinecache.push_newlines.Goals.{then-byte-eq10, else-byte-eq10}
+
+pub unwrap-requires : goal.unwrap-requires
+unwrap-requires c =
+    let rest = count_rest c.args.bytes.now c.loop-place.place c.loop-place-test.true true (eq-eqb _ 10 c.if-byte-eq10.true) in
+    c.push.ensures.succeeds (omega (arith, rest, c.loop-place.invariant.room))
+
+pub loop-place-preserved : goal.loop-place-preserved
+loop-place-preserved c =
+    elim c.if-byte-eq10.branch [
+      | then-byte-eq10 w ↦
+          let lf : is_newline (get_or c.args.bytes.now c.loop-place.place 0) ≡ true = eq-eqb _ 10 w.if-byte-eq10.true in
+          let rest = count_rest c.args.bytes.now c.loop-place.place c.loop-place-test.true true lf in
+          let more = places_more c.args.from c.args.bytes.now c.loop-place.place c.loop-place-test.true true lf in
+          let items = rw w.unwrap.ensures at w.push.ensures.items in
+          let len = rw w.unwrap.ensures at w.push.ensures.len in
+          record {
+            items = rw (w.newlines-is, more) (items ∙ (ap (λ (xs : List ℕ). xs ++ (c.args.from + c.loop-place.place) ∷ []) c.loop-place.invariant.items ∙ append_assoc c.args.newlines.now.items (newline_places c.args.from (take c.loop-place.place c.args.bytes.now)) ((c.args.from + c.loop-place.place) ∷ [])));
+            room = rw w.newlines-is (omega (arith, len, rest, w.push.ensures.capacity, c.loop-place.invariant.room));
+          }
+      | else-byte-eq10 w ↦
+          let lf : is_newline (get_or c.args.bytes.now c.loop-place.place 0) ≡ false = ne_eqb _ 10 w.if-byte-eq10.false in
+          let rest = count_rest c.args.bytes.now c.loop-place.place c.loop-place-test.true false lf in
+          let more = places_more c.args.from c.args.bytes.now c.loop-place.place c.loop-place-test.true false lf in
+          record {
+            items = rw (w.newlines-is, more, append-nil) c.loop-place.invariant.items;
+            room = rw w.newlines-is (omega (arith, rest, c.loop-place.invariant.room));
+          }
+    ]
+
+pub returns : goal.returns
+returns c =
+    let all : c.loop-place.place ≡ length c.args.bytes.now = omega arith in
+    c.loop-place.invariant.items ∙ ap (λ (xs : List ℕ). c.args.newlines.now.items ++ newline_places c.args.from xs) (ap (λ (n : ℕ). take n c.args.bytes.now) all ∙ take-length c.args.bytes.now)

@@ -1,0 +1,29 @@
+use Rattle.std.proofs.Common.{ap, ◌∙◌, refl, arith}
+use Rattle.std.proofs.lemmas.Result.{err_from_is_err_and}
+use Rattle.lrkit.specs.Reading.{separator, separator_or_word}
+use Rattle.lrkit.proofs.ReadChains.{join, and_then, join_fails, fails_at}
+use Rattle.lrkit.proofs.ReadStuck.{no_percent}
+use Rattle.lrkit.proofs.scan.Scanner.declarations.Goals as goal
+
+pub returns-in_err-end-clause-err : goal.returns-in_err-end-clause-err
+returns-in_err-end-clause-err c =
+    let p = err_from_is_err_and c.from_residual.result c.from_residual.ensures.1 in
+    rw (p.1, p.2) (c.in_err-end.ensures.err _ _)
+
+pub returns-in_err-after-clause-err : goal.returns-in_err-after-clause-err
+returns-in_err-after-clause-err c =
+    let p = err_from_is_err_and c.from_residual-in_err-after.result c.from_residual-in_err-after.ensures.1 in
+    rw (p.1, p.2) (fails_at _ _ _ _ _ _ c.declarations.invariant.steps refl no_percent c.in_err-after.ensures.err)
+
+pub returns-in_err-end-2-clause-err : goal.returns-in_err-end-2-clause-err
+returns-in_err-end-2-clause-err c =
+    let p = err_from_is_err_and c.from_residual-in_err-end-2.result c.from_residual-in_err-end-2.ensures.1 in
+    rw (p.1, p.2) (join_fails _ _ _ _ c.declarations.invariant.steps c.in_err-end-2.ensures.err)
+
+pub declarations-preserved : goal.declarations-preserved
+declarations-preserved c =
+    let within = c.in_ok-end-2.ensures.within in
+    record { from = omega arith; within = omega arith; steps = join c.declarations.invariant.steps c.in_ok-end-2.ensures.ok }
+
+pub returns-clause-ok : goal.returns-clause-ok
+returns-clause-ok c = and_then c.declarations.invariant.steps (separator (c.in_ok-after.ensures.ok ∙ ap separator_or_word c.in_default.is))

@@ -1,0 +1,26 @@
+use Rattle.std.proofs.Common.{◌≡◌, ℕ, ◌+◌, ◌-◌, ◌*◌, ◌/◌, ◌%◌, ◌^◌, ◌<◌, ◌≤◌, Bool, true, false, not, List, ◌&&◌, ◌||◌, [], ◌∷◌, ◌++◌, length, get_or, set, refl, sym, ap, ap₂, ◌∙◌, subst, arith, rules, replicate, take, drop, map, pos, Fits, w64, min}
+use Rattle.std.specs.List.{flat_map}
+use Rattle.vob.specs.Bits.{bitwise, differs, count_true}
+use Rattle.vob.specs.Packed.{Packs, blocks_for, Contents}
+use Rattle.vob.proofs.Pack as pack
+use Rattle.vob.proofs.Spell as spell
+use Rattle.vob.proofs.Setwise as setwise
+use Rattle.vob.specs.Pointwise.{item_of}
+use Rattle.std.proofs.lemmas.List.{take-map, take-replicate, length-map, length-replicate}
+use Rattle.vob.proofs.Vob.negate.Goals as goal
+
+pub returns-clause-bits : goal.returns-clause-bits
+returns-clause-bits g c =
+    let bits = g.T.Block.bits in
+    let w = g.T.Block.BITS in
+    let some = g.met.T.Block.some_law in
+    let each = pack.width_of bits w g.T.FixedWidth.bits_of g.met.T.Block.bits_law in
+    let n = c.self.inside.len in
+    let all = flat_map bits c.self.inside.blocks.items in
+    let len : length c.args.self.now.bits ≡ n = ap (λ b. length b.bits) (sym c.self.view_is) ∙ pack.length_kept w n all some c.self.invariant in
+    let now = flat_map bits c.flip_blocks.new.blocks.items in
+    let items = map not (take n all) in
+    let front : take n now ≡ items = ap (take n) c.flip_blocks.ensures.bits ∙ take-map not n all in
+    let size : length now ≡ blocks_for w n * w = ap length c.flip_blocks.ensures.bits ∙ length-map all not ∙ c.self.invariant.count in
+    let is = setwise.refilled_is w n now (flat_map bits c.fill_above.new.blocks.items) items some size front c.fill_above.ensures.bits in
+    pack.kept n (blocks_for w n * w - n) items (flat_map bits c.fill_above.new.blocks.items) is (length-map (take n all) not ∙ pack.length_kept w n all some c.self.invariant) ∙ ap (λ b. map not b.bits) c.self.view_is

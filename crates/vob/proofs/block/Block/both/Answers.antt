@@ -1,0 +1,19 @@
+use Rattle.std.proofs.Common.{◌≡◌, ℕ, ◌+◌, ◌-◌, ◌*◌, ◌/◌, ◌%◌, ◌^◌, ◌<◌, ◌≤◌, Bool, true, false, not, List, ◌&&◌, ◌||◌, get_or, refl, sym, ap, ap₂, ◌∙◌, subst, arith, rules, replicate, take, drop, map, pos}
+use Rattle.num_traits.specs.Laws.{bit_len, shift_left}
+use Rattle.vob.specs.Bits.{bitwise, differs, count_true}
+use Rattle.vob.specs.Digits.{digits}
+use Rattle.vob.proofs.Digit as digit
+use lib.Bits.{and_lt}
+use Rattle.vob.proofs.block.Block.both.Goals as goal
+
+pub returns : goal.returns
+returns g c =
+    let b = g.Self.Block.bits in
+    let n = g.Self.FixedWidth.bits_of in
+    let k = g.Self.Block.BITS in
+    let law = g.met.Self.Block.bits_law in
+    let width = g.met.Self.Block.width_law in
+    let made = digit.made n g.Self.FixedWidth.of_bits b k (bit_len g.Self.FixedWidth.width) width law g.Self.FixedWidth.bits_round_trip_law in
+    made c.bitand.result _ (g.met.Self.PrimInt.bitand_law c.args.self c.args.other c.bitand.result c.bitand.ensures) (and_lt k (n c.args.self) (n c.args.other) c.in_range.ensures.below c.in_range-2.ensures.below)
+    ∙ digit.digits-and k (n c.args.self) (n c.args.other)
+    ∙ ap₂ (bitwise (λ x y. x && y)) (sym (law c.args.self)) (sym (law c.args.other))

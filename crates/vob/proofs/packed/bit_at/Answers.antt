@@ -1,0 +1,32 @@
+use Rattle.std.proofs.Common.{◌≡◌, ℕ, ◌+◌, ◌-◌, ◌*◌, ◌/◌, ◌%◌, ◌^◌, ◌<◌, ◌≤◌, Bool, true, false, not, List, ◌&&◌, ◌||◌, [], ◌∷◌, ◌++◌, length, get_or, set, refl, sym, ap, ap₂, ◌∙◌, subst, arith, rules, replicate, take, drop, map, pos, Fits, w64, min}
+use Rattle.std.specs.List.{flat_map}
+use Rattle.vob.specs.Bits.{bitwise, differs, count_true}
+use Rattle.vob.specs.Packed.{Packs, blocks_for, Contents}
+use Rattle.vob.proofs.Pack as pack
+use Rattle.vob.proofs.Spell as spell
+use Rattle.vob.proofs.packed.bit_at.Goals as goal
+
+pub bounds-blocks-place : goal.bounds-blocks-place
+bounds-blocks-place g c =
+    let bits = g.T.Block.bits in
+    let w = g.T.Block.BITS in
+    let some = g.met.T.Block.some_law in
+    let each = pack.width_of bits w g.T.FixedWidth.bits_of g.met.T.Block.bits_law in
+    pack.block_below bits w each c.args.blocks.now c.args.place c.BITS-width.result some c.BITS-width.ensures c.requires
+
+pub offset_bounds-blocks-place : goal.offset_bounds-blocks-place
+offset_bounds-blocks-place g c =
+    let bits = g.T.Block.bits in
+    let w = g.T.Block.BITS in
+    let some = g.met.T.Block.some_law in
+    let each = pack.width_of bits w g.T.FixedWidth.bits_of g.met.T.Block.bits_law in
+    let h = pack.block_below bits w each c.args.blocks.now c.args.place c.BITS-width.result some c.BITS-width.ensures c.requires in
+    search rules
+
+pub returns : goal.returns
+returns g c =
+    let bits = g.T.Block.bits in
+    let w = g.T.Block.BITS in
+    let some = g.met.T.Block.some_law in
+    let each = pack.width_of bits w g.T.FixedWidth.bits_of g.met.T.Block.bits_law in
+    c.bit.ensures ∙ pack.bit_there bits w each c.args.blocks.now c.args.place c.BITS-width.result c.index-blocks-place.result some c.BITS-width.ensures c.requires c.index-blocks-place.is

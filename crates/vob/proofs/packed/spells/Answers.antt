@@ -1,0 +1,35 @@
+use Rattle.std.proofs.Common.{◌≡◌, ℕ, ◌+◌, ◌-◌, ◌*◌, ◌/◌, ◌%◌, ◌^◌, ◌<◌, ◌≤◌, Bool, true, false, not, List, ◌&&◌, ◌||◌, [], ◌∷◌, ◌++◌, length, get_or, set, refl, sym, ap, ap₂, ◌∙◌, subst, arith, rules, replicate, take, drop, map, pos, Fits, w64, min}
+use Rattle.std.specs.List.{flat_map}
+use Rattle.vob.specs.Bits.{bitwise, differs, count_true}
+use Rattle.vob.specs.Packed.{Packs, blocks_for, Contents}
+use Rattle.vob.proofs.Pack as pack
+use Rattle.vob.proofs.Spell as spell
+use Rattle.vob.proofs.packed.spells.Goals as goal
+
+pub returns-then-len-width-eq0 : goal.returns-then-len-width-eq0
+returns-then-len-width-eq0 g c =
+    let bits = g.T.Block.bits in
+    let w = g.T.Block.BITS in
+    let some = g.met.T.Block.some_law in
+    let each = pack.width_of bits w g.T.FixedWidth.bits_of g.met.T.Block.bits_law in
+    let xs = c.args.blocks.now in
+    let n = c.args.len in
+    let e : length xs ≡ blocks_for w n = omega arith in
+    let whole : n % w ≡ 0 = subst (λ b. n % b ≡ 0) c.BITS-width.ensures c.if-len-width-eq0.true in
+    (λ t. (e, pack.whole_spelled bits w each xs n some e whole), λ h. refl)
+
+pub returns : goal.returns
+returns g c =
+    let bits = g.T.Block.bits in
+    let w = g.T.Block.BITS in
+    let some = g.met.T.Block.some_law in
+    let each = pack.width_of bits w g.T.FixedWidth.bits_of g.met.T.Block.bits_law in
+    let xs = c.args.blocks.now in
+    let n = c.args.len in
+    let b = c.BITS-width.result in
+    let x = c.index-blocks-len.result in
+    let e : length xs ≡ blocks_for w n = omega arith in
+    let part : n % w ≡ 0 → ⊥ = subst (λ b. n % b ≡ 0 → ⊥) c.BITS-width.ensures c.if-len-width-eq0.false in
+    let is : x ≡ get_or xs (n / w) x = subst (λ b. x ≡ get_or xs (n / b) x) c.BITS-width.ensures c.index-blocks-len.is in
+    let low : bits c.low.result ≡ take (n % w) (bits x) ++ replicate (w - n % w) false = subst (λ b. bits c.low.result ≡ take (n % b) (bits x) ++ replicate (w - n % b) false) c.BITS-width.ensures c.low.ensures in
+    pack.part_spelled bits w each xs n x c.low.result c.same.result some e part is low c.same.ensures

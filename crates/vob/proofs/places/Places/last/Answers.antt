@@ -1,0 +1,34 @@
+use Rattle.std.proofs.Common.{◌≡◌, ℕ, ◌+◌, ◌-◌, ◌*◌, ◌/◌, ◌%◌, ◌^◌, ◌<◌, ◌≤◌, Bool, true, false, not, List, ◌&&◌, ◌||◌, [], ◌∷◌, ◌++◌, length, get_or, set, refl, sym, ap, ap₂, ◌∙◌, subst, arith, rules, replicate, take, drop, map, pos, Fits, w64, min}
+use Rattle.std.specs.List.{flat_map}
+use Rattle.vob.specs.Bits.{bitwise, differs, count_true}
+use Rattle.vob.specs.Packed.{Packs, blocks_for, Contents}
+use Rattle.vob.proofs.Pack as pack
+use Rattle.vob.proofs.Spell as spell
+use Rattle.vob.proofs.Walks as walks
+use Rattle.vob.specs.Walk.{places_of}
+use Rattle.vob.proofs.places.Places.last.Goals as goal
+
+pub returns-in-Some : goal.returns-in-Some
+returns-in-Some g c =
+    let bits = g.T.Block.bits in
+    let w = g.T.Block.BITS in
+    let some = g.met.T.Block.some_law in
+    let each = pack.width_of bits w g.T.FixedWidth.bits_of g.met.T.Block.bits_law in
+    let it = c.self.inside in
+    let all = flat_map bits it.blocks.now in
+    let view : places_of it.value all it.from it.to ≡ c.args.self.now = c.self.view_is in
+    let e = c.in-Some.ensures.cases in
+    sym view ∙ walks.last_is it.value all it.from it.to c.in-Some.place c.self.invariant e.0 e.1 e.2 e.3
+
+pub returns-in-None : goal.returns-in-None
+returns-in-None g c =
+    let bits = g.T.Block.bits in
+    let w = g.T.Block.BITS in
+    let some = g.met.T.Block.some_law in
+    let each = pack.width_of bits w g.T.FixedWidth.bits_of g.met.T.Block.bits_law in
+    let it = c.self.inside in
+    let all = flat_map bits it.blocks.now in
+    let view : places_of it.value all it.from it.to ≡ c.args.self.now = c.self.view_is in
+    let e = c.in-None.ensures.cases in
+    let m = c.min-self-inside.ensures in
+    (sym view ∙ walks.no_place it.value all it.from it.to c.self.invariant e, walks.empty_run it.value all it.from c.min-self-inside.result (omega arith))

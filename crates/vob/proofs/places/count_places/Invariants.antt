@@ -1,0 +1,19 @@
+use Rattle.std.proofs.Common.{◌≡◌, ℕ, ◌+◌, ◌-◌, ◌*◌, ◌/◌, ◌%◌, ◌^◌, ◌<◌, ◌≤◌, Bool, true, false, not, List, ◌&&◌, ◌||◌, [], ◌∷◌, ◌++◌, length, get_or, set, refl, sym, ap, ap₂, ◌∙◌, subst, arith, rules, replicate, take, drop, map, pos, Fits, w64, min}
+use Rattle.std.specs.List.{flat_map}
+use Rattle.vob.specs.Bits.{bitwise, differs, count_true}
+use Rattle.vob.specs.Packed.{Packs, blocks_for, Contents}
+use Rattle.vob.proofs.Pack as pack
+use Rattle.vob.proofs.Spell as spell
+use Rattle.vob.specs.Walk.{places_of}
+use Rattle.vob.proofs.places.count_places.Given as goal
+
+abbrev pub invariant-each : goal.invariant-each
+invariant-each g l =
+    record {
+      count : l.count ≡ length (places_of l.value (flat_map g.T.Block.bits l.blocks) l.from l.at);
+      low : l.from ≤ l.at;
+      high : l.at ≤ l.to + (l.from - l.to);
+    }
+
+abbrev pub decreases-each : goal.decreases-each
+decreases-each g l = l.to - l.at

@@ -1,0 +1,22 @@
+use Rattle.std.proofs.Common.{◌≡◌, ℕ, ◌+◌, ◌-◌, ◌*◌, ◌/◌, ◌%◌, ◌^◌, ◌<◌, ◌≤◌, Bool, true, false, not, List, ◌&&◌, ◌||◌, [], ◌∷◌, ◌++◌, length, get_or, set, refl, sym, ap, ap₂, ◌∙◌, subst, arith, rules, replicate, take, drop, map, pos, Fits, w64, min}
+use Rattle.std.specs.List.{flat_map}
+use Rattle.vob.specs.Bits.{bitwise, differs, count_true}
+use Rattle.vob.specs.Packed.{Packs, blocks_for, Contents}
+use Rattle.vob.proofs.Pack as pack
+use Rattle.vob.proofs.Spell as spell
+use Rattle.vob.specs.Pointwise.{item_of}
+use Rattle.vob.proofs.Setwise.{same_bits}
+use Rattle.std.specs.Vec.{vec_capacity}
+use Rattle.vob.proofs.sets.combine_blocks.Given as goal
+
+abbrev pub invariant-each : goal.invariant-each
+invariant-each g l =
+    let bits = g.T.Block.bits in
+    let init = l.fn.to.items in
+    record {
+      size : length l.to.items ≡ length init;
+      capacity : vec_capacity l.to ≡ vec_capacity l.fn.to;
+      rest : drop l.k l.to.items ≡ drop l.k init;
+      done : flat_map bits (take l.k l.to.items) ≡ bitwise (item_of l.how) (flat_map bits (take l.k init)) (flat_map bits (take l.k l.from));
+      flag : l.changed ≡ not (same_bits (flat_map bits (take l.k l.to.items)) (flat_map bits (take l.k init)));
+    }

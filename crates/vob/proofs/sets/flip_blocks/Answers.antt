@@ -1,0 +1,31 @@
+use Rattle.std.proofs.Common.{◌≡◌, ℕ, ◌+◌, ◌-◌, ◌*◌, ◌/◌, ◌%◌, ◌^◌, ◌<◌, ◌≤◌, Bool, true, false, not, List, ◌&&◌, ◌||◌, [], ◌∷◌, ◌++◌, length, get_or, set, refl, sym, ap, ap₂, ◌∙◌, subst, arith, rules, replicate, take, drop, map, pos, Fits, w64, min}
+use Rattle.std.specs.List.{flat_map}
+use Rattle.vob.specs.Bits.{bitwise, differs, count_true}
+use Rattle.vob.specs.Packed.{Packs, blocks_for, Contents}
+use Rattle.vob.proofs.Pack as pack
+use Rattle.vob.proofs.Spell as spell
+use Rattle.vob.proofs.Setwise as setwise
+use Rattle.vob.proofs.Setwise.{same_bits}
+use Rattle.vob.specs.Pointwise.{item_of}
+use Rattle.std.proofs.lemmas.List.{length-set, take_all}
+use Rattle.vob.proofs.sets.flip_blocks.Goals as goal
+
+pub each-preserved : goal.each-preserved
+each-preserved g c =
+    let bits = g.T.Block.bits in
+    let w = g.T.Block.BITS in
+    let some = g.met.T.Block.some_law in
+    let each = pack.width_of bits w g.T.FixedWidth.bits_of g.met.T.Block.bits_law in
+    let xs = c.each.blocks.items in
+    let init = c.args.blocks.now.items in
+    let k = c.each.k in
+    let x = c.index.result.now in
+    let y = c.flipped.result in
+    let v = c.each.invariant in
+    let h : k < length xs = omega (arith, v.size, c.args.blocks.now.ok.0) in
+    record {
+      size = length-set xs k y ∙ v.size;
+      capacity = v.capacity;
+      rest = setwise.rest_more bits w each xs init k y v.rest;
+      done = setwise.flipped_more bits w each xs init k x y v.size h v.rest v.done c.index.ensures c.flipped.ensures;
+    }

@@ -1,0 +1,19 @@
+use Rattle.std.proofs.Common.{◌≡◌, ℕ, ◌+◌, ◌-◌, ◌*◌, ◌/◌, ◌%◌, ◌^◌, ◌<◌, ◌≤◌, Bool, true, false, not, List, ◌&&◌, ◌||◌, [], ◌∷◌, ◌++◌, length, get_or, set, refl, sym, ap, ap₂, ◌∙◌, subst, arith, rules, replicate, take, drop, map, pos, Fits, w64, min}
+use Rattle.std.specs.List.{flat_map}
+use Rattle.vob.specs.Bits.{bitwise, differs, count_true}
+use Rattle.vob.specs.Packed.{Packs, blocks_for, Contents}
+use Rattle.vob.proofs.Pack as pack
+use Rattle.vob.proofs.Spell as spell
+use Rattle.std.specs.Vec.{vec_capacity}
+use Rattle.vob.proofs.sets.flip_blocks.Given as goal
+
+abbrev pub invariant-each : goal.invariant-each
+invariant-each g l =
+    let bits = g.T.Block.bits in
+    let init = l.fn.blocks.items in
+    record {
+      size : length l.blocks.items ≡ length init;
+      capacity : vec_capacity l.blocks ≡ vec_capacity l.fn.blocks;
+      rest : drop l.k l.blocks.items ≡ drop l.k init;
+      done : flat_map bits (take l.k l.blocks.items) ≡ map not (flat_map bits (take l.k init));
+    }

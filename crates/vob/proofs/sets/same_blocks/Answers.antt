@@ -1,0 +1,26 @@
+use Rattle.std.proofs.Common.{◌≡◌, ℕ, ◌+◌, ◌-◌, ◌*◌, ◌/◌, ◌%◌, ◌^◌, ◌<◌, ◌≤◌, Bool, true, false, not, List, ◌&&◌, ◌||◌, [], ◌∷◌, ◌++◌, length, get_or, set, refl, sym, ap, ap₂, ◌∙◌, subst, arith, rules, replicate, take, drop, map, pos, Fits, w64, min}
+use Rattle.std.specs.List.{flat_map}
+use Rattle.vob.specs.Bits.{bitwise, differs, count_true}
+use Rattle.vob.specs.Packed.{Packs, blocks_for, Contents}
+use Rattle.vob.proofs.Pack as pack
+use Rattle.vob.proofs.Spell as spell
+use Rattle.vob.proofs.Setwise as setwise
+use Rattle.vob.proofs.Setwise.{same_bits}
+use Rattle.vob.specs.Pointwise.{item_of}
+use Rattle.std.proofs.lemmas.List.{length-set, take_all}
+use Rattle.std.proofs.lemmas.Bool.{not-true}
+use Rattle.vob.proofs.sets.same_blocks.Goals as goal
+
+pub returns-then-not-same : goal.returns-then-not-same
+returns-then-not-same g c =
+    let bits = g.T.Block.bits in
+    let w = g.T.Block.BITS in
+    let some = g.met.T.Block.some_law in
+    let each = pack.width_of bits w g.T.FixedWidth.bits_of g.met.T.Block.bits_law in
+    let xs = c.args.a.now in
+    let ys = c.args.b.now in
+    let x = c.index-a-k.result in
+    let y = c.index-b-k.result in
+    let h : c.each.k < length xs = omega arith in
+    let s : c.same.result ≡ false = c.if-not-same.true in
+    (λ t. absurd (pack.false_is_true t), λ e. absurd (pack.false_is_true (sym s ∙ c.same.ensures.1 (setwise.equal_block bits w each xs ys c.each.k x y c.requires h e c.index-a-k.is c.index-b-k.is))))

@@ -1,0 +1,41 @@
+use Rattle.std.proofs.Common.{◌≡◌, ℕ, ◌+◌, ◌-◌, ◌*◌, ◌/◌, ◌%◌, ◌^◌, ◌<◌, ◌≤◌, Bool, true, false, not, List, ◌&&◌, ◌||◌, [], ◌∷◌, ◌++◌, length, get_or, set, refl, sym, ap, ap₂, ◌∙◌, subst, arith, rules, replicate, take, drop, map, pos, Fits, w64, min}
+use Rattle.std.specs.List.{flat_map}
+use Rattle.vob.specs.Bits.{bitwise, differs, count_true}
+use Rattle.vob.specs.Packed.{Packs, blocks_for, Contents}
+use Rattle.vob.proofs.Pack as pack
+use Rattle.vob.proofs.Spell as spell
+use Rattle.vob.proofs.Setwise as setwise
+use Rattle.std.proofs.Common.{◌↔◌}
+use lib.Pointwise.{pointwise}
+use mathlib.Core.Bool.{beq}
+use Rattle.vob.proofs.traits.VobPartialEq.eq.Goals as goal
+
+pub same_blocks-requires : goal.same_blocks-requires
+same_blocks-requires g c =
+    let bits = g.T.Block.bits in
+    let w = g.T.Block.BITS in
+    let some = g.met.T.Block.some_law in
+    let each = pack.width_of bits w g.T.FixedWidth.bits_of g.met.T.Block.bits_law in
+    let m = c.self.inside.len in
+    let n = c.other.inside.len in
+    let xs = c.self.inside.blocks.items in
+    let ys = c.other.inside.blocks.items in
+    let e : m ≡ n = omega arith in
+    ap length c.as_slice.ensures.value ∙ pack.blocks_are bits w each xs m some c.self.invariant ∙ ap (blocks_for w) e ∙ sym (ap length c.as_slice-2.ensures.value ∙ pack.blocks_are bits w each ys n some c.other.invariant)
+
+pub returns : goal.returns
+returns g c =
+    let bits = g.T.Block.bits in
+    let w = g.T.Block.BITS in
+    let some = g.met.T.Block.some_law in
+    let each = pack.width_of bits w g.T.FixedWidth.bits_of g.met.T.Block.bits_law in
+    let m = c.self.inside.len in
+    let n = c.other.inside.len in
+    let xs = c.self.inside.blocks.items in
+    let ys = c.other.inside.blocks.items in
+    let e : m ≡ n = omega arith in
+    let test : (c.same_blocks.result ≡ true) ↔ (flat_map bits xs ≡ flat_map bits ys) =
+    subst (λ zs. (c.same_blocks.result ≡ true) ↔ (flat_map bits zs ≡ flat_map bits ys)) c.as_slice.ensures.value
+    (subst (λ zs. (c.same_blocks.result ≡ true) ↔ (flat_map bits c.as_slice.result.now ≡ flat_map bits zs)) c.as_slice-2.ensures.value c.same_blocks.ensures) in
+    setwise.same_flat w m n (flat_map bits xs) (flat_map bits ys) c.same_blocks.result e c.self.invariant c.other.invariant test
+    ∙ ap₂ (λ a b. pointwise beq a.bits b.bits) c.self.view_is c.other.view_is

@@ -1,0 +1,6 @@
+pub mod Bits
+pub mod Digits
+pub mod Packed
+pub mod Pointwise
+pub mod Walk
+pub mod Alike

@@ -1,0 +1,164 @@
+//! Packed truth values: a list of booleans that takes one bit each.
+//!
+//! A `Vob` is used as a set of small numbers, above all where whole sets are joined and compared. Its blocks
+//! don't show: contracts see the list `bits` of its items and its `capacity`. The ones that callers stand on
+//! most are `or`, `and` and `xor`, which work item by item and answer true exactly if the list changed, and
+//! `iter_set_bits` and `iter_unset_bits`, whose places are a filter of a range that is cut at the length.
+#![tactic(auto)]
+
+ghost use Rattle.std.specs.Prelude.{◌≡◌, ◌<◌, ◌≤◌, ◌+◌, ◌-◌, ◌*◌, ◌^◌, ◌==◌, ◌↔◌, ℕ, Bool, true, false, not, List, [], ◌∷◌, ◌++◌, length, map, take, drop, replicate, slice_index_or, slice_set, slice_get, IsTrue, IfOk, OnOk, OnErr, IsErrOf, alloc_error};
+ghost use Rattle.std.specs.List.{flat_map};
+ghost use Rattle.vob.specs.Packed.{Contents, blocks_for};
+
+pub mod block;
+mod change;
+pub mod error;
+pub mod iter;
+pub mod laws;
+mod list;
+mod packed;
+mod places;
+pub mod raw;
+mod sets;
+mod traits;
+
+use crate::block::Block;
+use std::alloc::{AllocError, AllocFailed, Global};
+use std::marker::Model;
+use thiserror::Error;
+
+/// A list of truth values in blocks of `T`.
+#[derive(Drop)]
+pub struct Vob<T: Block> {
+    len: usize,
+    blocks: Vec<T>,
+}
+
+impl<T: Block> Model for Vob<T> {
+    ghost use Rattle.std.specs.Prelude.{take, min, ◌*◌, ◌-◌, ◌^◌};
+    ghost use Rattle.std.specs.List.{flat_map};
+    ghost use Rattle.std.specs.Vec.{vec_capacity};
+    ghost use Rattle.vob.specs.Packed.{Contents, Packs};
+
+    ghost Value = { Contents };
+
+    ghost view = { λ v. record {
+      bits = take v.len (flat_map T.bits v.blocks.items);
+      capacity = min (vec_capacity v.blocks * T.BITS) (2 ^ 64 - 1);
+    } };
+
+    ghost invariant = { λ v. Packs T.BITS v.len (flat_map T.bits v.blocks.items) };
+}
+
+impl Vob<usize> {
+    /// With no item and no room.
+    pub fn new(alloc: Global) -> Self
+        ensures bits { result.bits ≡ [] }
+        ensures capacity { result.capacity ≡ 0 }
+    {
+        Vob {
+            len: 0,
+            blocks: Vec::new(alloc),
+        }
+    }
+
+    /// With no item, and room for so many.
+    pub fn with_capacity(alloc: Global, capacity: usize) -> Result<Self, AllocError>
+        ensures bits { IfOk result (λ v. v.bits ≡ []) }
+        ensures capacity { IfOk result (λ v. capacity ≤ v.capacity) }
+    {
+        Vob::new_with_storage_type(alloc, capacity)
+    }
+
+    /// So many items that all are `value`.
+    pub fn from_elem(alloc: Global, value: bool, len: usize) -> Result<Self, AllocError>
+        ensures { IfOk result (λ v. v.bits ≡ replicate len value) }
+    {
+        Vob::from_elem_with_storage_type(alloc, value, len)
+    }
+}
+
+impl<T: Block> Vob<T> {
+    /// With no item, and room for so many.
+    pub fn new_with_storage_type(alloc: Global, capacity: usize) -> Result<Self, AllocError>
+        ensures bits { IfOk result (λ v. v.bits ≡ []) }
+        ensures capacity { IfOk result (λ v. capacity ≤ v.capacity) }
+    {
+        let blocks = Vec::with_capacity(alloc, packed::blocks_for::<T>(capacity))?;
+        Ok(Vob { len: 0, blocks })
+    }
+
+    /// So many items that all are `value`.
+    pub fn from_elem_with_storage_type(
+        alloc: Global,
+        value: bool,
+        len: usize,
+    ) -> Result<Self, AllocError>
+        ensures { IfOk result (λ v. v.bits ≡ replicate len value) }
+    {
+        let mut blocks = Vec::new(alloc);
+        packed::widen(&mut blocks, 0, len, value)?;
+        Ok(Vob { len, blocks })
+    }
+
+    /// How many items there are.
+    pub fn len(&self) -> usize
+        ensures { result ≡ length self.now.bits }
+    {
+        self.len
+    }
+
+    /// Whether there is no item.
+    pub fn is_empty(&self) -> bool
+        ensures { IsTrue result ↔ (self.now.bits ≡ []) }
+    {
+        self.len == 0
+    }
+
+    /// How many items there is room for: the blocks that there is room for, times their width, and at
+    /// most `usize::MAX`.
+    pub fn capacity(&self) -> usize
+        ensures { result ≡ self.now.capacity }
+    {
+        self.blocks.capacity().saturating_mul(T::BITS)
+    }
+
+    /// The item at a place, or None past the end.
+    pub fn get(&self, index: usize) -> Option<bool>
+        ensures { result ≡ slice_get self.now.bits index }
+    {
+        if index >= self.len {
+            return None;
+        }
+        Some(packed::bit_at(self.blocks.as_slice(), index))
+    }
+
+    /// The item at a place.
+    pub fn get_unchecked(&self, index: usize) -> bool
+        requires { index < length self.now.bits }
+        ensures { result ≡ slice_index_or self.now.bits index false }
+    {
+        packed::bit_at(self.blocks.as_slice(), index)
+    }
+
+    /// The blocks: bit j of the block k is the item `k * BITS + j`, and bits past the end are false.
+    pub fn get_storage(&self) -> &[T]
+        ensures { flat_map T.bits result.now ≡ self.now.bits ++ replicate (blocks_for T.BITS (length self.now.bits) * T.BITS - length self.now.bits) false }
+    {
+        self.blocks.as_slice()
+    }
+}
+
+/// A list of items, as `vob!(alloc; true, false)?`, or so many times one item, as `vob!(alloc; true; 9)?`.
+#[macro_export]
+macro_rules! vob {
+    ($alloc:expr; $value:expr; $len:expr) => {
+        $crate::Vob::from_elem($alloc, $value, $len)
+    };
+    ($alloc:expr; $($item:expr),* $(,)?) => {
+        $crate::Vob::from_slice($alloc, &[$($item),*])
+    };
+}
+
+#[cfg(test)]
+mod tests;

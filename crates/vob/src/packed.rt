@@ -1,0 +1,121 @@
+//! Blocks as one list of bits.
+#![tactic(auto)]
+
+ghost use Rattle.std.specs.Prelude.{◌≡◌, ◌<◌, ◌≤◌, ◌+◌, ◌-◌, ◌*◌, ◌↔◌, ℕ, Bool, true, false, not, List, ◌++◌, length, map, take, drop, replicate, slice_index_or, slice_set, IsTrue, OnOk, OnErr};
+ghost use Rattle.std.specs.List.{flat_map};
+ghost use Rattle.std.specs.Vec.{vec_capacity};
+ghost use Rattle.vob.specs.Packed.{Packs, Spells, blocks_for};
+
+use crate::block::Block;
+use std::alloc::AllocError;
+
+/// How many blocks so many items take.
+pub fn blocks_for<T: Block>(len: usize) -> usize
+    ensures { result ≡ blocks_for T.BITS len }
+{
+    let whole = len / T::BITS;
+    if len % T::BITS == 0 { whole } else { whole + 1 }
+}
+
+/// The bit at a place.
+pub fn bit_at<T: Block>(blocks: &[T], place: usize) -> bool
+    requires { place < length (flat_map T.bits blocks.now) }
+    ensures { result ≡ slice_index_or (flat_map T.bits blocks.now) place false }
+{
+    let width = T::BITS;
+    blocks[place / width].bit(place % width)
+}
+
+/// Writes the bit at a place.
+pub fn put_bit<T: Block>(blocks: &mut Vec<T>, place: usize, value: bool)
+    requires { place < length (flat_map T.bits blocks.old.items) }
+    ensures bits { flat_map T.bits blocks.new.items ≡ slice_set (flat_map T.bits blocks.old.items) place value }
+    ensures capacity { vec_capacity blocks.new ≡ vec_capacity blocks.old }
+{
+    let width = T::BITS;
+    let block = &mut blocks[place / width];
+    *block = block.with_bit(place % width, value);
+}
+
+/// Gives the bits from a place up to the end of its block one value.
+pub fn fill_above<T: Block>(blocks: &mut Vec<T>, len: usize, value: bool)
+    requires { blocks_for T.BITS len * T.BITS ≤ length (flat_map T.bits blocks.old.items) }
+    ensures count { length blocks.new.items ≡ length blocks.old.items }
+    ensures bits { flat_map T.bits blocks.new.items ≡ take len (flat_map T.bits blocks.old.items) ++ (replicate (blocks_for T.BITS len * T.BITS - len) value ++ drop (blocks_for T.BITS len * T.BITS) (flat_map T.bits blocks.old.items)) }
+    ensures capacity { vec_capacity blocks.new ≡ vec_capacity blocks.old }
+{
+    let width = T::BITS;
+    let used = len % width;
+    if used == 0 {
+        return;
+    }
+    let block = &mut blocks[len / width];
+    *block = block.low(used).either(T::filled(value).shifted_up(used));
+}
+
+/// Drops what lies from a place on.
+pub fn cut<T: Block>(blocks: &mut Vec<T>, len: usize)
+    requires { len ≤ length (flat_map T.bits blocks.old.items) }
+    ensures bits { flat_map T.bits blocks.new.items ≡ take len (flat_map T.bits blocks.old.items) ++ replicate (blocks_for T.BITS len * T.BITS - len) false }
+    ensures capacity { vec_capacity blocks.new ≡ vec_capacity blocks.old }
+{
+    blocks.truncate(blocks_for::<T>(len));
+    fill_above(blocks, len, false);
+}
+
+/// Adds items that all are `value`, and unused bits up to the end of a block.
+pub fn widen<T: Block>(
+    blocks: &mut Vec<T>,
+    len: usize,
+    new_len: usize,
+    value: bool,
+) -> Result<(), AllocError>
+    requires packs { Packs T.BITS len (flat_map T.bits blocks.old.items) }
+    requires more { len ≤ new_len }
+    ensures ok { OnOk result (flat_map T.bits blocks.new.items ≡ (take len (flat_map T.bits blocks.old.items) ++ replicate (new_len - len) value) ++ replicate (blocks_for T.BITS new_len * T.BITS - new_len) false) }
+    ensures err { OnErr result (blocks.new.items ≡ blocks.old.items) }
+    ensures capacity { vec_capacity blocks.old ≤ vec_capacity blocks.new }
+{
+    blocks.resize(blocks_for::<T>(new_len), T::filled(value))?;
+    fill_above(blocks, len, value);
+    fill_above(blocks, new_len, false);
+    Ok(())
+}
+
+/// Makes room for one more item.
+pub fn cover<T: Block>(blocks: &mut Vec<T>, len: usize) -> Result<(), AllocError>
+    requires { Packs T.BITS len (flat_map T.bits blocks.old.items) }
+    ensures ok { OnOk result (flat_map T.bits blocks.new.items ≡ take len (flat_map T.bits blocks.old.items) ++ replicate (blocks_for T.BITS (len + 1) * T.BITS - len) false) }
+    ensures err { OnErr result (blocks.new.items ≡ blocks.old.items) }
+    ensures full { OnErr result (vec_capacity blocks.old * T.BITS ≤ len) }
+    ensures capacity { vec_capacity blocks.old ≤ vec_capacity blocks.new }
+{
+    if len % T::BITS == 0 {
+        blocks.push(T::filled(false))?;
+    }
+    Ok(())
+}
+
+/// Clears the unused bits of as many blocks as the length takes.
+pub fn mask<T: Block>(blocks: &mut Vec<T>, len: usize)
+    requires { length blocks.old.items ≡ blocks_for T.BITS len }
+    ensures count { length blocks.new.items ≡ length blocks.old.items }
+    ensures bits { flat_map T.bits blocks.new.items ≡ take len (flat_map T.bits blocks.old.items) ++ replicate (blocks_for T.BITS len * T.BITS - len) false }
+{
+    fill_above(blocks, len, false);
+}
+
+/// Whether the blocks spell so many items, with no unused bit set.
+pub fn spells<T: Block>(blocks: &[T], len: usize) -> bool
+    ensures { IsTrue result ↔ Spells T.BITS len (length blocks.now) (flat_map T.bits blocks.now) }
+{
+    if blocks.len() != blocks_for::<T>(len) {
+        return false;
+    }
+    let width = T::BITS;
+    if len % width == 0 {
+        return true;
+    }
+    let last = blocks[len / width];
+    last.same(last.low(len % width))
+}

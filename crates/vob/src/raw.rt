@@ -1,0 +1,104 @@
+//! Raw storage, which is tested on its way back.
+#![tactic(auto)]
+
+ghost use Rattle.std.specs.Prelude.{◌≡◌, ◌<◌, ◌≤◌, ◌+◌, ◌-◌, ◌*◌, ◌↔◌, Bool, true, false, List, ◌++◌, length, take, drop, replicate, IsTrue, IfOk, IfErr};
+ghost use Rattle.std.specs.List.{flat_map};
+ghost use Rattle.vob.specs.Packed.{Spells, blocks_for};
+
+use crate::block::Block;
+use crate::{Vob, packed};
+use std::alloc::AllocError;
+
+/// A list taken apart: its length and its blocks, which need not go together.
+#[derive(Drop)]
+pub struct RawVob<T> {
+    pub len: usize,
+    pub blocks: Vec<T>,
+}
+
+/// A list of items as plain data: its length and its blocks.
+#[derive(Debug, Drop)]
+pub struct VobRecord {
+    pub len: usize,
+    pub vec: Vec<usize>,
+}
+
+impl<T: Block> Vob<T> {
+    /// Takes the list apart.
+    pub fn into_raw(self) -> RawVob<T>
+        ensures len { result.len ≡ length self.bits }
+        ensures count { length result.blocks.items ≡ blocks_for T.BITS (length self.bits) }
+        ensures blocks { flat_map T.bits result.blocks.items ≡ self.bits ++ replicate (blocks_for T.BITS (length self.bits) * T.BITS - length self.bits) false }
+    {
+        let Vob { len, blocks } = self;
+        RawVob { len, blocks }
+    }
+}
+
+impl<T: Block> RawVob<T> {
+    /// The blocks.
+    pub fn get_storage_mut(&mut self) -> &mut Vec<T>
+        ensures value { result.now ≡ self.old.blocks }
+    {
+        &mut self.blocks
+    }
+
+    /// Says how many items the blocks hold.
+    pub fn set_len(&mut self, len: usize)
+        ensures len { self.new.len ≡ len }
+        ensures blocks { self.new.blocks ≡ self.old.blocks }
+    {
+        self.len = len;
+    }
+
+    /// Clears the unused bits of the last block.
+    pub fn mask_last_block(&mut self)
+        requires { length self.old.blocks.items ≡ blocks_for T.BITS self.old.len }
+        ensures len { self.new.len ≡ self.old.len }
+        ensures count { length self.new.blocks.items ≡ length self.old.blocks.items }
+        ensures blocks { flat_map T.bits self.new.blocks.items ≡ take self.old.len (flat_map T.bits self.old.blocks.items) ++ replicate (blocks_for T.BITS self.old.len * T.BITS - self.old.len) false }
+    {
+        packed::mask(&mut self.blocks, self.len);
+    }
+
+    /// Makes a list again, where there are as many blocks as the length takes and no unused bit is set. Else
+    /// the parts are handed back.
+    pub fn into_vob(self) -> Result<Vob<T>, RawVob<T>>
+        ensures ok { IfOk result (λ v. Spells T.BITS self.len (length self.blocks.items) (flat_map T.bits self.blocks.items) × (v.bits ≡ take self.len (flat_map T.bits self.blocks.items))) }
+        ensures err { IfErr result (λ raw. (raw ≡ self) × (Spells T.BITS self.len (length self.blocks.items) (flat_map T.bits self.blocks.items) → ⊥)) }
+    {
+        if !packed::spells(self.blocks.as_slice(), self.len) {
+            return Err(self);
+        }
+        let RawVob { len, blocks } = self;
+        Ok(Vob { len, blocks })
+    }
+}
+
+impl Vob<usize> {
+    /// The list as plain data.
+    pub fn to_record(&self) -> Result<VobRecord, AllocError>
+        ensures len { IfOk result (λ r. r.len ≡ length self.now.bits) }
+        ensures blocks { IfOk result (λ r. flat_map ⟦<usize as Block>⟧.bits r.vec.items ≡ self.now.bits ++ replicate (blocks_for 64 (length self.now.bits) * 64 - length self.now.bits) false) }
+    {
+        let vec = Vec::from_slice(*self.blocks.allocator(), self.blocks.as_slice())?;
+        Ok(VobRecord { len: self.len, vec })
+    }
+
+    /// The list of a record, where it has as many blocks as its length takes and no unused bit is set. Else
+    /// the record is handed back.
+    pub fn from_record(stored: VobRecord) -> Result<Self, VobRecord>
+        ensures ok { IfOk result (λ v. Spells 64 stored.len (length stored.vec.items) (flat_map ⟦<usize as Block>⟧.bits stored.vec.items) × (v.bits ≡ take stored.len (flat_map ⟦<usize as Block>⟧.bits stored.vec.items))) }
+        ensures err { IfErr result (λ r. (r ≡ stored) × (Spells 64 stored.len (length stored.vec.items) (flat_map ⟦<usize as Block>⟧.bits stored.vec.items) → ⊥)) }
+    {
+        let VobRecord { len, vec } = stored;
+        let raw = RawVob { len, blocks: vec };
+        match raw.into_vob() {
+            Ok(made) => Ok(made),
+            Err(raw) => {
+                let RawVob { len, blocks } = raw;
+                Err(VobRecord { len, vec: blocks })
+            }
+        }
+    }
+}

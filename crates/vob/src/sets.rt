@@ -1,0 +1,138 @@
+//! Lists as sets of places: operations on two lists, a block at a time.
+#![tactic(auto)]
+
+ghost use Rattle.std.specs.Prelude.{◌≡◌, ◌≢◌, ◌<◌, ◌≤◌, ◌+◌, ◌-◌, ◌*◌, ◌==◌, ◌↔◌, ◌&&◌, ◌||◌, ℕ, Bool, true, false, not, List, [], ◌∷◌, ◌++◌, length, map, take, drop, replicate, slice_index_or, IsTrue, IfOk, refl};
+ghost use Rattle.std.specs.List.{flat_map};
+ghost use Rattle.std.specs.Vec.{vec_capacity};
+ghost use Rattle.vob.specs.Bits.{bitwise, differs};
+ghost use Rattle.vob.specs.Packed.{Contents, blocks_for};
+ghost use Rattle.vob.specs.Pointwise.{item_of};
+
+use crate::block::Block;
+use crate::{Vob, packed};
+
+/// An operation on two lists of one length, item by item.
+#[derive(Clone, Copy)]
+enum Pointwise {
+    And,
+    Or,
+    Xor,
+}
+
+impl<T: Block> Vob<T> {
+    /// Keeps an item set where it is set in both lists, and says whether that changed the list.
+    pub fn and(&mut self, other: &Vob<T>) -> bool
+        requires { length self.old.bits ≡ length other.now.bits }
+        ensures bits { self.new.bits ≡ bitwise (λ x y. x && y) self.old.bits other.now.bits }
+        ensures changed { IsTrue result ↔ (self.new.bits ≢ self.old.bits) }
+        ensures capacity { self.new.capacity ≡ self.old.capacity }
+    {
+        self.combine(Pointwise::And, other)
+    }
+
+    /// Sets an item where it is set in either list, and says whether that changed the list.
+    pub fn or(&mut self, other: &Vob<T>) -> bool
+        requires { length self.old.bits ≡ length other.now.bits }
+        ensures bits { self.new.bits ≡ bitwise (λ x y. x || y) self.old.bits other.now.bits }
+        ensures changed { IsTrue result ↔ (self.new.bits ≢ self.old.bits) }
+        ensures capacity { self.new.capacity ≡ self.old.capacity }
+    {
+        self.combine(Pointwise::Or, other)
+    }
+
+    /// Sets an item where the lists differ, and says whether that changed the list.
+    pub fn xor(&mut self, other: &Vob<T>) -> bool
+        requires { length self.old.bits ≡ length other.now.bits }
+        ensures bits { self.new.bits ≡ bitwise differs self.old.bits other.now.bits }
+        ensures changed { IsTrue result ↔ (self.new.bits ≢ self.old.bits) }
+        ensures capacity { self.new.capacity ≡ self.old.capacity }
+    {
+        self.combine(Pointwise::Xor, other)
+    }
+
+    fn combine(&mut self, how: Pointwise, other: &Vob<T>) -> bool
+        requires { length self.old.bits ≡ length other.now.bits }
+        ensures bits { self.new.bits ≡ bitwise (item_of how) self.old.bits other.now.bits }
+        ensures changed { IsTrue result ↔ (self.new.bits ≢ self.old.bits) }
+        ensures capacity { self.new.capacity ≡ self.old.capacity }
+    {
+        combine_blocks(how, &mut self.blocks, other.blocks.as_slice())
+    }
+
+    /// Turns every item.
+    pub fn negate(&mut self)
+        ensures bits { self.new.bits ≡ map not self.old.bits }
+        ensures capacity { self.new.capacity ≡ self.old.capacity }
+    {
+        flip_blocks(&mut self.blocks);
+        packed::fill_above(&mut self.blocks, self.len, false);
+    }
+
+    /// Gives every item one value.
+    pub fn set_all(&mut self, value: bool)
+        ensures bits { self.new.bits ≡ replicate (length self.old.bits) value }
+        ensures capacity { self.new.capacity ≡ self.old.capacity }
+    {
+        fill_blocks(&mut self.blocks, T::filled(value));
+        packed::fill_above(&mut self.blocks, self.len, false);
+    }
+}
+
+impl Pointwise {
+    fn of<T: Block>(self, a: T, b: T) -> T
+        ensures { T.bits result ≡ bitwise (item_of self) (T.bits a) (T.bits b) }
+    {
+        match self {
+            Pointwise::And => a.both(b),
+            Pointwise::Or => a.either(b),
+            Pointwise::Xor => a.differing(b),
+        }
+    }
+}
+
+fn combine_blocks<T: Block>(how: Pointwise, to: &mut Vec<T>, from: &[T]) -> bool
+    requires { length to.old.items ≡ length from.now }
+    ensures bits { flat_map T.bits to.new.items ≡ bitwise (item_of how) (flat_map T.bits to.old.items) (flat_map T.bits from.now) }
+    ensures changed { IsTrue result ↔ (flat_map T.bits to.new.items ≢ flat_map T.bits to.old.items) }
+    ensures capacity { vec_capacity to.new ≡ vec_capacity to.old }
+{
+    let mut changed = false;
+    'each: for k in 0..from.len() {
+        let block = to[k];
+        let new = how.of(block, from[k]);
+        changed |= !new.same(block);
+        to[k] = new;
+    }
+    changed
+}
+
+fn flip_blocks<T: Block>(blocks: &mut Vec<T>)
+    ensures bits { flat_map T.bits blocks.new.items ≡ map not (flat_map T.bits blocks.old.items) }
+    ensures capacity { vec_capacity blocks.new ≡ vec_capacity blocks.old }
+{
+    'each: for k in 0..blocks.len() {
+        blocks[k] = blocks[k].flipped();
+    }
+}
+
+fn fill_blocks<T: Block>(blocks: &mut Vec<T>, with: T)
+    ensures items { blocks.new.items ≡ replicate (length blocks.old.items) with }
+    ensures capacity { vec_capacity blocks.new ≡ vec_capacity blocks.old }
+{
+    'each: for k in 0..blocks.len() {
+        blocks[k] = with;
+    }
+}
+
+/// Whether as many blocks have the same bits.
+pub fn same_blocks<T: Block>(a: &[T], b: &[T]) -> bool
+    requires { length a.now ≡ length b.now }
+    ensures { IsTrue result ↔ (flat_map T.bits a.now ≡ flat_map T.bits b.now) }
+{
+    'each: for k in 0..a.len() {
+        if !a[k].same(b[k]) {
+            return false;
+        }
+    }
+    true
+}

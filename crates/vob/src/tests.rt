@@ -1,0 +1,197 @@
+use super::*;
+use crate::error::VobError;
+use crate::raw::{RawVob, VobRecord};
+use std::iter::DoubleEndedIterator;
+use std::process::Abort;
+use std::test::Fail;
+
+fn shows<T: Block>(rt: &impl Abort, list: &Vob<T>, items: &[bool]) {
+    assert_eq!(rt; list.len(), items.len());
+    for (place, item) in items.iter().enumerate() {
+        assert_eq!(rt; list.get(place), Some(*item));
+    }
+    assert_eq!(rt; list.get(items.len()), None);
+}
+
+fn nine_bytes(alloc: Global) -> Result<Vob<u8>, AllocError> {
+    Vob::from_elem_with_storage_type(alloc, true, 9)
+}
+
+#[test]
+fn nine_bits_in_two_bytes(rt: HostRuntime) -> Result<(), Fail> {
+    let nine = nine_bytes(rt.alloc())?;
+    assert_eq!(rt; nine.get_storage(), [0xffu8, 0x01].as_slice());
+    let mut walk = nine.iter_set_bits(7..20);
+    assert_eq!(rt; walk.next_back(), Some(8));
+    assert_eq!(rt; walk.next(), Some(7));
+    assert_eq!(rt; walk.next(), None);
+    assert_eq!(rt; walk.next_back(), None);
+    assert_eq!(rt; nine.iter_set_bits(5..2).count(), 0);
+    assert_eq!(rt; nine.iter_set_bits(..).count(), 9);
+    assert_eq!(rt; nine.iter_unset_bits(..).count(), 0);
+    assert_eq!(rt; nine.iter_set_bits(..=8).next_back(), Some(8));
+    assert_eq!(rt; nine.iter_set_bits(..).size_hint(), (0, None));
+    assert_eq!(rt; nine.iter().size_hint(), (9, Some(9)));
+    let mut blocks = nine.iter_storage();
+    assert_eq!(rt; blocks.next(), Some(0xff));
+    assert_eq!(rt; blocks.next(), Some(0x01));
+    assert_eq!(rt; blocks.next(), None);
+    assert_eq!(rt; nine.iter_storage().count(), 2);
+    Ok(())
+}
+
+#[test]
+fn raw_blocks_are_tested(rt: HostRuntime) -> Result<(), Fail> {
+    let mut raw = nine_bytes(rt.alloc())?.into_raw();
+    assert_eq!(rt; raw.blocks.len(), 2);
+    raw.blocks[1] = 0x03;
+    let Err(mut raw) = raw.into_vob() else {
+        panic!(rt; "an unused bit was taken")
+    };
+    assert_eq!(rt; raw.blocks.as_slice(), [0xffu8, 0x03].as_slice());
+    assert_eq!(rt; raw.len, 9);
+    assert!(rt; raw.blocks.len() == raw.len.div_ceil(8));
+    let Ok(masked) = masked(raw).into_vob() else {
+        panic!(rt; "masked blocks were refused")
+    };
+    shows(&rt, &masked, [true; 9].as_slice());
+    let mut raw = masked.into_raw();
+    raw.set_len(8);
+    let Err(raw) = raw.into_vob() else {
+        panic!(rt; "a block too many was taken")
+    };
+    assert_eq!(rt; raw.len, 8);
+    Ok(())
+}
+
+fn masked(mut raw: RawVob<u8>) -> RawVob<u8> {
+    if raw.blocks.len() == crate::packed::blocks_for::<u8>(raw.len) {
+        raw.mask_last_block();
+    }
+    raw
+}
+
+#[test]
+fn parts_are_joined_again(rt: HostRuntime) -> Result<(), Fail> {
+    let mut nine = nine_bytes(rt.alloc())?;
+    assert!(rt; nine.len() == 9);
+    let part = nine.split_off(8)?;
+    shows(&rt, &part, [true].as_slice());
+    shows(&rt, &nine, [true; 8].as_slice());
+    nine.extend_from_vob(&part)?;
+    shows(&rt, &nine, [true; 9].as_slice());
+    assert!(rt; matches!(nine.reserve(usize::MAX), Err(VobError::TooLong)));
+    shows(&rt, &nine, [true; 9].as_slice());
+    Ok(())
+}
+
+#[test]
+fn one_item_is_set(rt: HostRuntime) -> Result<(), Fail> {
+    let mut three = vob!(rt.alloc(); false, true, false)?;
+    assert!(rt; three.len() == 3);
+    assert!(rt; three.set(2, true));
+    let mut set = three.iter_set_bits(..);
+    assert_eq!(rt; set.next(), Some(1));
+    assert_eq!(rt; set.next(), Some(2));
+    assert_eq!(rt; set.next(), None);
+    let mut unset = three.iter_unset_bits(..);
+    assert_eq!(rt; unset.next(), Some(0));
+    assert_eq!(rt; unset.next(), None);
+    Ok(())
+}
+
+#[test]
+fn bytes_come_from_the_top(rt: HostRuntime) -> Result<(), Fail> {
+    let list = Vob::from_bytes(rt.alloc(), &[0xa0])?;
+    shows(
+        &rt,
+        &list,
+        [true, false, true, false, false, false, false, false].as_slice(),
+    );
+    let text = format!(in rt.alloc(); "{list:?}")?;
+    assert_eq!(rt; text.as_str(), "Vob[10100000]");
+    Ok(())
+}
+
+#[test]
+fn lists_are_combined(rt: HostRuntime) -> Result<(), Fail> {
+    let mut a = vob!(rt.alloc(); true, true, false, false)?;
+    let b = vob!(rt.alloc(); true, false, true, false)?;
+    assert!(rt; a.len() == 4);
+    assert!(rt; b.len() == 4);
+    let both = (&a & &b)?;
+    shows(&rt, &both, [true, false, false, false].as_slice());
+    let either = (&a | &b)?;
+    shows(&rt, &either, [true, true, true, false].as_slice());
+    let one = (&a ^ &b)?;
+    shows(&rt, &one, [false, true, true, false].as_slice());
+    assert!(rt; a.or(&b));
+    assert!(rt; !a.or(&b));
+    a.negate();
+    shows(&rt, &a, [false, false, false, true].as_slice());
+    a.set_all(true);
+    shows(&rt, &a, [true; 4].as_slice());
+    assert!(rt; a == vob!(rt.alloc(); true; 4)?);
+    assert!(rt; a != b);
+    assert!(rt; a.clone()? == a);
+    assert!(rt; a[3]);
+    Ok(())
+}
+
+#[test]
+fn lists_grow_and_shrink(rt: HostRuntime) -> Result<(), Fail> {
+    let mut list: Vob<u8> = Vob::new_with_storage_type(rt.alloc(), 9)?;
+    assert_eq!(rt; list.capacity(), 16);
+    assert!(rt; list.is_empty());
+    list.extend_from_slice([true, false, true].as_slice())?;
+    list.push(true)?;
+    assert_eq!(rt; list.pop(), Some(true));
+    list.resize(20, true)?;
+    assert_eq!(rt; list.iter_set_bits(..).count(), 19);
+    assert_eq!(rt; list.get_storage(), [0xfdu8, 0xff, 0x0f].as_slice());
+    list.resize(2, false)?;
+    assert_eq!(rt; list.get_storage(), [0x01u8].as_slice());
+    list.truncate(1);
+    list.shrink_to_fit();
+    shows(&rt, &list, [true].as_slice());
+    list.clear();
+    assert!(rt; list.is_empty());
+    assert_eq!(rt; list.pop(), None);
+    Ok(())
+}
+
+#[test]
+fn items_come_from_an_iterator(rt: HostRuntime) -> Result<(), Fail> {
+    let items = [true, false, true];
+    let mut list = Vob::from_iter(rt.alloc(), items.iter().copied())?;
+    list.extend(items.iter().copied())?;
+    shows(
+        &rt,
+        &list,
+        [true, false, true, true, false, true].as_slice(),
+    );
+    let mut back = list.iter();
+    assert_eq!(rt; back.next_back(), Some(true));
+    assert_eq!(rt; back.next_back(), Some(false));
+    assert_eq!(rt; back.next(), Some(true));
+    assert_eq!(rt; back.count(), 3);
+    Ok(())
+}
+
+#[test]
+fn records_are_tested(rt: HostRuntime) -> Result<(), Fail> {
+    let list = vob!(rt.alloc(); true, false, true)?;
+    let record = list.to_record()?;
+    assert_eq!(rt; record.len, 3);
+    assert_eq!(rt; record.vec.as_slice(), [5usize].as_slice());
+    let Ok(again) = Vob::from_record(record) else {
+        panic!(rt; "a good record was refused")
+    };
+    shows(&rt, &again, [true, false, true].as_slice());
+    let bad = VobRecord {
+        len: 2,
+        vec: vec![in rt.alloc(); 5usize]?,
+    };
+    assert!(rt; Vob::from_record(bad).is_err());
+    Ok(())
+}

@@ -1,0 +1,203 @@
+//! Traits of the standard library.
+#![tactic(auto)]
+
+ghost use Rattle.std.specs.Prelude.{◌≡◌, ◌<◌, ◌&&◌, ◌||◌, Bool, length, slice_index_or, IfOk, false};
+ghost use Rattle.std.proofs.Common.{rules};
+ghost use Rattle.std.specs.Cmp.Rules.{comparing};
+ghost use lib.Pointwise.{pointwise};
+ghost use mathlib.Core.Bool.{beq};
+ghost use Rattle.std.specs.Prelude.{true, ◌++◌};
+ghost use Rattle.std.specs.List.{flat_map};
+ghost use Rattle.std.specs.Hash as fed;
+ghost use Rattle.std.specs.declared.ops.Bound.TheVariants.{Unbounded};
+ghost use Rattle.vob.specs.Alike.{fed_alike};
+ghost use Rattle.vob.specs.Walk.{walk};
+ghost use Rattle.vob.specs.Bits.{bitwise, differs};
+
+use crate::block::Block;
+use crate::{Vob, sets};
+use std::alloc::AllocError;
+use std::fmt;
+use std::hash::{Hash, Hasher};
+use std::ops::{BitAnd, BitAndAssign, BitOr, BitOrAssign, BitXor, BitXorAssign, Index};
+
+impl<T: Block> Clone for Vob<T> {
+    ghost is_clone = { λ v w. w.bits ≡ v.bits };
+
+    fn clone(&self) -> Result<Self, AllocError> {
+        let blocks = Vec::from_slice(*self.blocks.allocator(), self.blocks.as_slice())?;
+        Ok(Vob {
+            len: self.len,
+            blocks,
+        })
+    }
+}
+
+impl<T: Block> PartialEq for Vob<T> {
+    ghost eq = { λ a b. pointwise beq a.bits b.bits };
+
+    ghost laws = { Prim.search (comparing, rules) };
+
+    fn eq(&self, other: &Vob<T>) -> bool {
+        if self.len != other.len {
+            return false;
+        }
+        sets::same_blocks(self.blocks.as_slice(), other.blocks.as_slice())
+    }
+}
+
+impl<T: Block> Eq for Vob<T> {
+    ghost laws = { Prim.search (comparing, rules) };
+}
+
+impl<T: Block> Hash for Vob<T> {
+    ghost hash_input = { λ v. fed.usize (length v.bits) ++ flat_map fed.usize (walk true v.bits Unbounded Unbounded) };
+
+    ghost respects_eq = { λ x y e. fed_alike x.bits y.bits e };
+
+    fn hash<H: Hasher>(&self, state: &mut H) {
+        state.write_usize(self.len());
+        let mut places = self.iter_set_bits(..);
+        'each: while let Some(place) = places.next() {
+            state.write_usize(place);
+        }
+    }
+}
+
+impl<T: Block> Index<usize> for Vob<T> {
+    type Output = bool;
+
+    ghost can_index = { λ v i. i < length v.bits };
+
+    ghost index_gives = { λ v i x. x ≡ slice_index_or v.bits i false };
+
+    fn index(&self, index: usize) -> &bool {
+        if self.get_unchecked(index) {
+            &true
+        } else {
+            &false
+        }
+    }
+}
+
+/// As `Vob[101]`.
+impl<T: Block> fmt::Debug for Vob<T> {
+    fn fmt<W: fmt::Write>(&self, f: &mut fmt::Formatter<W>) -> fmt::Result {
+        f.write_str("Vob[")?;
+        for item in self.iter() {
+            f.write_str(if item { "1" } else { "0" })?;
+        }
+        f.write_str("]")
+    }
+}
+
+impl<'b, T: Block> BitAndAssign<&'b Vob<T>> for Vob<T> {
+    ghost can_bitand_assign = { λ a b. length a.bits ≡ length b.now.bits };
+
+    ghost bitand_assign_gives = { λ a b c. c.bits ≡ bitwise (λ x y. x && y) a.bits b.now.bits };
+
+    fn bitand_assign(&mut self, other: &'b Vob<T>) {
+        self.and(other);
+    }
+}
+
+impl<'b, T: Block> BitAnd<&'b Vob<T>> for Vob<T> {
+    type Output = Vob<T>;
+
+    ghost can_bitand = { λ a b. length a.bits ≡ length b.now.bits };
+
+    ghost bitand_gives = { λ a b c. c.bits ≡ bitwise (λ x y. x && y) a.bits b.now.bits };
+
+    fn bitand(mut self, other: &'b Vob<T>) -> Vob<T> {
+        self.and(other);
+        self
+    }
+}
+
+impl<'a, 'b, T: Block> BitAnd<&'b Vob<T>> for &'a Vob<T> {
+    type Output = Result<Vob<T>, AllocError>;
+
+    ghost can_bitand = { λ a b. length a.now.bits ≡ length b.now.bits };
+
+    ghost bitand_gives = { λ a b r. IfOk r (λ c. c.bits ≡ bitwise (λ x y. x && y) a.now.bits b.now.bits) };
+
+    fn bitand(self, other: &'b Vob<T>) -> Result<Vob<T>, AllocError> {
+        let mut made = self.clone()?;
+        made.and(other);
+        Ok(made)
+    }
+}
+
+impl<'b, T: Block> BitOrAssign<&'b Vob<T>> for Vob<T> {
+    ghost can_bitor_assign = { λ a b. length a.bits ≡ length b.now.bits };
+
+    ghost bitor_assign_gives = { λ a b c. c.bits ≡ bitwise (λ x y. x || y) a.bits b.now.bits };
+
+    fn bitor_assign(&mut self, other: &'b Vob<T>) {
+        self.or(other);
+    }
+}
+
+impl<'b, T: Block> BitOr<&'b Vob<T>> for Vob<T> {
+    type Output = Vob<T>;
+
+    ghost can_bitor = { λ a b. length a.bits ≡ length b.now.bits };
+
+    ghost bitor_gives = { λ a b c. c.bits ≡ bitwise (λ x y. x || y) a.bits b.now.bits };
+
+    fn bitor(mut self, other: &'b Vob<T>) -> Vob<T> {
+        self.or(other);
+        self
+    }
+}
+
+impl<'a, 'b, T: Block> BitOr<&'b Vob<T>> for &'a Vob<T> {
+    type Output = Result<Vob<T>, AllocError>;
+
+    ghost can_bitor = { λ a b. length a.now.bits ≡ length b.now.bits };
+
+    ghost bitor_gives = { λ a b r. IfOk r (λ c. c.bits ≡ bitwise (λ x y. x || y) a.now.bits b.now.bits) };
+
+    fn bitor(self, other: &'b Vob<T>) -> Result<Vob<T>, AllocError> {
+        let mut made = self.clone()?;
+        made.or(other);
+        Ok(made)
+    }
+}
+
+impl<'b, T: Block> BitXorAssign<&'b Vob<T>> for Vob<T> {
+    ghost can_bitxor_assign = { λ a b. length a.bits ≡ length b.now.bits };
+
+    ghost bitxor_assign_gives = { λ a b c. c.bits ≡ bitwise differs a.bits b.now.bits };
+
+    fn bitxor_assign(&mut self, other: &'b Vob<T>) {
+        self.xor(other);
+    }
+}
+
+impl<'b, T: Block> BitXor<&'b Vob<T>> for Vob<T> {
+    type Output = Vob<T>;
+
+    ghost can_bitxor = { λ a b. length a.bits ≡ length b.now.bits };
+
+    ghost bitxor_gives = { λ a b c. c.bits ≡ bitwise differs a.bits b.now.bits };
+
+    fn bitxor(mut self, other: &'b Vob<T>) -> Vob<T> {
+        self.xor(other);
+        self
+    }
+}
+
+impl<'a, 'b, T: Block> BitXor<&'b Vob<T>> for &'a Vob<T> {
+    type Output = Result<Vob<T>, AllocError>;
+
+    ghost can_bitxor = { λ a b. length a.now.bits ≡ length b.now.bits };
+
+    ghost bitxor_gives = { λ a b r. IfOk r (λ c. c.bits ≡ bitwise differs a.now.bits b.now.bits) };
+
+    fn bitxor(self, other: &'b Vob<T>) -> Result<Vob<T>, AllocError> {
+        let mut made = self.clone()?;
+        made.xor(other);
+        Ok(made)
+    }
+}

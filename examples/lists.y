@@ -1,0 +1,12 @@
+// Nested lists of atoms, with quoted and dotted ones.
+%%
+Form: 'ATOM'
+    | "'" Form
+    | '(' ')'
+    | '(' Forms ')'
+    | '(' Forms '.' Form ')'
+    ;
+
+Forms: Form
+     | Forms Form
+     ;

@@ -2,5 +2,9 @@ pub mod Digit
 pub mod Spell
 pub mod Pack
 pub mod Setwise
+pub mod Shift
+pub mod Refused
 pub mod Walks
+pub mod Alike
+pub mod Tested
 pub mod LawLemmas

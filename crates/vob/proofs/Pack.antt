@@ -1,15 +1,15 @@
 -- Items in blocks.
-use Rattle.std.proofs.Common.{◌≡◌, ℕ, suc, zero, ◌+◌, ◌-◌, ◌*◌, ◌/◌, ◌%◌, ◌^◌, ◌<◌, ◌≤◌, ◌↔◌, Bool, true, false, not, ◌&&◌, ◌||◌, eqb, cond, List, [], ◌∷◌, ◌++◌, length, get_or, set, take, drop, replicate, map, refl, sym, ap, ap₂, ◌∙◌, subst, arith, inl, inr}
+use Rattle.std.proofs.Common.{◌≡◌, ℕ, suc, zero, ◌+◌, ◌-◌, ◌*◌, ◌/◌, ◌%◌, ◌<◌, ◌≤◌, ◌↔◌, Bool, true, false, not, ◌||◌, eqb, cond, List, [], ◌∷◌, ◌++◌, length, get_or, set, take, drop, replicate, refl, sym, ap, ap₂, ◌∙◌, subst, arith, inl, inr}
 use Rattle.std.specs.Prelude.{Result, Ok, Err, OnErr, OnOk}
 use Rattle.std.specs.List.{flat_map}
-use Rattle.std.proofs.lemmas.List.{length-append, length-take, length-drop, length-replicate, length-set, append_assoc, append-nil, take_at, drop_at, take-append-drop, take-append-le, drop-append-le, take-replicate, drop-replicate, take-set-le, drop-set-lt, get_or-take, get_or_past, set_past, take-take, set-append_right, replicate-append-replicate, take_all, drop_all, drop-drop}
+use Rattle.std.proofs.lemmas.List.{length-append, length-take, length-drop, length-replicate, length-set, append_assoc, append-nil, take_at, drop_at, take-append-drop, take-append-le, take-replicate, drop-set-lt, take-take, set-append_right, replicate-append-replicate, take_all, drop_all, drop-drop}
 use Rattle.std.proofs.lemmas.Nat.{div_below, mod_below}
 use Rattle.std.proofs.Math.Seq.{take-add, take-append-add, drop-append-add}
 use Rattle.std.proofs.Math.Nat.{div-add-mod', mul-le-mul_right}
 use mathlib.Core.Bool.{beq}
-use Rattle.std.proofs.lemmas.Bool.{cases_lt, eqb-true, eqb-false, eq-eqb, ne_eqb}
+use Rattle.std.proofs.lemmas.Bool.{cases_lt, eqb-true, eq-eqb, ne_eqb}
 use Rattle.std.proofs.lemmas.List.Concat.{flat_map-append}
-use Rattle.vob.specs.Bits.{bitwise, differs, count_true}
+use Rattle.vob.specs.Bits.{bitwise}
 use Rattle.vob.specs.Packed.{Packs, blocks_for}
 use Rattle.vob.specs.Digits.{digits}
 use Rattle.vob.proofs.Digit as digit
@@ -265,7 +265,8 @@ nothing_above w n all v e =
     let z : n - n ≡ 0 = omega arith in
     rw (e, z) (sym (take-append-drop n all))
 
-or_above : (xs zs : List Bool) (r u : ℕ) → length xs ≡ r → length zs ≡ u → bitwise (λ x y. x || y) (xs ++ replicate u false) (replicate r false ++ zs) ≡ xs ++ zs
+-- bits below and bits above
+pub or_above : (xs zs : List Bool) (r u : ℕ) → length xs ≡ r → length zs ≡ u → bitwise (λ x y. x || y) (xs ++ replicate u false) (replicate r false ++ zs) ≡ xs ++ zs
 or_above [] [] zero u p q = let e : u ≡ 0 = omega arith in rw e refl
 or_above [] (z ∷ zs) zero zero p q = cc
 or_above [] (z ∷ zs) zero (suc u) p q = ap (λ (ys : List Bool). z ∷ ys) (or_above [] zs zero u refl (omega arith))
@@ -362,7 +363,8 @@ module _ {T : Type 0} (bits : T → List Bool) (w : ℕ) (each : (x : T) → len
       let z : blocks_for w n * w - n ≡ 0 = omega arith in
       drop_all n (flat_map bits xs) (omega (arith, counted_length xs n e)) ∙ ap (λ k. replicate k false) (sym z)
 
-  last_rest : (xs : List T) (n : ℕ) (x : T) → 0 < w → length xs ≡ blocks_for w n → (n % w ≡ 0 → ⊥) → x ≡ get_or xs (n / w) x → drop n (flat_map bits xs) ≡ drop (n % w) (bits x)
+  -- what lies from the end of the items on
+  pub last_rest : (xs : List T) (n : ℕ) (x : T) → 0 < w → length xs ≡ blocks_for w n → (n % w ≡ 0 → ⊥) → x ≡ get_or xs (n / w) x → drop n (flat_map bits xs) ≡ drop (n % w) (bits x)
   last_rest xs n x pos e part is =
       let all = flat_map bits xs in
       let m = div-add-mod' n w in

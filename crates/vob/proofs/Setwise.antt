@@ -1,11 +1,11 @@
 -- Loops over the blocks of lists.
-use Rattle.std.proofs.Common.{◌≡◌, ℕ, suc, zero, ◌+◌, ◌-◌, ◌*◌, ◌/◌, ◌%◌, ◌<◌, ◌≤◌, Bool, true, false, not, ◌&&◌, ◌||◌, ◌↔◌, List, [], ◌∷◌, ◌++◌, length, get_or, set, take, drop, replicate, map, refl, sym, ap, ap₂, ◌∙◌, subst, arith, inl, inr}
+use Rattle.std.proofs.Common.{◌≡◌, ℕ, suc, zero, ◌+◌, ◌-◌, ◌*◌, ◌<◌, Bool, true, false, not, ◌&&◌, ◌||◌, ◌↔◌, List, [], ◌∷◌, ◌++◌, length, get_or, set, take, drop, replicate, map, refl, sym, ap, ap₂, ◌∙◌, subst, arith}
 use Rattle.std.specs.List.{flat_map}
-use Rattle.std.proofs.lemmas.List.{length-append, length-take, length-drop, length-set, append_assoc, append-nil, take_more, take_more_set, take-append-drop, drop-set-lt, get_or-drop, get_or_default, drop-drop, take_all, drop_all, map-append, replicate_more}
+use Rattle.std.proofs.lemmas.List.{length-take, append-nil, take_more, take_more_set, drop-set-lt, get_or-drop, drop-drop, drop_all, map-append, replicate_more}
 use Rattle.std.proofs.lemmas.List.Concat.{flat_map-append}
 use mathlib.Core.Bool.{beq}
 use lib.Pointwise.{pointwise}
-use Rattle.vob.specs.Bits.{bitwise, differs}
+use Rattle.vob.specs.Bits.{bitwise}
 use Rattle.vob.specs.Packed.{Packs, blocks_for}
 use Rattle.vob.specs.Pointwise.{item_of}
 use Rattle.vob.specs.declared.sets.Pointwise.{Pointwise}

@@ -1,11 +1,9 @@
 -- Blocks of one width, spelled out one after another.
-use Rattle.std.proofs.Common.{◌≡◌, ℕ, suc, zero, ◌+◌, ◌-◌, ◌*◌, ◌/◌, ◌%◌, ◌<◌, ◌≤◌, Bool, true, false, not, ◌&&◌, ◌||◌, List, [], ◌∷◌, ◌++◌, length, get_or, set, take, drop, replicate, map, refl, sym, ap, ap₂, ◌∙◌, subst, arith, inl, inr}
+use Rattle.std.proofs.Common.{◌≡◌, ℕ, suc, zero, ◌+◌, ◌-◌, ◌*◌, ◌/◌, ◌%◌, ◌<◌, ◌≤◌, Bool, false, List, [], ◌∷◌, ◌++◌, length, get_or, set, take, drop, sym, ap, ap₂, ◌∙◌, arith}
 use Rattle.std.specs.List.{flat_map}
-use Rattle.std.proofs.lemmas.List.{length-append, length-take, length-drop, length-replicate, length-set, append_assoc, append-nil, take_at, drop_at, get_or_append_left, get_or-append-add, get_or-append_right, set-append_left, set-append_right, get_or_past, take-append-le, drop-append-le, take-append-drop, set_past}
+use Rattle.std.proofs.lemmas.List.{length-append, length-take, take_at, drop_at, get_or_append_left, get_or-append-add, set-append_left, set-append_right, take-append-drop}
 use Rattle.std.proofs.lemmas.List.Concat.{flat_map-append}
-use Rattle.std.proofs.Math.Nat.{suc-mul, div-add-mod'}
-use Rattle.std.proofs.lemmas.Bool.{cases_lt}
-use Rattle.vob.specs.Bits.{bitwise, differs, count_true}
+use Rattle.std.proofs.Math.Nat.{div-add-mod'}
 
 module _ {X : Type 0} (f : X → List Bool) (w : ℕ) (each : (x : X) → length (f x) ≡ w) where
   pub length-spelled : (xs : List X) → length (flat_map f xs) ≡ length xs * w

@@ -1,14 +1,14 @@
 -- Walks over the places of a list.
-use Rattle.std.proofs.Common.{◌≡◌, ℕ, suc, zero, ◌+◌, ◌-◌, ◌*◌, ◌/◌, ◌%◌, ◌<◌, ◌≤◌, min, Bool, true, false, not, cond, List, [], ◌∷◌, ◌++◌, length, get_or, take, drop, replicate, map, refl, sym, ap, ap₂, ◌∙◌, subst, arith, inl, inr}
+use Rattle.std.proofs.Common.{◌≡◌, ℕ, suc, zero, ◌+◌, ◌-◌, ◌*◌, ◌/◌, ◌%◌, ◌<◌, ◌≤◌, min, Bool, true, false, not, cond, List, [], ◌∷◌, ◌++◌, length, get_or, take, drop, replicate, map, refl, sym, ap, ap₂, ◌∙◌, arith, inl, inr}
 use Rattle.std.specs.List.{flat_map, filter, range_with_len}
-use Rattle.std.proofs.lemmas.List.{get_or_default, append-nil, get_or_append_left, get_or-append_right, get_or-drop, get_or-take, length-drop, length-take, length-map, length-replicate, get_or-map, drop-append-le, drop-take, get_or_past}
+use Rattle.std.proofs.lemmas.List.{get_or_default, get_or_append_left, get_or-append_right, get_or-drop, get_or-take, length-drop, length-take, length-map, length-replicate, get_or-map, drop-append-le, drop-take}
 use Rattle.std.proofs.lemmas.Nat.{mod_below}
 use Rattle.std.proofs.lemmas.Bool.{cases_lt}
 use Rattle.std.proofs.Math.Nat.{div-add-mod'}
 use Rattle.vob.proofs.Spell as spell
 use Rattle.vob.proofs.Pack as pack
 use Rattle.vob.specs.Bits.{count_true}
-use Rattle.vob.specs.Walk.{has_item, places, places_of, walk}
+use Rattle.vob.specs.Walk.{has_item, places_of}
 
 has_is : (v : Bool) (bits : List Bool) (i : ℕ) → i < length bits → get_or bits i false ≡ v → has_item v bits i ≡ true
 has_is true bits i h e = e

@@ -1,7 +1,5 @@
 -- Lists of truth values.
-use Rattle.std.specs.Prelude.{◌≡◌, ℕ, ◌+◌, Bool, true, false, not, ◌||◌, List, [], ◌∷◌, suc, zero, length, if◌then◌else◌}
-use lib.Pointwise.{pointwise}
-use mathlib.Core.Bool.{beq}
+use Rattle.std.specs.Prelude.{◌≡◌, ◌≢◌, ◌↔◌, ℕ, Bool, true, false, not, ◌||◌, List, [], ◌∷◌, suc, zero, length, IsTrue}
 
 -- the two lists item by item, as far as the shorter one goes
 abbrev pub bitwise : (Bool → Bool → Bool) → List Bool → List Bool → List Bool
@@ -20,13 +18,10 @@ count_true [] = zero
 count_true (true ∷ xs) = suc (count_true xs)
 count_true (false ∷ xs) = count_true xs
 
--- each of the lists has this length
-abbrev pub AllLong : ℕ → List (List Bool) → Type 0
-AllLong n [] = Unit {0}
-AllLong n (ys ∷ yss) = (length ys ≡ n) × AllLong n yss
-
--- how many of the lists change a list, when each is joined to it in turn
-abbrev pub changes_of : List Bool → List (List Bool) → ℕ
-changes_of xs [] = 0
-changes_of xs (ys ∷ yss) =
-    (if pointwise beq (bitwise (λ x y. x || y) xs ys) xs then 0 else 1) + changes_of (bitwise (λ x y. x || y) xs ys) yss
+-- lists of one length are joined to a list in turn, and each join answers whether it changed the list
+abbrev pub Joins : List Bool → List (List Bool) → List Bool → Type 0
+Joins xs [] [] = Unit {0}
+Joins xs [] (flag ∷ flags) = ⊥
+Joins xs (ys ∷ yss) [] = ⊥
+Joins xs (ys ∷ yss) (flag ∷ flags) =
+    (length ys ≡ length xs) × (IsTrue flag ↔ (bitwise (λ x y. x || y) xs ys ≢ xs)) × Joins (bitwise (λ x y. x || y) xs ys) yss flags

@@ -3,4 +3,6 @@ pub mod Digits
 pub mod Packed
 pub mod Pointwise
 pub mod Walk
-pub mod Alike
+pub mod Fed
+pub mod Lends
+pub mod Refusal

@@ -1,5 +1,5 @@
 -- How a list of truth values is kept in blocks: bit j of the block k is the item k * w + j, where a block has w bits.
-use Rattle.std.specs.Prelude.{◌≡◌, ℕ, ◌+◌, ◌-◌, ◌*◌, ◌/◌, ◌%◌, ◌<◌, ◌≤◌, ◌==◌, Bool, false, List, length, drop, replicate, if◌then◌else◌}
+use Rattle.std.specs.Prelude.{◌≡◌, ℕ, ◌+◌, ◌-◌, ◌*◌, ◌/◌, ◌%◌, ◌==◌, Bool, false, List, length, drop, replicate, if◌then◌else◌}
 
 -- what contracts see of a Vob: its items, and how many it has room for
 pub record Contents : Type 0 where

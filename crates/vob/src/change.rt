@@ -1,9 +1,10 @@
 //! Changes of one list.
 #![tactic(auto)]
 
-ghost use Rattle.std.specs.Prelude.{◌≡◌, ◌<◌, ◌≤◌, ◌+◌, ◌-◌, ◌*◌, ◌^◌, ◌==◌, ◌↔◌, ℕ, Bool, true, false, not, List, [], ◌∷◌, ◌++◌, length, map, take, drop, replicate, slice_index_or, slice_set, slice_get, option_to_list, IsTrue, IsOk, IsSome, IfOk, OnOk, OnErr, IsErrOf, alloc_error};
+ghost use Rattle.std.specs.Prelude.{◌≡◌, ◌<◌, ◌≤◌, ◌+◌, ◌-◌, ◌*◌, ◌^◌, ◌==◌, ◌↔◌, ℕ, Bool, true, false, not, List, [], ◌∷◌, ◌++◌, length, map, take, drop, replicate, slice_index_or, slice_set, slice_get, option_to_list, IsTrue, IsOk, IsSome, IfOk, IfErr, OnOk, OnErr, IsErrOf, alloc_error};
 ghost use Rattle.std.specs.List.{flat_map};
 ghost use Rattle.vob.specs.Packed.{Contents, blocks_for};
+ghost use Rattle.vob.specs.Refusal.{IsGrowthRefusal};
 
 use crate::block::Block;
 use crate::error::VobError;
@@ -37,10 +38,12 @@ impl<T: Block> Vob<T> {
     }
 
     /// Adds an item at the end.
+    #[tactic(auto, using(crate::proofs::Refused::all_refusals))]
     pub fn push(&mut self, value: bool) -> Result<(), VobError>
         ensures ok { OnOk result (self.new.bits ≡ self.old.bits ++ value ∷ []) }
         ensures err { OnErr result (self.new.bits ≡ self.old.bits) }
         ensures too_long { IsErrOf result VobError.TooLong ↔ (length self.old.bits ≡ usize.MAX) }
+        ensures cause { IfErr result IsGrowthRefusal }
         ensures room { length self.old.bits < self.old.capacity → IsOk result }
         ensures capacity { self.old.capacity ≤ self.new.capacity }
     {
@@ -89,10 +92,12 @@ impl<T: Block> Vob<T> {
     }
 
     /// Makes room for so many items more.
+    #[tactic(auto, using(crate::proofs::Refused::all_refusals))]
     pub fn reserve(&mut self, additional: usize) -> Result<(), VobError>
         ensures bits { self.new.bits ≡ self.old.bits }
         ensures ok { OnOk result (length self.old.bits + additional ≤ self.new.capacity) }
         ensures too_long { IsErrOf result VobError.TooLong ↔ (usize.MAX < length self.old.bits + additional) }
+        ensures cause { IfErr result IsGrowthRefusal }
         ensures room { length self.old.bits + additional ≤ self.old.capacity → IsOk result }
         ensures capacity { self.old.capacity ≤ self.new.capacity }
     {
@@ -105,10 +110,11 @@ impl<T: Block> Vob<T> {
         Ok(())
     }
 
-    /// Gives back room that no item needs.
+    /// Gives back room that no item needs. Where the allocator refuses a smaller place, the room stays.
     pub fn shrink_to_fit(&mut self)
         ensures bits { self.new.bits ≡ self.old.bits }
         ensures capacity { self.new.capacity ≤ self.old.capacity }
+        ensures frees { length self.old.bits ≡ 0 → self.new.capacity ≡ 0 }
     {
         self.blocks.shrink_to_fit();
     }
@@ -117,6 +123,8 @@ impl<T: Block> Vob<T> {
     pub fn resize(&mut self, new_len: usize, value: bool) -> Result<(), AllocError>
         ensures ok { OnOk result (self.new.bits ≡ take new_len self.old.bits ++ replicate (new_len - length self.old.bits) value) }
         ensures err { OnErr result (self.new.bits ≡ self.old.bits) }
+        ensures shrinks { new_len ≤ length self.old.bits → IsOk result }
+        ensures room { new_len ≤ self.old.capacity → IsOk result }
         ensures capacity { self.old.capacity ≤ self.new.capacity }
     {
         if new_len <= self.len {

@@ -1,14 +1,14 @@
 //! Walks over a list from both ends.
 #![tactic(auto)]
 
-ghost use Rattle.std.specs.Prelude.{◌≡◌, ◌<◌, ◌≤◌, ◌+◌, ◌-◌, ℕ, Bool, true, false, List, [], ◌∷◌, ◌++◌, length, map, take, drop, min, IsTrue, IfSome, MatchOption, Some, None};
+ghost use Rattle.std.specs.Prelude.{◌≡◌, ◌<◌, ◌≤◌, ◌+◌, ◌-◌, ℕ, Bool, true, false, List, ◌++◌, length, take, drop, min, IfSome, Some, None};
 ghost use Rattle.std.specs.List.{flat_map};
 ghost use Rattle.std.specs.Iterator.{YieldsFirst, YieldsLast, item_count, UpTo, at_most};
 ghost use Rattle.std.specs.Iterator.SizeHint.{IsWithinCount};
 ghost use Rattle.std.specs.Range.Bound.{start_index, end_index, bound_map};
 ghost use Rattle.std.specs.Prelude.{replicate, ◌*◌};
-ghost use Rattle.vob.specs.Packed.{Contents, blocks_for};
-ghost use Rattle.vob.specs.Walk.{walk, places_of};
+ghost use Rattle.vob.specs.Packed.{blocks_for};
+ghost use Rattle.vob.specs.Walk.{walk};
 
 use crate::block::Block;
 use crate::places::Places;
@@ -158,7 +158,7 @@ impl<'a, T: Block> Iter<'a, T> {
     pub fn count(self) -> usize
         ensures { result ≡ length self.entry }
     {
-        self.to - self.from
+        self.len()
     }
 }
 
@@ -228,6 +228,16 @@ impl<'a, T: Block> Iterator for IterSetBits<'a, T> {
     fn next(&mut self) -> Option<usize> {
         self.places.first()
     }
+
+    /// Nothing is known of how many places are left before they are walked over.
+    fn size_hint(&self) -> (usize, Option<usize>)
+        ensures lower { result.0 ≡ 0 }
+        ensures upper { result.1 ≡ None }
+        ensures within { IsWithinCount result.0 (at_most (length self.now)) }
+        ensures up_to { IfSome result.1 (UpTo (at_most (length self.now))) }
+    {
+        (0, None)
+    }
 }
 
 impl<'a, T: Block> DoubleEndedIterator for IterSetBits<'a, T> {
@@ -258,6 +268,16 @@ impl<'a, T: Block> Iterator for IterUnsetBits<'a, T> {
 
     fn next(&mut self) -> Option<usize> {
         self.places.first()
+    }
+
+    /// Nothing is known of how many places are left before they are walked over.
+    fn size_hint(&self) -> (usize, Option<usize>)
+        ensures lower { result.0 ≡ 0 }
+        ensures upper { result.1 ≡ None }
+        ensures within { IsWithinCount result.0 (at_most (length self.now)) }
+        ensures up_to { IfSome result.1 (UpTo (at_most (length self.now))) }
+    {
+        (0, None)
     }
 }
 

@@ -1,12 +1,26 @@
 //! Laws of the definitions that the contracts name.
 #![tactic(auto)]
 
-ghost use Rattle.std.specs.Prelude.{◌≡◌, ◌<◌, ◌≤◌, ◌+◌, ◌-◌, ◌&&◌, ◌||◌, ◌↔◌, ℕ, Bool, true, false, not, List, ◌++◌, length, map, take, drop, replicate, min, Option, Some, None};
-ghost use Rattle.std.specs.Iterator.{YieldsFirst, YieldsLast};
+ghost use Rattle.std.specs.Prelude.{◌≡◌, ◌≢◌, ◌⊎◌, ◌<◌, ◌≤◌, ◌+◌, ◌-◌, ◌*◌, ◌&&◌, ◌||◌, ◌↔◌, ℕ, Bool, true, false, not, List, [], ◌∷◌, ◌++◌, length, map, take, drop, replicate, min, slice_index_or, slice_set, option_to_list, IsTrue, IsSome, Option, Some, None, Contains};
+ghost use Rattle.std.specs.Iterator.{YieldsFirst, YieldsLast, Drains};
+ghost use Rattle.std.specs.List.{flat_map, fold};
 ghost use Rattle.std.specs.Range.Bound.{start_index, end_index};
 ghost use Rattle.std.specs.declared.ops.Bound.{Bound};
-ghost use Rattle.vob.specs.Bits.{bitwise, differs, changes_of, AllLong};
+ghost use Rattle.vob.specs.Bits.{bitwise, differs, count_true, Joins};
+ghost use Rattle.vob.specs.Packed.{Contents, blocks_for};
 ghost use Rattle.vob.specs.Walk.{walk, has_item};
+
+use crate::Vob;
+use crate::block::Block;
+use std::hash::Hash;
+
+/// `==` answers true exactly if the lists are equal, and equal lists feed a hasher the same. Stored blocks
+/// of two lists have the same bits, and the lists one length, exactly if the lists are equal.
+pub fn equal_as_lists<T: Block>()
+    ensures equal { (a b : Contents) → IsTrue (⟦<Vob<T> as PartialEq>⟧.eq a b) ↔ (a.bits ≡ b.bits) }
+    ensures hash { (a b : Contents) → a.bits ≡ b.bits → ⟦<Vob<T> as Hash>⟧.hash_input a ≡ ⟦<Vob<T> as Hash>⟧.hash_input b }
+    ensures storage { (a b : List Bool) (xs ys : List T) → flat_map T.bits xs ≡ a ++ replicate (blocks_for T.BITS (length a) * T.BITS - length a) false → flat_map T.bits ys ≡ b ++ replicate (blocks_for T.BITS (length b) * T.BITS - length b) false → (a ≡ b) ↔ ((length a ≡ length b) × (flat_map T.bits xs ≡ flat_map T.bits ys)) }
+{}
 
 /// Turning every item twice changes nothing.
 pub fn negate_twice()
@@ -18,9 +32,10 @@ pub fn xor_with_itself()
     ensures { (xs : List Bool) → bitwise differs xs xs ≡ replicate (length xs) false }
 {}
 
-/// De Morgan's law.
-pub fn negated_and()
-    ensures { (xs ys : List Bool) → map not (bitwise (λ x y. x && y) xs ys) ≡ bitwise (λ x y. x || y) (map not xs) (map not ys) }
+/// De Morgan's laws.
+pub fn negated_joins()
+    ensures and { (xs ys : List Bool) → map not (bitwise (λ x y. x && y) xs ys) ≡ bitwise (λ x y. x || y) (map not xs) (map not ys) }
+    ensures or { (xs ys : List Bool) → map not (bitwise (λ x y. x || y) xs ys) ≡ bitwise (λ x y. x && y) (map not xs) (map not ys) }
 {}
 
 /// What `split_off` parts, `extend_from_vob` joins.
@@ -28,14 +43,46 @@ pub fn parts_join()
     ensures { (xs : List Bool) (at : ℕ) → take at xs ++ drop at xs ≡ xs }
 {}
 
+/// What `extend_from_vob` and `extend_from_slice` leave is what pushing each item in order leaves.
+pub fn pushes_append()
+    ensures { (xs ys : List Bool) → fold (λ (zs : List Bool) (y : Bool). zs ++ y ∷ []) xs ys ≡ xs ++ ys }
+{}
+
+/// After `reserve(n)` succeeded, whose clause is the first premise, n items may be pushed before the length
+/// is at the capacity, below which `push` isn't refused.
+pub fn reserved_room_takes_pushes()
+    ensures { (xs pushed : List Bool) (n capacity : ℕ) → length xs + n ≤ capacity → length pushed < n → length (xs ++ pushed) < capacity }
+{}
+
+/// `set`, which compares the item with the value, answers true exactly if the list changes.
+pub fn set_changes_the_list()
+    ensures { (xs : List Bool) (place : ℕ) (value : Bool) → place < length xs → (slice_index_or xs place false ≡ not value) ↔ (slice_set xs place value ≢ xs) }
+{}
+
+/// A walk has exactly those places of the range, cut at the length, whose item has the value.
+pub fn walks_find_all()
+    ensures { (value : Bool) (xs : List Bool) (start end : Bound ℕ) (place : ℕ) → Contains (walk value xs start end) place ↔ ((start_index start ≤ place) × (place < min (end_index end (length xs)) (length xs)) × (slice_index_or xs place false ≡ value)) }
+{}
+
+/// The set and the unset places of a range are disjoint, and together all of it, cut at the length.
+pub fn set_and_unset_split_the_range()
+    ensures disjoint { (xs : List Bool) (start end : Bound ℕ) (place : ℕ) → Contains (walk true xs start end) place → Contains (walk false xs start end) place → ⊥ }
+    ensures together { (xs : List Bool) (start end : Bound ℕ) (place : ℕ) → start_index start ≤ place → place < min (end_index end (length xs)) (length xs) → Contains (walk true xs start end) place ⊎ Contains (walk false xs start end) place }
+    ensures counts { (xs : List Bool) (start end : Bound ℕ) → length (walk true xs start end) + length (walk false xs start end) ≡ min (end_index end (length xs)) (length xs) - start_index start }
+{}
+
 /// A place within the length is set or unset, and not both.
 pub fn set_or_unset()
     ensures { (xs : List Bool) (place : ℕ) → place < length xs → has_item false xs place ≡ not (has_item true xs place) }
 {}
 
-/// The set and the unset places of a range are as many as the range, cut at the length, has.
-pub fn counts_add_up()
-    ensures { (xs : List Bool) (start end : Bound ℕ) → length (walk true xs start end) + length (walk false xs start end) ≡ min (end_index end (length xs)) (length xs) - start_index start }
+/// `count`, the length of what is left of a walk, is how many places it would still give, from either end
+/// and after any places that it gave.
+pub fn counts_are_what_comes()
+    ensures front { (s xs : List ℕ) → Drains (YieldsFirst (λ (l : List ℕ). l)) s xs → length xs ≡ length s }
+    ensures back { (s xs : List ℕ) → Drains (YieldsLast (λ (l : List ℕ). l)) s xs → length xs ≡ length s }
+    ensures after_next { (s t : List ℕ) (place : ℕ) → YieldsFirst (λ (l : List ℕ). l) s (Some place) t → length s ≡ length t + 1 }
+    ensures after_next_back { (s t : List ℕ) (place : ℕ) → YieldsLast (λ (l : List ℕ). l) s (Some place) t → length s ≡ length t + 1 }
 {}
 
 /// A walk that answered None gives nothing more, from either end.
@@ -46,7 +93,22 @@ pub fn an_ended_walk_stays_ended()
     ensures back_again { (s t u : List ℕ) (r : Option ℕ) → YieldsLast (λ (l : List ℕ). l) s None t → YieldsLast (λ (l : List ℕ). l) t r u → r ≡ None }
 {}
 
-/// Lists that are joined to one in turn change it at most as often as it has items.
+/// Where lists are joined to one in turn, `or` answers true at most as often as the list has items.
 pub fn or_changes_seldom()
-    ensures { (xs : List Bool) (others : List (List Bool)) → AllLong (length xs) others → changes_of xs others ≤ length xs }
+    ensures { (xs : List Bool) (others : List (List Bool)) (flags : List Bool) → Joins xs others flags → count_true flags ≤ length xs }
+{}
+
+/// What a call leaves and answers is told by its clauses from the items alone, without the type of the
+/// blocks, so it is the same in blocks of every type: where a clause gives no value but a condition, as for
+/// the flag of a change, a step of a walk or what `pop` takes, two answers that meet it are one. Stored
+/// blocks of two types spell the same items.
+pub fn block_types_agree<T: Block, U: Block>()
+    ensures changed { (old new : List Bool) (a b : Bool) → (IsTrue a ↔ (new ≢ old)) → (IsTrue b ↔ (new ≢ old)) → a ≡ b }
+    ensures set { (xs : List Bool) (place : ℕ) (value a b : Bool) → (IsTrue a ↔ (slice_index_or xs place false ≡ not value)) → (IsTrue b ↔ (slice_index_or xs place false ≡ not value)) → a ≡ b }
+    ensures next { (s t u : List ℕ) (a b : Option ℕ) → YieldsFirst (λ (l : List ℕ). l) s a t → YieldsFirst (λ (l : List ℕ). l) s b u → (a ≡ b) × (t ≡ u) }
+    ensures next_back { (s t u : List ℕ) (a b : Option ℕ) → YieldsLast (λ (l : List ℕ). l) s a t → YieldsLast (λ (l : List ℕ). l) s b u → (a ≡ b) × (t ≡ u) }
+    ensures item { (s t u : List Bool) (a b : Option Bool) → YieldsFirst (λ (l : List Bool). l) s a t → YieldsFirst (λ (l : List Bool). l) s b u → (a ≡ b) × (t ≡ u) }
+    ensures item_back { (s t u : List Bool) (a b : Option Bool) → YieldsLast (λ (l : List Bool). l) s a t → YieldsLast (λ (l : List Bool). l) s b u → (a ≡ b) × (t ≡ u) }
+    ensures pop { (old t u : List Bool) (a b : Option Bool) → old ≡ t ++ option_to_list a → old ≡ u ++ option_to_list b → (IsSome a ↔ (0 < length old)) → (IsSome b ↔ (0 < length old)) → (a ≡ b) × (t ≡ u) }
+    ensures storage { (bits : List Bool) (xs : List T) (ys : List U) → flat_map T.bits xs ≡ bits ++ replicate (blocks_for T.BITS (length bits) * T.BITS - length bits) false → flat_map U.bits ys ≡ bits ++ replicate (blocks_for U.BITS (length bits) * U.BITS - length bits) false → take (length bits) (flat_map T.bits xs) ≡ take (length bits) (flat_map U.bits ys) }
 {}

@@ -6,7 +6,7 @@
 //! `iter_set_bits` and `iter_unset_bits`, whose places are a filter of a range that is cut at the length.
 #![tactic(auto)]
 
-ghost use Rattle.std.specs.Prelude.{◌≡◌, ◌<◌, ◌≤◌, ◌+◌, ◌-◌, ◌*◌, ◌^◌, ◌==◌, ◌↔◌, ℕ, Bool, true, false, not, List, [], ◌∷◌, ◌++◌, length, map, take, drop, replicate, slice_index_or, slice_set, slice_get, IsTrue, IfOk, OnOk, OnErr, IsErrOf, alloc_error};
+ghost use Rattle.std.specs.Prelude.{◌≡◌, ◌<◌, ◌≤◌, ◌+◌, ◌-◌, ◌*◌, ◌^◌, ◌==◌, ◌↔◌, false, [], ◌++◌, length, take, replicate, slice_index_or, slice_get, IsTrue, IfOk};
 ghost use Rattle.std.specs.List.{flat_map};
 ghost use Rattle.vob.specs.Packed.{Contents, blocks_for};
 
@@ -14,6 +14,7 @@ pub mod block;
 mod change;
 pub mod error;
 pub mod iter;
+mod joining;
 pub mod laws;
 mod list;
 mod packed;
@@ -23,13 +24,12 @@ mod sets;
 mod traits;
 
 use crate::block::Block;
-use std::alloc::{AllocError, AllocFailed, Global};
+use std::alloc::{AllocError, Global};
 use std::marker::Model;
-use thiserror::Error;
 
 /// A list of truth values in blocks of `T`.
 #[derive(Drop)]
-pub struct Vob<T: Block> {
+pub struct Vob<T: Block = usize> {
     len: usize,
     blocks: Vec<T>,
 }
@@ -162,3 +162,5 @@ macro_rules! vob {
 
 #[cfg(test)]
 mod tests;
+#[cfg(test)]
+mod tests_list;

@@ -1,7 +1,7 @@
 //! Blocks as one list of bits.
 #![tactic(auto)]
 
-ghost use Rattle.std.specs.Prelude.{◌≡◌, ◌<◌, ◌≤◌, ◌+◌, ◌-◌, ◌*◌, ◌↔◌, ℕ, Bool, true, false, not, List, ◌++◌, length, map, take, drop, replicate, slice_index_or, slice_set, IsTrue, OnOk, OnErr};
+ghost use Rattle.std.specs.Prelude.{◌≡◌, ◌<◌, ◌≤◌, ◌+◌, ◌-◌, ◌*◌, ◌↔◌, ℕ, Bool, true, false, not, List, ◌++◌, length, map, take, drop, replicate, slice_index_or, slice_set, IsTrue, IsOk, OnOk, OnErr};
 ghost use Rattle.std.specs.List.{flat_map};
 ghost use Rattle.std.specs.Vec.{vec_capacity};
 ghost use Rattle.vob.specs.Packed.{Packs, Spells, blocks_for};
@@ -74,6 +74,7 @@ pub fn widen<T: Block>(
     requires more { len ≤ new_len }
     ensures ok { OnOk result (flat_map T.bits blocks.new.items ≡ (take len (flat_map T.bits blocks.old.items) ++ replicate (new_len - len) value) ++ replicate (blocks_for T.BITS new_len * T.BITS - new_len) false) }
     ensures err { OnErr result (blocks.new.items ≡ blocks.old.items) }
+    ensures room { new_len ≤ vec_capacity blocks.old * T.BITS → IsOk result }
     ensures capacity { vec_capacity blocks.old ≤ vec_capacity blocks.new }
 {
     blocks.resize(blocks_for::<T>(new_len), T::filled(value))?;

@@ -1,9 +1,8 @@
 //! The places of the bits that have one value, from either end, block by block.
 #![tactic(auto)]
 
-ghost use Rattle.std.specs.Prelude.{◌≡◌, ◌<◌, ◌≤◌, ◌+◌, ◌-◌, ◌*◌, ◌↔◌, ℕ, Bool, true, false, not, List, [], ◌∷◌, ◌++◌, length, map, take, drop, slice_index_or, IsTrue, MatchOption, if◌then◌else◌};
+ghost use Rattle.std.specs.Prelude.{◌≡◌, ◌<◌, ◌≤◌, ◌+◌, ◌-◌, ℕ, false, not, List, [], ◌∷◌, ◌++◌, length, map, slice_index_or, MatchOption, if◌then◌else◌};
 ghost use Rattle.std.specs.List.{flat_map};
-ghost use Rattle.std.specs.Iterator.{YieldsFirst, YieldsLast, item_count};
 ghost use Rattle.vob.specs.Walk.{places_of};
 
 use crate::block::Block;

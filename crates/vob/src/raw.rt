@@ -1,7 +1,7 @@
 //! Raw storage, which is tested on its way back.
 #![tactic(auto)]
 
-ghost use Rattle.std.specs.Prelude.{◌≡◌, ◌<◌, ◌≤◌, ◌+◌, ◌-◌, ◌*◌, ◌↔◌, Bool, true, false, List, ◌++◌, length, take, drop, replicate, IsTrue, IfOk, IfErr};
+ghost use Rattle.std.specs.Prelude.{◌≡◌, ◌<◌, ◌+◌, ◌-◌, ◌*◌, false, ◌++◌, length, take, replicate, IfOk, IfErr};
 ghost use Rattle.std.specs.List.{flat_map};
 ghost use Rattle.vob.specs.Packed.{Spells, blocks_for};
 
@@ -36,8 +36,12 @@ impl<T: Block> Vob<T> {
 }
 
 impl<T: Block> RawVob<T> {
-    /// The blocks.
+    ghost use Rattle.std.specs.Borrow.{sem};
+    ghost use Rattle.vob.specs.Lends.{lends_blocks};
+
+    /// The blocks, to be read and written. The length stays as it is, whatever is written.
     pub fn get_storage_mut(&mut self) -> &mut Vec<T>
+        ensures* writes_back { sem 𝓛 (lends_blocks T.row self.entry result) }
         ensures value { result.now ≡ self.old.blocks }
     {
         &mut self.blocks

@@ -1,11 +1,10 @@
 //! Lists as sets of places: operations on two lists, a block at a time.
 #![tactic(auto)]
 
-ghost use Rattle.std.specs.Prelude.{◌≡◌, ◌≢◌, ◌<◌, ◌≤◌, ◌+◌, ◌-◌, ◌*◌, ◌==◌, ◌↔◌, ◌&&◌, ◌||◌, ℕ, Bool, true, false, not, List, [], ◌∷◌, ◌++◌, length, map, take, drop, replicate, slice_index_or, IsTrue, IfOk, refl};
+ghost use Rattle.std.specs.Prelude.{◌≡◌, ◌≢◌, ◌<◌, ◌-◌, ◌↔◌, ◌&&◌, ◌||◌, true, false, not, length, map, replicate, IsTrue};
 ghost use Rattle.std.specs.List.{flat_map};
 ghost use Rattle.std.specs.Vec.{vec_capacity};
 ghost use Rattle.vob.specs.Bits.{bitwise, differs};
-ghost use Rattle.vob.specs.Packed.{Contents, blocks_for};
 ghost use Rattle.vob.specs.Pointwise.{item_of};
 
 use crate::block::Block;

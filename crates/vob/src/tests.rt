@@ -1,3 +1,5 @@
+ghost use Rattle.std.specs.Prelude.{◌<◌};
+
 use super::*;
 use crate::error::VobError;
 use crate::raw::{RawVob, VobRecord};
@@ -193,5 +195,149 @@ fn records_are_tested(rt: HostRuntime) -> Result<(), Fail> {
         vec: vec![in rt.alloc(); 5usize]?,
     };
     assert!(rt; Vob::from_record(bad).is_err());
+    Ok(())
+}
+
+fn every<T: Block>(alloc: Global, step: usize, len: usize) -> Result<Vob<T>, Fail>
+    requires { 0 < step }
+{
+    let mut list = Vob::new_with_storage_type(alloc, 0)?;
+    'each: for place in 0..len {
+        list.push(place % step == 0)?;
+    }
+    Ok(list)
+}
+
+// 200 items, of which each third and each second is set: 67 of them, 100, and 34 that both are.
+fn is_a_set<T: Block>(rt: &impl Abort, alloc: Global) -> Result<(), Fail> {
+    let mut list: Vob<T> = every(alloc, 3, 200)?;
+    let seconds: Vob<T> = every(alloc, 2, 200)?;
+    assert_eq!(rt; list.get(198), Some(true));
+    assert_eq!(rt; list.get(199), Some(false));
+    assert_eq!(rt; list.get(200), None);
+    assert_eq!(rt; list.iter_set_bits(..).count(), 67);
+    assert_eq!(rt; list.iter_set_bits(100..150).count(), 16);
+    assert_eq!(rt; list.iter_unset_bits(100..150).count(), 34);
+    let mut walk = list.iter_set_bits(100..150);
+    assert_eq!(rt; walk.next(), Some(102));
+    assert_eq!(rt; walk.next_back(), Some(147));
+    assert_eq!(rt; walk.count(), 14);
+    assert!(rt; list.len() == seconds.len());
+    assert!(rt; list.or(&seconds));
+    assert_eq!(rt; list.iter_set_bits(..).count(), 133);
+    assert!(rt; list.len() == seconds.len());
+    assert!(rt; !list.or(&seconds));
+    assert!(rt; list.len() == seconds.len());
+    assert!(rt; list.and(&seconds));
+    assert!(rt; list == seconds);
+    assert!(rt; list.len() == seconds.len());
+    assert!(rt; list.xor(&seconds));
+    assert_eq!(rt; list.iter_unset_bits(..).count(), 200);
+    assert!(rt; list != seconds);
+    list.negate();
+    assert_eq!(rt; list.iter_set_bits(..).count(), 200);
+    Ok(())
+}
+
+#[test]
+fn blocks_of_each_type_make_a_set(rt: HostRuntime) -> Result<(), Fail> {
+    is_a_set::<u8>(&rt, rt.alloc())?;
+    is_a_set::<u16>(&rt, rt.alloc())?;
+    is_a_set::<u32>(&rt, rt.alloc())?;
+    is_a_set::<u64>(&rt, rt.alloc())?;
+    is_a_set::<u128>(&rt, rt.alloc())?;
+    is_a_set::<usize>(&rt, rt.alloc())?;
+    Ok(())
+}
+
+#[test]
+fn lent_blocks_are_written(rt: HostRuntime) -> Result<(), Fail> {
+    let mut raw = nine_bytes(rt.alloc())?.into_raw();
+    raw.get_storage_mut().push(0xff)?;
+    raw.set_len(20);
+    let Err(mut raw) = raw.into_vob() else {
+        panic!(rt; "an unused bit was taken")
+    };
+    let blocks = raw.get_storage_mut();
+    assert!(rt; blocks.len() == 3);
+    blocks[2] = 0x0a;
+    let Ok(list) = raw.into_vob() else {
+        panic!(rt; "good blocks were refused")
+    };
+    assert_eq!(rt; list.len(), 20);
+    assert_eq!(rt; list.get_storage(), [0xffu8, 0x01, 0x0a].as_slice());
+    Ok(())
+}
+
+// A call that was refused memory has changed nothing; a second try goes on from there.
+macro_rules! again {
+    ($rt:expr; $list:ident, $items:expr, $call:expr) => {
+        if $call.is_err() {
+            shows($rt, &$list, $items);
+            $call?;
+        }
+    };
+}
+
+fn full(alloc: Global, len: usize) -> Result<Vob<u8>, AllocError> {
+    let mut list = Vob::from_elem_with_storage_type(alloc, true, len)?;
+    list.shrink_to_fit();
+    Ok(list)
+}
+
+// What it shows when the Nth allocation fails: `rt try --test --fail-alloc 1..`.
+#[test]
+fn a_refused_call_changes_nothing(rt: HostRuntime) -> Result<(), Fail> {
+    let eight = [true; 8];
+    let mut list = full(rt.alloc(), 8)?;
+    again!(&rt; list, eight.as_slice(), list.push(false));
+    assert_eq!(rt; list.pop(), Some(false));
+    list.shrink_to_fit();
+    again!(&rt; list, eight.as_slice(), list.reserve(100));
+    assert!(rt; list.capacity() >= 108);
+    shows(&rt, &list, eight.as_slice());
+    list.shrink_to_fit();
+    again!(&rt; list, eight.as_slice(), list.resize(99, true));
+    assert_eq!(rt; list.iter_set_bits(..).count(), 99);
+    Ok(())
+}
+
+#[test]
+fn a_refused_join_changes_nothing(rt: HostRuntime) -> Result<(), Fail> {
+    let eight = [true; 8];
+    let mut list = full(rt.alloc(), 8)?;
+    again!(&rt; list, eight.as_slice(), list.extend_from_slice(eight.as_slice()));
+    shows(&rt, &list, [true; 16].as_slice());
+    list.truncate(8);
+    list.shrink_to_fit();
+    let more = full(rt.alloc(), 90)?;
+    again!(&rt; list, eight.as_slice(), list.extend_from_vob(&more));
+    shows(&rt, &list, [true; 98].as_slice());
+    shows(&rt, &more, [true; 90].as_slice());
+    assert!(rt; list.len() == 98);
+    let part = match list.split_off(8) {
+        Ok(part) => part,
+        Err(_) => {
+            shows(&rt, &list, [true; 98].as_slice());
+            assert!(rt; list.len() == 98);
+            list.split_off(8)?
+        }
+    };
+    shows(&rt, &list, eight.as_slice());
+    assert!(rt; part == more);
+    Ok(())
+}
+
+// A refused `extend` keeps the old items and a first part of the new ones, here the eighth item.
+#[test]
+fn a_refused_extension_keeps_a_part(rt: HostRuntime) -> Result<(), Fail> {
+    let items = [false, true, true];
+    let mut list = full(rt.alloc(), 7)?;
+    let told = list.extend(items.iter().copied());
+    let whole = [true, true, true, true, true, true, true, false, true, true];
+    match told {
+        Ok(()) => shows(&rt, &list, whole.as_slice()),
+        Err(_) => shows(&rt, &list, &whole[..8]),
+    }
     Ok(())
 }

@@ -1,18 +1,14 @@
 //! Traits of the standard library.
 #![tactic(auto)]
 
-ghost use Rattle.std.specs.Prelude.{◌≡◌, ◌<◌, ◌&&◌, ◌||◌, Bool, length, slice_index_or, IfOk, false};
-ghost use Rattle.std.proofs.Common.{rules};
+ghost use Rattle.std.specs.Prelude.{◌≡◌, ◌<◌, ◌↔◌, ◌&&◌, ◌||◌, length, slice_index_or, IsTrue, IfOk, false};
+ghost use Rattle.std.proofs.Common.{ap, rules};
+ghost use Rattle.std.specs.Cmp.{booleans_Decides};
+ghost use Rattle.std.specs.Cmp.Lexicographic.{pointwise, pointwise_decides};
 ghost use Rattle.std.specs.Cmp.Rules.{comparing};
-ghost use lib.Pointwise.{pointwise};
-ghost use mathlib.Core.Bool.{beq};
-ghost use Rattle.std.specs.Prelude.{true, ◌++◌};
-ghost use Rattle.std.specs.List.{flat_map};
-ghost use Rattle.std.specs.Hash as fed;
-ghost use Rattle.std.specs.declared.ops.Bound.TheVariants.{Unbounded};
-ghost use Rattle.vob.specs.Alike.{fed_alike};
-ghost use Rattle.vob.specs.Walk.{walk};
+ghost use Rattle.std.specs.Bool.{beq};
 ghost use Rattle.vob.specs.Bits.{bitwise, differs};
+ghost use Rattle.vob.specs.Fed.{fed_list};
 
 use crate::block::Block;
 use crate::{Vob, sets};
@@ -38,7 +34,10 @@ impl<T: Block> PartialEq for Vob<T> {
 
     ghost laws = { Prim.search (comparing, rules) };
 
-    fn eq(&self, other: &Vob<T>) -> bool {
+    fn eq(&self, other: &Vob<T>) -> bool
+        ensures gives { result ≡ pointwise beq self.now.bits other.now.bits }
+        ensures exactly { IsTrue result ↔ (self.now.bits ≡ other.now.bits) }
+    {
         if self.len != other.len {
             return false;
         }
@@ -51,9 +50,9 @@ impl<T: Block> Eq for Vob<T> {
 }
 
 impl<T: Block> Hash for Vob<T> {
-    ghost hash_input = { λ v. fed.usize (length v.bits) ++ flat_map fed.usize (walk true v.bits Unbounded Unbounded) };
+    ghost hash_input = { λ v. fed_list v.bits };
 
-    ghost respects_eq = { λ x y e. fed_alike x.bits y.bits e };
+    ghost respects_eq = { λ x y e. ap fed_list ((pointwise_decides booleans_Decides x.bits y.bits).0 e) };
 
     fn hash<H: Hasher>(&self, state: &mut H) {
         state.write_usize(self.len());
@@ -109,7 +108,7 @@ impl<'b, T: Block> BitAnd<&'b Vob<T>> for Vob<T> {
     ghost bitand_gives = { λ a b c. c.bits ≡ bitwise (λ x y. x && y) a.bits b.now.bits };
 
     fn bitand(mut self, other: &'b Vob<T>) -> Vob<T> {
-        self.and(other);
+        self &= other;
         self
     }
 }
@@ -146,7 +145,7 @@ impl<'b, T: Block> BitOr<&'b Vob<T>> for Vob<T> {
     ghost bitor_gives = { λ a b c. c.bits ≡ bitwise (λ x y. x || y) a.bits b.now.bits };
 
     fn bitor(mut self, other: &'b Vob<T>) -> Vob<T> {
-        self.or(other);
+        self |= other;
         self
     }
 }
@@ -183,7 +182,7 @@ impl<'b, T: Block> BitXor<&'b Vob<T>> for Vob<T> {
     ghost bitxor_gives = { λ a b c. c.bits ≡ bitwise differs a.bits b.now.bits };
 
     fn bitxor(mut self, other: &'b Vob<T>) -> Vob<T> {
-        self.xor(other);
+        self ^= other;
         self
     }
 }

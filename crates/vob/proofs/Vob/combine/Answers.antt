@@ -1,12 +1,10 @@
-use Rattle.std.proofs.Common.{◌≡◌, ℕ, ◌+◌, ◌-◌, ◌*◌, ◌/◌, ◌%◌, ◌^◌, ◌<◌, ◌≤◌, Bool, true, false, not, List, ◌&&◌, ◌||◌, [], ◌∷◌, ◌++◌, length, get_or, set, refl, sym, ap, ap₂, ◌∙◌, subst, arith, rules, replicate, take, drop, map, pos, Fits, w64, min}
+use Rattle.std.proofs.Common.{◌≡◌, length, sym, ap, ap₂, ◌∙◌, subst, arith, take}
 use Rattle.std.specs.List.{flat_map}
-use Rattle.vob.specs.Bits.{bitwise, differs, count_true}
-use Rattle.vob.specs.Packed.{Packs, blocks_for, Contents}
+use Rattle.vob.specs.Bits.{bitwise}
+use Rattle.vob.specs.Packed.{Packs}
 use Rattle.vob.proofs.Pack as pack
-use Rattle.vob.proofs.Spell as spell
 use Rattle.vob.proofs.Setwise as setwise
 use Rattle.vob.specs.Pointwise.{item_of}
-use Rattle.std.proofs.lemmas.List.{take-map, take-replicate, length-map, length-replicate}
 use Rattle.vob.proofs.Vob.combine.Goals as goal
 
 pub combine_blocks-requires : goal.combine_blocks-requires

@@ -1,12 +1,9 @@
-use Rattle.std.proofs.Common.{◌≡◌, ℕ, ◌+◌, ◌-◌, ◌*◌, ◌/◌, ◌%◌, ◌^◌, ◌<◌, ◌≤◌, Bool, true, false, not, List, ◌&&◌, ◌||◌, [], ◌∷◌, ◌++◌, length, get_or, set, refl, sym, ap, ap₂, ◌∙◌, subst, arith, rules, replicate, take, drop, map, pos, Fits, w64, min}
+use Rattle.std.proofs.Common.{◌≡◌, ◌-◌, ◌*◌, not, length, sym, ap, ◌∙◌, take, map}
 use Rattle.std.specs.List.{flat_map}
-use Rattle.vob.specs.Bits.{bitwise, differs, count_true}
-use Rattle.vob.specs.Packed.{Packs, blocks_for, Contents}
+use Rattle.vob.specs.Packed.{blocks_for}
 use Rattle.vob.proofs.Pack as pack
-use Rattle.vob.proofs.Spell as spell
 use Rattle.vob.proofs.Setwise as setwise
-use Rattle.vob.specs.Pointwise.{item_of}
-use Rattle.std.proofs.lemmas.List.{take-map, take-replicate, length-map, length-replicate}
+use Rattle.std.proofs.lemmas.List.{take-map, length-map}
 use Rattle.vob.proofs.Vob.negate.Goals as goal
 
 pub returns-clause-bits : goal.returns-clause-bits

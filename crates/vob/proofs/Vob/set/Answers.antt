@@ -1,10 +1,7 @@
-use Rattle.std.proofs.Common.{◌≡◌, ℕ, ◌+◌, ◌-◌, ◌*◌, ◌/◌, ◌%◌, ◌^◌, ◌<◌, ◌≤◌, Bool, true, false, not, List, ◌&&◌, ◌||◌, [], ◌∷◌, ◌++◌, length, get_or, set, refl, sym, ap, ap₂, ◌∙◌, subst, arith, rules, replicate, take, drop, map, pos, Fits, w64, min}
+use Rattle.std.proofs.Common.{◌≡◌, false, not, length, get_or, set, refl, sym, ap, ◌∙◌, arith, take}
 use Rattle.std.specs.List.{flat_map}
-use Rattle.vob.specs.Bits.{bitwise, differs, count_true}
-use Rattle.vob.specs.Packed.{Packs, blocks_for, Contents}
 use Rattle.std.proofs.lemmas.List.{get_or-take, set-get_or}
 use Rattle.vob.proofs.Pack as pack
-use Rattle.vob.proofs.Spell as spell
 use Rattle.vob.proofs.Vob.set.Goals as goal
 
 pub returns-then-before-value-clause-bits : goal.returns-then-before-value-clause-bits

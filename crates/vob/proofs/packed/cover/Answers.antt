@@ -1,9 +1,7 @@
-use Rattle.std.proofs.Common.{◌≡◌, ℕ, ◌+◌, ◌-◌, ◌*◌, ◌/◌, ◌%◌, ◌^◌, ◌<◌, ◌≤◌, Bool, true, false, not, List, ◌&&◌, ◌||◌, [], ◌∷◌, ◌++◌, length, get_or, set, refl, sym, ap, ap₂, ◌∙◌, subst, arith, rules, replicate, take, drop, map, pos, Fits, w64, min}
+use Rattle.std.proofs.Common.{◌≡◌, ◌%◌, ◌≤◌, [], ◌∷◌, ap, ◌∙◌, subst, arith}
 use Rattle.std.specs.List.{flat_map}
-use Rattle.vob.specs.Bits.{bitwise, differs, count_true}
-use Rattle.vob.specs.Packed.{Packs, blocks_for, Contents}
+use Rattle.vob.specs.Packed.{blocks_for}
 use Rattle.vob.proofs.Pack as pack
-use Rattle.vob.proofs.Spell as spell
 use Rattle.std.specs.Vec.{vec_capacity}
 use Rattle.std.proofs.lemmas.List.Concat.{flat_map-append}
 use Rattle.vob.proofs.packed.cover.Goals as goal

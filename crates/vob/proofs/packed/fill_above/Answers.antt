@@ -1,9 +1,7 @@
-use Rattle.std.proofs.Common.{◌≡◌, ℕ, ◌+◌, ◌-◌, ◌*◌, ◌/◌, ◌%◌, ◌^◌, ◌<◌, ◌≤◌, Bool, true, false, not, List, ◌&&◌, ◌||◌, [], ◌∷◌, ◌++◌, length, get_or, set, refl, sym, ap, ap₂, ◌∙◌, subst, arith, rules, replicate, take, drop, map, pos, Fits, w64, min}
+use Rattle.std.proofs.Common.{◌≡◌, ◌-◌, ◌/◌, ◌%◌, Bool, false, List, ◌||◌, ◌++◌, get_or, set, ap, ap₂, ◌∙◌, subst, arith, rules, replicate, take}
 use Rattle.std.specs.List.{flat_map}
-use Rattle.vob.specs.Bits.{bitwise, differs, count_true}
-use Rattle.vob.specs.Packed.{Packs, blocks_for, Contents}
+use Rattle.vob.specs.Bits.{bitwise}
 use Rattle.vob.proofs.Pack as pack
-use Rattle.vob.proofs.Spell as spell
 use Rattle.std.proofs.lemmas.Nat.{mod_below}
 use Rattle.std.proofs.Math.Nat.{div-add-mod'}
 use Rattle.vob.proofs.packed.fill_above.Goals as goal

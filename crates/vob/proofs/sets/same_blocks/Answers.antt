@@ -1,14 +1,7 @@
-use Rattle.std.proofs.Common.{◌≡◌, ℕ, ◌+◌, ◌-◌, ◌*◌, ◌/◌, ◌%◌, ◌^◌, ◌<◌, ◌≤◌, Bool, true, false, not, List, ◌&&◌, ◌||◌, [], ◌∷◌, ◌++◌, length, get_or, set, refl, sym, ap, ap₂, ◌∙◌, subst, arith, rules, replicate, take, drop, map, pos, Fits, w64, min}
-use Rattle.std.specs.List.{flat_map}
-use Rattle.vob.specs.Bits.{bitwise, differs, count_true}
-use Rattle.vob.specs.Packed.{Packs, blocks_for, Contents}
+use Rattle.std.proofs.Common.{◌≡◌, ◌<◌, false, length, sym, ◌∙◌, arith}
 use Rattle.vob.proofs.Pack as pack
-use Rattle.vob.proofs.Spell as spell
 use Rattle.vob.proofs.Setwise as setwise
 use Rattle.vob.proofs.Setwise.{same_bits}
-use Rattle.vob.specs.Pointwise.{item_of}
-use Rattle.std.proofs.lemmas.List.{length-set, take_all}
-use Rattle.std.proofs.lemmas.Bool.{not-true}
 use Rattle.vob.proofs.sets.same_blocks.Goals as goal
 
 pub returns-then-not-same : goal.returns-then-not-same

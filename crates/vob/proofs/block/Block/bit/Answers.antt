@@ -1,7 +1,4 @@
-use Rattle.std.proofs.Common.{◌≡◌, ℕ, ◌+◌, ◌-◌, ◌*◌, ◌/◌, ◌%◌, ◌^◌, ◌<◌, ◌≤◌, Bool, true, false, not, List, ◌&&◌, ◌||◌, ◌∷◌, ◌++◌, length, get_or, refl, sym, ap, ap₂, ◌∙◌, subst, arith, rules, replicate, take, drop, map, pos}
-use Rattle.num_traits.specs.Laws.{bit_len, shift_left}
-use Rattle.vob.specs.Bits.{bitwise, differs, count_true}
-use Rattle.vob.specs.Digits.{digits}
+use Rattle.std.proofs.Common.{◌≡◌, Bool, false, List, length, get_or, sym, ap, ◌∙◌, arith, replicate}
 use Rattle.vob.proofs.Digit as digit
 use Rattle.vob.proofs.block.Block.bit.Goals as goal
 

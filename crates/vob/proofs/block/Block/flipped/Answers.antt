@@ -1,7 +1,5 @@
-use Rattle.std.proofs.Common.{◌≡◌, ℕ, ◌+◌, ◌-◌, ◌*◌, ◌/◌, ◌%◌, ◌^◌, ◌<◌, ◌≤◌, Bool, true, false, not, List, ◌&&◌, ◌||◌, get_or, refl, sym, ap, ap₂, ◌∙◌, subst, arith, rules, replicate, take, drop, map, pos}
-use Rattle.num_traits.specs.Laws.{bit_len, shift_left}
-use Rattle.vob.specs.Bits.{bitwise, differs, count_true}
-use Rattle.vob.specs.Digits.{digits}
+use Rattle.std.proofs.Common.{◌≡◌, ℕ, ◌-◌, ◌^◌, not, sym, ap, ◌∙◌, subst, arith, map}
+use Rattle.num_traits.specs.Laws.{bit_len}
 use Rattle.vob.proofs.Digit as digit
 use mir.Val.{bits}
 use Rattle.vob.proofs.block.Block.flipped.Goals as goal

@@ -1,7 +1,5 @@
-use Rattle.std.proofs.Common.{◌≡◌, ℕ, ◌+◌, ◌-◌, ◌*◌, ◌/◌, ◌%◌, ◌^◌, ◌<◌, ◌≤◌, Bool, true, false, not, List, ◌&&◌, ◌||◌, get_or, refl, sym, ap, ap₂, ◌∙◌, subst, arith, rules, replicate, take, drop, map, pos}
-use Rattle.num_traits.specs.Laws.{bit_len, shift_left}
-use Rattle.vob.specs.Bits.{bitwise, differs, count_true}
-use Rattle.vob.specs.Digits.{digits}
+use Rattle.std.proofs.Common.{◌≡◌, ℕ, ◌-◌, ◌*◌, ◌%◌, ◌^◌, ◌≤◌, false, sym, ap, ◌∙◌, subst, arith, replicate, take}
+use Rattle.num_traits.specs.Laws.{bit_len}
 use Rattle.vob.proofs.Digit as digit
 use Rattle.std.proofs.Common.{◌++◌}
 use Rattle.std.proofs.lemmas.Nat.{mod_below, pow_pos}

@@ -1,12 +1,12 @@
-use Rattle.std.proofs.Common.{◌≡◌, ℕ, ◌+◌, ◌-◌, ◌*◌, ◌/◌, ◌%◌, ◌^◌, ◌<◌, ◌≤◌, Bool, true, false, not, List, ◌&&◌, ◌||◌, [], ◌∷◌, ◌++◌, length, get_or, set, refl, sym, ap, ap₂, ◌∙◌, subst, arith, rules, replicate, take, drop, map, pos, Fits, w64, min}
+use Rattle.std.proofs.lemmas.Grind.{common_steps}
+use Rattle.std.proofs.Common.{◌≡◌, true, false, length, sym, ap, ap₂, ◌∙◌, subst, arith}
 use Rattle.std.specs.List.{flat_map}
-use Rattle.vob.specs.Bits.{bitwise, differs, count_true}
-use Rattle.vob.specs.Packed.{Packs, blocks_for, Contents}
+use Rattle.vob.specs.Packed.{blocks_for}
 use Rattle.vob.proofs.Pack as pack
-use Rattle.vob.proofs.Spell as spell
 use Rattle.vob.proofs.Setwise as setwise
 use Rattle.std.proofs.Common.{◌↔◌}
-use lib.Pointwise.{pointwise}
+use Rattle.std.specs.Cmp.Lexicographic.{pointwise}
+use Rattle.vob.proofs.Alike.{told}
 use mathlib.Core.Bool.{beq}
 use Rattle.vob.proofs.traits.VobPartialEq.eq.Goals as goal
 
@@ -37,5 +37,12 @@ returns g c =
     let test : (c.same_blocks.result ≡ true) ↔ (flat_map bits xs ≡ flat_map bits ys) =
     subst (λ zs. (c.same_blocks.result ≡ true) ↔ (flat_map bits zs ≡ flat_map bits ys)) c.as_slice.ensures.value
     (subst (λ zs. (c.same_blocks.result ≡ true) ↔ (flat_map bits c.as_slice.result.now ≡ flat_map bits zs)) c.as_slice-2.ensures.value c.same_blocks.ensures) in
+    let gives =
     setwise.same_flat w m n (flat_map bits xs) (flat_map bits ys) c.same_blocks.result e c.self.invariant c.other.invariant test
-    ∙ ap₂ (λ a b. pointwise beq a.bits b.bits) c.self.view_is c.other.view_is
+    ∙ ap₂ (λ a b. pointwise beq a.bits b.bits) c.self.view_is c.other.view_is in
+    record { gives = gives; exactly = told gives }
+
+pub returns-then-self-other-clause-exactly : goal.returns-then-self-other-clause-exactly
+returns-then-self-other-clause-exactly g c =
+    let gives : false ≡ pointwise beq c.args.self.now.bits c.args.other.now.bits = grind (arith, common_steps) in
+    told gives

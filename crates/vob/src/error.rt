@@ -7,7 +7,7 @@ ghost use Rattle.vob.specs.declared.error.VobError.TheVariants.{Memory};
 use std::alloc::{AllocError, AllocFailed};
 use thiserror::Error;
 
-/// Why a growth is refused. The list is as it was then.
+/// Why a growth is refused. The list is as it was then; `extend` keeps the items that came before.
 #[derive(Debug, Drop, Error)]
 pub enum VobError {
     /// The length asked for is past `usize::MAX`.

@@ -10,6 +10,7 @@
 //! (`newlinecache::pieces_make_the_whole`); and of `markmap::MarkMap::merge_from`.
 #![tactic(auto)]
 
+pub mod header;
 pub mod index;
 pub mod markmap;
 pub mod newlinecache;

@@ -1,17 +1,25 @@
 //! A map with marks on its keys, which can be merged with another.
 
-ghost use Rattle.std.specs.Prelude.{◌≡◌, unwrap_or, IfErr, ◌++◌, ◌∷◌, IsTrue, IsSome, IfNone, IfSome, false, if◌then◌else◌, IfOk, OnOk, OnErr, Some, None, true, is_some, is_none, not, ◌&&◌, [], map};
-ghost use Rattle.std.specs.Option.{option_copied};
-ghost use Rattle.std.specs.BTreeMap.{ContainsKey, get, is_at};
-ghost use Rattle.cfg_base.specs.declared.markmap.MergeError.TheVariants.{Memory as NoMemory};
-ghost use Rattle.std.specs.Iterator.{YieldsFirstRef, item_count};
+ghost use Rattle.std.specs.Prelude.{◌≡◌, unwrap_or, ◌++◌, ◌∷◌, if◌then◌else◌, IfOk, OnOk, OnErr, Some, None, true, is_some, is_none, not, ◌&&◌, [], map};
+ghost use Rattle.std.specs.Option.{option_copied, option_copied_mut};
+ghost use Rattle.std.specs.Borrow.{sem};
+ghost use Rattle.std.specs.BTreeMap.{get, insert_entry, is_at, keys};
+ghost use Rattle.std.specs.Map.{remove_entry};
 ghost use Rattle.cfg_base.specs.declared.markmap.MergeBehavior.TheVariants.{MutuallyExclusive as Exclusive};
-ghost use Rattle.cfg_base.specs.MarkMaps.{merged_value, joined_marks, HasRoom, Merges, SeemsSame, IsMergeRefusal, IsExclusivityAt, behavior_at, is_exclusive, conflicts_at, conflicts_of, IsFirstOf, ClonesAreEqual, keys_among, stored_keys, unmarked, SetsValue, SetsMarks, Forgets, StaysSame, value_at, marks_at, keys_of, unused_of, missing_of};
+ghost use Rattle.cfg_base.specs.MarkMaps.{ClonesAreEqual, blank, unmarked, SetsValue, SetsMarks, Forgets, behavior_at, is_stored, slot_in, stored_keys, value_at, marks_at, keys_of, unused_of, missing_of};
 
 use std::alloc::{AllocError, Global};
-use std::collections::{BTreeMap, btree_map};
-use std::fmt::Debug;
-use thiserror::Error;
+use std::collections::BTreeMap;
+use std::marker::Model;
+use std::mem::replace;
+
+mod entries;
+mod merge;
+mod walks;
+
+pub use entries::{Entry, OccupiedEntry, VacantEntry};
+pub use merge::MergeError;
+pub use walks::{Keys, MarkMapIterRef};
 
 /// What a merge does with a key that has a value on both sides.
 #[derive(Clone, Copy, Debug, PartialEq, Eq)]
@@ -33,36 +41,27 @@ pub struct Marks {
     pub behavior: Option<MergeBehavior>,
 }
 
+/// What a map has at a key.
+#[derive(Drop)]
+pub struct Slot<V> {
+    pub value: Option<V>,
+    pub marks: Marks,
+}
+
 /// A finite map from keys, in order, to an optional value and marks.
 #[derive(Drop)]
 pub struct MarkMap<K: Ord, V> {
-    // A key without a value here is as good as absent: it keeps room for one.
-    values: BTreeMap<K, Option<V>>,
-    marks: BTreeMap<K, Marks>,
+    slots: BTreeMap<K, Slot<V>>,
     default: MergeBehavior,
+    alloc: Global,
 }
 
-/// The keys of a `MarkMap` that have a value, in order.
-#[derive(Drop)]
-pub struct Keys<'a, K, V> {
-    entries: btree_map::Iter<'a, K, Option<V>>,
-}
+impl<K: Ord, V> Model for MarkMap<K, V> {
+    ghost use Rattle.cfg_base.specs.MarkMaps.{Marked};
 
-impl<'a, K, V> Iterator for Keys<'a, K, V> {
-    type Item = &'a K;
+    ghost Value = { Marked K V };
 
-    ghost next_gives = { YieldsFirstRef (λ s. keys_among s.entries) };
-
-    ghost remaining = { item_count (λ s. keys_among s.entries) };
-
-    fn next(&mut self) -> Option<&'a K> {
-        loop {
-            let (key, value) = self.entries.next()?;
-            if value.is_some() {
-                return Some(key);
-            }
-        }
-    }
+    ghost view = { λ m. record { entries = m.slots.entries; default = m.default } };
 }
 
 fn no_marks() -> Marks
@@ -75,17 +74,57 @@ fn no_marks() -> Marks
     }
 }
 
+impl<V> Slot<V> {
+    fn is_unused(&self) -> bool
+        ensures { result ≡ (is_some self.now.value && not self.now.marks.used) }
+    {
+        self.value.is_some() && !self.marks.used
+    }
+
+    fn replace_value(&mut self, value: V) -> V
+        requires { is_some self.old.value ≡ true }
+        ensures old { self.old.value ≡ Some result }
+        ensures slot { self.new ≡ record self.old { value = Some value } }
+    {
+        replace(&mut self.value, Some(value)).unwrap()
+    }
+
+    fn is_missing(&self) -> bool
+        ensures { result ≡ (self.now.marks.required && is_none self.now.value) }
+    {
+        self.marks.required && self.value.is_none()
+    }
+}
+
+fn blank_slot<V>() -> Slot<V>
+    ensures { result ≡ blank }
+{
+    Slot {
+        value: None,
+        marks: no_marks(),
+    }
+}
+
+// The value of a slot that was taken out.
+fn value_of<V>(slot: Option<Slot<V>>) -> Option<V>
+    ensures { result ≡ (unwrap_or slot blank).value }
+{
+    match slot {
+        Some(slot) => slot.value,
+        None => None,
+    }
+}
+
 impl<K: Ord, V> MarkMap<K, V> {
     /// Without a key. A merge with values on both sides of a key is refused, until another default is set.
     pub fn new(alloc: Global) -> MarkMap<K, V>
-        ensures empty { (k : K) → value_at K.cmp result k ≡ None }
-        ensures unmarked { (k : K) → marks_at K.cmp result k ≡ unmarked }
+        ensures empty { result.entries ≡ [] }
         ensures default { result.default ≡ Exclusive }
     {
         MarkMap {
-            values: BTreeMap::new(alloc),
-            marks: BTreeMap::new(alloc),
+            slots: BTreeMap::new(alloc),
             default: MergeBehavior::MutuallyExclusive,
+            alloc,
         }
     }
 
@@ -96,19 +135,26 @@ impl<K: Ord, V> MarkMap<K, V> {
         V: Drop,
         ensures old { IfOk result (λ old. old ≡ value_at K.cmp self.old key) }
         ensures ok { OnOk result (SetsValue K.cmp self.old self.new key (Some value)) }
-        ensures stored { IfOk result (λ old. IsSome old → stored_keys self.new ≡ stored_keys self.old) }
-        ensures err { OnErr result (StaysSame self.old self.new) }
+        ensures entries { OnOk result (self.new.entries ≡ insert_entry K.cmp self.old.entries key
+            (record { value = Some value; marks = marks_at K.cmp self.old key })) }
+        ensures stored { OnOk result (is_stored K.cmp self.old key ≡ true → stored_keys self.new ≡ stored_keys self.old) }
+        ensures err { OnErr result (self.new ≡ self.old) }
     {
-        let old = self.values.insert(key, Some(value))?;
-        Ok(old.flatten())
+        let marks = self.marks_of(&key);
+        let slot = Slot {
+            value: Some(value),
+            marks,
+        };
+        let old = self.slots.insert(key, slot)?;
+        Ok(value_of(old))
     }
 
     /// The value of a key.
     pub fn get(&self, key: &K) -> Option<&V>
         ensures { option_copied result ≡ value_at K.cmp self.now key.now }
     {
-        match self.values.get(key) {
-            Some(value) => value.as_ref(),
+        match self.slots.get(key) {
+            Some(slot) => slot.value.as_ref(),
             None => None,
         }
     }
@@ -126,58 +172,47 @@ impl<K: Ord, V> MarkMap<K, V> {
         K: Drop,
         ensures old { result ≡ value_at K.cmp self.old key.now }
         ensures forgets { Forgets K.cmp self.old self.new key.now }
+        ensures entries { self.new.entries ≡ remove_entry (is_at (K.cmp key.now)) self.old.entries }
     {
-        let _ = self.marks.remove(key);
-        self.values.remove(key).flatten()
-    }
-
-    /// The keys that have a value, in order.
-    pub fn keys(&self) -> Keys<'_, K, V>
-        ensures { keys_among result.entries ≡ keys_of self.now }
-    {
-        Keys {
-            entries: self.values.iter(),
-        }
+        value_of(self.slots.remove(key))
     }
 
     /// The keys that have a value and aren't marked as used, in order.
     pub fn unused(&self, alloc: Global) -> Result<Vec<&K>, AllocError>
-        ensures { IfOk result (λ found. map (λ k. k.now) found.items ≡ unused_of K.cmp self.now) }
+        ensures { IfOk result (λ found. map (λ k. k.now) found.items ≡ unused_of self.now) }
     {
         let mut found = Vec::new(alloc);
-        'keys: for (key, value) in self.values.iter() {
-            push_if(&mut found, key, self.is_unused(key, value))?;
+        'keys: for (key, slot) in self.slots.iter() {
+            push_if(&mut found, key, slot.is_unused())?;
         }
         Ok(found)
     }
 
     /// The keys that are marked as required and have no value, in order.
     pub fn missing(&self, alloc: Global) -> Result<Vec<&K>, AllocError>
-        ensures { IfOk result (λ found. map (λ k. k.now) found.items ≡ missing_of K.cmp self.now) }
+        ensures { IfOk result (λ found. map (λ k. k.now) found.items ≡ missing_of self.now) }
     {
         let mut found = Vec::new(alloc);
-        'keys: for (key, marks) in self.marks.iter() {
-            push_if(&mut found, key, self.is_missing(key, *marks))?;
+        'keys: for (key, slot) in self.slots.iter() {
+            push_if(&mut found, key, slot.is_missing())?;
         }
         Ok(found)
-    }
-
-    fn is_unused(&self, key: &K, value: &Option<V>) -> bool
-        ensures { result ≡ (is_some value.now && not (marks_at K.cmp self.now key.now).used) }
-    {
-        value.is_some() && !self.is_used(key)
-    }
-
-    fn is_missing(&self, key: &K, marks: Marks) -> bool
-        ensures { result ≡ (marks.required && is_none (value_at K.cmp self.now key.now)) }
-    {
-        marks.required && !self.contains_key(key)
     }
 
     fn marks_of(&self, key: &K) -> Marks
         ensures { result ≡ marks_at K.cmp self.now key.now }
     {
-        self.marks.get(key).copied().unwrap_or(no_marks())
+        match self.slots.get(key) {
+            Some(slot) => slot.marks,
+            None => no_marks(),
+        }
+    }
+
+    // What a merge does with a key.
+    fn behavior_of(&self, key: &K) -> MergeBehavior
+        ensures { result ≡ behavior_at K.cmp self.now key.now }
+    {
+        self.marks_of(key).behavior.unwrap_or(self.default)
     }
 
     /// Whether a key is marked as used.
@@ -197,23 +232,70 @@ impl<K: Ord, V> MarkMap<K, V> {
     fn put_marks(&mut self, key: &K, marks: Marks) -> Result<(), AllocError>
     where
         K: Clone,
+        V: Drop,
         requires { ClonesAreEqual K.is_clone K.cmp }
         ensures ok { OnOk result (SetsMarks K.cmp self.old self.new key.now marks) }
-        ensures err { OnErr result (StaysSame self.old self.new) }
+        ensures stored { OnOk result (is_stored K.cmp self.old key.now ≡ true → stored_keys self.new ≡ stored_keys self.old) }
+        ensures err { OnErr result (self.new ≡ self.old) }
     {
-        let key = key.clone()?;
-        self.marks.insert(key, marks)?;
+        if let Some(slot) = self.slots.get_mut(key) {
+            slot.marks = marks;
+            return Ok(());
+        }
+        let slot = Slot { value: None, marks };
+        self.slots.insert(key.clone()?, slot)?;
         Ok(())
+    }
+
+    ghost use Rattle.cfg_base.specs.Lends.{lends_value};
+
+    // The value of a key that has one, for writing.
+    fn value_mut(&mut self, key: &K) -> Option<&mut V>
+        requires { is_some (value_at K.cmp self.old key.now) ≡ true }
+        ensures* writes_back { sem 𝓛 (lends_value K.row V.row K.Ord self.entry key.now result) }
+        ensures value { option_copied_mut result ≡ value_at K.cmp self.old key.now }
+    {
+        match self.slots.get_mut(key) {
+            Some(slot) => match &mut slot.value {
+                Some(value) => Some(value),
+                None => None,
+            },
+            None => None,
+        }
+    }
+
+    // Gives a key that has a value another one.
+    fn replace_value(&mut self, key: &K, value: V) -> V
+        requires { is_some (value_at K.cmp self.old key.now) ≡ true }
+        ensures old { value_at K.cmp self.old key.now ≡ Some result }
+        ensures value { SetsValue K.cmp self.old self.new key.now (Some value) }
+        ensures stored { stored_keys self.new ≡ stored_keys self.old }
+    {
+        replace_value_at(&mut self.slots, key, value)
+    }
+
+    // Gives a stored key other marks.
+    fn replace_marks(&mut self, key: &K, marks: Marks)
+        requires { is_stored K.cmp self.old key.now ≡ true }
+        ensures marks { SetsMarks K.cmp self.old self.new key.now marks }
+        ensures stored { stored_keys self.new ≡ stored_keys self.old }
+    {
+        match self.slots.get_mut(key) {
+            Some(slot) => slot.marks = marks,
+            None => unreachable!(),
+        }
     }
 
     /// Marks a key as used, and makes it, without a value, where it is absent. Clones of keys equal them.
     pub fn mark_used(&mut self, key: &K) -> Result<(), AllocError>
     where
         K: Clone,
+        V: Drop,
         requires { ClonesAreEqual K.is_clone K.cmp }
         ensures ok { let marks = marks_at K.cmp self.old key.now in
             OnOk result (SetsMarks K.cmp self.old self.new key.now (record marks { used = true })) }
-        ensures err { OnErr result (StaysSame self.old self.new) }
+        ensures stored { OnOk result (is_stored K.cmp self.old key.now ≡ true → stored_keys self.new ≡ stored_keys self.old) }
+        ensures err { OnErr result (self.new ≡ self.old) }
     {
         let marks = self.marks_of(key);
         self.put_marks(
@@ -230,10 +312,12 @@ impl<K: Ord, V> MarkMap<K, V> {
     pub fn mark_required(&mut self, key: &K) -> Result<(), AllocError>
     where
         K: Clone,
+        V: Drop,
         requires { ClonesAreEqual K.is_clone K.cmp }
         ensures ok { let marks = marks_at K.cmp self.old key.now in
             OnOk result (SetsMarks K.cmp self.old self.new key.now (record marks { required = true })) }
-        ensures err { OnErr result (StaysSame self.old self.new) }
+        ensures stored { OnOk result (is_stored K.cmp self.old key.now ≡ true → stored_keys self.new ≡ stored_keys self.old) }
+        ensures err { OnErr result (self.new ≡ self.old) }
     {
         let marks = self.marks_of(key);
         self.put_marks(
@@ -250,10 +334,12 @@ impl<K: Ord, V> MarkMap<K, V> {
     pub fn set_merge_behavior(&mut self, key: &K, behavior: MergeBehavior) -> Result<(), AllocError>
     where
         K: Clone,
+        V: Drop,
         requires { ClonesAreEqual K.is_clone K.cmp }
         ensures ok { let marks = marks_at K.cmp self.old key.now in
             OnOk result (SetsMarks K.cmp self.old self.new key.now (record marks { behavior = Some behavior })) }
-        ensures err { OnErr result (StaysSame self.old self.new) }
+        ensures stored { OnOk result (is_stored K.cmp self.old key.now ≡ true → stored_keys self.new ≡ stored_keys self.old) }
+        ensures err { OnErr result (self.new ≡ self.old) }
     {
         let marks = self.marks_of(key);
         self.put_marks(
@@ -268,10 +354,24 @@ impl<K: Ord, V> MarkMap<K, V> {
     /// What a merge does with keys that have no behaviour of their own.
     pub fn set_default_merge_behavior(&mut self, behavior: MergeBehavior)
         ensures default { self.new.default ≡ behavior }
-        ensures values { self.new.values.entries ≡ self.old.values.entries }
-        ensures marks { self.new.marks.entries ≡ self.old.marks.entries }
+        ensures entries { self.new.entries ≡ self.old.entries }
     {
         self.default = behavior;
+    }
+}
+
+// Gives a key that has a value another one.
+fn replace_value_at<K: Ord, V>(slots: &mut BTreeMap<K, Slot<V>>, key: &K, value: V) -> V
+    requires { is_some (slot_in K.cmp slots.old.entries key.now).value ≡ true }
+    ensures old { (slot_in K.cmp slots.old.entries key.now).value ≡ Some result }
+    ensures updates { (q : K) → get K.cmp slots.new q ≡
+        (if is_at (K.cmp key.now) q then Some (record (slot_in K.cmp slots.old.entries key.now) { value = Some value })
+        else get K.cmp slots.old q) }
+    ensures stored { keys slots.new ≡ keys slots.old }
+{
+    match slots.get_mut(key) {
+        Some(slot) => slot.replace_value(value),
+        None => unreachable!(),
     }
 }
 
@@ -286,252 +386,5 @@ fn push_if<'a, K>(found: &mut Vec<&'a K>, key: &'a K, wanted: bool) -> Result<()
     Ok(())
 }
 
-/// Why a map was not merged.
-#[derive(Debug, Drop, Error)]
-pub enum MergeError<K: Debug + Drop, V: Debug + Drop> {
-    /// This key has values on both sides, and may not. The value is the other map's.
-    #[error("Value on both sides")]
-    Exclusivity(K, V),
-    #[error(transparent)]
-    Memory(AllocError),
-}
-
-impl<K: Ord, V> MarkMap<K, V> {
-    // Whether a key with values on both sides refuses a merge.
-    fn is_exclusive(&self, key: &K) -> bool
-        ensures { result ≡ is_exclusive K.cmp self.now key.now }
-    {
-        matches!(self.behavior_of(key), MergeBehavior::MutuallyExclusive)
-    }
-
-    // What a merge does with a key.
-    fn behavior_of(&self, key: &K) -> MergeBehavior
-        ensures { result ≡ behavior_at K.cmp self.now key.now }
-    {
-        self.marks_of(key).behavior.unwrap_or(self.default)
-    }
-
-    // Whether a key with a value here has one there too, and may not.
-    fn conflicts_at(&self, other: &MarkMap<K, V>, key: &K) -> bool
-        ensures { result ≡ conflicts_at K.cmp self.now other.now key.now }
-    {
-        other.contains_key(key) && self.is_exclusive(key)
-    }
-
-    // The least key that refuses a merge.
-    fn conflict(&self, other: &MarkMap<K, V>) -> Option<&K>
-        ensures none { IfNone result (conflicts_of K.cmp self.now other.now ≡ []) }
-        ensures least { IfSome result (IsFirstOf (conflicts_of K.cmp self.now other.now)) }
-    {
-        'keys: for key in self.keys() {
-            if self.conflicts_at(other, key) {
-                return Some(key);
-            }
-        }
-        None
-    }
-}
-
-impl<K: Ord + Debug + Drop, V: Debug + Drop> MarkMap<K, V> {
-    /// Takes the values and the marks of another map in. A key with values on both sides goes by its merge
-    /// behaviour here, else by this map's default; a value on one side alone stands. A key is used and
-    /// required where it is on one of both sides, and keeps its own merge behaviour, else takes the
-    /// other's. Clones of keys equal them. A map that is refused leaves this one as it was.
-    pub fn merge_from(&mut self, mut other: MarkMap<K, V>) -> Result<(), MergeError<K, V>>
-    where
-        K: Clone,
-        requires { ClonesAreEqual K.is_clone K.cmp }
-        ensures ok { OnOk result (Merges K.cmp self.old other self.new) }
-        ensures exclusive { OnOk result (conflicts_of K.cmp self.old other ≡ []) }
-        ensures refused { IfErr result (IsMergeRefusal K.cmp self.old other) }
-        ensures err { OnErr result (SeemsSame K.cmp self.old self.new) }
-    {
-        if let Some(key) = self.conflict(&other) {
-            return Err(refusal(key, other));
-        }
-        room_for_values(&mut self.values, &other.values)?;
-        room_for_marks(&mut self.marks, &other.marks)?;
-        self.take_values(&mut other.values);
-        self.take_marks(&mut other.marks);
-        Ok(())
-    }
-
-    // Takes in the values of keys for which there is room.
-    fn take_values(&mut self, values: &mut BTreeMap<K, Option<V>>)
-        requires { HasRoom K.cmp self.old.values values.old }
-        ensures value { (q : K) → value_at K.cmp self.new q ≡
-            merged_value (behavior_at K.cmp self.old q) (value_at K.cmp self.old q) (unwrap_or (get K.cmp values.old q) None) }
-        ensures marks { self.new.marks ≡ self.old.marks }
-        ensures default { self.new.default ≡ self.old.default }
-    {
-        'values: while let Some((key, value)) = values.pop_first() {
-            self.take_value(key, value);
-        }
-    }
-
-    // Takes in the value of a key for which there is room.
-    fn take_value(&mut self, key: K, theirs: Option<V>)
-        requires { ContainsKey K.cmp self.old.values key }
-        ensures value { (q : K) → value_at K.cmp self.new q ≡
-            (if is_at (K.cmp key) q then merged_value (behavior_at K.cmp self.old key) (value_at K.cmp self.old key) theirs
-            else value_at K.cmp self.old q) }
-        ensures room { (q : K) → ContainsKey K.cmp self.old.values q → ContainsKey K.cmp self.new.values q }
-        ensures marks { self.new.marks ≡ self.old.marks }
-        ensures default { self.new.default ≡ self.old.default }
-    {
-        let keeps = self.contains_key(&key)
-            && !matches!(self.behavior_of(&key), MergeBehavior::Theirs);
-        if keeps || theirs.is_none() {
-            return;
-        }
-        let put: Result<_, _> = self.values.insert(key, theirs);
-        let _ = put.unwrap();
-    }
-
-    // Takes in the marks of keys for which there is room.
-    fn take_marks(&mut self, marks: &mut BTreeMap<K, Marks>)
-        requires { HasRoom K.cmp self.old.marks marks.old }
-        ensures marks { (q : K) → marks_at K.cmp self.new q ≡
-            joined_marks (marks_at K.cmp self.old q) (unwrap_or (get K.cmp marks.old q) unmarked) }
-        ensures values { self.new.values ≡ self.old.values }
-        ensures default { self.new.default ≡ self.old.default }
-    {
-        'marks: while let Some((key, theirs)) = marks.pop_first() {
-            let joined = join_marks(self.marks_of(&key), theirs);
-            let put: Result<_, _> = self.marks.insert(key, joined);
-            let _ = put.unwrap();
-        }
-    }
-}
-
-fn join_marks(ours: Marks, theirs: Marks) -> Marks
-    ensures { result ≡ joined_marks ours theirs }
-{
-    Marks {
-        used: ours.used || theirs.used,
-        required: ours.required || theirs.required,
-        behavior: ours.behavior.or(theirs.behavior),
-    }
-}
-
-// The refusal at a key that has a value on the other side.
-fn refusal<K: Ord + Debug + Drop, V: Debug + Drop>(
-    key: &K,
-    mut other: MarkMap<K, V>,
-) -> MergeError<K, V>
-    requires { is_some (value_at K.cmp other key.now) ≡ true }
-    ensures { IsExclusivityAt K.cmp other key.now result }
-{
-    match other.values.remove_entry(key) {
-        Some((key, value)) => match value {
-            Some(value) => MergeError::Exclusivity(key, value),
-            None => unreachable!(),
-        },
-        None => unreachable!(),
-    }
-}
-
-fn room_for_values<K: Ord + Clone, V: Drop>(
-    values: &mut BTreeMap<K, Option<V>>,
-    wanted: &BTreeMap<K, Option<V>>,
-) -> Result<(), AllocError>
-    requires { ClonesAreEqual K.is_clone K.cmp }
-    ensures same { (q : K) → unwrap_or (get K.cmp values.new q) None ≡ unwrap_or (get K.cmp values.old q) None }
-    ensures room { OnOk result (HasRoom K.cmp values.new wanted.now) }
-{
-    'keys: for key in wanted.keys() {
-        if !values.contains_key(key) {
-            values.insert(key.clone()?, None)?;
-        }
-    }
-    Ok(())
-}
-
-fn room_for_marks<K: Ord + Clone>(
-    marks: &mut BTreeMap<K, Marks>,
-    wanted: &BTreeMap<K, Marks>,
-) -> Result<(), AllocError>
-    requires { ClonesAreEqual K.is_clone K.cmp }
-    ensures same { (q : K) → unwrap_or (get K.cmp marks.new q) unmarked ≡ unwrap_or (get K.cmp marks.old q) unmarked }
-    ensures room { OnOk result (HasRoom K.cmp marks.new wanted.now) }
-{
-    'keys: for key in wanted.keys() {
-        if !marks.contains_key(key) {
-            marks.insert(key.clone()?, no_marks())?;
-        }
-    }
-    Ok(())
-}
-
-impl<K: Debug + Drop, V: Debug + Drop> From<AllocError> for MergeError<K, V> {
-    ghost from_gives = { λ e refused. refused ≡ NoMemory e };
-
-    fn from(e: AllocError) -> MergeError<K, V> {
-        MergeError::Memory(e)
-    }
-}
-
 #[cfg(test)]
-mod tests {
-    use super::*;
-    use std::test::Fail;
-
-    #[test]
-    fn values_and_marks(rt: HostRuntime) -> Result<(), Fail> {
-        let mut map: MarkMap<u32, u8> = MarkMap::new(rt.alloc());
-        assert_eq!(rt; map.insert(3, 30)?, None);
-        assert_eq!(rt; map.insert(1, 10)?, None);
-        map.mark_used(&3)?;
-        map.mark_required(&2)?;
-        map.mark_required(&3)?;
-        map.set_merge_behavior(&3, MergeBehavior::Theirs)?;
-        map.set_default_merge_behavior(MergeBehavior::Ours);
-        assert_eq!(rt; map.insert(3, 31)?, Some(30));
-        assert!(rt;
-            map.is_used(&3) && map.is_required(&3) && map.is_required(&2) && !map.is_used(&1)
-        );
-        assert_eq!(rt; map.get(&3).copied(), Some(31));
-        assert!(rt; map.contains_key(&1) && !map.contains_key(&2));
-        let keys: Vec<u32> = map.keys().copied().collect(rt.alloc())?;
-        assert_eq!(rt; keys.as_slice(), [1, 3].as_slice());
-        let unused: Vec<u32> = map
-            .unused(rt.alloc())?
-            .iter()
-            .map(|key| **key)
-            .collect(rt.alloc())?;
-        assert_eq!(rt; unused.as_slice(), [1].as_slice());
-        let mut other: MarkMap<u32, u8> = MarkMap::new(rt.alloc());
-        other.insert(3, 99)?;
-        other.insert(1, 98)?;
-        other.insert(9, 90)?;
-        other.mark_required(&1)?;
-        map.merge_from(other)?;
-        for (key, value) in [(1, 10), (3, 99), (9, 90)] {
-            assert_eq!(rt; map.get(&key).copied(), Some(value), "{key}");
-        }
-        assert!(rt; map.is_required(&1) && map.is_used(&3) && map.is_required(&3));
-        assert_eq!(rt; map.insert(3, 31)?, Some(99));
-        assert_eq!(rt; map.remove(&3), Some(31));
-        assert_eq!(rt; map.remove(&3), None);
-        assert!(rt; !map.is_used(&3) && !map.is_required(&3) && map.get(&3).is_none());
-        Ok(())
-    }
-
-    #[test]
-    fn values_on_both_sides_are_refused(rt: HostRuntime) -> Result<(), Fail> {
-        let mut ours: MarkMap<u32, u8> = MarkMap::new(rt.alloc());
-        let mut theirs: MarkMap<u32, u8> = MarkMap::new(rt.alloc());
-        ours.insert(5, 1)?;
-        ours.insert(7, 1)?;
-        theirs.insert(7, 3)?;
-        theirs.insert(5, 2)?;
-        theirs.insert(4, 2)?;
-        match ours.merge_from(theirs) {
-            Err(MergeError::Exclusivity(key, value)) => assert_eq!(rt; (key, value), (5, 2)),
-            _ => assert!(rt; false),
-        }
-        assert_eq!(rt; ours.get(&5).copied(), Some(1));
-        assert!(rt; !ours.contains_key(&4));
-        Ok(())
-    }
-}
+mod tests;

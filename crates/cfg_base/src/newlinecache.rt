@@ -284,4 +284,31 @@ mod tests {
         }
         Ok(())
     }
+
+    #[test]
+    fn pieces_are_gathered(rt: HostRuntime) -> Result<(), Fail> {
+        let cache = NewlineCache::from_iter(rt.alloc(), ["a", "é\n", "", "b"])?;
+        for (byte, place) in [(0, (1, 1)), (3, (1, 3)), (4, (2, 1)), (5, (2, 2))] {
+            assert_eq!(rt;
+                cache.byte_to_line_num_and_col_num("aé\nb", byte),
+                Some(place),
+                "at {byte}"
+            );
+        }
+        assert_eq!(rt; cache.byte_to_line_num(6), None);
+        Ok(())
+    }
+
+    // A feed that is refused changes nothing.
+    #[test]
+    fn a_refused_feed_changes_nothing(rt: HostRuntime) -> Result<(), Fail> {
+        let mut cache = NewlineCache::from_str(rt.alloc(), "ab\n")?;
+        let lines = match cache.feed("c\nd\ne\nf\ng\nh\ni\nj\nk\n") {
+            Ok(()) => Some(3),
+            Err(_) => None,
+        };
+        assert_eq!(rt; cache.byte_to_line_num(3), Some(2));
+        assert_eq!(rt; cache.byte_to_line_num(5), lines);
+        Ok(())
+    }
 }

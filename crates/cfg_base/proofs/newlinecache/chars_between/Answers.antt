@@ -1,4 +1,4 @@
-use Rattle.std.proofs.Common.{◌≡◌, ◌-◌, ◌≤◌, ℕ, List, length, take, drop, sym, ap, ◌∙◌, arith}
+use Rattle.std.proofs.Common.{◌≡◌, ◌≤◌, ℕ, List, length, take, ap, ◌∙◌, arith}
 use Rattle.std.specs.Str.{chars}
 use Rattle.cfg_base.specs.Newlines.{chars_ended}
 use Rattle.cfg_base.proofs.Columns.{ended_at_cut, chars_between_cuts, cut_is_last}

@@ -1,4 +1,4 @@
-use Rattle.std.proofs.Common.{◌≡◌, ◌<◌, ◌+◌, true, false, List, ℕ, [], ◌∷◌, ◌++◌, take, drop, length, get_or, count_by, ap, sym, ◌∙◌, arith, append_assoc, append-nil}
+use Rattle.std.proofs.Common.{◌≡◌, ◌+◌, true, false, List, ℕ, [], ◌∷◌, ◌++◌, take, length, get_or, ap, ◌∙◌, arith, append_assoc, append-nil}
 use Rattle.std.proofs.lemmas.Bool.{eq-eqb, ne_eqb}
 use Rattle.std.proofs.Math.Seq.{take-length}
 use Rattle.cfg_base.specs.Newlines.{is_newline, newline_places}

@@ -1,4 +1,4 @@
-use Rattle.std.proofs.Common.{sym, ap, ◌∙◌, Some, refl}
+use Rattle.std.proofs.Common.{◌∙◌, refl}
 use Rattle.cfg_base.proofs.Lines.{answers, held_in_order}
 use Rattle.cfg_base.proofs.newlinecache.NewlineCache.byte_to_line_byte.Goals as goal
 

@@ -1,6 +1,6 @@
-use Rattle.std.proofs.Common.{◌≡◌, ◌+◌, ◌++◌, ◌∷◌, [], List, ℕ, length, ap, ◌∙◌, sym, arith, length-append}
+use Rattle.std.proofs.Common.{◌≡◌, ◌++◌, ◌∷◌, [], length, ap, arith}
 use Rattle.std.proofs.iter.Next.{Yields-more}
-use Rattle.cfg_base.specs.Newlines.{Newlines, newlines_of}
+use Rattle.cfg_base.specs.Newlines.{Newlines}
 use Rattle.cfg_base.specs.Pieces.{text_of}
 use Rattle.cfg_base.proofs.Pieces.{length-text_of-push, more_pieces}
 use Rattle.cfg_base.proofs.newlinecache.NewlineCache.from_iter.Goals as goal

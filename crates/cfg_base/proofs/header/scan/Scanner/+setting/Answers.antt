@@ -1,0 +1,56 @@
+use Rattle.std.proofs.Common.{◌≡◌, ◌≤◌, ◌<◌, ◌+◌, ◌∷◌, [], ◌++◌, suc, refl, sym, ap, ◌∙◌, subst, arith}
+use Rattle.std.proofs.lemmas.Result.{err_from_is_err_and}
+use Rattle.cfg_base.specs.HeaderTexts.{items_text, more, setting_text}
+use Rattle.cfg_base.specs.Sections.{here, depth, most_depth, inside, open_bracket, close_bracket, item, deep_array, no_setting, begins_setting}
+use Rattle.cfg_base.proofs.HeaderMarks.{no_setting_begins}
+use Rattle.cfg_base.proofs.SectionChains.{one, join, and_then, and_stops, join_fails}
+use Rattle.cfg_base.proofs.SettingReads.{span_is}
+use Rattle.cfg_base.proofs.SettingTexts.{array_text, items_text-push}
+use Rattle.cfg_base.proofs.header.scan.Scanner.+setting.Goals as goal
+
+pub array-items-init : goal.array-items-init
+array-items-init t c =
+    let from = c.gap-end.ensures.from in
+    record {
+      from = omega arith;
+      within = c.gap-end.ensures.within;
+      steps = rw c.new-items.ensures.items (λ k o x e. join (one (open_bracket c.requires.mark (rw e c.requires.depth))) (c.gap-end.ensures.steps _ _));
+    }
+
+pub array-returns-in_err-item-clause-err : goal.array-returns-in_err-item-clause-err
+array-returns-in_err-item-clause-err t c =
+    let p = err_from_is_err_and c.from_residual.result c.from_residual.ensures.1 in
+    rw (p.1, p.2)
+    (λ k o x e. join_fails _ _ _ _ (and_then (c.items.invariant.steps k o x e) (item (sym c.closes_bracket.ensures.value ∙ c.items-test.true))) (c.in_err-item.ensures.err _ _ _ (omega (arith, e))))
+
+pub array-returns-in_err-end-clause-err : goal.array-returns-in_err-end-clause-err
+array-returns-in_err-end-clause-err t c =
+    let p = err_from_is_err_and c.from_residual-in_err-end.result c.from_residual-in_err-end.ensures.1 in
+    rw (p.1, p.2)
+    (λ k o x e. join_fails _ _ _ _ (join (and_then (c.items.invariant.steps k o x e) (item (sym c.closes_bracket.ensures.value ∙ c.items-test.true))) (c.in_ok-item.ensures.ok _ _ _ (omega (arith, e)))) (c.in_err-end.ensures.err _ _ _ _ _ _))
+
+pub array-items-preserved : goal.array-items-preserved
+array-items-preserved t c =
+    let after = c.in_ok-item.ensures.within in
+    let within = c.in_ok-end.ensures.within in
+    let pushed : items_text c.push.new.self.items ≡ more (items_text c.items.items.items) (setting_text c.in_ok-item.item) = ap items_text c.in_ok-push.ensures.items ∙ items_text-push c.items.items.items c.in_ok-item.item in
+    record {
+      from = omega arith;
+      within = omega arith;
+      steps = rw pushed (λ k o x e. join (join (and_then (c.items.invariant.steps k o x e) (item (sym c.closes_bracket.ensures.value ∙ c.items-test.true))) (c.in_ok-item.ensures.ok _ _ _ (omega (arith, e)))) (c.in_ok-end.ensures.ok _ _ _ _ _ _));
+    }
+
+pub array-returns-clause-ok : goal.array-returns-clause-ok
+array-returns-clause-ok t c =
+    let start = span_is c.new-open.result _ _ c.new-open.ensures.start c.new-open.ensures.end in
+    let end = span_is c.new-close.result _ _ c.new-close.ensures.start c.new-close.ensures.end in
+    rw (array_text c.items.items c.new-open.result c.new-close.result, start, end)
+    (λ k o x e. join (and_then (c.items.invariant.steps k o x e) (close_bracket (sym c.closes_bracket.ensures.value ∙ c.items-test.false))) (c.gap.ensures.steps _ _))
+
+pub setting-returns-then-depth-ge-MOST_DEPTH-clause-err : goal.setting-returns-then-depth-ge-MOST_DEPTH-clause-err
+setting-returns-then-depth-ge-MOST_DEPTH-clause-err t c = λ k o x e. and_stops here (deep_array (sym c.in-OpenBracket.ensures.value) (rw e c.if-depth-ge-MOST_DEPTH.true))
+
+pub setting-returns-in_default-clause-err : goal.setting-returns-in_default-clause-err
+setting-returns-in_default-clause-err t c =
+    λ k o x e. and_stops here
+    (no_setting (ap begins_setting (sym c.mark.ensures.value) ∙ no_setting_begins c.mark.result c.in_default.not-Digit c.in_default.not-Quote c.in_default.not-Letter c.in_default.not-Underscore c.in_default.not-OpenBracket))

@@ -1,0 +1,18 @@
+//! The section `%grmtools{..}` at the front of a grammar text: keys with values, and where they stand.
+
+mod convert;
+mod error;
+pub mod laws;
+mod pairs;
+mod read;
+mod repeats;
+mod scan;
+mod section;
+#[cfg(test)]
+mod tests;
+mod value;
+
+pub use convert::try_from_header;
+pub use error::{HeaderError, HeaderErrorKind};
+pub use section::{GrmtoolsSectionParser, Header, KeyValueError, SectionError};
+pub use value::{HeaderValue, Namespaced, Setting, Value};

@@ -1,0 +1,66 @@
+//! What a section says of its keys.
+
+ghost use Rattle.std.specs.Prelude.{◌≡◌};
+ghost use Rattle.cfg_base.specs.HeaderTexts.{value_text, primary_of, setting_text, setting_primary};
+
+/// A word, or one word within another, each with its location.
+#[derive(Debug, PartialEq, Eq, Drop)]
+pub struct Namespaced<T> {
+    pub namespace: Option<(String, T)>,
+    pub member: (String, T),
+}
+
+/// What stands behind the `:` of a key. The locations are those of words, numbers and texts, texts
+/// with their quotes; an array has those of its two brackets.
+#[derive(Debug, PartialEq, Eq, Drop)]
+pub enum Setting<T> {
+    Unitary(Namespaced<T>),
+    Constructor {
+        ctor: Namespaced<T>,
+        arg: Namespaced<T>,
+    },
+    Num(u64, T),
+    String(String, T),
+    Array(Vec<Setting<T>>, T, T),
+}
+
+/// The value of a key.
+#[derive(Debug, PartialEq, Eq, Drop)]
+pub enum Value<T> {
+    /// `key`, located at the key, or `!key`, located from the `!` on.
+    Flag(bool, T),
+    Setting(Setting<T>),
+}
+
+/// The location of a key, and its value. The key is without the `!`.
+#[derive(Debug, PartialEq, Eq, Drop)]
+pub struct HeaderValue<T>(pub T, pub Value<T>);
+
+impl<T> Setting<T> {
+    /// Where a message about this setting points: at its number, text or first bracket, or at the
+    /// outer member of a path.
+    fn primary_location(&self) -> &T
+        ensures { result.now ≡ setting_primary (setting_text self.now) }
+    {
+        match self {
+            Setting::Unitary(path) => &path.member.1,
+            Setting::Constructor { ctor, arg: _ } => &ctor.member.1,
+            Setting::Num(_, location) => location,
+            Setting::String(_, location) => location,
+            Setting::Array(_, open, _) => open,
+        }
+    }
+}
+
+impl<T> Value<T> {
+    /// Where a message about this value points: at the flag, number, text or first bracket, or at the
+    /// outer member of a path.
+    pub fn primary_location(&self) -> &T
+        ensures { result.now ≡ primary_of (value_text self.now) }
+    {
+        match self {
+            Value::Flag(_, location) => location,
+            Value::Setting(setting) => setting.primary_location(),
+        }
+    }
+}

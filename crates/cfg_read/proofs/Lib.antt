@@ -1,0 +1,15 @@
+pub mod Runs
+pub mod Places
+pub mod Parts
+pub mod Braces
+pub mod Chains
+pub mod Drafts
+pub mod Lines
+pub mod Next
+pub mod Progress
+pub mod Measure
+pub mod NameLemmas
+pub mod Placing
+pub mod Grouping
+pub mod Joined
+pub mod AstLemmas

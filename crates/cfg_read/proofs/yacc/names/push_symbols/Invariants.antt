@@ -1,0 +1,7 @@
+use Rattle.std.proofs.Common.{◌≡◌, ◌++◌, take}
+use Rattle.cfg_read.specs.Views.{symbols_of}
+use Rattle.cfg_read.specs.Showing.{symbols_at}
+use Rattle.cfg_read.proofs.yacc.names.push_symbols.Given as goal
+
+abbrev pub invariant-symbols : goal.invariant-symbols
+invariant-symbols l = symbols_at l.found.items ≡ symbols_at l.fn.found.items ++ symbols_of (take l.symbol-index l.symbols)

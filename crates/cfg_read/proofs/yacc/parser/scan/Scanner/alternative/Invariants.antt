@@ -1,0 +1,18 @@
+use Rattle.std.proofs.Common.{◌-◌, ◌≤◌, length}
+use Rattle.cfg_read.specs.SyntaxTexts.{RuleText, SyntaxText}
+use Rattle.cfg_read.specs.Making.{no_part}
+use Rattle.cfg_read.specs.Reading.{Spaced, At, More, Steps}
+use Rattle.cfg_read.specs.Scanning.{StartsBy}
+use Rattle.cfg_read.specs.Views.{part_of}
+use Rattle.cfg_read.proofs.yacc.parser.scan.Scanner.alternative.Given as goal
+
+abbrev pub invariant-parts : goal.invariant-parts
+invariant-parts l = record {
+  from : l.place ≤ l.end;
+  within : l.end ≤ length l.self.text.now;
+  starts : StartsBy l.draft.span l.end;
+  steps : (r : RuleText) (x : SyntaxText) → Steps l.self.kind l.self.text.now (Spaced (More r no_part) x l.place) (At (More r (part_of l.draft)) x l.end);
+}
+
+abbrev pub decreases-parts : goal.decreases-parts
+decreases-parts l = length l.self.text.now - l.end

@@ -1,0 +1,14 @@
+use Rattle.std.proofs.Common.{◌-◌, ◌≤◌, length}
+use Rattle.cfg_read.specs.Views.{syntax_of}
+use Rattle.cfg_read.specs.Reading.{Spaced, At, Declared, Steps}
+use Rattle.cfg_read.proofs.yacc.parser.scan.Scanner.declarations.Given as goal
+
+abbrev pub invariant-declarations : goal.invariant-declarations
+invariant-declarations l = record {
+  from : l.place ≤ l.end;
+  within : l.end ≤ length l.self.text.now;
+  steps : Steps l.self.kind l.self.text.now (Spaced Declared (syntax_of l.fn.syntax) l.place) (At Declared (syntax_of l.syntax) l.end);
+}
+
+abbrev pub decreases-declarations : goal.decreases-declarations
+decreases-declarations l = length l.self.text.now - l.end

@@ -1,0 +1,16 @@
+use Rattle.std.proofs.Common.{◌-◌, ◌≤◌, [], length}
+use Rattle.cfg_read.specs.declared.yacc.parser.declaration.LineList.{LineList}
+use Rattle.cfg_read.specs.SyntaxTexts.{SyntaxText}
+use Rattle.cfg_read.specs.Views.{symbols_of}
+use Rattle.cfg_read.specs.Reading.{InLine, At, LineItem, Steps}
+use Rattle.cfg_read.proofs.yacc.parser.scan.Scanner.line_items.Given as goal
+
+abbrev pub invariant-items : goal.invariant-items
+invariant-items l = record {
+  from : l.place ≤ l.end;
+  within : l.end ≤ length l.self.text.now;
+  steps : (k : LineList) (x : SyntaxText) → Steps l.self.kind l.self.text.now (InLine (LineItem k []) x l.place) (At (LineItem k (symbols_of l.items.items)) x l.end);
+}
+
+abbrev pub decreases-items : goal.decreases-items
+decreases-items l = length l.self.text.now - l.end

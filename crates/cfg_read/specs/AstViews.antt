@@ -1,0 +1,46 @@
+-- What the parts of a syntax tree say, without where they lie in memory.
+use Rattle.std.specs.Prelude.{true, false, List, map, option_map}
+use Rattle.std.specs.String.{string_bytes}
+use Rattle.indexmap.specs.IndexMap.{IndexMap}
+use Rattle.cfg_base.specs.Place.{Places}
+use Rattle.std.specs.declared.alloc.Global.{Global}
+use Rattle.std.specs.declared.string.String.{String}
+use Rattle.cfg_read.specs.declared.yacc.ast.Symbol.{Symbol}
+use Rattle.cfg_read.specs.declared.yacc.ast.Symbol.TheVariants.{Rule, Token}
+use Rattle.cfg_read.specs.declared.yacc.ast.Production.{Production}
+use Rattle.cfg_read.specs.declared.yacc.Precedence.{Precedence}
+use Rattle.cfg_read.specs.SyntaxTexts.{WordText, EppText}
+use Rattle.cfg_read.specs.Asts.{SymbolAst, ProductionAst, PrecedenceAst}
+
+abbrev pub ast_symbol_of : Symbol → SymbolAst
+ast_symbol_of (Rule text span) = record { is_token = false; word = record { text = string_bytes text; span = span } }
+ast_symbol_of (Token text span) = record { is_token = true; word = record { text = string_bytes text; span = span } }
+
+abbrev pub production_of : Production → ProductionAst
+production_of p = record {
+  symbols = map ast_symbol_of p.symbols.items;
+  precedence = option_map string_bytes p.precedence;
+  action = option_map string_bytes p.action;
+  action_span = p.action_span;
+  span = p.prod_span;
+}
+
+-- the names of a map with their places, in its order
+abbrev pub named_place : String Global × Places → WordText
+named_place e = record { text = string_bytes e.0; span = e.1 }
+
+abbrev pub named_places : {S : Type 0} → IndexMap (String Global) Places S → List WordText
+named_places m = map named_place m.entries
+
+-- those of printed texts, and of precedences
+abbrev pub named_epp : String Global × (Places × (String Global × Places)) → EppText
+named_epp e = record { token = record { text = string_bytes e.0; span = e.1.0 }; text = record { text = string_bytes e.1.1.0; span = e.1.1.1 } }
+
+abbrev pub named_epps : {S : Type 0} → IndexMap (String Global) (Places × (String Global × Places)) S → List EppText
+named_epps m = map named_epp m.entries
+
+abbrev pub named_precedence : String Global × (Precedence × Places) → PrecedenceAst
+named_precedence e = record { token = record { text = string_bytes e.0; span = e.1.1 }; level = e.1.0.level; kind = e.1.0.kind }
+
+abbrev pub named_precedences : {S : Type 0} → IndexMap (String Global) (Precedence × Places) S → List PrecedenceAst
+named_precedences m = map named_precedence m.entries

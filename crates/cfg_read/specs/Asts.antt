@@ -1,0 +1,166 @@
+-- What a text that reads is kept as: rules, productions and tokens by number, and what the declarations say.
+use Rattle.std.specs.Prelude.{ℕ, suc, Bool, List, [], ◌∷◌, ◌++◌, map, fold, Option, None, Some, option_map, if◌then◌else◌}
+use Rattle.std.specs.List.{flat_map, list_any}
+use Rattle.std.specs.Option.{option_or}
+use Rattle.std.specs.Str.{bytes_eq}
+use Rattle.cfg_base.specs.Place.{Places}
+use Rattle.cfg_read.specs.declared.yacc.AssocKind.{AssocKind}
+use Rattle.cfg_read.specs.SyntaxTexts.{WordText, SymbolText, AlternativeText, RuleText, LevelText, NumberText, EppText, ParamText, SyntaxText}
+use Rattle.cfg_read.specs.Names.{is_among, distinct, headings, words_in, declared_tokens, implicit_tokens_of, avoided_tokens, is_token_by, tokens_of}
+use Rattle.cfg_read.specs.Validity.{expected_symbols}
+
+-- a symbol of a production
+pub record SymbolAst : Type 0 where
+  pub is_token : Bool
+  pub word : WordText
+
+-- a rule: its first heading, the numbers of its productions in order, and the type of its actions
+pub record RuleAst : Type 0 where
+  pub name : WordText
+  pub productions : List ℕ
+  pub action_type : Option (List ℕ)
+
+pub record ProductionAst : Type 0 where
+  pub symbols : List SymbolAst
+  pub precedence : Option (List ℕ)
+  pub action : Option (List ℕ)
+  pub action_span : Option Places
+  pub span : Places
+
+-- the precedence of a token; the first level is 0
+pub record PrecedenceAst : Type 0 where
+  pub token : WordText
+  pub level : ℕ
+  pub kind : AssocKind
+
+pub record Ast : Type 0 where
+  pub start : Option WordText
+  pub rules : List RuleAst
+  pub productions : List ProductionAst
+  pub tokens : List WordText
+  pub precedences : List PrecedenceAst
+  pub avoid_insert : List WordText
+  pub implicit_tokens : List WordText
+  pub epp : List EppText
+  pub expect : Option NumberText
+  pub expect_rr : Option NumberText
+  pub parse_param : Option ParamText
+  pub parse_generics : Option WordText
+  pub programs : Option WordText
+  pub expect_unused : List SymbolText
+
+-- an empty one: that of a text that doesn't read
+abbrev pub no_ast : Ast
+no_ast = record {
+  start = None;
+  rules = [];
+  productions = [];
+  tokens = [];
+  precedences = [];
+  avoid_insert = [];
+  implicit_tokens = [];
+  epp = [];
+  expect = None;
+  expect_rr = None;
+  parse_param = None;
+  parse_generics = None;
+  programs = None;
+  expect_unused = [];
+}
+
+abbrev pub first_of : {A : Type 0} → List A → Option A
+first_of [] = None
+first_of (a ∷ more) = Some a
+
+abbrev pub last_text : List WordText → Option (List ℕ)
+last_text [] = None
+last_text (w ∷ []) = Some w.text
+last_text (w ∷ v ∷ ws) = last_text (v ∷ ws)
+
+-- The productions: one for each alternative, in the order of the text; `declared` tells the names of `%token`.
+abbrev pub symbol_ast : (List ℕ → Bool) → SymbolText → SymbolAst
+symbol_ast declared s = record { is_token = is_token_by declared s; word = s.word }
+
+abbrev pub text_of : Option WordText → Option (List ℕ)
+text_of o = option_map (λ (w : WordText). w.text) o
+
+abbrev pub production_ast : (List ℕ → Bool) → AlternativeText → ProductionAst
+production_ast declared a = record {
+  symbols = map (symbol_ast declared) a.symbols;
+  precedence = text_of a.precedence;
+  action = text_of a.action;
+  action_span = option_map (λ (w : WordText). w.span) a.action;
+  span = a.span;
+}
+
+abbrev pub productions_in : (List ℕ → Bool) → RuleText → List ProductionAst
+productions_in declared r = map (production_ast declared) r.alternatives
+
+-- for each of them the name of its rule
+abbrev pub heads_in : RuleText → List (List ℕ)
+heads_in r = map (λ (a : AlternativeText). r.name.text) r.alternatives
+
+abbrev pub heads : SyntaxText → List (List ℕ)
+heads x = flat_map heads_in x.rules
+
+-- the places of a name in a list, counted from n
+abbrev pub numbers_from : List ℕ → ℕ → List (List ℕ) → List ℕ
+numbers_from name n [] = []
+numbers_from name n (h ∷ hs) = if bytes_eq h name then n ∷ numbers_from name (suc n) hs else numbers_from name (suc n) hs
+
+-- The type of a rule: that of its first heading, else that of `%actiontype`, which every rule stands behind.
+abbrev pub heading_type : SyntaxText → List RuleText → List ℕ → Option (List ℕ)
+heading_type x [] name = None
+heading_type x (r ∷ rs) name = if bytes_eq r.name.text name then option_or (text_of r.action_type) (last_text x.action_types) else heading_type x rs name
+
+abbrev pub rule_ast : SyntaxText → WordText → RuleAst
+rule_ast x w = record { name = w; productions = numbers_from w.text 0 (heads x); action_type = heading_type x x.rules w.text }
+
+-- The precedences: each line is a level, and a token's first one counts.
+abbrev pub precedence_ast : ℕ → AssocKind → WordText → PrecedenceAst
+precedence_ast n kind w = record { token = w; level = n; kind = kind }
+
+abbrev pub level_precedences : ℕ → LevelText → List PrecedenceAst
+level_precedences n l = map (precedence_ast n l.kind) (words_in l.tokens)
+
+abbrev pub precedences_at : ℕ → List LevelText → List PrecedenceAst
+precedences_at n [] = []
+precedences_at n (l ∷ ls) = level_precedences n l ++ precedences_at (suc n) ls
+
+abbrev pub has_precedence : List PrecedenceAst → List ℕ → Bool
+has_precedence ps name = list_any (λ (p : PrecedenceAst). bytes_eq name p.token.text) ps
+
+abbrev pub with_precedence_of : List PrecedenceAst → PrecedenceAst → List PrecedenceAst
+with_precedence_of ps p = if has_precedence ps p.token.text then ps else ps ++ p ∷ []
+
+abbrev pub precedences_of : List LevelText → List PrecedenceAst
+precedences_of ls = fold with_precedence_of [] (precedences_at 0 ls)
+
+-- the printed texts, a token's first one
+abbrev pub has_epp : List EppText → List ℕ → Bool
+has_epp es name = list_any (λ (e : EppText). bytes_eq name e.token.text) es
+
+abbrev pub with_epp_of : List EppText → EppText → List EppText
+with_epp_of es e = if has_epp es e.token.text then es else es ++ e ∷ []
+
+-- The start rule is that of `%start`, else the first one.
+abbrev pub start_of : SyntaxText → Option WordText
+start_of x = option_or (first_of x.starts) (first_of (headings x))
+
+abbrev pub ast_of : SyntaxText → Ast
+ast_of x = record {
+  start = start_of x;
+  rules = map (rule_ast x) (distinct (headings x));
+  productions = flat_map (productions_in (is_among (declared_tokens x))) x.rules;
+  tokens = tokens_of x;
+  precedences = precedences_of x.levels;
+  avoid_insert = distinct (avoided_tokens x);
+  implicit_tokens = distinct (implicit_tokens_of x);
+  epp = fold with_epp_of [] x.epp;
+  expect = first_of x.expect;
+  expect_rr = first_of x.expect_rr;
+  parse_param = x.parse_param;
+  parse_generics = x.parse_generics;
+  programs = x.programs;
+  expect_unused = expected_symbols x;
+}

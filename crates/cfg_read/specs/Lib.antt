@@ -1,0 +1,15 @@
+pub mod Bytes
+pub mod Words
+pub mod SyntaxTexts
+pub mod Making
+pub mod Declarations
+pub mod Reading
+pub mod Stopping
+pub mod Views
+pub mod Scanning
+pub mod Names
+pub mod Validity
+pub mod Showing
+pub mod Asts
+pub mod AstViews
+pub mod Warnings

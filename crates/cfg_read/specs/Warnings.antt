@@ -1,0 +1,65 @@
+-- What a valid text declares and doesn't use.
+use Rattle.std.specs.Prelude.{◌≡◌, ℕ, Bool, true, false, not, ◌&&◌, ◌||◌, ◌↔◌, IsTrue, List, [], ◌∷◌, ◌++◌, map, filter, Some, Contains, slice_get}
+use Rattle.std.specs.List.{list_any}
+use Rattle.std.specs.Str.{bytes_eq}
+use Rattle.cfg_base.specs.Place.{Places}
+use Rattle.cfg_read.specs.SyntaxTexts.{WordText, SymbolText}
+use Rattle.cfg_read.specs.Names.{is_among}
+use Rattle.cfg_read.specs.Asts.{Ast, RuleAst, ProductionAst, SymbolAst}
+
+-- this symbol stands in an alternative of the rule of this name
+pub record Uses (ast : Ast) (name : List ℕ) (s : SymbolAst) : Type 0 where
+  pub rule : RuleAst
+  pub is_rule : Contains ast.rules rule
+  pub is_named : rule.name.text ≡ name
+  pub number : ℕ
+  pub is_its : Contains rule.productions number
+  pub production : ProductionAst
+  pub at : slice_get ast.productions number ≡ Some production
+  pub stands : Contains production.symbols s
+
+-- The start rule is reached, and each rule that stands in an alternative of a reached one.
+pub data IsReached (ast : Ast) : List ℕ → Type 0 where
+  at_start : {w : WordText} → ast.start ≡ Some w → IsReached ast w.text
+  in_reached : {name : List ℕ} {s : SymbolAst} → IsReached ast name → Uses ast name s → s.is_token ≡ false → IsReached ast s.word.text
+
+-- a token that stands in an alternative of a reached rule
+pub record IsUsed (ast : Ast) (token : List ℕ) : Type 0 where
+  pub name : List ℕ
+  pub reached : IsReached ast name
+  pub symbol : SymbolAst
+  pub uses : Uses ast name symbol
+  pub is_token : symbol.is_token ≡ true
+  pub is_it : symbol.word.text ≡ token
+
+pub data WarningKind : Type 0 where
+  UnusedRule : WarningKind
+  UnusedToken : WarningKind
+
+pub record WarningText : Type 0 where
+  pub kind : WarningKind
+  pub spans : List Places
+
+-- whether `%expect-unused` names a rule, without quotes, or a token
+abbrev pub is_expected_rule : Ast → List ℕ → Bool
+is_expected_rule ast name = list_any (λ (s : SymbolText). not s.is_quoted && bytes_eq s.word.text name) ast.expect_unused
+
+abbrev pub is_expected_token : Ast → List ℕ → Bool
+is_expected_token ast name = list_any (λ (s : SymbolText). bytes_eq s.word.text name) ast.expect_unused
+
+abbrev pub warnings_at : WarningKind → List WordText → List WarningText
+warnings_at k ws = map (λ (w : WordText). record { kind = k; spans = w.span ∷ [] }) ws
+
+-- The warnings, where these tell which rules are reached and which tokens used: unused rules, then unused tokens that
+-- aren't implicit, by number; none that is expected.
+abbrev pub warnings_by : (List ℕ → Bool) → (List ℕ → Bool) → Ast → List WarningText
+warnings_by reached used ast =
+    warnings_at UnusedRule (filter (λ (w : WordText). not (reached w.text || is_expected_rule ast w.text)) (map (λ (r : RuleAst). r.name) ast.rules))
+    ++ warnings_at UnusedToken (filter (λ (w : WordText). not (used w.text || (is_among ast.implicit_tokens w.text || is_expected_token ast w.text))) ast.tokens)
+
+pub record AreWarnings (ast : Ast) (ws : List WarningText) : Type 0 where
+  pub reached : List ℕ → Bool
+  pub reached_is : (name : List ℕ) → IsTrue (reached name) ↔ IsReached ast name
+  pub used : List ℕ → Bool
+  pub used_is : (name : List ℕ) → IsTrue (used name) ↔ IsUsed ast name
+  pub all : ws ≡ warnings_by reached used ast

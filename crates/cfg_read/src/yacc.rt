@@ -1,0 +1,48 @@
+//! Yacc grammars.
+
+pub mod ast;
+mod ast_parts;
+mod names;
+pub mod parser;
+#[cfg(test)]
+mod tests_ast;
+pub mod validity;
+
+/// What a grammar text is written for.
+#[derive(Clone, Copy, Debug, PartialEq, Eq)]
+pub enum YaccKind {
+    /// Yacc's own syntax.
+    Original(YaccOriginalActionKind),
+    /// Each rule has the type of its actions behind its name.
+    Grmtools,
+    /// Tokens may be named that stand anywhere without being told.
+    Eco,
+}
+
+/// What the actions of an original Yacc grammar stand for.
+#[derive(Clone, Copy, Debug, PartialEq, Eq)]
+pub enum YaccOriginalActionKind {
+    /// Code of the grammar's author.
+    UserAction,
+    /// A tree of the whole parse.
+    GenericParseTree,
+    /// Nothing is done.
+    NoAction,
+}
+
+pub type PrecedenceLevel = u64;
+
+/// How tightly a token or production binds.
+#[derive(Clone, Copy, Debug, PartialEq, Eq)]
+pub struct Precedence {
+    pub level: PrecedenceLevel,
+    pub kind: AssocKind,
+}
+
+/// To which side the tokens of a precedence line group.
+#[derive(Clone, Copy, Debug, PartialEq, Eq)]
+pub enum AssocKind {
+    Left,
+    Right,
+    Nonassoc,
+}

@@ -1,0 +1,12 @@
+pub mod Ranges
+pub mod Lookups
+pub mod Named
+pub mod RuleLists
+pub mod Bits
+pub mod TokenRows
+pub mod Passed
+pub mod FirstSteps
+pub mod Backwards
+pub mod FollowSteps
+pub mod PathSteps
+pub mod CostSteps

@@ -1,0 +1,25 @@
+use Rattle.std.proofs.Common.{◌≡◌, ◌<◌, List, length, sym, ap, ◌∙◌, subst, arith}
+use Rattle.std.specs.Prelude.{map}
+use Rattle.cfg_theory.specs.Grammar.{Production}
+use Rattle.cfgrammar.specs.Symbols.{numbers_of}
+use Rattle.cfgrammar.specs.Parts.{value_of, production_of, with_productions, ListsProductions}
+use Rattle.cfgrammar.proofs.Lookups.{is_of_any}
+use Rattle.cfgrammar.proofs.RuleLists.{lists_of_any}
+use Rattle.cfgrammar.proofs.grammar.YaccGrammar.of_parts.Goals as goal
+
+pub list_productions-requires-clause-heads : goal.list_productions-requires-clause-heads
+list_productions-requires-clause-heads g c = λ p A o.
+    let number = g.S.IndexStorage.number in
+    let G = (value_of number c.args.rules.items c.args.tokens.items c.args.prods.items (number c.args.start.0)).grammar in
+    let lt : A < length c.args.rules.items = c.requires.well_formed.heads p A (is_of_any G c.len.result (map (production_of number) c.as_slice.result.now) p A (ap (map (production_of number)) c.as_slice.ensures.value) o) in
+    let len = c.len.ensures ∙ c.args.rules.ok.0 in
+    omega (arith, lt, len)
+
+pub invariant_of-result : goal.invariant_of-result
+invariant_of-result g c =
+    let number = g.S.IndexStorage.number in
+    let lists = map (λ l. numbers_of number l.items) c.in_ok-rule_prods.rule_prods.items in
+    let made : ListsProductions (with_productions c.len.result (map (production_of number) c.as_slice.result.now)) lists = c.in_ok-rule_prods.ensures in
+    let count : ListsProductions (with_productions (length c.args.rules.items) (map (production_of number) c.as_slice.result.now)) lists = subst (λ n. ListsProductions (with_productions n (map (production_of number) c.as_slice.result.now)) lists) (c.len.ensures ∙ c.args.rules.ok.0) made in
+    let all : ListsProductions (with_productions (length c.args.rules.items) (map (production_of number) c.args.prods.items)) lists = subst (λ l. ListsProductions (with_productions (length c.args.rules.items) (map (production_of number) l)) lists) c.as_slice.ensures.value count in
+    (c.requires, lists_of_any (length c.args.rules.items) (length c.args.tokens.items) (number c.args.start.0) (map (production_of number) c.args.prods.items) lists all)

@@ -1,0 +1,10 @@
+pub mod Symbols
+pub mod Value
+pub mod Parts
+pub mod Sets
+pub mod Firsts
+pub mod Follows
+pub mod Paths
+pub mod Passes
+pub mod CostTable
+pub mod Sentences

@@ -1,0 +1,101 @@
+//! What stands beside the numbers: names, places in the text, and precedences.
+
+ghost use Rattle.std.specs.Prelude.{◌≡◌, ◌<◌, ℕ, length, slice_get, option_map, Some, IfSome, IfNone, MatchOption};
+ghost use Rattle.cfgrammar.specs.Parts.{IsPartNamed};
+ghost use Rattle.cfgrammar.specs.Value.{IsRuleNamed};
+
+use super::{YaccGrammar, index_of};
+use crate::parts::RuleParts;
+use crate::precedence::Precedence;
+use cfg_base::index::IndexStorage;
+use cfg_base::span::Span;
+use cfg_base::symbol::{PIdx, RIdx, TIdx};
+
+impl<S: IndexStorage> YaccGrammar<S> {
+    /// The name of a rule.
+    pub fn rule_name_str(&self, ridx: RIdx<S>) -> &str
+        requires { S.number ridx.0 < self.now.grammar.rules }
+        ensures { IsRuleNamed self.now (S.number ridx.0) result.now }
+    {
+        self.rules[ridx.0.to_usize()].name.as_str()
+    }
+
+    /// As `rule_name_str`.
+    pub fn rule_name(&self, ridx: RIdx<S>) -> &str
+        requires { S.number ridx.0 < self.now.grammar.rules }
+        ensures { IsRuleNamed self.now (S.number ridx.0) result.now }
+    {
+        self.rule_name_str(ridx)
+    }
+
+    /// The rule with a name. A name is that of one rule at most.
+    pub fn rule_idx(&self, name: &str) -> Option<RIdx<S>>
+        ensures found { IfSome result (λ r. IsRuleNamed self.now (S.number r.0) name.now) }
+        ensures none { IfNone result ((A : ℕ) → IsRuleNamed self.now A name.now → ⊥) }
+        ensures only { (A B : ℕ) → IsRuleNamed self.now A name.now → IsRuleNamed self.now B name.now → A ≡ B }
+    {
+        let rules = self.rules.as_slice();
+        match place_of(rules, name) {
+            Some(place) => Some(RIdx(index_of(place))),
+            None => None,
+        }
+    }
+
+    /// The name of a token; None of the end token.
+    pub fn token_name(&self, tidx: TIdx<S>) -> Option<&str>
+        requires { S.number tidx.0 < self.now.grammar.tokens }
+        ensures { option_map (λ t. t.name) (slice_get self.now.tokens (S.number tidx.0)) ≡ Some (option_map (λ s. s.now) result) }
+    {
+        match &self.tokens[tidx.0.to_usize()].name {
+            Some(name) => Some(name.as_str()),
+            None => None,
+        }
+    }
+
+    /// Where the name of a rule stands in the text; (0, 0) of a rule that the text doesn't have.
+    pub fn rule_name_span(&self, ridx: RIdx<S>) -> Span
+        requires { S.number ridx.0 < self.now.grammar.rules }
+        ensures { option_map (λ r. r.span) (slice_get self.now.rules (S.number ridx.0)) ≡ Some result }
+    {
+        self.rules[ridx.0.to_usize()].span
+    }
+
+    /// Where a token stands first in the text; None of the end token.
+    pub fn token_span(&self, tidx: TIdx<S>) -> Option<Span>
+        requires { S.number tidx.0 < self.now.grammar.tokens }
+        ensures { option_map (λ t. t.span) (slice_get self.now.tokens (S.number tidx.0)) ≡ Some result }
+    {
+        self.tokens[tidx.0.to_usize()].span
+    }
+
+    /// The precedence that the text declares for a token.
+    pub fn token_precedence(&self, tidx: TIdx<S>) -> Option<Precedence>
+        requires { S.number tidx.0 < self.now.grammar.tokens }
+        ensures { option_map (λ t. t.precedence) (slice_get self.now.tokens (S.number tidx.0)) ≡ Some result }
+    {
+        self.tokens[tidx.0.to_usize()].precedence
+    }
+
+    /// The precedence of a production.
+    pub fn prod_precedence(&self, pidx: PIdx<S>) -> Option<Precedence>
+        requires { S.number pidx.0 < length self.now.grammar.productions }
+        ensures { option_map (λ p. p.precedence) (slice_get self.now.productions (S.number pidx.0)) ≡ Some result }
+    {
+        self.prods[pidx.0.to_usize()].precedence
+    }
+
+    /// Where a production stands in the text.
+    pub fn prod_span(&self, pidx: PIdx<S>) -> Span
+        requires { S.number pidx.0 < length self.now.grammar.productions }
+        ensures { option_map (λ p. p.span) (slice_get self.now.productions (S.number pidx.0)) ≡ Some result }
+    {
+        self.prods[pidx.0.to_usize()].span
+    }
+}
+
+/// The place of the first rule with a name.
+fn place_of(rules: &[RuleParts], name: &str) -> Option<usize>
+    ensures { MatchOption result ((k : ℕ) → IsPartNamed rules.now k name.now → ⊥) (λ k. IsPartNamed rules.now k name.now) }
+{
+    rules.iter().position(|rule| rule.name.as_str() == name)
+}

@@ -7,7 +7,6 @@ pub mod LocatedTexts
 pub mod MarkMapEntries
 pub mod MarkMapMerges
 pub mod MarkMapRoom
-pub mod MarkMapTexts
 pub mod MarkMapWalks
 pub mod Pieces
 pub mod Places

@@ -8,8 +8,6 @@ mod read;
 mod repeats;
 mod scan;
 mod section;
-#[cfg(test)]
-mod tests;
 mod value;
 
 pub use convert::try_from_header;

@@ -385,6 +385,3 @@ fn push_if<'a, K>(found: &mut Vec<&'a K>, key: &'a K, wanted: bool) -> Result<()
     }
     Ok(())
 }
-
-#[cfg(test)]
-mod tests;

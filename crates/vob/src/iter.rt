@@ -39,7 +39,7 @@ impl<'a, T: Block> Model for Iter<'a, T> {
 /// The places whose item is set, in order. Contracts see it as those that are left.
 #[derive(Drop)]
 pub struct IterSetBits<'a, T: Block> {
-    places: Places<'a, T>,
+    set: Places<'a, T>,
 }
 
 impl<'a, T: Block> Model for IterSetBits<'a, T> {
@@ -47,13 +47,13 @@ impl<'a, T: Block> Model for IterSetBits<'a, T> {
 
     ghost Value = { List ℕ };
 
-    ghost view = { λ it. it.places };
+    ghost view = { λ it. it.set };
 }
 
 /// The places whose item isn't set, in order. Contracts see it as those that are left.
 #[derive(Drop)]
 pub struct IterUnsetBits<'a, T: Block> {
-    places: Places<'a, T>,
+    unset: Places<'a, T>,
 }
 
 impl<'a, T: Block> Model for IterUnsetBits<'a, T> {
@@ -61,7 +61,7 @@ impl<'a, T: Block> Model for IterUnsetBits<'a, T> {
 
     ghost Value = { List ℕ };
 
-    ghost view = { λ it. it.places };
+    ghost view = { λ it. it.unset };
 }
 
 /// The blocks of a list, in order. Contracts see it as those that are left.
@@ -109,7 +109,7 @@ impl<T: Block> Vob<T> {
         ensures { result ≡ walk true self.now.bits (R.start_bound range) (R.end_bound range) }
     {
         IterSetBits {
-            places: self.places(true, range),
+            set: self.places(true, range),
         }
     }
 
@@ -119,7 +119,7 @@ impl<T: Block> Vob<T> {
         ensures { result ≡ walk false self.now.bits (R.start_bound range) (R.end_bound range) }
     {
         IterUnsetBits {
-            places: self.places(false, range),
+            unset: self.places(false, range),
         }
     }
 
@@ -214,7 +214,7 @@ impl<'a, T: Block> IterSetBits<'a, T> {
     pub fn count(self) -> usize
         ensures { result ≡ length self.entry }
     {
-        self.places.count()
+        self.set.count()
     }
 }
 
@@ -226,7 +226,7 @@ impl<'a, T: Block> Iterator for IterSetBits<'a, T> {
     ghost remaining = { item_count (λ s. s) };
 
     fn next(&mut self) -> Option<usize> {
-        self.places.first()
+        self.set.first()
     }
 
     /// Nothing is known of how many places are left before they are walked over.
@@ -236,7 +236,7 @@ impl<'a, T: Block> Iterator for IterSetBits<'a, T> {
         ensures within { IsWithinCount result.0 (at_most (length self.now)) }
         ensures up_to { IfSome result.1 (UpTo (at_most (length self.now))) }
     {
-        (0, None)
+        self.set.size_hint()
     }
 }
 
@@ -244,7 +244,7 @@ impl<'a, T: Block> DoubleEndedIterator for IterSetBits<'a, T> {
     ghost next_back_gives = { YieldsLast (λ s. s) };
 
     fn next_back(&mut self) -> Option<usize> {
-        self.places.last()
+        self.set.last()
     }
 }
 
@@ -255,7 +255,7 @@ impl<'a, T: Block> IterUnsetBits<'a, T> {
     pub fn count(self) -> usize
         ensures { result ≡ length self.entry }
     {
-        self.places.count()
+        self.unset.count()
     }
 }
 
@@ -267,7 +267,7 @@ impl<'a, T: Block> Iterator for IterUnsetBits<'a, T> {
     ghost remaining = { item_count (λ s. s) };
 
     fn next(&mut self) -> Option<usize> {
-        self.places.first()
+        self.unset.first()
     }
 
     /// Nothing is known of how many places are left before they are walked over.
@@ -277,7 +277,7 @@ impl<'a, T: Block> Iterator for IterUnsetBits<'a, T> {
         ensures within { IsWithinCount result.0 (at_most (length self.now)) }
         ensures up_to { IfSome result.1 (UpTo (at_most (length self.now))) }
     {
-        (0, None)
+        self.unset.size_hint()
     }
 }
 
@@ -285,7 +285,7 @@ impl<'a, T: Block> DoubleEndedIterator for IterUnsetBits<'a, T> {
     ghost next_back_gives = { YieldsLast (λ s. s) };
 
     fn next_back(&mut self) -> Option<usize> {
-        self.places.last()
+        self.unset.last()
     }
 }
 

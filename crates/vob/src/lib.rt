@@ -159,8 +159,3 @@ macro_rules! vob {
         $crate::Vob::from_slice($alloc, &[$($item),*])
     };
 }
-
-#[cfg(test)]
-mod tests;
-#[cfg(test)]
-mod tests_list;

@@ -1,7 +1,7 @@
 //! The places of the bits that have one value, from either end, block by block.
 #![tactic(auto)]
 
-ghost use Rattle.std.specs.Prelude.{◌≡◌, ◌<◌, ◌≤◌, ◌+◌, ◌-◌, ℕ, false, not, List, [], ◌∷◌, ◌++◌, length, map, slice_index_or, MatchOption, if◌then◌else◌};
+ghost use Rattle.std.specs.Prelude.{◌≡◌, ◌<◌, ◌≤◌, ◌+◌, ◌-◌, ℕ, false, not, List, [], ◌∷◌, ◌++◌, length, map, slice_index_or, MatchOption, None, if◌then◌else◌};
 ghost use Rattle.std.specs.List.{flat_map};
 ghost use Rattle.vob.specs.Walk.{places_of};
 
@@ -61,6 +61,14 @@ impl<'a, T: Block> Places<'a, T> {
         ensures { result ≡ length self.entry }
     {
         count_places(self.blocks, self.value, self.from, self.to)
+    }
+
+    /// How many places are left isn't known before they are walked over.
+    pub fn size_hint(&self) -> (usize, Option<usize>)
+        ensures lower { result.0 ≡ 0 }
+        ensures upper { result.1 ≡ None }
+    {
+        (0, None)
     }
 
     pub fn last(&mut self) -> Option<usize>

@@ -1,10 +1,10 @@
 //! Sections, and what they say or where they fail.
 
-use crate::header::convert::try_from_header;
-use crate::header::error::{HeaderError, HeaderErrorKind};
-use crate::header::section::{GrmtoolsSectionParser, Header, KeyValueError, SectionError};
-use crate::header::value::{HeaderValue, Namespaced, Setting, Value};
-use crate::span::{Location, Span, Spanned, SpansKind};
+use cfg_base::header::{
+    GrmtoolsSectionParser, Header, HeaderError, HeaderErrorKind, HeaderValue, KeyValueError,
+    Namespaced, SectionError, Setting, Value, try_from_header,
+};
+use cfg_base::span::{Location, Span, Spanned, SpansKind};
 use std::alloc::{AllocError, Global};
 use std::test::*;
 

@@ -1,11 +1,13 @@
 ghost use Rattle.std.specs.Prelude.{◌<◌};
 
-use super::*;
-use crate::error::VobError;
-use crate::raw::{RawVob, VobRecord};
+use std::alloc::{AllocError, Global};
 use std::iter::DoubleEndedIterator;
 use std::process::Abort;
 use std::test::Fail;
+use vob::block::Block;
+use vob::error::VobError;
+use vob::raw::{RawVob, VobRecord};
+use vob::{Vob, vob};
 
 fn shows<T: Block>(rt: &impl Abort, list: &Vob<T>, items: &[bool]) {
     assert_eq!(rt; list.len(), items.len());
@@ -67,7 +69,8 @@ fn raw_blocks_are_tested(rt: HostRuntime) -> Result<(), Fail> {
 }
 
 fn masked(mut raw: RawVob<u8>) -> RawVob<u8> {
-    if raw.blocks.len() == crate::packed::blocks_for::<u8>(raw.len) {
+    raw.set_len(9);
+    if raw.blocks.len() == 2 {
         raw.mask_last_block();
     }
     raw

@@ -1,7 +1,9 @@
-use super::*;
-use crate::error::VobError;
+use std::alloc::{AllocError, Global};
 use std::process::Abort;
 use std::test::Fail;
+use vob::Vob;
+use vob::block::Block;
+use vob::error::VobError;
 
 // The items that the lists below begin with: no block's width divides the period.
 fn item(place: usize) -> bool {

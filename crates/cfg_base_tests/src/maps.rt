@@ -1,4 +1,5 @@
-use super::*;
+use cfg_base::markmap::{Entry, MarkMap, Marks, MergeBehavior, MergeError};
+use std::alloc::{AllocError, Global};
 use std::test::Fail;
 
 fn text(alloc: Global, name: &str) -> Result<String, AllocError> {
@@ -108,7 +109,7 @@ fn values_on_both_sides_are_refused(rt: HostRuntime) -> Result<(), Fail> {
 }
 
 #[test]
-#[tactic(auto, using(crate::proofs::MarkMapTexts::text_clones_are_equal))]
+#[tactic(auto, using(crate::proofs::TextKeys::text_clones_are_equal))]
 fn a_text_on_both_sides_is_refused(rt: HostRuntime) -> Result<(), Fail> {
     let mut ours: MarkMap<String, u8> = MarkMap::new(rt.alloc());
     let mut theirs: MarkMap<String, u8> = MarkMap::new(rt.alloc());
@@ -135,7 +136,7 @@ fn a_text_on_both_sides_is_refused(rt: HostRuntime) -> Result<(), Fail> {
 
 // Keys without a value are in no walk.
 #[test]
-#[tactic(auto, using(crate::proofs::MarkMapTexts::text_clones_are_equal))]
+#[tactic(auto, using(crate::proofs::TextKeys::text_clones_are_equal))]
 fn walks_give_keys_with_a_value(rt: HostRuntime) -> Result<(), Fail> {
     let mut map: MarkMap<String, u8> = MarkMap::new(rt.alloc());
     for (key, value) in [("c", 3), ("a", 1), ("b", 2)] {
@@ -143,7 +144,7 @@ fn walks_give_keys_with_a_value(rt: HostRuntime) -> Result<(), Fail> {
     }
     map.mark_used(&text(rt.alloc(), "aa")?)?;
     map.mark_required(&text(rt.alloc(), "d")?)?;
-    let mut pairs = map.into_iter();
+    let mut pairs = (&map).into_iter();
     for (key, value) in [("a", 1), ("b", 2), ("c", 3)] {
         match pairs.next() {
             Some(pair) => assert_eq!(rt; (pair.0.as_str(), *pair.1), (key, value)),
@@ -196,7 +197,7 @@ fn an_occupied_entry(rt: HostRuntime) -> Result<(), Fail> {
 
 // A vacant entry's marks, and those that the key had, stay with the value.
 #[test]
-#[tactic(auto, using(crate::proofs::MarkMapTexts::text_clones_are_equal))]
+#[tactic(auto, using(crate::proofs::TextKeys::text_clones_are_equal))]
 fn a_vacant_entry(rt: HostRuntime) -> Result<(), Fail> {
     let mut map: MarkMap<String, u8> = MarkMap::new(rt.alloc());
     let k = text(rt.alloc(), "k")?;
@@ -216,7 +217,7 @@ fn a_vacant_entry(rt: HostRuntime) -> Result<(), Fail> {
 }
 
 #[test]
-#[tactic(auto, using(crate::proofs::MarkMapTexts::text_clones_are_equal))]
+#[tactic(auto, using(crate::proofs::TextKeys::text_clones_are_equal))]
 fn a_filled_entry(rt: HostRuntime) -> Result<(), Fail> {
     let mut map: MarkMap<String, u8> = MarkMap::new(rt.alloc());
     let k = text(rt.alloc(), "k")?;
@@ -236,7 +237,7 @@ fn a_filled_entry(rt: HostRuntime) -> Result<(), Fail> {
 
 // A call that is refused leaves the map as it was, and can be made again.
 #[test]
-#[tactic(auto, using(crate::proofs::MarkMapTexts::text_clones_are_equal))]
+#[tactic(auto, using(crate::proofs::TextKeys::text_clones_are_equal))]
 fn refused_calls_change_nothing(rt: HostRuntime) -> Result<(), Fail> {
     let mut map: MarkMap<String, u8> = MarkMap::new(rt.alloc());
     let a = text(rt.alloc(), "a")?;
@@ -256,7 +257,7 @@ fn refused_calls_change_nothing(rt: HostRuntime) -> Result<(), Fail> {
 
 // So does a merge: neither values nor marks came in.
 #[test]
-#[tactic(auto, using(crate::proofs::MarkMapTexts::text_clones_are_equal))]
+#[tactic(auto, using(crate::proofs::TextKeys::text_clones_are_equal))]
 fn a_merge_without_memory_changes_nothing(rt: HostRuntime) -> Result<(), Fail> {
     let mut ours: MarkMap<String, u8> = MarkMap::new(rt.alloc());
     let mut theirs: MarkMap<String, u8> = MarkMap::new(rt.alloc());

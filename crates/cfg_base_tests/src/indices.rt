@@ -1,0 +1,64 @@
+use cfg_base::index::IndexStorage;
+use cfg_base::symbol::{PIdx, RIdx, SIdx, Symbol, TIdx};
+use std::collections::BTreeMap;
+use std::test::Fail;
+
+fn round_trip<S: IndexStorage>(n: usize) -> Option<usize> {
+    S::from_usize(n).map(|index| index.to_usize())
+}
+
+#[test]
+fn numbers_up_to_the_greatest_fit(rt: HostRuntime) {
+    for (n, narrow, middle, wide) in [
+        (0, true, true, true),
+        (255, true, true, true),
+        (256, false, true, true),
+        (65_535, false, true, true),
+        (65_536, false, false, true),
+        (4_294_967_295, false, false, true),
+        (4_294_967_296, false, false, false),
+        (usize::MAX, false, false, false),
+    ] {
+        assert_eq!(rt; round_trip::<u8>(n), narrow.then_some(n), "u8 at {n}");
+        assert_eq!(rt; round_trip::<u16>(n), middle.then_some(n), "u16 at {n}");
+        assert_eq!(rt; round_trip::<u32>(n), wide.then_some(n), "u32 at {n}");
+    }
+}
+
+#[test]
+fn indices_give_their_numbers(rt: HostRuntime) -> Result<(), Fail> {
+    assert_eq!(rt; RIdx(7u8).as_storaget(), 7);
+    assert_eq!(rt; PIdx(8u16).as_storaget(), 8);
+    assert_eq!(rt; SIdx(9u32).as_storaget(), 9);
+    assert_eq!(rt; TIdx(10u8).as_storaget(), 10);
+    assert_eq!(rt; usize::from(RIdx(255u8)), 255);
+    assert_eq!(rt; usize::from(PIdx(65_535u16)), 65_535);
+    assert_eq!(rt; usize::from(SIdx(4_294_967_295u32)), 4_294_967_295);
+    assert_eq!(rt; usize::from(TIdx(1u16)), 1);
+    assert_eq!(rt; u32::from(RIdx(4_294_967_295u32)), 4_294_967_295);
+    assert_eq!(rt; u32::from(PIdx(2u8)), 2);
+    assert_eq!(rt; u32::from(SIdx(3u16)), 3);
+    assert_eq!(rt; u32::from(TIdx(4u32)), 4);
+    Ok(())
+}
+
+#[test]
+fn symbols_are_keys(rt: HostRuntime) -> Result<(), Fail> {
+    let symbols = [
+        Symbol::Token(TIdx(0u8)),
+        Symbol::Rule(RIdx(9)),
+        Symbol::Token(TIdx(3)),
+        Symbol::Rule(RIdx(2)),
+    ];
+    let mut places: BTreeMap<Symbol<u8>, usize> = BTreeMap::new(rt.alloc());
+    for (place, symbol) in symbols.iter().enumerate() {
+        places.insert(*symbol, place)?;
+    }
+    let in_order: Vec<usize> = places.values().copied().collect(rt.alloc())?;
+    assert_eq!(rt; in_order.as_slice(), [3, 1, 0, 2].as_slice());
+    assert!(rt; Symbol::Rule(RIdx(9u8)) < Symbol::Token(TIdx(0)));
+    assert!(rt; Symbol::Rule(RIdx(3u8)) != Symbol::Token(TIdx(3)));
+    let text = format!(in rt.alloc(); "{:?}", Symbol::Rule(RIdx(3u8)))?;
+    assert_eq!(rt; text.as_str(), "Rule(RIdx(3))");
+    Ok(())
+}

@@ -1,0 +1,102 @@
+use cfg_base::newlinecache::NewlineCache;
+use cfg_base::span::Span;
+use std::test::Fail;
+
+#[test]
+fn spans_answer_their_places(rt: HostRuntime) -> Result<(), Fail> {
+    let span = Span::new(3, 7);
+    assert_eq!(rt; span.start(), 3);
+    assert_eq!(rt; span.end(), 7);
+    assert_eq!(rt; span.len(), 4);
+    assert!(rt; !span.is_empty());
+    assert!(rt; Span::new(3, 3).is_empty());
+    assert!(rt; span == Span::new(3, 7) && span != Span::new(3, 8) && span != Span::new(2, 7));
+    let copy = span;
+    let text = format!(in rt.alloc(); "{copy:?} {span:?}")?;
+    assert_eq!(rt;
+        text.as_str(),
+        "Span { start: 3, end: 7 } Span { start: 3, end: 7 }"
+    );
+    Ok(())
+}
+
+#[test]
+fn places_of_a_text(rt: HostRuntime) -> Result<(), Fail> {
+    let text = "aé\nb";
+    let cache = NewlineCache::from_str(rt.alloc(), text)?;
+    for (byte, line, start) in [(0, 1, 0), (2, 1, 0), (3, 1, 0), (4, 2, 4), (5, 2, 4)] {
+        assert_eq!(rt; cache.byte_to_line_num(byte), Some(line), "line of {byte}");
+        assert_eq!(rt;
+            cache.byte_to_line_byte(byte),
+            Some(start),
+            "start of the line of {byte}"
+        );
+    }
+    assert_eq!(rt; cache.byte_to_line_num(6), None);
+    assert_eq!(rt; cache.byte_to_line_byte(6), None);
+    for (byte, place) in [
+        (0, (1, 1)),
+        (1, (1, 2)),
+        (2, (1, 2)),
+        (3, (1, 3)),
+        (4, (2, 1)),
+        (5, (2, 2)),
+    ] {
+        assert_eq!(rt;
+            cache.byte_to_line_num_and_col_num(text, byte),
+            Some(place),
+            "at {byte}"
+        );
+    }
+    assert_eq!(rt; cache.byte_to_line_num_and_col_num(text, 6), None);
+    let mut by_pieces = NewlineCache::new(rt.alloc());
+    by_pieces.feed("aé")?;
+    by_pieces.feed("")?;
+    by_pieces.feed("\nb")?;
+    assert_eq!(rt;
+        by_pieces.byte_to_line_num_and_col_num(text, 5),
+        Some((2, 2))
+    );
+    assert_eq!(rt; cache.byte_to_line_num_and_col_num("a\nb", 1), None);
+    for (start, end, lines) in [
+        (1, 3, (0, 3)),
+        (1, 4, (0, 5)),
+        (4, 5, (4, 5)),
+        (0, 0, (0, 3)),
+    ] {
+        assert!(rt; end <= 5 && start <= end);
+        assert_eq!(rt;
+            cache.span_line_bytes(Span::new(start, end)),
+            lines,
+            "of {start} to {end}"
+        );
+    }
+    Ok(())
+}
+
+#[test]
+fn pieces_are_gathered(rt: HostRuntime) -> Result<(), Fail> {
+    let cache = NewlineCache::from_iter(rt.alloc(), ["a", "é\n", "", "b"])?;
+    for (byte, place) in [(0, (1, 1)), (3, (1, 3)), (4, (2, 1)), (5, (2, 2))] {
+        assert_eq!(rt;
+            cache.byte_to_line_num_and_col_num("aé\nb", byte),
+            Some(place),
+            "at {byte}"
+        );
+    }
+    assert_eq!(rt; cache.byte_to_line_num(6), None);
+    Ok(())
+}
+
+// A feed that is refused changes nothing.
+#[test]
+fn a_refused_feed_changes_nothing(rt: HostRuntime) -> Result<(), Fail> {
+    let mut cache = NewlineCache::from_str(rt.alloc(), "ab\n")?;
+    let lines = match cache.feed("c\nd\ne\nf\ng\nh\ni\nj\nk\n") {
+        Ok(()) => Some(3),
+        Err(_) => None,
+    };
+    assert_eq!(rt; cache.byte_to_line_num(3), Some(2));
+    assert_eq!(rt; cache.byte_to_line_num(5), lines);
+    Ok(())
+}

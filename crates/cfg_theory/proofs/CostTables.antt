@@ -16,7 +16,7 @@ pub cost-append : (f : ℕ → ℕ) (u v : List ℕ) → cost f (u ++ v) ≡ cos
 cost-append f [] v = omega arith
 cost-append f (t ∷ u) v = let h = cost-append f u v in omega (arith, h)
 
-abbrev as_is : ℕ → ℕ
+abbrev pub as_is : ℕ → ℕ
 as_is t = t
 
 rule_same : (A B : ℕ) → rule A ≡ rule B → A ≡ B
@@ -26,18 +26,18 @@ some_same : (m n : ℕ) → Some m ≡ Some n → m ≡ n
 some_same m n e = cc
 
 module _ (f : ℕ → ℕ) (table : ℕ → Option ℕ) where
-  sums_cons : (x : Sym) (a : List Sym) (m k : ℕ) → Sums f table (x ∷ []) m → Sums f table a k → Sums f table (x ∷ a) (m + k)
+  pub sums_cons : (x : Sym) (a : List Sym) (m k : ℕ) → Sums f table (x ∷ []) m → Sums f table a k → Sums f table (x ∷ a) (m + k)
   sums_cons (rule A) a m k (i, j, e, z, q) s = (i, k, e, s, omega (arith, z, q))
   sums_cons (token t) a m k (j, z, q) s = (k, s, omega (arith, z, q))
 
-  record Parts (x : Sym) (a : List Sym) (n : ℕ) : Type 0 where
-    one : ℕ
-    others : ℕ
-    first : Sums f table (x ∷ []) one
-    rest : Sums f table a others
-    total : n ≡ one + others
+  pub record Parts (x : Sym) (a : List Sym) (n : ℕ) : Type 0 where
+    pub one : ℕ
+    pub others : ℕ
+    pub first : Sums f table (x ∷ []) one
+    pub rest : Sums f table a others
+    pub total : n ≡ one + others
 
-  sums_split : (x : Sym) (a : List Sym) (n : ℕ) → Sums f table (x ∷ a) n → Parts x a n
+  pub sums_split : (x : Sym) (a : List Sym) (n : ℕ) → Sums f table (x ∷ a) n → Parts x a n
   sums_split (rule A) a n (m, k, e, s, q) = record { one = m; others = k; first = (m, 0, e, refl, omega arith); rest = s; total = q }
   sums_split (token t) a n (k, s, q) = record { one = f t; others = k; first = (0, refl, omega arith); rest = s; total = q }
 
@@ -49,10 +49,10 @@ module _ (f : ℕ → ℕ) (table : ℕ → Option ℕ) where
       omega (arith, p, q, q', r)
   one_sum (token t ∷ a) m n (j, s, q) (j', s', q') = let r = one_sum a j j' s s' in omega (arith, q, q', r)
 
-  of_sum : (A n : ℕ) → Sums f table (rule A ∷ []) n → table A ≡ Some n
+  pub of_sum : (A n : ℕ) → Sums f table (rule A ∷ []) n → table A ≡ Some n
   of_sum A n (m, k, e, z, q) = let p : m ≡ n = omega (arith, z, q) in e ∙ ap Some p
 
-  to_sum : (A n : ℕ) → table A ≡ Some n → Sums f table (rule A ∷ []) n
+  pub to_sum : (A n : ℕ) → table A ≡ Some n → Sums f table (rule A ∷ []) n
   to_sum A n e = (n, 0, e, refl, omega arith)
 
 -- a list that costs what the table says
@@ -70,14 +70,14 @@ lists_of G f table lists (token t ∷ a) n (k, s, q) =
 -- Least costs.
 module _ (G : Grammar) (f : ℕ → ℕ) (table : ℕ → Option ℕ) (closed : (p A n : ℕ) → IsOf G p A → Sums f table (body_of G p) n → (m : ℕ) × (table A ≡ Some m) × (m ≤ n)) where
   mutual
-    tree_least : (t : Tree ℕ) → IsTree G as_is t → (n : ℕ) × Sums f table (root G as_is t ∷ []) n × (n ≤ cost f (yield t))
+    pub tree_least : (t : Tree ℕ) → IsTree G as_is t → (n : ℕ) × Sums f table (root G as_is t ∷ []) n × (n ≤ cost f (yield t))
     tree_least (leaf x) h = (f x, (0, refl, omega arith), omega arith)
     tree_least (node p ts) h =
         let (n, s, le) = forest_least ts h.2 in
         let (m, e, lt) = closed p (head_of G p) n (record { in_range = h.0; head = refl }) (subst (λ a. Sums f table a n) h.1 s) in
         (m, to_sum f table (head_of G p) m e, omega (arith, le, lt))
 
-    forest_least : (ts : Forest ℕ) → AreTrees G as_is ts → (n : ℕ) × Sums f table (roots G as_is ts) n × (n ≤ cost f (yields ts))
+    pub forest_least : (ts : Forest ℕ) → AreTrees G as_is ts → (n : ℕ) × Sums f table (roots G as_is ts) n × (n ≤ cost f (yields ts))
     forest_least none h = (0, refl, omega arith)
     forest_least (before t ts) h =
         let (m, s, le) = tree_least t h.0 in
@@ -119,7 +119,7 @@ module _ (G : Grammar) (f : ℕ → ℕ) (table : ℕ → Option ℕ) (h : IsLea
 
 -- The cheapest lists.
 module _ (lists : ℕ → List (List ℕ)) where
-  concatenates_cons : (x : Sym) (a : List Sym) (u v : List ℕ) → Concatenates lists (x ∷ []) u → Concatenates lists a v → Concatenates lists (x ∷ a) (u ++ v)
+  pub concatenates_cons : (x : Sym) (a : List Sym) (u v : List ℕ) → Concatenates lists (x ∷ []) u → Concatenates lists a v → Concatenates lists (x ∷ a) (u ++ v)
   concatenates_cons (rule A) a u v (y, z, c, e, q) k =
       (y, v, c, k, ap (λ l. l ++ v) (q ∙ ap (λ l. y ++ l) e ∙ append-nil y))
   concatenates_cons (token t) a u v (z, e, q) k = (v, k, ap (λ l. l ++ v) (q ∙ ap (λ l. t ∷ l) e))
@@ -167,11 +167,11 @@ module _ (G : Grammar) (f : ℕ → ℕ) (table : ℕ → Option ℕ) (lists : �
 
 -- Greatest costs.
 module _ (G : Grammar) where
-  root_productive : (t : Tree ℕ) → IsTree G as_is t → (a : List Sym) → RulesIn (IsProductive G) a → RulesIn (IsProductive G) (root G as_is t ∷ a)
+  pub root_productive : (t : Tree ℕ) → IsTree G as_is t → (a : List Sym) → RulesIn (IsProductive G) a → RulesIn (IsProductive G) (root G as_is t ∷ a)
   root_productive (leaf x) h a r = r
   root_productive (node p ts) h a r = ((yields ts, tree_derives ℕ G as_is (node p ts) h), r)
 
-  roots_productive : (ts : Forest ℕ) → AreTrees G as_is ts → RulesIn (IsProductive G) (roots G as_is ts)
+  pub roots_productive : (ts : Forest ℕ) → AreTrees G as_is ts → RulesIn (IsProductive G) (roots G as_is ts)
   roots_productive none h = tt
   roots_productive (before t ts) h = root_productive t h.0 (roots G as_is ts) (roots_productive ts h.1)
 
@@ -213,13 +213,13 @@ cost_tables_exact = record {
 
 -- Unbounded rules.
 module _ (G : Grammar) (f : ℕ → ℕ) where
-  surrounded : (A B n : ℕ) (w : List ℕ) → (s : Surrounds G f A B n) → Has G B w → Has G A (s.left ++ (w ++ s.right))
+  pub surrounded : (A B n : ℕ) (w : List ℕ) → (s : Surrounds G f A B n) → Has G B w → Has G A (s.left ++ (w ++ s.right))
   surrounded A B n w s d =
       let inside : Derives G (map token s.left ++ (rule B ∷ map token s.right)) (map token s.left ++ (map token w ++ map token s.right)) = derives_within G (map token s.left) (map token s.right) d in
       let e : map token s.left ++ (map token w ++ map token s.right) ≡ map token (s.left ++ (w ++ s.right)) = ap (λ l. map token s.left ++ l) (sym (map-append token w s.right)) ∙ sym (map-append token s.left (w ++ s.right)) in
       subst (Derives G (rule A ∷ [])) e (derives_on G s.derives inside)
 
-  surrounded_cost : (A B n : ℕ) (w : List ℕ) → (s : Surrounds G f A B n) → cost f (s.left ++ (w ++ s.right)) ≡ n + cost f w
+  pub surrounded_cost : (A B n : ℕ) (w : List ℕ) → (s : Surrounds G f A B n) → cost f (s.left ++ (w ++ s.right)) ≡ n + cost f w
   surrounded_cost A B n w s =
       let x = cost-append f s.left (w ++ s.right) in
       let y = cost-append f w s.right in
@@ -235,10 +235,10 @@ module _ (G : Grammar) (f : ℕ → ℕ) where
   cycles : (A n : ℕ) → 0 < n → Surrounds G f A A n → IsProductive G A → IsUnbounded G f A
   cycles A n gains s p k = let (w, d, le) = pumped A n gains s p (suc k) in (w, d, omega (arith, le))
 
-  hands_on : (A B n : ℕ) → Surrounds G f A B n → IsUnbounded G f B → IsUnbounded G f A
+  pub hands_on : (A B n : ℕ) → Surrounds G f A B n → IsUnbounded G f B → IsUnbounded G f A
   hands_on A B n s u k = let (w, d, lt) = u k in (s.left ++ (w ++ s.right), surrounded A B n w s d, omega (arith, surrounded_cost A B n w s, lt))
 
-  chained : (A B C m n : ℕ) → Surrounds G f A B m → Surrounds G f B C n → Surrounds G f A C (m + n)
+  pub chained : (A B C m n : ℕ) → Surrounds G f A B m → Surrounds G f B C n → Surrounds G f A C (m + n)
   chained A B C m n s r = record { left = s.left ++ r.left; right = r.right ++ s.right; derives = subst (Derives G (rule A ∷ [])) e (derives_on G s.derives inside); costs = total }
     where
       L : List Sym
@@ -253,7 +253,7 @@ module _ (G : Grammar) (f : ℕ → ℕ) where
       total : cost f (s.left ++ r.left) + cost f (r.right ++ s.right) ≡ m + n
       total = let x = s.costs in let y = r.costs in omega (arith, cost-append f s.left r.left, cost-append f r.right s.right, x, y)
 
-  produced : (p d A B : ℕ) (u v : List ℕ) → IsOf G p A → IsNext G p d (rule B) → DerivesTokens G (take d (body_of G p)) u → DerivesTokens G (drop (suc d) (body_of G p)) v → Surrounds G f A B (cost f u + cost f v)
+  pub produced : (p d A B : ℕ) (u v : List ℕ) → IsOf G p A → IsNext G p d (rule B) → DerivesTokens G (take d (body_of G p)) u → DerivesTokens G (drop (suc d) (body_of G p)) v → Surrounds G f A B (cost f u + cost f v)
   produced p d A B u v o n h k =
       let both : Derives G (take d (body_of G p) ++ (rule B ∷ drop (suc d) (body_of G p))) (map token u ++ (rule B ∷ map token v)) = derives_both G h (derives_both G {a = rule B ∷ []} {u = rule B ∷ []} Derives.none k) in
       record { left = u; right = v; derives = derives_rule G o (subst (λ a. Derives G a (map token u ++ (rule B ∷ map token v))) (sym (split_body G p d B n)) both); costs = refl }

@@ -1,21 +1,21 @@
 -- A productive rule of a well-formed grammar has a least cost: a table of costs that token lists have, which some
 -- production lessens, is bettered until none does.
-use Rattle.std.proofs.Common.{◌≡◌, ◌≢◌, ℕ, zero, suc, ◌+◌, ◌<◌, ◌≤◌, ◌⊎◌, inl, inr, List, [], ◌∷◌, ◌++◌, length, set, get_or, Option, Some, None, refl, sym, ap, ◌∙◌, subst, arith, length-set, get_or-set_same, get_or-set_other}
+use Rattle.std.proofs.Common.{◌≡◌, ℕ, zero, suc, ◌+◌, ◌<◌, ◌≤◌, ◌⊎◌, inl, inr, List, [], ◌∷◌, length, set, get_or, Option, Some, None, refl, sym, ap, ◌∙◌, subst, arith, length-set, get_or-set_same, get_or-set_other}
 use Rattle.std.specs.Prelude.{sum_by}
 use Rattle.std.proofs.Math.Decide.{ℕ_discrete, dec_lt}
 use Rattle.std.proofs.lemmas.List.Sums.{sum_by-set}
 use Rattle.cfg_theory.specs.Grammar.{Sym, rule, token, Grammar, WellFormed, IsOf, head_of, body_of}
 use Rattle.cfg_theory.specs.Derivation.{DerivesTokens, IsProductive}
 use Rattle.cfg_theory.specs.Cost.{cost, IsLeastCost}
-use Rattle.cfg_theory.specs.CostTables.{Sums, HasLists, IsLeastTable, LeastCostsExist}
+use Rattle.cfg_theory.specs.CostTables.{Sums, HasLists, LeastCostsExist}
 use Rattle.cfg_theory.proofs.Derivation.{derives_rule}
 use Rattle.cfg_theory.proofs.CostTables.{one_sum, lists_of, at_least, is_least}
 
-abbrev Table : Type 0
+abbrev pub Table : Type 0
 Table = List (Option ℕ)
 
 -- the cost of a rule
-abbrev at : Table → ℕ → Option ℕ
+abbrev pub at : Table → ℕ → Option ℕ
 at T A = get_or T A None
 
 abbrev gap : Option ℕ → ℕ
@@ -26,15 +26,15 @@ abbrev value : Option ℕ → ℕ
 value None = 0
 value (Some n) = n
 
-abbrev nothing_yet : ℕ → Table
+abbrev pub nothing_yet : ℕ → Table
 nothing_yet zero = []
 nothing_yet (suc n) = None ∷ nothing_yet n
 
-nothing_length : (n : ℕ) → length (nothing_yet n) ≡ n
+pub nothing_length : (n : ℕ) → length (nothing_yet n) ≡ n
 nothing_length zero = refl
 nothing_length (suc n) = ap suc (nothing_length n)
 
-nothing_at : (n A m : ℕ) → at (nothing_yet n) A ≡ Some m → ⊥
+pub nothing_at : (n A m : ℕ) → at (nothing_yet n) A ≡ Some m → ⊥
 nothing_at zero A m e = cc
 nothing_at (suc n) zero m e = cc
 nothing_at (suc n) (suc A) m e = nothing_at n A m e
@@ -48,8 +48,8 @@ module _ (G : Grammar) (f : ℕ → ℕ) (good : WellFormed G) where
     lists : HasLists G f (at T)
 
   -- the cost of a list, if the table has one
-  record Priced (T : Table) (a : List Sym) : Type 0 where
-    is : ((n : ℕ) × Sums f (at T) a n) ⊎ ((n : ℕ) → Sums f (at T) a n → ⊥)
+  pub record Priced (T : Table) (a : List Sym) : Type 0 where
+    pub is : ((n : ℕ) × Sums f (at T) a n) ⊎ ((n : ℕ) → Sums f (at T) a n → ⊥)
 
   priced_rule : (T : Table) (A : ℕ) (a : List Sym) (o : Option ℕ) → at T A ≡ o → Priced T a → Priced T (rule A ∷ a)
   priced_rule T A a None e h = record { is = inr (λ n s. contrary s.0 (sym e ∙ s.2)) }
@@ -62,7 +62,7 @@ module _ (G : Grammar) (f : ℕ → ℕ) (good : WellFormed G) where
       by (inl (k, s)) = record { is = inl (m + k, (m, k, e, s, refl)) }
       by (inr none) = record { is = inr (λ n s. none s.1 s.3) }
 
-  priced : (T : Table) (a : List Sym) → Priced T a
+  pub priced : (T : Table) (a : List Sym) → Priced T a
   priced T [] = record { is = inl (0, refl) }
   priced T (rule A ∷ a) = priced_rule T A a (at T A) refl (priced T a)
   priced T (token t ∷ a) = by (priced T a).is

@@ -13,3 +13,12 @@ pub mod Placing
 pub mod Grouping
 pub mod Joined
 pub mod AstLemmas
+pub mod WholeFiles
+pub mod KindValues
+pub mod FileFailures
+pub mod TextKinds
+pub mod Sound
+pub mod SoundNames
+pub mod SoundNumbers
+pub mod SoundParts
+pub mod SoundTrees

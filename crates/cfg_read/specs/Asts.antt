@@ -1,5 +1,5 @@
 -- What a text that reads is kept as: rules, productions and tokens by number, and what the declarations say.
-use Rattle.std.specs.Prelude.{ℕ, suc, Bool, List, [], ◌∷◌, ◌++◌, map, fold, Option, None, Some, option_map, if◌then◌else◌}
+use Rattle.std.specs.Prelude.{ℕ, suc, Bool, true, List, [], ◌∷◌, ◌++◌, map, fold, Option, None, Some, option_map, if◌then◌else◌}
 use Rattle.std.specs.List.{flat_map, list_any}
 use Rattle.std.specs.Option.{option_or}
 use Rattle.std.specs.Str.{bytes_eq}
@@ -34,6 +34,8 @@ pub record PrecedenceAst : Type 0 where
   pub kind : AssocKind
 
 pub record Ast : Type 0 where
+  -- whether the text that it was made from is valid; true without one
+  pub is_valid : Bool
   pub start : Option WordText
   pub rules : List RuleAst
   pub productions : List ProductionAst
@@ -44,14 +46,17 @@ pub record Ast : Type 0 where
   pub epp : List EppText
   pub expect : Option NumberText
   pub expect_rr : Option NumberText
-  pub parse_param : Option ParamText
-  pub parse_generics : Option WordText
-  pub programs : Option WordText
-  pub expect_unused : List SymbolText
+  -- the name and the type
+  pub parse_param : Option (List ℕ × List ℕ)
+  pub parse_generics : Option (List ℕ)
+  pub programs : Option (List ℕ)
+  -- the names of `%expect-unused`, of which the quoted ones are told as tokens
+  pub expect_unused : List SymbolAst
 
 -- an empty one: that of a text that doesn't read
 abbrev pub no_ast : Ast
 no_ast = record {
+  is_valid = true;
   start = None;
   rules = [];
   productions = [];
@@ -147,8 +152,16 @@ with_epp_of es e = if has_epp es e.token.text then es else es ++ e ∷ []
 abbrev pub start_of : SyntaxText → Option WordText
 start_of x = option_or (first_of x.starts) (first_of (headings x))
 
-abbrev pub ast_of : SyntaxText → Ast
-ast_of x = record {
+abbrev pub param_texts : ParamText → List ℕ × List ℕ
+param_texts p = (p.name.text, p.param_type.text)
+
+abbrev pub expected_ast : SymbolText → SymbolAst
+expected_ast s = record { is_token = s.is_quoted; word = s.word }
+
+-- that of a text, where it is told whether this is valid
+abbrev pub ast_of : Bool → SyntaxText → Ast
+ast_of valid x = record {
+  is_valid = valid;
   start = start_of x;
   rules = map (rule_ast x) (distinct (headings x));
   productions = flat_map (productions_in (is_among (declared_tokens x))) x.rules;
@@ -159,8 +172,8 @@ ast_of x = record {
   epp = fold with_epp_of [] x.epp;
   expect = first_of x.expect;
   expect_rr = first_of x.expect_rr;
-  parse_param = x.parse_param;
-  parse_generics = x.parse_generics;
-  programs = x.programs;
-  expect_unused = expected_symbols x;
+  parse_param = option_map param_texts x.parse_param;
+  parse_generics = text_of x.parse_generics;
+  programs = text_of x.programs;
+  expect_unused = map expected_ast (expected_symbols x);
 }

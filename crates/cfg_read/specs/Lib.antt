@@ -13,3 +13,6 @@ pub mod Showing
 pub mod Asts
 pub mod AstViews
 pub mod Warnings
+pub mod Sound
+pub mod Kinds
+pub mod Files

@@ -8,7 +8,7 @@ use Rattle.std.specs.Str.{bytes_eq}
 use Rattle.std.specs.String.{string_bytes}
 use Rattle.indexmap.specs.IndexSet.{IndexSet}
 use Rattle.cfg_base.specs.declared.span.SpansKind.{SpansKind}
-use Rattle.cfg_base.specs.declared.span.SpansKind.TheVariants as spans
+use Rattle.cfg_base.specs.HeaderErrors.{kind_text}
 use Rattle.cfg_read.specs.declared.yacc.parser.error.YaccGrammarErrorKind.{YaccGrammarErrorKind}
 use Rattle.cfg_read.specs.declared.yacc.parser.error.YaccGrammarErrorKind.TheVariants as kinds
 use Rattle.cfg_read.specs.declared.yacc.parser.syntax.Word.{Word}
@@ -21,7 +21,7 @@ use Rattle.cfg_read.specs.declared.yacc.validity.Repeated.TheVariants as twice
 use Rattle.cfg_read.specs.SyntaxTexts.{WordText, SymbolText}
 use Rattle.cfg_read.specs.Views.{word_of, symbol_of}
 use Rattle.cfg_read.specs.Validity as told
-use Rattle.cfg_read.specs.Validity.{FailureKind, FailureText, is_duplication}
+use Rattle.cfg_read.specs.Validity.{FailureKind, FailureText, places_kind}
 
 abbrev pub words_at : List (Bor Word) → List WordText
 words_at ws = map (λ (w : Bor Word). word_of w.now) ws
@@ -52,6 +52,7 @@ kind_of kinds.DuplicateStartDeclaration = told.DuplicateStartDeclaration
 kind_of kinds.DuplicateExpectDeclaration = told.DuplicateExpectDeclaration
 kind_of kinds.DuplicateExpectRRDeclaration = told.DuplicateExpectRRDeclaration
 kind_of kinds.DuplicateActiontypeDeclaration = told.DuplicateActiontypeDeclaration
+kind_of (kinds.Header kind places) = told.Header (kind_text kind) places
 kind_of kind = told.Fault kind
 
 -- which failure each of these means
@@ -88,4 +89,4 @@ abbrev pub failures_in : List YaccGrammarError → List FailureText
 failures_in es = map failure_of es
 
 abbrev pub spans_kind : YaccGrammarErrorKind → SpansKind
-spans_kind kind = if is_duplication (kind_of kind) then spans.DuplicationError else spans.Error
+spans_kind kind = places_kind (kind_of kind)

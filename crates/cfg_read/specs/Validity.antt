@@ -2,6 +2,10 @@
 use Rattle.std.specs.Prelude.{◌≡◌, ℕ, Bool, true, false, not, ◌&&◌, ◌||◌, List, [], ◌∷◌, ◌++◌, map, filter, option_to_list}
 use Rattle.std.specs.List.{flat_map}
 use Rattle.cfg_base.specs.Place.{Places}
+use Rattle.cfg_base.specs.HeaderErrors.{KindText, spanskind_of}
+use Rattle.cfg_base.specs.SectionFaults.{ErrorText}
+use Rattle.cfg_base.specs.declared.span.SpansKind.{SpansKind}
+use Rattle.cfg_base.specs.declared.span.SpansKind.TheVariants as spans
 use Rattle.cfg_read.specs.declared.yacc.parser.error.YaccGrammarErrorKind.{YaccGrammarErrorKind}
 use Rattle.cfg_read.specs.SyntaxTexts.{WordText, SymbolText, AlternativeText, RuleText, NumberText, EppText, SyntaxText}
 use Rattle.cfg_read.specs.Names.{is_named, is_among, distinct, is_rule, rules_used, is_grammar_token, level_tokens, avoided_tokens, implicit_tokens_of}
@@ -24,11 +28,16 @@ pub data FailureKind : Type 0 where
   DuplicateActiontypeDeclaration : FailureKind
   -- a fault of reading, which no text that reads shows
   Fault : YaccGrammarErrorKind → FailureKind
+  -- an error of the section, and what its places are
+  Header : KindText → SpansKind → FailureKind
 
 -- a failure, and all places that show it
 pub record FailureText : Type 0 where
   pub kind : FailureKind
   pub spans : List Places
+
+abbrev pub header_failure : ErrorText → FailureText
+header_failure e = record { kind = Header e.0 (spanskind_of e.0); spans = e.1 }
 
 abbrev pub failure_at : FailureKind → Places → FailureText
 failure_at k at = record { kind = k; spans = at ∷ [] }
@@ -128,14 +137,15 @@ failures x = no_start_rule x.starts x.rules ++ (unknown_names x ++ (repeated_wor
 abbrev pub IsValid : SyntaxText → Type 0
 IsValid x = failures x ≡ []
 
--- whether the places of a failure show duplicates, and not an error
-abbrev pub is_duplication : FailureKind → Bool
-is_duplication DuplicatePrecedence = true
-is_duplication DuplicateEPP = true
-is_duplication DuplicateAvoidInsertDeclaration = true
-is_duplication DuplicateImplicitTokensDeclaration = true
-is_duplication DuplicateStartDeclaration = true
-is_duplication DuplicateExpectDeclaration = true
-is_duplication DuplicateExpectRRDeclaration = true
-is_duplication DuplicateActiontypeDeclaration = true
-is_duplication _ = false
+-- What the places of a failure are: all occurrences of what should stand once, or the place of an error.
+abbrev pub places_kind : FailureKind → SpansKind
+places_kind DuplicatePrecedence = spans.DuplicationError
+places_kind DuplicateEPP = spans.DuplicationError
+places_kind DuplicateAvoidInsertDeclaration = spans.DuplicationError
+places_kind DuplicateImplicitTokensDeclaration = spans.DuplicationError
+places_kind DuplicateStartDeclaration = spans.DuplicationError
+places_kind DuplicateExpectDeclaration = spans.DuplicationError
+places_kind DuplicateExpectRRDeclaration = spans.DuplicationError
+places_kind DuplicateActiontypeDeclaration = spans.DuplicationError
+places_kind (Header kind places) = places
+places_kind _ = spans.Error

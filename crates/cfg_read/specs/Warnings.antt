@@ -1,9 +1,9 @@
 -- What a valid text declares and doesn't use.
-use Rattle.std.specs.Prelude.{◌≡◌, ℕ, Bool, true, false, not, ◌&&◌, ◌||◌, ◌↔◌, IsTrue, List, [], ◌∷◌, ◌++◌, map, filter, Some, Contains, slice_get}
+use Rattle.std.specs.Prelude.{◌≡◌, ℕ, Bool, true, false, not, ◌&&◌, ◌||◌, ◌↔◌, IsTrue, List, [], ◌∷◌, ◌++◌, map, filter, Some, Contains, slice_get, if◌then◌else◌}
 use Rattle.std.specs.List.{list_any}
 use Rattle.std.specs.Str.{bytes_eq}
 use Rattle.cfg_base.specs.Place.{Places}
-use Rattle.cfg_read.specs.SyntaxTexts.{WordText, SymbolText}
+use Rattle.cfg_read.specs.SyntaxTexts.{WordText}
 use Rattle.cfg_read.specs.Names.{is_among}
 use Rattle.cfg_read.specs.Asts.{Ast, RuleAst, ProductionAst, SymbolAst}
 
@@ -42,10 +42,10 @@ pub record WarningText : Type 0 where
 
 -- whether `%expect-unused` names a rule, without quotes, or a token
 abbrev pub is_expected_rule : Ast → List ℕ → Bool
-is_expected_rule ast name = list_any (λ (s : SymbolText). not s.is_quoted && bytes_eq s.word.text name) ast.expect_unused
+is_expected_rule ast name = list_any (λ (s : SymbolAst). not s.is_token && bytes_eq s.word.text name) ast.expect_unused
 
 abbrev pub is_expected_token : Ast → List ℕ → Bool
-is_expected_token ast name = list_any (λ (s : SymbolText). bytes_eq s.word.text name) ast.expect_unused
+is_expected_token ast name = list_any (λ (s : SymbolAst). bytes_eq s.word.text name) ast.expect_unused
 
 abbrev pub warnings_at : WarningKind → List WordText → List WarningText
 warnings_at k ws = map (λ (w : WordText). record { kind = k; spans = w.span ∷ [] }) ws
@@ -57,9 +57,10 @@ warnings_by reached used ast =
     warnings_at UnusedRule (filter (λ (w : WordText). not (reached w.text || is_expected_rule ast w.text)) (map (λ (r : RuleAst). r.name) ast.rules))
     ++ warnings_at UnusedToken (filter (λ (w : WordText). not (used w.text || (is_among ast.implicit_tokens w.text || is_expected_token ast w.text))) ast.tokens)
 
+-- none of a text that isn't valid
 pub record AreWarnings (ast : Ast) (ws : List WarningText) : Type 0 where
   pub reached : List ℕ → Bool
   pub reached_is : (name : List ℕ) → IsTrue (reached name) ↔ IsReached ast name
   pub used : List ℕ → Bool
   pub used_is : (name : List ℕ) → IsTrue (used name) ↔ IsUsed ast name
-  pub all : ws ≡ warnings_by reached used ast
+  pub all : ws ≡ (if ast.is_valid then warnings_by reached used ast else [])

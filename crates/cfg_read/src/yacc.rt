@@ -2,11 +2,19 @@
 
 pub mod ast;
 mod ast_parts;
+mod file;
+mod kind;
+pub mod laws;
 mod names;
 pub mod parser;
 #[cfg(test)]
 mod tests_ast;
+#[cfg(test)]
+mod tests_kinds;
 pub mod validity;
+
+pub use file::{YaccGrammarFailure, YaccGrammarResult, one_file, one_kind};
+pub use kind::{KindError, kind_comes_back};
 
 /// What a grammar text is written for.
 #[derive(Clone, Copy, Debug, PartialEq, Eq)]

@@ -10,6 +10,7 @@ ghost use Rattle.cfg_read.specs.Validity.{failure_at, failures_at, without, fail
 use crate::yacc::names;
 use crate::yacc::parser::error::YaccGrammarErrorKind;
 use crate::yacc::parser::syntax::{Number, Rule, Symbol, Syntax, Word};
+use cfg_base::header::HeaderError;
 use cfg_base::span::{Span, Spanned, SpansKind};
 use indexmap::IndexSet;
 use std::alloc::{AllocError, Global};
@@ -45,8 +46,25 @@ impl Spanned for YaccGrammarError {
             | YaccGrammarErrorKind::DuplicateExpectDeclaration
             | YaccGrammarErrorKind::DuplicateExpectRRDeclaration
             | YaccGrammarErrorKind::DuplicateActiontypeDeclaration => SpansKind::DuplicationError,
+            YaccGrammarErrorKind::Header(_, places) => places,
             _ => SpansKind::Error,
         }
+    }
+}
+
+impl From<HeaderError<Span>> for YaccGrammarError {
+    ghost use Rattle.std.specs.Prelude.{◌≡◌};
+    ghost use Rattle.cfg_base.specs.SectionFaults.{error_text};
+    ghost use Rattle.cfg_read.specs.Validity.{header_failure};
+    ghost use Rattle.cfg_read.specs.Showing.{failure_of};
+
+    ghost from_gives = { λ e error. failure_of error ≡ header_failure (error_text e) };
+
+    /// An error of the section, at the same places.
+    fn from(e: HeaderError<Span>) -> YaccGrammarError {
+        let kind = YaccGrammarErrorKind::Header(e.kind, e.spanskind());
+        let spans = e.locations;
+        YaccGrammarError { kind, spans }
     }
 }
 

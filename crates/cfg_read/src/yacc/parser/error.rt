@@ -3,6 +3,8 @@
 ghost use Rattle.std.specs.Prelude.{◌≡◌};
 ghost use Rattle.cfg_read.specs.declared.yacc.parser.error.ReadError.TheVariants.{Memory};
 
+use cfg_base::header::HeaderErrorKind;
+use cfg_base::span::SpansKind;
 use std::alloc::{AllocError, AllocFailed};
 use thiserror::Error;
 
@@ -77,6 +79,9 @@ pub enum YaccGrammarErrorKind {
     ExpectedInput,
     #[error("Invalid yacc kind")]
     InvalidYaccKind,
+    /// An error of the section, or of a value in it, and what its places are.
+    #[error("{0}")]
+    Header(HeaderErrorKind, SpansKind),
 }
 
 /// Why a text wasn't read.

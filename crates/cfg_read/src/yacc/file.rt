@@ -1,0 +1,228 @@
+//! Reads a grammar text as a whole: its section, and what stands behind it.
+
+ghost use Rattle.std.specs.Prelude.{◌≡◌, ◌≤◌, ◌++◌, ◌∷◌, [], ℕ, List, Some, None, length, map, option_map, option_copied, IfOk, IfErr};
+ghost use Rattle.cfg_base.specs.declared.header.value.HeaderValue.{HeaderValue};
+ghost use Rattle.cfg_base.specs.Place.{Places};
+ghost use Rattle.cfg_base.specs.HeaderTexts.{value_text};
+ghost use Rattle.cfg_base.specs.SectionFaults.{error_text};
+ghost use Rattle.cfg_base.specs.SectionAnswers.{ReadsHeader, IsSectionError};
+ghost use Rattle.cfg_base.specs.SectionRepeats.{Holds, said_of, entry_text};
+ghost use Rattle.cfg_base.specs.Sections.{PairText};
+ghost use Rattle.cfg_read.specs.declared.yacc.YaccKind.{YaccKind};
+ghost use Rattle.cfg_read.specs.SyntaxTexts.{SyntaxText};
+ghost use Rattle.cfg_read.specs.Reading.{Reads};
+ghost use Rattle.cfg_read.specs.Stopping.{IsErrorOf};
+ghost use Rattle.cfg_read.specs.Views.{syntax_of};
+ghost use Rattle.cfg_read.specs.Validity.{FailureText, failure_at, header_failure};
+ghost use Rattle.cfg_read.specs.Showing.{kind_of, failures_in};
+ghost use Rattle.cfg_read.specs.Kinds.{Meaning, means, meaning_of, IsKindError};
+ghost use Rattle.cfg_read.specs.Files.{source, ReadsFile, FailsSection, FailsRest, FailsFile, FileOutcome, said_meaning, told_kind, TellsKind, FailsMeaning, FailsKind, LacksKind, KindOutcome, IsFailure, ShowsSection, ShowsFault};
+
+use crate::yacc::YaccKind;
+use crate::yacc::kind::KindError;
+use crate::yacc::parser::error::{ReadError, YaccGrammarErrorKind};
+use crate::yacc::parser::syntax::Syntax;
+use crate::yacc::parser::{laws, read_syntax};
+use crate::yacc::validity::YaccGrammarError;
+use cfg_base::header::{
+    GrmtoolsSectionParser, Header, HeaderError, HeaderValue, SectionError, laws as section_laws,
+};
+use cfg_base::span::Span;
+use std::alloc::{AllocError, Global};
+use thiserror::Error;
+
+/// Why a text gives no grammar.
+#[derive(Debug, Drop, Error)]
+pub enum YaccGrammarFailure {
+    #[error(transparent)]
+    Memory(AllocError),
+    /// All that is wrong with the text.
+    #[error("Invalid")]
+    Invalid(Vec<YaccGrammarError>),
+}
+
+/// What reading a grammar text answers.
+pub type YaccGrammarResult<T> = Result<T, YaccGrammarFailure>;
+
+/// The errors of a section as those of its text.
+fn header_errors(
+    alloc: Global,
+    errors: Vec<HeaderError<Span>>,
+) -> Result<Vec<YaccGrammarError>, AllocError>
+    ensures { IfOk result (λ es. failures_in es.items ≡ map header_failure (map error_text errors.items)) }
+{
+    let mut made = Vec::new(alloc);
+    'errors: for error in errors {
+        made.push(YaccGrammarError::from(error))?;
+    }
+    Ok(made)
+}
+
+fn section_failure(alloc: Global, e: SectionError) -> YaccGrammarFailure
+    ensures { ShowsSection e result }
+{
+    match e {
+        SectionError::Memory(e) => YaccGrammarFailure::Memory(e),
+        SectionError::Invalid(errors) => match header_errors(alloc, errors) {
+            Ok(errors) => YaccGrammarFailure::Invalid(errors),
+            Err(e) => YaccGrammarFailure::Memory(e),
+        },
+    }
+}
+
+/// A list of one error at one place.
+fn one_error(
+    alloc: Global,
+    kind: YaccGrammarErrorKind,
+    span: Span,
+) -> Result<Vec<YaccGrammarError>, AllocError>
+    ensures { IfOk result (λ es. failures_in es.items ≡ failure_at (kind_of kind) span ∷ []) }
+{
+    let spans = vec![in alloc; span]?;
+    let errors = vec![in alloc; YaccGrammarError { kind, spans }]?;
+    Ok(errors)
+}
+
+fn fault_failure(alloc: Global, e: ReadError) -> YaccGrammarFailure
+    ensures { ShowsFault e result }
+{
+    match e {
+        ReadError::Memory => YaccGrammarFailure::Memory(AllocError),
+        ReadError::Fault(kind, place) => match one_error(alloc, kind, Span::new(place, place)) {
+            Ok(errors) => YaccGrammarFailure::Invalid(errors),
+            Err(e) => YaccGrammarFailure::Memory(e),
+        },
+    }
+}
+
+/// The header of a text, empty where it has no section, and the byte place behind its section, else 0.
+pub fn read_section(alloc: Global, text: &str) -> YaccGrammarResult<(Header<Span>, usize)>
+    ensures ok { IfOk result (λ r. ReadsHeader (source text.now) r.0 r.1) }
+    ensures within { IfOk result (λ r. r.1 ≤ length text.now) }
+    ensures err { IfErr result (λ e. IsFailure (FailsSection text.now) e) }
+{
+    match GrmtoolsSectionParser::new(text, false).parse(alloc) {
+        Ok(read) => Ok(read),
+        Err(e) => Err(section_failure(alloc, e)),
+    }
+}
+
+/// What a text of a kind says from a byte place on, behind its section.
+pub fn read_rest(
+    alloc: Global,
+    kind: YaccKind,
+    text: &str,
+    start: usize,
+) -> YaccGrammarResult<Syntax>
+    requires { start ≤ length text.now }
+    ensures ok { IfOk result (λ x. Reads kind text.now start (syntax_of x)) }
+    ensures err { IfErr result (λ e. IsFailure (FailsRest kind text.now start) e) }
+{
+    match read_syntax(alloc, kind, text, start) {
+        Ok(x) => Ok(x),
+        Err(e) => Err(fault_failure(alloc, e)),
+    }
+}
+
+/// The error of a value that stands for no kind.
+fn kind_failure(alloc: Global, e: KindError<Span>) -> YaccGrammarFailure
+    ensures { (m : Meaning Places) → IsKindError ⟦<Span as Clone>⟧.is_clone m e → IsFailure (FailsMeaning m) result }
+{
+    match e {
+        KindError::Memory(e) => YaccGrammarFailure::Memory(e),
+        KindError::Invalid(e) => {
+            let error = YaccGrammarError::from(e);
+            match vec![in alloc; error] {
+                Ok(errors) => YaccGrammarFailure::Invalid(errors),
+                Err(_) => YaccGrammarFailure::Memory(AllocError),
+            }
+        }
+    }
+}
+
+/// The value of a key.
+fn value_of<'a>(
+    alloc: Global,
+    header: &'a Header<Span>,
+    key: &str,
+) -> Result<Option<&'a HeaderValue<Span>>, AllocError>
+    ensures { (pairs : List PairText) → Holds header.now pairs → IfOk result (λ v. option_map entry_text (option_copied v) ≡ said_of pairs key.now) }
+{
+    let key = String::from_str(alloc, key)?;
+    Ok(header.get(&key))
+}
+
+/// The error of a text that tells no kind.
+fn no_kind(alloc: Global) -> YaccGrammarFailure
+    ensures { IsFailure (FailsKind None) result }
+{
+    let kind = YaccGrammarErrorKind::InvalidYaccKind;
+    match one_error(alloc, kind, Span::new(0, 0)) {
+        Ok(errors) => YaccGrammarFailure::Invalid(errors),
+        Err(e) => YaccGrammarFailure::Memory(e),
+    }
+}
+
+/// The kind of a key's value.
+fn kind_of_value(alloc: Global, value: &HeaderValue<Span>) -> YaccGrammarResult<YaccKind>
+    ensures ok { IfOk result (λ k. meaning_of (value_text value.now.1) ≡ means k) }
+    ensures err { IfErr result (λ e. IsFailure (FailsMeaning (meaning_of (value_text value.now.1))) e) }
+{
+    match YaccKind::try_from_value(alloc, &value.1) {
+        Ok(kind) => Ok(kind),
+        Err(e) => Err(kind_failure(alloc, e)),
+    }
+}
+
+/// The kind of a key's value, if the key is there.
+#[tactic(auto, using(crate::proofs::TextKinds::some_fails))]
+fn told_kind(alloc: Global, value: Option<&HeaderValue<Span>>) -> YaccGrammarResult<YaccKind>
+    ensures ok { IfOk result (λ k. said_meaning (option_map entry_text (option_copied value.entry)) ≡ Some (means k)) }
+    ensures err { IfErr result (λ e. IsFailure (FailsKind (said_meaning (option_map entry_text (option_copied value.entry)))) e) }
+{
+    match value {
+        Some(value) => match kind_of_value(alloc, value) {
+            Ok(kind) => Ok(kind),
+            Err(e) => Err(e),
+        },
+        None => Err(no_kind(alloc)),
+    }
+}
+
+/// The kind that a header tells by `yacckind`.
+pub fn kind_in(alloc: Global, header: &Header<Span>) -> YaccGrammarResult<YaccKind>
+    ensures ok { (pairs : List PairText) → Holds header.now pairs → IfOk result (λ k. told_kind pairs ≡ Some (means k)) }
+    ensures err { (pairs : List PairText) → Holds header.now pairs → IfErr result (λ e. IsFailure (FailsKind (told_kind pairs)) e) }
+{
+    match value_of(alloc, header, "yacckind") {
+        Ok(value) => match told_kind(alloc, value) {
+            Ok(kind) => Ok(kind),
+            Err(e) => Err(e),
+        },
+        Err(e) => Err(YaccGrammarFailure::Memory(e)),
+    }
+}
+
+/// A law: for each kind, a text has exactly one reading or exactly one list of errors: never two, never
+/// both, and never neither.
+pub fn one_file()
+    ensures some { (kind : YaccKind) (text : List ℕ) → FileOutcome kind text }
+    ensures readings { (kind : YaccKind) (text : List ℕ) (x y : SyntaxText) → ReadsFile kind text x → ReadsFile kind text y → x ≡ y }
+    ensures apart { (kind : YaccKind) (text : List ℕ) (x : SyntaxText) (fs : List FailureText) → ReadsFile kind text x → FailsFile kind text fs → ⊥ }
+    ensures faults { (kind : YaccKind) (text : List ℕ) (es fs : List FailureText) → FailsFile kind text es → FailsFile kind text fs → es ≡ fs }
+{
+    section_laws::each_is_answered();
+    section_laws::one_reading();
+    laws::one_reading();
+}
+
+/// A law: a text tells exactly one kind, or has exactly one list of errors that keep it from telling one.
+pub fn one_kind()
+    ensures some { (text : List ℕ) → KindOutcome text }
+    ensures kinds { (text : List ℕ) (k l : YaccKind) → TellsKind text k → TellsKind text l → k ≡ l }
+    ensures apart { (text : List ℕ) (k : YaccKind) (fs : List FailureText) → TellsKind text k → LacksKind text fs → ⊥ }
+    ensures faults { (text : List ℕ) (es fs : List FailureText) → LacksKind text es → LacksKind text fs → es ≡ fs }
+{
+    section_laws::each_is_answered();
+    section_laws::one_reading();
+}

@@ -1,0 +1,254 @@
+//! Kinds of grammars and what stands for them in a section.
+
+ghost use Rattle.std.specs.Prelude.{◌≡◌, Ok, IfOk, IfErr, option_map};
+ghost use lib.Chars.{codes};
+ghost use Rattle.std.specs.String.{string_bytes};
+ghost use Rattle.cfg_base.specs.HeaderTexts.{word_text, path_text, setting_text, value_text};
+ghost use Rattle.cfg_base.specs.HeaderMaps.{map_word, map_path, map_setting, map_value};
+ghost use Rattle.cfg_read.specs.declared.yacc.YaccKind.TheVariants.{Original};
+ghost use Rattle.cfg_read.specs.Kinds.{is_word, Meaning, means, unfit, within, or_misfit, kind_named, action_named, argument_meaning, alone_meaning, applied_meaning, meaning_of, found_meaning, RefusesKind, IsKindError, LocationText, location_text, kind_word, kind_path, kind_setting, action_name, value_of};
+
+use crate::yacc::{YaccKind, YaccOriginalActionKind};
+use cfg_base::header::{HeaderError, HeaderErrorKind, Namespaced, Setting, Value};
+use cfg_base::span::Location;
+use std::alloc::{AllocError, Global};
+use std::error::Error;
+use std::fmt;
+use std::fmt::{Debug, Display, Formatter, Write};
+
+/// Why a value gives no kind.
+#[derive(Debug, Drop)]
+pub enum KindError<T> {
+    Memory(AllocError),
+    /// The value stands for no kind. The one location is that of the first word from the left that
+    /// doesn't fit, else that of the value.
+    Invalid(HeaderError<T>),
+}
+
+impl<T> Display for KindError<T> {
+    fn fmt<W: Write>(&self, f: &mut Formatter<W>) -> fmt::Result {
+        match self {
+            KindError::Memory(e) => Display::fmt(e, f),
+            KindError::Invalid(e) => Display::fmt(e, f),
+        }
+    }
+}
+
+impl<T: Debug + Drop> Error for KindError<T> {}
+
+/// Why a value stands for no kind, and where that shows.
+#[derive(Drop)]
+struct Misfit<'a, T> {
+    why: &'static str,
+    location: &'a T,
+}
+
+#[tactic(auto, unfolding(crate::specs::Kinds::is_word))]
+fn is_word(text: &String, word: &str) -> bool
+    ensures { result ≡ is_word (string_bytes text.now) word.now }
+{
+    text.as_str().eq_ignore_ascii_case(word)
+}
+
+/// The namespace of a path, where it isn't this one.
+fn misplaced<'a, T>(path: &'a Namespaced<T>, namespace: &str) -> Option<Misfit<'a, T>>
+    ensures { (m : Meaning T) → or_misfit result m ≡ within (path_text path.now).namespace namespace.now m }
+{
+    let Some(word) = &path.namespace else {
+        return None;
+    };
+    if is_word(&word.0, namespace) {
+        return None;
+    }
+    let why = "Unknown namespace";
+    Some(Misfit {
+        why,
+        location: &word.1,
+    })
+}
+
+#[tactic(auto, unfolding(crate::specs::Kinds::kind_named))]
+fn kind_named(text: &String) -> Option<YaccKind>
+    ensures { result ≡ kind_named (string_bytes text.now) }
+{
+    if is_word(text, "Grmtools") {
+        Some(YaccKind::Grmtools)
+    } else if is_word(text, "Eco") {
+        Some(YaccKind::Eco)
+    } else {
+        None
+    }
+}
+
+#[tactic(auto, unfolding(crate::specs::Kinds::action_named))]
+fn action_named(text: &String) -> Option<YaccOriginalActionKind>
+    ensures { result ≡ action_named (string_bytes text.now) }
+{
+    if is_word(text, "UserAction") {
+        Some(YaccOriginalActionKind::UserAction)
+    } else if is_word(text, "GenericParseTree") {
+        Some(YaccOriginalActionKind::GenericParseTree)
+    } else if is_word(text, "NoAction") {
+        Some(YaccOriginalActionKind::NoAction)
+    } else {
+        None
+    }
+}
+
+fn unknown_variant<'a, T>(path: &'a Namespaced<T>) -> Misfit<'a, T>
+    ensures why { result.why.now ≡ codes "Unknown variant" }
+    ensures location { result.location.now ≡ (path_text path.now).member.at }
+{
+    let why = "Unknown variant";
+    Misfit {
+        why,
+        location: &path.member.1,
+    }
+}
+
+/// The kind of a path without an argument.
+fn kind_alone<'a, T>(path: &'a Namespaced<T>) -> Result<YaccKind, Misfit<'a, T>>
+    ensures { found_meaning result ≡ alone_meaning (path_text path.now) }
+{
+    if let Some(misfit) = misplaced(path, "YaccKind") {
+        return Err(misfit);
+    }
+    match kind_named(&path.member.0) {
+        Some(kind) => Ok(kind),
+        None => Err(unknown_variant(path)),
+    }
+}
+
+/// The kind of `Original` with this argument.
+fn kind_of_argument<'a, T>(path: &'a Namespaced<T>) -> Result<YaccKind, Misfit<'a, T>>
+    ensures { found_meaning result ≡ argument_meaning (path_text path.now) }
+{
+    if let Some(misfit) = misplaced(path, "YaccOriginalActionKind") {
+        return Err(misfit);
+    }
+    match action_named(&path.member.0) {
+        Some(action) => Ok(YaccKind::Original(action)),
+        None => Err(unknown_variant(path)),
+    }
+}
+
+/// The kind of a path with an argument.
+fn kind_with<'a, T>(
+    path: &'a Namespaced<T>,
+    argument: &'a Namespaced<T>,
+) -> Result<YaccKind, Misfit<'a, T>>
+    ensures { found_meaning result ≡ applied_meaning (path_text path.now) (path_text argument.now) }
+{
+    if let Some(misfit) = misplaced(path, "YaccKind") {
+        return Err(misfit);
+    }
+    if is_word(&path.member.0, "Original") {
+        kind_of_argument(argument)
+    } else {
+        Err(unknown_variant(path))
+    }
+}
+
+fn find_kind<'a, T>(value: &'a Value<T>) -> Result<YaccKind, Misfit<'a, T>>
+    ensures { found_meaning result ≡ meaning_of (value_text value.now) }
+{
+    match value {
+        Value::Setting(Setting::Unitary(path)) => kind_alone(path),
+        Value::Setting(Setting::Constructor { ctor, arg }) => kind_with(ctor, arg),
+        _ => {
+            let why = "Cannot convert to YaccKind";
+            let location = value.primary_location();
+            Err(Misfit { why, location })
+        }
+    }
+}
+
+/// The error of a value that stands for no kind.
+fn misfit_error<T: Clone>(
+    alloc: Global,
+    why: &'static str,
+    location: &T,
+) -> Result<HeaderError<T>, AllocError>
+    ensures { IfOk result (λ e. RefusesKind T.is_clone (unfit why.now location.now) e) }
+{
+    let kind = HeaderErrorKind::ConversionError("YaccKind", why);
+    let mut locations = Vec::new(alloc);
+    locations.push(location.clone()?)?;
+    Ok(HeaderError { kind, locations })
+}
+
+impl YaccKind {
+    /// The kind that a value stands for: `Grmtools`, `Eco`, or `Original` with `UserAction`,
+    /// `GenericParseTree` or `NoAction`, in whatever case, the outer word alone or in the namespace
+    /// `YaccKind`, the inner one alone or in `YaccOriginalActionKind`. Else a `ConversionError` of
+    /// `YaccKind`: `Unknown namespace` or `Unknown variant` at the first word from the left that doesn't
+    /// fit, which is the outer member where an argument is missing or too many; at another setting
+    /// `Cannot convert to YaccKind`.
+    pub fn try_from_value<T: Clone>(
+        alloc: Global,
+        value: &Value<T>,
+    ) -> Result<YaccKind, KindError<T>>
+        ensures ok { IfOk result (λ k. meaning_of (value_text value.now) ≡ means k) }
+        ensures fits { (k : YaccKind) → meaning_of (value_text value.now) ≡ means k → result ≡ Ok k }
+        ensures err { IfErr result (λ e. IsKindError T.is_clone (meaning_of (value_text value.now)) e) }
+    {
+        match find_kind(value) {
+            Ok(kind) => Ok(kind),
+            Err(misfit) => match misfit_error(alloc, misfit.why, misfit.location) {
+                Ok(e) => Err(KindError::Invalid(e)),
+                Err(e) => Err(KindError::Memory(e)),
+            },
+        }
+    }
+
+    /// The value that stands for a kind, each word in its namespace, all at `Other("YaccKind")`.
+    pub fn try_to_value(self, alloc: Global) -> Result<Value<Location>, AllocError>
+        ensures { IfOk result (λ v. map_value location_text (value_text v) ≡ value_of self) }
+    {
+        let setting = match self {
+            YaccKind::Grmtools => Setting::Unitary(kind_path(alloc, "YaccKind", "Grmtools")?),
+            YaccKind::Eco => Setting::Unitary(kind_path(alloc, "YaccKind", "Eco")?),
+            YaccKind::Original(action) => original(alloc, action)?,
+        };
+        Ok(Value::Setting(setting))
+    }
+}
+
+fn kind_word(alloc: Global, word: &str) -> Result<(String, Location), AllocError>
+    ensures { IfOk result (λ w. map_word location_text (word_text w) ≡ kind_word word.now) }
+{
+    let text = String::from_str(alloc, word)?;
+    let location = Location::Other(String::from_str(alloc, "YaccKind")?);
+    Ok((text, location))
+}
+
+fn kind_path(alloc: Global, namespace: &str, word: &str) -> Result<Namespaced<Location>, AllocError>
+    ensures { IfOk result (λ p. map_path location_text (path_text p) ≡ kind_path namespace.now word.now) }
+{
+    let namespace = Some(kind_word(alloc, namespace)?);
+    let member = kind_word(alloc, word)?;
+    Ok(Namespaced { namespace, member })
+}
+
+fn action_name(action: YaccOriginalActionKind) -> &'static str
+    ensures { result.now ≡ action_name action }
+{
+    match action {
+        YaccOriginalActionKind::UserAction => "UserAction",
+        YaccOriginalActionKind::GenericParseTree => "GenericParseTree",
+        YaccOriginalActionKind::NoAction => "NoAction",
+    }
+}
+
+fn original(alloc: Global, action: YaccOriginalActionKind) -> Result<Setting<Location>, AllocError>
+    ensures { IfOk result (λ s. map_setting location_text (setting_text s) ≡ kind_setting (Original action)) }
+{
+    let ctor = kind_path(alloc, "YaccKind", "Original")?;
+    let arg = kind_path(alloc, "YaccOriginalActionKind", action_name(action))?;
+    Ok(Setting::Constructor { ctor, arg })
+}
+
+/// A law: the value made from a kind stands for that kind.
+pub fn kind_comes_back()
+    ensures { (v : Value Location) (k : YaccKind) → map_value location_text (value_text v) ≡ value_of k → meaning_of (value_text v) ≡ means k }
+{}

@@ -6,12 +6,16 @@ use Rattle.std.proofs.lemmas.List.{get_or-set_same, get_or-set_other, length-set
 use Rattle.std.proofs.lemmas.List.Sums.{sum_by-cons, sum_by-set}
 use Rattle.std.proofs.lemmas.Bool.{cases_eq, cases_lt, cases_Bool}
 use Rattle.vob.specs.Bits.{bitwise}
-use Rattle.vob.proofs.Setwise.{length-bitwise}
 use Rattle.cfgrammar.specs.Sets.{is_set, is_set_in, missing, missing_in, joined_to, HasAllOf, AreRows}
 use Rattle.cfgrammar.specs.Passes.{Steps}
 
 abbrev pub join : List Bool → List Bool → List Bool
 join xs ys = bitwise (λ x y. x || y) xs ys
+
+pub length-bitwise : (op : Bool → Bool → Bool) (xs ys : List Bool) → length xs ≡ length ys → length (bitwise op xs ys) ≡ length xs
+length-bitwise op [] ys e = refl
+length-bitwise op (x ∷ xs) [] e = cc
+length-bitwise op (x ∷ xs) (y ∷ ys) e = ap suc (length-bitwise op xs ys (omega arith))
 
 never : false ≡ true → ⊥
 never e = cc

@@ -10,8 +10,7 @@ use Rattle.cfg_theory.proofs.Derivation.{derives_rule, nullable_of, first_of_lis
 use Rattle.cfgrammar.specs.Sets.{is_set, is_set_in, missing, missing_in, joined_to, HasAllOf, AreRows}
 use Rattle.cfgrammar.specs.Firsts.{FirstSets, HasEpsilon, HasFirst, AreOf, AreFirsts, AreSound, IsClosedAt, IsWithin, AllWithin, IsNullableIn, FirstBefore, FirstsOf, room}
 use Rattle.cfgrammar.specs.Passes.{Steps}
-use Rattle.vob.proofs.Setwise.{length-bitwise}
-use Rattle.cfgrammar.proofs.Bits.{join, joined, none_set, none_in, put_in, row_set, rows_set, empty_sized}
+use Rattle.cfgrammar.proofs.Bits.{join, length-bitwise, joined, none_set, none_in, put_in, row_set, rows_set, empty_sized}
 use Rattle.cfg_theory.proofs.Lists.{get_from_drop}
 use Rattle.cfgrammar.proofs.Passed.{step_and}
 

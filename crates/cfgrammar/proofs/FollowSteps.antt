@@ -12,9 +12,8 @@ use Rattle.cfgrammar.specs.Sets.{is_set, is_set_in, missing_in, joined_to, HasAl
 use Rattle.cfgrammar.specs.Firsts.{FirstSets, HasEpsilon, HasFirst, AreFirsts, IsWithin, FirstBefore, FirstsOf}
 use Rattle.cfgrammar.specs.Follows.{FollowSets, HasFollow, AreOf, AreFollows, AreSound, Behind, IsClosedFrom, HasSet, HasAll, added, room}
 use Rattle.cfgrammar.specs.Passes.{Steps}
-use Rattle.vob.proofs.Setwise.{length-bitwise}
 use Rattle.std.proofs.lemmas.List.{get_or-set_same, get_or-replicate, length-replicate, length-set}
-use Rattle.cfgrammar.proofs.Bits.{join, joined, row_set, rows_set, alone, none_in, empty_sized}
+use Rattle.cfgrammar.proofs.Bits.{join, length-bitwise, joined, row_set, rows_set, alone, none_in, empty_sized}
 use Rattle.cfgrammar.proofs.FirstSteps.{first_table, within_of}
 use Rattle.cfgrammar.proofs.Backwards.{rest_next, symbol_here}
 use Rattle.cfgrammar.proofs.Passed.{step_and}

@@ -1,6 +1,9 @@
 pub mod Ranges
 pub mod Lookups
+pub mod Facts
 pub mod Named
+pub mod Placed
+pub mod Printing
 pub mod RuleLists
 pub mod Bits
 pub mod TokenRows
@@ -10,3 +13,12 @@ pub mod Backwards
 pub mod FollowSteps
 pub mod PathSteps
 pub mod CostSteps
+pub mod RaiseSteps
+pub mod NarrowSteps
+pub mod SettleSteps
+pub mod Dictionary
+pub mod WantedSteps
+pub mod CheapestSteps
+pub mod MadeNames
+pub mod MadeSymbols
+pub mod MadeWell

@@ -1,10 +1,12 @@
 -- The productions of a rule as a list.
-use Rattle.std.proofs.Common.{◌≡◌, ◌≢◌, ℕ, zero, suc, ◌+◌, ◌<◌, ◌≤◌, List, [], ◌∷◌, ◌++◌, length, get_or, true, false, cond, eqb, refl, sym, ap, ◌∙◌, subst, arith, append-nil, ◌⊎◌, inl, inr}
+use Rattle.std.proofs.Common.{◌≡◌, ◌≢◌, ℕ, zero, suc, ◌+◌, ◌<◌, ◌≤◌, List, [], ◌∷◌, ◌++◌, length, get_or, Bool, true, false, cond, eqb, refl, sym, ap, ◌∙◌, subst, arith, append-nil, ◌⊎◌, inl, inr}
 use Rattle.std.specs.Prelude.{map, set, filter, replicate, ◌==◌}
-use Rattle.std.specs.List.{range_with_len}
+use Rattle.std.specs.List.{range_with_len, All, AllPairs, Contains}
 use Rattle.std.proofs.lemmas.List.{get_or-set_same, get_or-set_other, length-set, length-replicate, get_or-replicate, length-map, map-set, map-append, get_or-map}
-use Rattle.std.proofs.lemmas.List.Elements.{filter-append}
-use Rattle.std.proofs.lemmas.Bool.{ne_eqb, eq-eqb, cases_eq}
+use Rattle.std.proofs.lemmas.List.Elements.{filter-append, filter_passes, All-contains, All-filter, Contains-append_right}
+use Rattle.std.proofs.lemmas.List.FromFn.{length-range_with_len, get_or-range_with_len}
+use Rattle.std.proofs.lemmas.List.Kept.{AllPairs-filter}
+use Rattle.std.proofs.lemmas.Bool.{ne_eqb, eq-eqb, eqb-true, cases_eq}
 use Rattle.cfg_theory.specs.Grammar.{Grammar, Production, head_of}
 use Rattle.cfg_base.specs.declared.symbol.PIdx.{PIdx}
 use Rattle.cfgrammar.specs.Symbols.{numbers_of}
@@ -75,3 +77,50 @@ put_last G n r vs old new f below lt head is made =
 
 pub numbers_push : {S : Type 0} (number : S → ℕ) (xs : List (PIdx S)) (x : PIdx S) (n : ℕ) → number x.0 ≡ n → numbers_of number (xs ++ x ∷ []) ≡ numbers_of number xs ++ n ∷ []
 numbers_push number xs x n e = map-append (λ (p : PIdx _). number p.0) xs (x ∷ []) ∙ ap (λ k. numbers_of number xs ++ k ∷ []) e
+
+-- What a filter keeps.
+module _ {X : Type 0} (p : X → Bool) where
+  behind : (y : X) (ys : List X) (x : X) → Contains (filter p ys) x → Contains (filter p (y ∷ ys)) x
+  behind y ys x h = by (p y)
+    where
+      by : (b : Bool) → Contains (cond b (y ∷ filter p ys) (filter p ys)) x
+      by true = Contains-append_right (y ∷ []) (filter p ys) x h
+      by false = h
+
+  kept : (xs : List X) (x : X) (k : ℕ) → p x ≡ true → k < length xs → get_or xs k x ≡ x → Contains (filter p xs) x
+  kept [] x k t lt e = absurd (omega (arith, lt))
+  kept (y ∷ ys) x zero t lt e = subst (λ l. Contains l x) (sym (ap (λ b. cond b (y ∷ filter p ys) (filter p ys)) (ap p e ∙ t))) (0, omega arith, e)
+  kept (y ∷ ys) x (suc k) t lt e = behind y ys x (kept ys x k t (omega (arith, lt)) e)
+
+in_range : (n k d : ℕ) → k < n → get_or (range_with_len 0 n) k d ≡ k
+in_range n k d lt = let zero_more : 0 + k ≡ k = omega arith in get_or-range_with_len 0 n k d lt ∙ zero_more
+
+-- each production stands in the list of its rule
+pub listed : (G : Grammar) (p : ℕ) → p < length G.productions → Contains (productions_of G (head_of G p)) p
+listed G p lt =
+    let len = length-range_with_len 0 (length G.productions) in
+    kept (λ q. head_of G q == head_of G p) (range_with_len 0 (length G.productions)) p p (eq-eqb (head_of G p) (head_of G p) refl) (omega (arith, lt, len)) (in_range (length G.productions) p p lt)
+
+-- and in no other
+below_all : (n : ℕ) → All (λ p. p < n) (range_with_len 0 n)
+below_all n = λ k d lt. let len = length-range_with_len 0 n in let low : k < n = omega (arith, lt, len) in subst (λ q. q < n) (sym (in_range n k d low)) low
+
+pub alone : (G : Grammar) (A p : ℕ) → Contains (productions_of G A) p → (p < length G.productions) × (head_of G p ≡ A)
+alone G A p h =
+    let range = range_with_len 0 (length G.productions) in (
+      All-contains (λ q. q < length G.productions) (productions_of G A) p (All-filter (λ q. head_of G q == A) (λ q. q < length G.productions) range (below_all (length G.productions))) h,
+      eqb-true (head_of G p) A (All-contains (λ q. (head_of G q == A) ≡ true) (productions_of G A) p (filter_passes (λ q. head_of G q == A) range) h),
+    )
+
+-- in ascending order
+range_ascends : (n : ℕ) → AllPairs (λ p q. p < q) (range_with_len 0 n)
+range_ascends n = λ i j d lt within.
+    let len = length-range_with_len 0 n in
+    let high : j < n = omega (arith, within, len) in
+    let low : i < n = omega (arith, lt, high) in
+    let a = in_range n i d low in
+    let b = in_range n j d high in
+    omega (arith, a, b, lt)
+
+pub ascending : (G : Grammar) (A : ℕ) → AllPairs (λ p q. p < q) (productions_of G A)
+ascending G A = AllPairs-filter (λ p q. p < q) (λ q. head_of G q == A) (range_with_len 0 (length G.productions)) (range_ascends (length G.productions))

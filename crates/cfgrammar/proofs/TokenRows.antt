@@ -4,10 +4,9 @@ use Rattle.std.specs.Prelude.{map, IsTrue}
 use Rattle.std.proofs.lemmas.List.{get_or-map, map-set, length-map, length-set, length-replicate, get_or-replicate}
 use Rattle.std.proofs.lemmas.Bool.{not-true, cases_Bool}
 use Rattle.vob.specs.Packed.{Contents}
-use Rattle.vob.proofs.Setwise.{length-bitwise}
 use Rattle.cfgrammar.specs.Sets.{SetRows, is_set, is_set_in, missing_in, joined_to, HasAllOf, AreRows}
 use Rattle.cfgrammar.specs.Passes.{Steps}
-use Rattle.cfgrammar.proofs.Bits.{join, rows_set, rows_step}
+use Rattle.cfgrammar.proofs.Bits.{join, length-bitwise, rows_set, rows_step}
 
 abbrev pub rows_of : List Contents → List (List Bool)
 rows_of items = map (λ v. v.bits) items

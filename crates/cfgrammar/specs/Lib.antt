@@ -1,6 +1,7 @@
 pub mod Symbols
 pub mod Value
 pub mod Parts
+pub mod Shown
 pub mod Sets
 pub mod Firsts
 pub mod Follows
@@ -8,3 +9,7 @@ pub mod Paths
 pub mod Passes
 pub mod CostTable
 pub mod Sentences
+pub mod Greatest
+pub mod TokenLists
+pub mod CheapestTable
+pub mod Made

@@ -1,24 +1,55 @@
 -- What contracts see of a grammar value.
-use Rattle.std.specs.Prelude.{◌≡◌, ℕ, ◌<◌, ◌≤◌, ◌==◌, List, length, Option, Some, slice_get, option_map, filter}
+use Rattle.std.specs.Prelude.{◌≡◌, ℕ, ◌<◌, ◌≤◌, ◌==◌, Bool, false, List, [], ◌∷◌, length, Option, None, Some, slice_get, option_map, filter}
 use Rattle.std.specs.List.{range_with_len}
+use Rattle.std.specs.Option.{option_or}
 use Rattle.cfg_base.specs.Place.{Places}
-use Rattle.cfg_theory.specs.Grammar.{Sym, rule, Grammar, head_of, body_of, WellFormed}
-use Rattle.cfgrammar.specs.declared.precedence.Precedence.{Precedence}
+use Rattle.cfg_read.specs.declared.yacc.Precedence.{Precedence}
+use Rattle.cfg_theory.specs.Grammar.{Sym, rule, Grammar, head_of, body_of, end_token, WellFormed}
 
 pub record RuleFacts : Type 0 where
   pub name : List ℕ
   pub span : Places
+  -- the type of its actions
+  pub action_type : Option (List ℕ)
 
--- the end token has no name, no span and no text
 pub record TokenFacts : Type 0 where
   pub name : Option (List ℕ)
   pub span : Option Places
+  -- the text of `%epp`
   pub epp : Option (List ℕ)
   pub precedence : Option Precedence
+  -- whether `%avoid_insert` has it
+  pub is_avoided : Bool
+
+-- the end token has none of these
+abbrev pub end_facts : TokenFacts
+end_facts = record { name = None; span = None; epp = None; precedence = None; is_avoided = false }
+
+-- the text by which messages show it
+abbrev pub shown_text : TokenFacts → Option (List ℕ)
+shown_text t = option_or t.epp t.name
 
 pub record ProductionFacts : Type 0 where
   pub span : Places
   pub precedence : Option Precedence
+  pub action : Option (List ℕ)
+  pub action_span : Option Places
+
+-- the name and the type of `%parse-param`
+pub record ParamFacts : Type 0 where
+  pub name : List ℕ
+  pub param_type : List ℕ
+
+-- what is kept of the whole text
+pub record KeptFacts : Type 0 where
+  -- the number of the rule `~`
+  pub implicit_rule : Option ℕ
+  pub parse_param : Option ParamFacts
+  pub parse_generics : Option (List ℕ)
+  pub programs : Option (List ℕ)
+  -- how many conflicts are expected, of shifts with reductions and among reductions
+  pub expect : Option ℕ
+  pub expect_rr : Option ℕ
 
 -- the productions by numbers, and what stands beside each number
 pub record GrammarValue : Type 0 where
@@ -26,6 +57,7 @@ pub record GrammarValue : Type 0 where
   pub rules : List RuleFacts
   pub tokens : List TokenFacts
   pub productions : List ProductionFacts
+  pub kept : KeptFacts
 
 -- the rule A has this name
 pub record IsRuleNamed (g : GrammarValue) (A : ℕ) (name : List ℕ) : Type 0 where
@@ -57,3 +89,8 @@ pub record IsGrammar (top : ℕ) (g : GrammarValue) : Type 0 where
   -- names are those of one rule, and of one token
   pub rule_names : (A B : ℕ) (name : List ℕ) → IsRuleNamed g A name → IsRuleNamed g B name → A ≡ B
   pub token_names : (t u : ℕ) (name : List ℕ) → IsTokenNamed g t name → IsTokenNamed g u name → t ≡ u
+  -- each token but the end token has a name
+  pub named : (t : ℕ) → t < end_token g.grammar → (name : List ℕ) × IsTokenNamed g t name
+  pub end_unnamed : slice_get g.tokens (end_token g.grammar) ≡ Some end_facts
+  -- the implicit rule is `~`
+  pub implicit_rule : (A : ℕ) → g.kept.implicit_rule ≡ Some A → IsRuleNamed g A (126 ∷ [])

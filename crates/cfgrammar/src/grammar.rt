@@ -7,14 +7,20 @@ ghost use Rattle.std.specs.String.{string_bytes};
 ghost use Rattle.cfg_theory.specs.Grammar.{Grammar, WellFormed, IsOf, head_of, body_of, end_token};
 ghost use Rattle.cfgrammar.specs.Symbols.{syms_of, numbers_of};
 ghost use Rattle.cfgrammar.specs.Value.{GrammarValue, IsGrammar, IsRuleNamed, IsTokenNamed, productions_of};
-ghost use Rattle.cfgrammar.specs.Parts.{value_of, production_of, with_productions, ListsProductions};
+ghost use Rattle.cfgrammar.specs.Parts.{value_of, production_of, with_productions, texts_in, ListsProductions, ListsNames};
 
+pub mod laws;
+mod name_sets;
 mod names;
+mod printed;
+mod texts;
+mod tokens_map;
 mod walks;
 
-use crate::parts::{ProductionParts, RuleParts, TokenParts};
+use crate::parts::{KeptParts, ProductionParts, RuleParts, TokenParts};
 use cfg_base::index::IndexStorage;
 use cfg_base::symbol::{PIdx, RIdx, SIdx, Symbol, TIdx};
+use indexmap::IndexSet;
 use std::alloc::{AllocError, Global};
 use std::marker::Model;
 pub use walks::{PIdxs, RIdxs, TIdxs};
@@ -27,21 +33,25 @@ pub struct YaccGrammar<S: IndexStorage> {
     tokens: Vec<TokenParts>,
     prods: Vec<ProductionParts<S>>,
     start: PIdx<S>,
+    kept: KeptParts<S>,
+    rule_names: IndexSet<String>,
+    token_names: IndexSet<String>,
 }
 
 impl<S: IndexStorage> Model for YaccGrammar<S> {
     ghost use Rattle.std.specs.Prelude.{map};
     ghost use Rattle.cfgrammar.specs.Symbols.{numbers_of};
     ghost use Rattle.cfgrammar.specs.Value.{GrammarValue, IsGrammar};
-    ghost use Rattle.cfgrammar.specs.Parts.{value_of, ListsProductions};
+    ghost use Rattle.cfgrammar.specs.Parts.{value_of, texts_in, ListsProductions, ListsNames};
 
     ghost Value = { GrammarValue };
 
-    ghost view = { λ g. value_of S.number g.rules.items g.tokens.items g.prods.items (S.number g.start.0) };
+    ghost view = { λ g. value_of S.number g.rules.items g.tokens.items g.prods.items (S.number g.start.0) g.kept };
 
     ghost invariant = { λ g.
-        IsGrammar S.MAX (value_of S.number g.rules.items g.tokens.items g.prods.items (S.number g.start.0)) ×
-        ListsProductions (value_of S.number g.rules.items g.tokens.items g.prods.items (S.number g.start.0)).grammar (map (λ l. numbers_of S.number l.items) g.rule_prods.items) };
+        IsGrammar S.MAX (value_of S.number g.rules.items g.tokens.items g.prods.items (S.number g.start.0) g.kept) ×
+        ListsProductions (value_of S.number g.rules.items g.tokens.items g.prods.items (S.number g.start.0) g.kept).grammar (map (λ l. numbers_of S.number l.items) g.rule_prods.items) ×
+        ListsNames (value_of S.number g.rules.items g.tokens.items g.prods.items (S.number g.start.0) g.kept) (texts_in g.rule_names.keys) (texts_in g.token_names.keys) };
 }
 
 /// The index of a number that fits.
@@ -50,6 +60,16 @@ pub(crate) fn index_of<S: IndexStorage>(n: usize) -> S
     ensures { S.number result ≡ n }
 {
     S::from_usize(n).unwrap()
+}
+
+/// A kept text as a slice.
+fn text_of(text: &Option<String>) -> Option<&str>
+    ensures { option_map (λ s. s.now) result ≡ option_map string_bytes text.now }
+{
+    match text {
+        Some(text) => Some(text.as_str()),
+        None => None,
+    }
 }
 
 /// The productions of each rule.
@@ -92,17 +112,23 @@ impl<S: IndexStorage> YaccGrammar<S> {
         tokens: Vec<TokenParts>,
         prods: Vec<ProductionParts<S>>,
         start: PIdx<S>,
+        kept: KeptParts<S>,
     ) -> Result<Self, AllocError>
-        requires { IsGrammar S.MAX (value_of S.number rules.items tokens.items prods.items (S.number start.0)) }
-        ensures { IfOk result (λ g. g ≡ value_of S.number rules.items tokens.items prods.items (S.number start.0)) }
+        requires { IsGrammar S.MAX (value_of S.number rules.items tokens.items prods.items (S.number start.0) kept) }
+        ensures { IfOk result (λ g. g ≡ value_of S.number rules.items tokens.items prods.items (S.number start.0) kept) }
     {
         let rule_prods = list_productions(alloc, rules.len(), prods.as_slice())?;
+        let rule_names = name_sets::rule_names(alloc, rules.as_slice())?;
+        let token_names = name_sets::token_names(alloc, tokens.as_slice())?;
         Ok(YaccGrammar {
             rules,
             rule_prods,
             tokens,
             prods,
             start,
+            kept,
+            rule_names,
+            token_names,
         })
     }
 

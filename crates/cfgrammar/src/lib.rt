@@ -1,10 +1,11 @@
 //! Grammars as values, and what their derivations show.
 //!
 //! A `YaccGrammar` numbers rules, tokens and productions in an index type; contracts see it as a grammar of
-//! numbers, well formed, with names, spans and precedences beside them. The contracts that matter most are those
-//! of `prod`, `prod_to_rule` and `start_prod`; of `firsts` and `follows`, whose sets hold exactly what
-//! derivations show; of `has_path`; and of `sentence_generator`, whose `min_sentence_cost` is the least over all
-//! token lists that a rule derives.
+//! numbers, well formed, with names, spans, precedences and kept texts beside them. The contracts that matter most
+//! are those of `prod`, `prod_to_rule` and `start_prod`, with the law
+//! `grammar::laws::productions_stand_in_one_list` on the lists of `rule_to_prods`; of `firsts` and `follows`,
+//! whose sets hold exactly what derivations show; of `has_path`; and of `sentence_generator`, whose least and
+//! greatest costs and cheapest sentences are over all token lists that a rule derives.
 //!
 //! FIRST, FOLLOW, paths and costs are computed alike: passes over all productions, from the last to the first
 //! and back, until one changes nothing. What the passes keep is true of derivations, what the last one finds is
@@ -14,10 +15,11 @@
 pub mod firsts;
 pub mod follows;
 pub mod grammar;
+pub mod making;
 mod parts;
 mod paths;
-pub mod precedence;
 pub mod sentences;
 mod sets;
 
-pub use cfg_base::{index, markmap, newlinecache, span, symbol};
+pub use cfg_base::{header, index, markmap, newlinecache, span, symbol};
+pub use cfg_read::yacc;

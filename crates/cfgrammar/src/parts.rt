@@ -1,22 +1,24 @@
 //! What a grammar value keeps beside each number.
 
-use crate::precedence::Precedence;
 use cfg_base::span::Span;
 use cfg_base::symbol::{RIdx, Symbol};
+use cfg_read::yacc::Precedence;
 
 #[derive(Drop)]
 pub struct RuleParts {
     pub name: String,
     pub span: Span,
+    pub action_type: Option<String>,
 }
 
-/// The end token has none of these.
+/// The end token has none of these, and isn't avoided.
 #[derive(Drop)]
 pub struct TokenParts {
     pub name: Option<String>,
     pub span: Option<Span>,
     pub epp: Option<String>,
     pub precedence: Option<Precedence>,
+    pub is_avoided: bool,
 }
 
 #[derive(Drop)]
@@ -25,4 +27,17 @@ pub struct ProductionParts<S> {
     pub symbols: Vec<Symbol<S>>,
     pub span: Span,
     pub precedence: Option<Precedence>,
+    pub action: Option<String>,
+    pub action_span: Option<Span>,
+}
+
+/// What is kept of the whole text.
+#[derive(Drop)]
+pub struct KeptParts<S> {
+    pub implicit_rule: Option<RIdx<S>>,
+    pub parse_param: Option<(String, String)>,
+    pub parse_generics: Option<String>,
+    pub programs: Option<String>,
+    pub expect: Option<usize>,
+    pub expect_rr: Option<usize>,
 }

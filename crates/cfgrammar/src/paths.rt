@@ -33,7 +33,7 @@ impl<S: IndexStorage> YaccGrammar<S> {
 }
 
 /// Puts a symbol into the set, where it is a rule, and says whether that changed the set.
-fn add_symbol<S: IndexStorage>(symbol: Symbol<S>, reached: &mut Vob) -> bool
+pub(crate) fn add_symbol<S: IndexStorage>(symbol: Symbol<S>, reached: &mut Vob) -> bool
     requires { HasPlace reached.old.bits (sym_of S.number symbol) }
     ensures bits { reached.new.bits ≡ with_rule reached.old.bits (sym_of S.number symbol) }
     ensures steps { Steps missing (λ b. IsIn b (sym_of S.number symbol)) reached.old.bits reached.new.bits result }

@@ -7,14 +7,24 @@ ghost use Rattle.cfgrammar.specs.Symbols.{sym_of, syms_of};
 ghost use Rattle.cfgrammar.specs.CostTable.{bound, cost_of, cost_in, cost_at, HasCost, AllHaveCosts, AreCapped, IsCost, HasNoCost, AreCosts, IsClosedBy, fall, IsLess};
 ghost use Rattle.cfgrammar.specs.Passes.{Steps, Anything};
 ghost use Rattle.cfgrammar.specs.Sentences.{Costed, LeastIsRefused, AreAnswers};
+ghost use Rattle.cfgrammar.specs.declared.sentences.SentenceError.TheVariants.{OutOfMemory};
+
+mod cheapest;
+mod greatest;
+mod settled;
+mod unbounded;
+mod wanted;
+mod words;
 
 use crate::grammar::{YaccGrammar, index_of};
 use cfg_base::index::IndexStorage;
 use cfg_base::symbol::{PIdx, RIdx, Symbol, TIdx};
 use cfg_theory::cost::productive_rules_have_least_costs;
+use greatest::greatest_tables;
 use std::alloc::{AllocError, Global};
 use std::marker::Model;
 use thiserror::Error;
+use vob::Vob;
 
 /// Why a cost isn't given.
 #[derive(Debug, Drop, Error)]
@@ -27,18 +37,43 @@ pub enum CostError {
     CostTooLarge,
 }
 
+/// Why token lists aren't given.
+#[derive(Debug, Drop, Error)]
+pub enum SentenceError {
+    /// The rule derives no token list.
+    #[error("no sentence")]
+    NoSentence,
+    /// The lists' cost is past 65,535.
+    #[error("cost too large")]
+    CostTooLarge,
+    /// The lists don't fit into memory.
+    #[error("out of memory")]
+    OutOfMemory,
+}
+
+impl From<AllocError> for SentenceError {
+    ghost from_gives = { λ e f. f ≡ OutOfMemory };
+
+    fn from(_e: AllocError) -> SentenceError {
+        SentenceError::OutOfMemory
+    }
+}
+
 /// Costs of a grammar's rules, by costs of its tokens.
 #[derive(Drop)]
 pub struct SentenceGenerator<'a, S: IndexStorage> {
     grm: &'a YaccGrammar<S>,
     costs: Vec<u8>,
     least: Vec<Option<u32>>,
+    unbounded: Vob,
+    greatest: Vec<Option<u32>>,
 }
 
 impl<'a, S: IndexStorage> Model for SentenceGenerator<'a, S> {
     ghost use Rattle.std.specs.Prelude.{◌≡◌, ℕ, ◌<◌, length};
     ghost use Rattle.cfgrammar.specs.CostTable.{cost_of, AreCosts, IsClosedBy};
     ghost use Rattle.cfgrammar.specs.Sentences.{Costed};
+    ghost use Rattle.cfgrammar.specs.Greatest.{AreGreatest};
 
     ghost Value = { Costed };
 
@@ -46,7 +81,9 @@ impl<'a, S: IndexStorage> Model for SentenceGenerator<'a, S> {
 
     ghost invariant = { λ s.
         AreCosts s.grm.now.grammar (cost_of s.costs.items) s.least.items ×
-        ((p : ℕ) → p < length s.grm.now.grammar.productions → IsClosedBy s.grm.now.grammar (cost_of s.costs.items) p s.least.items) };
+        ((p : ℕ) → p < length s.grm.now.grammar.productions → IsClosedBy s.grm.now.grammar (cost_of s.costs.items) p s.least.items) ×
+        AreGreatest s.grm.now.grammar (cost_of s.costs.items) s.unbounded.bits s.greatest.items ×
+        (length s.costs.items ≡ s.grm.now.grammar.tokens) };
 }
 
 impl<S: IndexStorage> YaccGrammar<S> {
@@ -78,7 +115,14 @@ impl<'a, S: IndexStorage> SentenceGenerator<'a, S> {
         ensures costs { IfOk result (λ s. s.costs ≡ costs.items) }
     {
         let least = least_costs(alloc, grm, costs.as_slice())?;
-        Ok(SentenceGenerator { grm, costs, least })
+        let (unbounded, greatest) = greatest_tables(alloc, grm, costs.as_slice())?;
+        Ok(SentenceGenerator {
+            grm,
+            costs,
+            least,
+            unbounded,
+            greatest,
+        })
     }
 
     /// The least cost of the token lists that the rule derives.

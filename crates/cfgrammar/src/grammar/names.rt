@@ -1,15 +1,14 @@
 //! What stands beside the numbers: names, places in the text, and precedences.
 
 ghost use Rattle.std.specs.Prelude.{◌≡◌, ◌<◌, ℕ, length, slice_get, option_map, Some, IfSome, IfNone, MatchOption};
-ghost use Rattle.cfgrammar.specs.Parts.{IsPartNamed};
-ghost use Rattle.cfgrammar.specs.Value.{IsRuleNamed};
+ghost use Rattle.cfg_theory.specs.Grammar.{end_token};
+ghost use Rattle.cfgrammar.specs.Value.{IsRuleNamed, IsTokenNamed};
 
-use super::{YaccGrammar, index_of};
-use crate::parts::RuleParts;
-use crate::precedence::Precedence;
+use super::{YaccGrammar, index_of, name_sets, text_of};
 use cfg_base::index::IndexStorage;
 use cfg_base::span::Span;
 use cfg_base::symbol::{PIdx, RIdx, TIdx};
+use cfg_read::yacc::Precedence;
 
 impl<S: IndexStorage> YaccGrammar<S> {
     /// The name of a rule.
@@ -34,9 +33,20 @@ impl<S: IndexStorage> YaccGrammar<S> {
         ensures none { IfNone result ((A : ℕ) → IsRuleNamed self.now A name.now → ⊥) }
         ensures only { (A B : ℕ) → IsRuleNamed self.now A name.now → IsRuleNamed self.now B name.now → A ≡ B }
     {
-        let rules = self.rules.as_slice();
-        match place_of(rules, name) {
+        match name_sets::place_of(&self.rule_names, name) {
             Some(place) => Some(RIdx(index_of(place))),
+            None => None,
+        }
+    }
+
+    /// The token with a name. A name is that of one token at most, and the end token has none.
+    pub fn token_idx(&self, name: &str) -> Option<TIdx<S>>
+        ensures found { IfSome result (λ t. IsTokenNamed self.now (S.number t.0) name.now) }
+        ensures none { IfNone result ((t : ℕ) → IsTokenNamed self.now t name.now → ⊥) }
+        ensures only { (t u : ℕ) → IsTokenNamed self.now t name.now → IsTokenNamed self.now u name.now → t ≡ u }
+    {
+        match name_sets::place_of(&self.token_names, name) {
+            Some(place) => Some(TIdx(index_of(place))),
             None => None,
         }
     }
@@ -44,12 +54,10 @@ impl<S: IndexStorage> YaccGrammar<S> {
     /// The name of a token; None of the end token.
     pub fn token_name(&self, tidx: TIdx<S>) -> Option<&str>
         requires { S.number tidx.0 < self.now.grammar.tokens }
-        ensures { option_map (λ t. t.name) (slice_get self.now.tokens (S.number tidx.0)) ≡ Some (option_map (λ s. s.now) result) }
+        ensures name { option_map (λ t. t.name) (slice_get self.now.tokens (S.number tidx.0)) ≡ Some (option_map (λ s. s.now) result) }
+        ensures end { MatchOption result (S.number tidx.0 ≡ end_token self.now.grammar) (λ _. S.number tidx.0 < end_token self.now.grammar) }
     {
-        match &self.tokens[tidx.0.to_usize()].name {
-            Some(name) => Some(name.as_str()),
-            None => None,
-        }
+        text_of(&self.tokens[tidx.0.to_usize()].name)
     }
 
     /// Where the name of a rule stands in the text; (0, 0) of a rule that the text doesn't have.
@@ -91,11 +99,4 @@ impl<S: IndexStorage> YaccGrammar<S> {
     {
         self.prods[pidx.0.to_usize()].span
     }
-}
-
-/// The place of the first rule with a name.
-fn place_of(rules: &[RuleParts], name: &str) -> Option<usize>
-    ensures { MatchOption result ((k : ℕ) → IsPartNamed rules.now k name.now → ⊥) (λ k. IsPartNamed rules.now k name.now) }
-{
-    rules.iter().position(|rule| rule.name.as_str() == name)
 }

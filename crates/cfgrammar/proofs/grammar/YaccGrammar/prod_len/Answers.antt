@@ -8,7 +8,7 @@ use Rattle.cfgrammar.proofs.grammar.YaccGrammar.prod_len.Goals as goal
 pub index_of-requires : goal.index_of-requires
 index_of-requires g c =
     let number = g.S.IndexStorage.number in
-    let body = body_in number _ _ _ _ _ c.self.view_is c.to_usize.result (number c.args.pidx.0) c.index.result.now c.to_usize.ensures.value c.requires c.index.ensures in
+    let body = body_in number _ _ _ _ _ _ c.self.view_is c.to_usize.result (number c.args.pidx.0) c.index.result.now c.to_usize.ensures.value c.requires c.index.ensures in
     let fits = subst (λ v. length (body_of v.grammar (number c.args.pidx.0)) ≤ g.S.IndexStorage.MAX) c.self.view_is (c.self.invariant.0.fits.symbols (number c.args.pidx.0)) in
     let len = ap length body ∙ length-map c.index.result.now.symbols.items (sym_of number) in
     let slice = ap length c.as_slice-symbols.ensures.value in
@@ -17,5 +17,5 @@ index_of-requires g c =
 pub returns : goal.returns
 returns g c =
     let number = g.S.IndexStorage.number in
-    let body = body_in number _ _ _ _ _ c.self.view_is c.to_usize.result (number c.args.pidx.0) c.index.result.now c.to_usize.ensures.value c.requires c.index.ensures in
+    let body = body_in number _ _ _ _ _ _ c.self.view_is c.to_usize.result (number c.args.pidx.0) c.index.result.now c.to_usize.ensures.value c.requires c.index.ensures in
     c.index_of.ensures ∙ ap length c.as_slice-symbols.ensures.value ∙ sym (ap length body ∙ length-map c.index.result.now.symbols.items (sym_of number))

@@ -22,3 +22,13 @@ pub mod SoundNames
 pub mod SoundNumbers
 pub mod SoundParts
 pub mod SoundTrees
+pub mod RuleLemmas
+pub mod Clones
+pub mod ChangeLemmas
+pub mod OneAnswer
+pub mod Headings
+pub mod Members
+pub mod WarningLemmas
+pub mod ReachedLemmas
+pub mod HeadingWords
+pub mod WellMade

@@ -16,7 +16,7 @@ use Rattle.cfg_read.specs.Reading.{Reads}
 use Rattle.cfg_read.specs.Stopping.{Faults, Outcome, reads, faulty}
 use Rattle.cfg_read.specs.Validity.{FailureText, header_failure}
 use Rattle.cfg_read.specs.Kinds.{Meaning, means, unfit}
-use Rattle.cfg_read.specs.Files.{source, HasSection, ReadsFile, fault_failure, FailsSection, FailsRest, FailsFile, in_section, in_rest, FileOutcome, reads_file, fails_file, said_meaning, told_kind, TellsKind, kind_failures, FailsMeaning, FailsKind, no_key, no_kind, LacksKind, without_section, without_kind, KindOutcome, tells_kind, lacks_kind}
+use Rattle.cfg_read.specs.Files.{source, HasSection, ReadsFile, fault_failure, FailsSection, FailsRest, FailsFile, in_section, in_rest, FileOutcome, reads_file, fails_file, told_kind, TellsKind, kind_failures, FailsMeaning, FailsKind, no_key, no_kind, LacksKind, without_section, without_kind, KindOutcome, tells_kind, lacks_kind}
 
 -- what is known of sections
 pub record SectionLaws : Type 0 where

@@ -1,5 +1,5 @@
 -- What the parts of a syntax tree say, without where they lie in memory.
-use Rattle.std.specs.Prelude.{true, false, List, map, option_map}
+use Rattle.std.specs.Prelude.{ℕ, true, false, List, map, option_map}
 use Rattle.std.specs.String.{string_bytes}
 use Rattle.indexmap.specs.IndexMap.{IndexMap}
 use Rattle.cfg_base.specs.Place.{Places}
@@ -8,9 +8,10 @@ use Rattle.std.specs.declared.string.String.{String}
 use Rattle.cfg_read.specs.declared.yacc.ast.Symbol.{Symbol}
 use Rattle.cfg_read.specs.declared.yacc.ast.Symbol.TheVariants.{Rule, Token}
 use Rattle.cfg_read.specs.declared.yacc.ast.Production.{Production}
+use Rattle.cfg_read.specs.declared.yacc.ast.Rule.{Rule as RuleEntry}
 use Rattle.cfg_read.specs.declared.yacc.Precedence.{Precedence}
-use Rattle.cfg_read.specs.SyntaxTexts.{WordText, EppText}
-use Rattle.cfg_read.specs.Asts.{SymbolAst, ProductionAst, PrecedenceAst}
+use Rattle.cfg_read.specs.SyntaxTexts.{WordText, NumberText, EppText}
+use Rattle.cfg_read.specs.Asts.{SymbolAst, RuleAst, ProductionAst, PrecedenceAst}
 
 abbrev pub ast_symbol_of : Symbol → SymbolAst
 ast_symbol_of (Rule text span) = record { is_token = false; word = record { text = string_bytes text; span = span } }
@@ -44,3 +45,26 @@ named_precedence e = record { token = record { text = string_bytes e.0; span = e
 
 abbrev pub named_precedences : {S : Type 0} → IndexMap (String Global) (Precedence × Places) S → List PrecedenceAst
 named_precedences m = map named_precedence m.entries
+
+-- a rule, and one in a map that is named by its key
+abbrev pub rule_entry_of : RuleEntry → RuleAst
+rule_entry_of r = record { name = named_place r.name; productions = r.pidxs.items; action_type = option_map string_bytes r.actiont }
+
+abbrev pub named_rule : String Global × RuleEntry → RuleAst
+named_rule e = record { name = record { text = string_bytes e.0; span = e.1.name.1 }; productions = e.1.pidxs.items; action_type = option_map string_bytes e.1.actiont }
+
+abbrev pub named_rules : {S : Type 0} → IndexMap (String Global) RuleEntry S → List RuleAst
+named_rules m = map named_rule m.entries
+
+-- the keys of these rules, and the names that the rules themselves have
+abbrev pub rule_keys : {S : Type 0} → IndexMap (String Global) RuleEntry S → List (List ℕ)
+rule_keys m = map (λ (e : String Global × RuleEntry). string_bytes e.0) m.entries
+
+abbrev pub own_names : {S : Type 0} → IndexMap (String Global) RuleEntry S → List (List ℕ)
+own_names m = map (λ (e : String Global × RuleEntry). string_bytes e.1.name.0) m.entries
+
+abbrev pub placed_number : ℕ × Places → NumberText
+placed_number n = record { value = n.0; span = n.1 }
+
+abbrev pub param_pair : String Global × String Global → List ℕ × List ℕ
+param_pair p = (string_bytes p.0, string_bytes p.1)

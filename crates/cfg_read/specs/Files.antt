@@ -23,7 +23,7 @@ use Rattle.cfg_read.specs.declared.yacc.file.YaccGrammarFailure.TheVariants as f
 use Rattle.cfg_read.specs.SyntaxTexts.{SyntaxText}
 use Rattle.cfg_read.specs.Reading.{Reads}
 use Rattle.cfg_read.specs.Stopping.{Faults}
-use Rattle.cfg_read.specs.Validity.{FailureKind, Header, FailureText, failure_at, header_failure}
+use Rattle.cfg_read.specs.Validity.{Header, FailureText, failure_at, header_failure}
 use Rattle.cfg_read.specs.Showing.{kind_of, failures_in}
 use Rattle.cfg_read.specs.Kinds.{Meaning, means, unfit, meaning_of}
 

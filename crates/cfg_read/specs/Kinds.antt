@@ -1,7 +1,6 @@
 -- The kinds of grammars as values of a section: the kind that a value stands for, and the value of a kind.
-use Rattle.std.specs.Prelude.{◌≡◌, ℕ, Bool, List, [], ◌∷◌, Option, Some, None, option_map, if◌then◌else◌}
+use Rattle.std.specs.Prelude.{◌≡◌, ℕ, Bool, List, [], ◌∷◌, Option, Some, None, if◌then◌else◌}
 use Rattle.std.specs.Str.{str_eq_ignore_ascii_case}
-use Rattle.std.specs.Borrow.{Bor}
 use Rattle.std.specs.Prelude.{Result, Ok, Err}
 use Rattle.std.specs.String.{string_bytes}
 use lib.Chars.{codes}
@@ -10,7 +9,7 @@ use Rattle.cfg_base.specs.declared.span.Location.{Location}
 use Rattle.cfg_base.specs.declared.span.Location.TheVariants as locations
 use Rattle.cfg_base.specs.declared.header.error.HeaderError.{HeaderError}
 use Rattle.cfg_base.specs.HeaderErrors.{kind_text, no_conversion}
-use Rattle.cfg_base.specs.HeaderTexts.{WordText, PathText, SettingText, unitary, construct, num, quoted, array, ValueText, flag, setting, setting_primary}
+use Rattle.cfg_base.specs.HeaderTexts.{WordText, PathText, SettingText, unitary, construct, ValueText, flag, setting, setting_primary}
 use Rattle.cfg_read.specs.declared.yacc.YaccKind.{YaccKind}
 use Rattle.cfg_read.specs.declared.yacc.YaccKind.TheVariants as kinds
 use Rattle.cfg_read.specs.declared.yacc.YaccOriginalActionKind.{YaccOriginalActionKind}

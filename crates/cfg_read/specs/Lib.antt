@@ -13,6 +13,12 @@ pub mod Showing
 pub mod Asts
 pub mod AstViews
 pub mod Warnings
+pub mod WarningViews
 pub mod Sound
 pub mod Kinds
 pub mod Files
+pub mod AstChanges
+pub mod Building
+pub mod CheckedAst
+pub mod Judging
+pub mod Payloads

@@ -1,5 +1,5 @@
 -- What lists of words and errors of the program say, without where they lie in memory.
-use Rattle.std.specs.Prelude.{ℕ, zero, suc, Bool, List, [], ◌∷◌, ◌++◌, map, if◌then◌else◌, Vec}
+use Rattle.std.specs.Prelude.{ℕ, zero, suc, Bool, List, [], ◌∷◌, ◌++◌, map, Vec}
 use Rattle.std.specs.declared.alloc.Global.{Global}
 use Rattle.cfg_base.specs.Place.{Places}
 use Rattle.std.specs.Borrow.{Bor}

@@ -1,5 +1,7 @@
 -- What is so of the syntax tree of a valid text.
-use Rattle.std.specs.Prelude.{◌≡◌, ℕ, ◌<◌, List, map, length, Some, IsSomeAnd, IfSome, slice_get, All, AllPairs, Contains, if◌then◌else◌}
+use Rattle.std.specs.Prelude.{◌≡◌, ℕ, ◌<◌, Bool, true, false, ◌&&◌, List, [], ◌∷◌, map, length, Some, IsSomeAnd, IfSome, slice_get, All, AllPairs, Contains, if◌then◌else◌}
+use Rattle.std.specs.List.{list_all}
+use Rattle.cfg_read.specs.Bytes.{is_name_start, is_name_byte}
 use Rattle.cfg_read.specs.SyntaxTexts.{EppText}
 use Rattle.cfg_read.specs.Names.{texts}
 use Rattle.cfg_read.specs.Asts.{SymbolAst, RuleAst, ProductionAst, PrecedenceAst, Ast}
@@ -57,3 +59,12 @@ pub record IsSound (ast : Ast) : Type 0 where
   pub implicit_are_tokens : NameTokens ast (texts ast.implicit_tokens)
   pub avoided_are_tokens : NameTokens ast (texts ast.avoid_insert)
   pub epp_are_tokens : NameTokens ast (names_of_epp ast)
+
+-- a name of the file grammar: [A-Za-z_.], and then any of [A-Za-z0-9_.]
+abbrev pub is_name : List ℕ → Bool
+is_name [] = false
+is_name (b ∷ bs) = is_name_start b && list_all is_name_byte bs
+
+-- each rule has such a name
+abbrev pub NamesAreWords : Ast → Type 0
+NamesAreWords ast = All (λ (name : List ℕ). is_name name ≡ true) (names_of_rules ast)

@@ -1,5 +1,5 @@
 -- What is wrong with a text that reads. A reading is valid where the list of its failures is empty.
-use Rattle.std.specs.Prelude.{◌≡◌, ℕ, Bool, true, false, not, ◌&&◌, ◌||◌, List, [], ◌∷◌, ◌++◌, map, filter, option_to_list}
+use Rattle.std.specs.Prelude.{◌≡◌, ℕ, Bool, not, ◌&&◌, ◌||◌, List, [], ◌∷◌, ◌++◌, map, filter, option_to_list}
 use Rattle.std.specs.List.{flat_map}
 use Rattle.cfg_base.specs.Place.{Places}
 use Rattle.cfg_base.specs.HeaderErrors.{KindText, spanskind_of}

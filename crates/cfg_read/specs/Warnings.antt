@@ -1,5 +1,5 @@
 -- What a valid text declares and doesn't use.
-use Rattle.std.specs.Prelude.{◌≡◌, ℕ, Bool, true, false, not, ◌&&◌, ◌||◌, ◌↔◌, IsTrue, List, [], ◌∷◌, ◌++◌, map, filter, Some, Contains, slice_get, if◌then◌else◌}
+use Rattle.std.specs.Prelude.{◌≡◌, ℕ, Bool, true, false, not, ◌&&◌, ◌||◌, ◌↔◌, IsTrue, List, [], ◌∷◌, ◌++◌, map, filter, Some, Contains, slice_get}
 use Rattle.std.specs.List.{list_any}
 use Rattle.std.specs.Str.{bytes_eq}
 use Rattle.cfg_base.specs.Place.{Places}
@@ -40,27 +40,43 @@ pub record WarningText : Type 0 where
   pub kind : WarningKind
   pub spans : List Places
 
--- whether `%expect-unused` names a rule, without quotes, or a token
+-- whether one of these symbols of `%expect-unused` is this name, for a rule without quotes
+abbrev pub expects_rule : List SymbolAst → List ℕ → Bool
+expects_rule ss name = list_any (λ (s : SymbolAst). not s.is_token && bytes_eq name s.word.text) ss
+
+abbrev pub expects_token : List SymbolAst → List ℕ → Bool
+expects_token ss name = list_any (λ (s : SymbolAst). bytes_eq name s.word.text) ss
+
 abbrev pub is_expected_rule : Ast → List ℕ → Bool
-is_expected_rule ast name = list_any (λ (s : SymbolAst). not s.is_token && bytes_eq s.word.text name) ast.expect_unused
+is_expected_rule ast = expects_rule ast.expect_unused
 
 abbrev pub is_expected_token : Ast → List ℕ → Bool
-is_expected_token ast name = list_any (λ (s : SymbolAst). bytes_eq s.word.text name) ast.expect_unused
+is_expected_token ast = expects_token ast.expect_unused
 
 abbrev pub warnings_at : WarningKind → List WordText → List WarningText
 warnings_at k ws = map (λ (w : WordText). record { kind = k; spans = w.span ∷ [] }) ws
 
--- The warnings, where these tell which rules are reached and which tokens used: unused rules, then unused tokens that
--- aren't implicit, by number; none that is expected.
-abbrev pub warnings_by : (List ℕ → Bool) → (List ℕ → Bool) → Ast → List WarningText
-warnings_by reached used ast =
-    warnings_at UnusedRule (filter (λ (w : WordText). not (reached w.text || is_expected_rule ast w.text)) (map (λ (r : RuleAst). r.name) ast.rules))
-    ++ warnings_at UnusedToken (filter (λ (w : WordText). not (used w.text || (is_among ast.implicit_tokens w.text || is_expected_token ast w.text))) ast.tokens)
+-- Where these tell which rules are reached and which tokens used: by number the unused rules, and the unused tokens
+-- that aren't implicit; none that is expected.
+abbrev pub unused_rules : (List ℕ → Bool) → Ast → List WordText
+unused_rules reached ast = filter (λ (w : WordText). not (reached w.text || is_expected_rule ast w.text)) (map (λ (r : RuleAst). r.name) ast.rules)
 
--- none of a text that isn't valid
-pub record AreWarnings (ast : Ast) (ws : List WarningText) : Type 0 where
+abbrev pub unused_tokens : (List ℕ → Bool) → Ast → List WordText
+unused_tokens used ast = filter (λ (w : WordText). not (used w.text || (is_among ast.implicit_tokens w.text || is_expected_token ast w.text))) ast.tokens
+
+-- the warnings, first those of rules
+abbrev pub warnings_by : (List ℕ → Bool) → (List ℕ → Bool) → Ast → List WarningText
+warnings_by reached used ast = warnings_at UnusedRule (unused_rules reached ast) ++ warnings_at UnusedToken (unused_tokens used ast)
+
+-- these are all unused rules and tokens
+pub record AreUnused (ast : Ast) (ws : List WarningText) : Type 0 where
   pub reached : List ℕ → Bool
   pub reached_is : (name : List ℕ) → IsTrue (reached name) ↔ IsReached ast name
   pub used : List ℕ → Bool
   pub used_is : (name : List ℕ) → IsTrue (used name) ↔ IsUsed ast name
-  pub all : ws ≡ (if ast.is_valid then warnings_by reached used ast else [])
+  pub all : ws ≡ warnings_by reached used ast
+
+-- none of a text that isn't valid
+pub record AreWarnings (ast : Ast) (ws : List WarningText) : Type 0 where
+  pub of_valid : ast.is_valid ≡ true → AreUnused ast ws
+  pub of_invalid : ast.is_valid ≡ false → ws ≡ []

@@ -5,8 +5,4 @@
 //! (`Reading`), and the places where none goes on (`Stopping`).
 #![tactic(auto)]
 
-#[cfg(test)]
-mod tests;
-#[cfg(test)]
-mod tests_validity;
 pub mod yacc;

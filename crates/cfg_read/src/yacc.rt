@@ -2,17 +2,15 @@
 
 pub mod ast;
 mod ast_parts;
+mod checked;
 mod file;
 mod kind;
 pub mod laws;
 mod names;
 pub mod parser;
-#[cfg(test)]
-mod tests_ast;
-#[cfg(test)]
-mod tests_kinds;
 pub mod validity;
 
+pub use checked::{ASTModificationError, ASTWithValidityInfo, one_answer, valid_trees_are_sound};
 pub use file::{YaccGrammarFailure, YaccGrammarResult, one_file, one_kind};
 pub use kind::{KindError, kind_comes_back};
 

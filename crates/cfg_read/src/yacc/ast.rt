@@ -1,7 +1,25 @@
-//! The parts of a syntax tree of a grammar text.
+//! The syntax tree of a grammar text.
 
+ghost use Rattle.std.specs.Prelude.{◌≡◌, Some, map, option_map, slice_get};
+ghost use Rattle.std.specs.Option.{option_copied};
+ghost use Rattle.std.specs.String.{string_bytes};
+ghost use Rattle.cfg_read.specs.Asts.{no_ast};
+ghost use Rattle.cfg_read.specs.AstChanges.{with_start};
+ghost use Rattle.cfg_read.specs.Building.{empty_ast};
+ghost use Rattle.cfg_read.specs.AstViews.{ast_symbol_of, production_of, named_place, named_places, named_rules, named_epps, named_precedences, rule_keys, own_names, placed_number, param_pair};
+
+use crate::yacc::Precedence;
+pub use crate::yacc::checked::ASTWithValidityInfo;
 use cfg_base::span::Span;
+use indexmap::IndexMap;
+use std::alloc::Global;
 use std::fmt;
+use std::marker::Model;
+
+mod build;
+mod change;
+mod copy;
+pub mod warnings;
 
 /// A symbol of a production, and where it stands.
 #[derive(Debug, Drop)]
@@ -34,4 +52,210 @@ pub struct Production {
     pub action_span: Option<Span>,
     /// Symbols, `%empty` and `%prec` with its token; without these the place of the `|` or `;`.
     pub prod_span: Span,
+}
+
+/// A rule, and the numbers of its productions.
+#[derive(Debug, Drop)]
+pub struct Rule {
+    /// The name, and where the rule's first heading stands.
+    pub name: (String, Span),
+    /// The numbers of its productions, in order.
+    pub pidxs: Vec<usize>,
+    /// The type of its actions.
+    pub actiont: Option<String>,
+}
+
+/// What a grammar text says: its rules, productions and tokens by number, and its declarations.
+#[derive(Debug, Drop)]
+pub struct GrammarAST {
+    is_valid: bool,
+    start: Option<(String, Span)>,
+    rules: IndexMap<String, Rule>,
+    prods: Vec<Production>,
+    tokens: IndexMap<String, Span>,
+    precs: IndexMap<String, (Precedence, Span)>,
+    avoid_insert: IndexMap<String, Span>,
+    implicit_tokens: IndexMap<String, Span>,
+    epp: IndexMap<String, (Span, (String, Span))>,
+    expect: Option<(usize, Span)>,
+    expectrr: Option<(usize, Span)>,
+    parse_param: Option<(String, String)>,
+    parse_generics: Option<String>,
+    programs: Option<String>,
+    expect_unused: Vec<Symbol>,
+}
+
+impl Model for GrammarAST {
+    ghost use Rattle.std.specs.Prelude.{◌≡◌, map, option_map};
+    ghost use Rattle.std.specs.String.{string_bytes};
+    ghost use Rattle.cfg_read.specs.Asts.{Ast};
+    ghost use Rattle.cfg_read.specs.AstViews.{ast_symbol_of, production_of, named_place, named_places, named_rules, named_epps, named_precedences, rule_keys, own_names, placed_number, param_pair};
+
+    ghost Value = { Ast };
+
+    ghost view = { λ a. record {
+      is_valid = a.is_valid;
+      start = option_map named_place a.start;
+      rules = named_rules a.rules;
+      productions = map production_of a.prods.items;
+      tokens = named_places a.tokens;
+      precedences = named_precedences a.precs;
+      avoid_insert = named_places a.avoid_insert;
+      implicit_tokens = named_places a.implicit_tokens;
+      epp = named_epps a.epp;
+      expect = option_map placed_number a.expect;
+      expect_rr = option_map placed_number a.expectrr;
+      parse_param = option_map param_pair a.parse_param;
+      parse_generics = option_map string_bytes a.parse_generics;
+      programs = option_map string_bytes a.programs;
+      expect_unused = map ast_symbol_of a.expect_unused.items;
+    } };
+
+    // Each rule has the name that it stands under.
+    ghost invariant = { λ a. own_names a.rules ≡ rule_keys a.rules };
+}
+
+impl GrammarAST {
+    /// One that says nothing.
+    pub(crate) fn new(alloc: Global) -> GrammarAST
+        ensures { result ≡ no_ast }
+    {
+        GrammarAST::empty(alloc, true)
+    }
+
+    /// One that says nothing but whether it is valid.
+    fn empty(alloc: Global, is_valid: bool) -> GrammarAST
+        ensures { result ≡ empty_ast is_valid }
+    {
+        GrammarAST {
+            is_valid,
+            start: None,
+            rules: IndexMap::new(alloc),
+            prods: Vec::new(alloc),
+            tokens: IndexMap::new(alloc),
+            precs: IndexMap::new(alloc),
+            avoid_insert: IndexMap::new(alloc),
+            implicit_tokens: IndexMap::new(alloc),
+            epp: IndexMap::new(alloc),
+            expect: None,
+            expectrr: None,
+            parse_param: None,
+            parse_generics: None,
+            programs: None,
+            expect_unused: Vec::new(alloc),
+        }
+    }
+
+    /// Makes this the start rule.
+    pub(crate) fn set_start(&mut self, name: String, span: Span)
+        ensures { self.new ≡ with_start self.old (record { text = string_bytes name; span = span }) }
+    {
+        self.start = Some((name, span));
+    }
+
+    /// The start rule, and where the text names it first: in `%start`, else as the first heading.
+    pub fn start(&self) -> Option<&(String, Span)>
+        ensures { option_map named_place (option_copied result) ≡ self.now.start }
+    {
+        self.start.as_ref()
+    }
+
+    /// The rules, in the order of their first headings.
+    pub fn rules(&self) -> &IndexMap<String, Rule>
+        ensures rules { named_rules result.now ≡ self.now.rules }
+        ensures names { own_names result.now ≡ rule_keys result.now }
+    {
+        &self.rules
+    }
+
+    /// The productions, in the order of the text.
+    pub fn prods(&self) -> &[Production]
+        ensures { map production_of result.now ≡ self.now.productions }
+    {
+        &self.prods
+    }
+
+    /// The tokens, each with its first place, in the order of these.
+    pub fn tokens(&self) -> &IndexMap<String, Span>
+        ensures { named_places result.now ≡ self.now.tokens }
+    {
+        &self.tokens
+    }
+
+    /// The first places of the tokens, in the order of these.
+    pub fn spans(&self) -> &[Span]
+        ensures { result.now ≡ map (λ w. w.span) self.now.tokens }
+    {
+        self.tokens.values().as_slice()
+    }
+
+    /// The precedences of tokens, each with the first place of the token in a precedence line.
+    pub fn precs(&self) -> &IndexMap<String, (Precedence, Span)>
+        ensures { named_precedences result.now ≡ self.now.precedences }
+    {
+        &self.precs
+    }
+
+    /// The tokens of `%avoid_insert`, each with its first place there.
+    pub fn avoid_insert(&self) -> &IndexMap<String, Span>
+        ensures { named_places result.now ≡ self.now.avoid_insert }
+    {
+        &self.avoid_insert
+    }
+
+    /// The tokens of `%implicit_tokens`, each with its first place there.
+    pub fn implicit_tokens(&self) -> &IndexMap<String, Span>
+        ensures { named_places result.now ≡ self.now.implicit_tokens }
+    {
+        &self.implicit_tokens
+    }
+
+    /// The printed texts of tokens: the place of the token, and the text with its place.
+    pub fn epp(&self) -> &IndexMap<String, (Span, (String, Span))>
+        ensures { named_epps result.now ≡ self.now.epp }
+    {
+        &self.epp
+    }
+
+    /// How many shift/reduce conflicts are expected.
+    pub fn expect(&self) -> Option<(usize, Span)>
+        ensures { option_map placed_number result ≡ self.now.expect }
+    {
+        self.expect
+    }
+
+    /// How many reduce/reduce conflicts are expected.
+    pub fn expectrr(&self) -> Option<(usize, Span)>
+        ensures { option_map placed_number result ≡ self.now.expect_rr }
+    {
+        self.expectrr
+    }
+
+    /// The name and the type of `%parse-param`.
+    pub fn parse_param(&self) -> Option<&(String, String)>
+        ensures { option_map param_pair (option_copied result) ≡ self.now.parse_param }
+    {
+        self.parse_param.as_ref()
+    }
+
+    /// The text of `%parse-generics`.
+    pub fn parse_generics(&self) -> Option<&String>
+        ensures { option_map string_bytes (option_copied result) ≡ self.now.parse_generics }
+    {
+        self.parse_generics.as_ref()
+    }
+
+    /// The text behind the second `%%`.
+    pub fn programs(&self) -> Option<&String>
+        ensures { option_map string_bytes (option_copied result) ≡ self.now.programs }
+    {
+        self.programs.as_ref()
+    }
+
+    /// The names of `%expect-unused`: those without quotes as rules, whatever they name, and the quoted ones as tokens.
+    pub fn expect_unused(&self) -> &[Symbol]
+        ensures { map ast_symbol_of result.now ≡ self.now.expect_unused }
+    {
+        &self.expect_unused
+    }
 }

@@ -45,7 +45,7 @@ fn to_symbols(
     Ok(made)
 }
 
-fn to_text(word: &Option<Word>) -> Result<Option<String>, AllocError>
+pub fn to_text(word: &Option<Word>) -> Result<Option<String>, AllocError>
     ensures { IfOk result (λ text. option_map string_bytes text ≡ text_of (option_map word_of word.now)) }
 {
     match word {

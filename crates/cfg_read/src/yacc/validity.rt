@@ -52,6 +52,19 @@ impl Spanned for YaccGrammarError {
     }
 }
 
+impl Clone for YaccGrammarError {
+    ghost use Rattle.std.specs.Prelude.{◌≡◌};
+    ghost use Rattle.cfg_read.specs.Showing.{failure_of};
+
+    ghost is_clone = { λ e copy. failure_of copy ≡ failure_of e };
+
+    fn clone(&self) -> Result<YaccGrammarError, AllocError> {
+        let kind = self.kind.clone()?;
+        let spans = self.spans.clone()?;
+        Ok(YaccGrammarError { kind, spans })
+    }
+}
+
 impl From<HeaderError<Span>> for YaccGrammarError {
     ghost use Rattle.std.specs.Prelude.{◌≡◌};
     ghost use Rattle.cfg_base.specs.SectionFaults.{error_text};

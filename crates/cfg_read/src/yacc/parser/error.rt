@@ -1,6 +1,7 @@
 //! What is wrong with a grammar text.
 
-ghost use Rattle.std.specs.Prelude.{◌≡◌};
+ghost use Rattle.std.specs.Prelude.{◌≡◌, false};
+ghost use Rattle.cfg_read.specs.Payloads.{holds_value};
 ghost use Rattle.cfg_read.specs.declared.yacc.parser.error.ReadError.TheVariants.{Memory};
 
 use cfg_base::header::HeaderErrorKind;
@@ -82,6 +83,65 @@ pub enum YaccGrammarErrorKind {
     /// An error of the section, or of a value in it, and what its places are.
     #[error("{0}")]
     Header(HeaderErrorKind, SpansKind),
+}
+
+impl YaccGrammarErrorKind {
+    /// A copy of one without a value.
+    fn copy_plain(&self) -> YaccGrammarErrorKind
+        requires { holds_value self.now ≡ false }
+        ensures { result ≡ self.now }
+    {
+        match self {
+            Self::IllegalInteger => Self::IllegalInteger,
+            Self::IllegalName => Self::IllegalName,
+            Self::IllegalString => Self::IllegalString,
+            Self::IncompleteRule => Self::IncompleteRule,
+            Self::IncompleteComment => Self::IncompleteComment,
+            Self::IncompleteAction => Self::IncompleteAction,
+            Self::MissingColon => Self::MissingColon,
+            Self::MissingRightArrow => Self::MissingRightArrow,
+            Self::MismatchedBrace => Self::MismatchedBrace,
+            Self::NonEmptyProduction => Self::NonEmptyProduction,
+            Self::PrematureEnd => Self::PrematureEnd,
+            Self::ProductionNotTerminated => Self::ProductionNotTerminated,
+            Self::ProgramsNotSupported => Self::ProgramsNotSupported,
+            Self::UnknownDeclaration => Self::UnknownDeclaration,
+            Self::PrecNotFollowedByToken => Self::PrecNotFollowedByToken,
+            Self::DuplicatePrecedence => Self::DuplicatePrecedence,
+            Self::DuplicateAvoidInsertDeclaration => Self::DuplicateAvoidInsertDeclaration,
+            Self::DuplicateImplicitTokensDeclaration => Self::DuplicateImplicitTokensDeclaration,
+            Self::DuplicateExpectDeclaration => Self::DuplicateExpectDeclaration,
+            Self::DuplicateExpectRRDeclaration => Self::DuplicateExpectRRDeclaration,
+            Self::DuplicateStartDeclaration => Self::DuplicateStartDeclaration,
+            Self::DuplicateActiontypeDeclaration => Self::DuplicateActiontypeDeclaration,
+            Self::DuplicateEPP => Self::DuplicateEPP,
+            Self::ReachedEOL => Self::ReachedEOL,
+            Self::InvalidString => Self::InvalidString,
+            Self::NoStartRule => Self::NoStartRule,
+            Self::UnknownSymbol => Self::UnknownSymbol,
+            Self::ExpectedInput => Self::ExpectedInput,
+            _ => Self::InvalidYaccKind,
+        }
+    }
+}
+
+impl Clone for YaccGrammarErrorKind {
+    ghost use Rattle.std.specs.Prelude.{◌≡◌};
+    ghost use Rattle.cfg_read.specs.Showing.{kind_of};
+
+    ghost is_clone = { λ kind copy. kind_of copy ≡ kind_of kind };
+
+    fn clone(&self) -> Result<YaccGrammarErrorKind, AllocError> {
+        match self {
+            Self::InvalidStartRule(name) => Ok(Self::InvalidStartRule(name.clone()?)),
+            Self::UnknownRuleRef(name) => Ok(Self::UnknownRuleRef(name.clone()?)),
+            Self::UnknownToken(name) => Ok(Self::UnknownToken(name.clone()?)),
+            Self::NoPrecForToken(name) => Ok(Self::NoPrecForToken(name.clone()?)),
+            Self::UnknownEPP(name) => Ok(Self::UnknownEPP(name.clone()?)),
+            Self::Header(kind, places) => Ok(Self::Header(*kind, *places)),
+            plain => Ok(plain.copy_plain()),
+        }
+    }
 }
 
 /// Why a text wasn't read.

@@ -1,11 +1,10 @@
 //! Kinds, and the values that stand for them.
 
-use crate::yacc::kind::KindError;
-use crate::yacc::{YaccKind, YaccOriginalActionKind};
 use cfg_base::header::{
     GrmtoolsSectionParser, HeaderError, HeaderValue, Namespaced, SectionError, Setting, Value,
 };
 use cfg_base::span::{Location, Span, Spanned, SpansKind};
+use cfg_read::yacc::{KindError, YaccKind, YaccOriginalActionKind};
 use std::alloc::{AllocError, Global};
 use std::process::Abort;
 use std::test::*;
@@ -54,45 +53,46 @@ fn compare(rt: &(impl Abort + AllocGlobal), cases: &[(&str, &str)]) -> Result<()
     Ok(())
 }
 
+const VALUES_OF_KINDS: &[(&str, &str)] = &[
+    ("%grmtools{yacckind: Grmtools}", "Grmtools"),
+    ("%grmtools{yacckind: Eco}", "Eco"),
+    ("%grmtools{YaccKind: GRMTOOLS}", "Grmtools"),
+    ("%grmtools{yacckind: eCO}", "Eco"),
+    ("%grmtools{yacckind: YaccKind::Eco}", "Eco"),
+    ("%grmtools{yacckind: yacckind::grmtools}", "Grmtools"),
+    (
+        "%grmtools{yacckind: Original(UserAction)}",
+        "Original(UserAction)",
+    ),
+    (
+        "%grmtools{yacckind: Original(GenericParseTree)}",
+        "Original(GenericParseTree)",
+    ),
+    (
+        "%grmtools{yacckind: Original(NoAction)}",
+        "Original(NoAction)",
+    ),
+    (
+        "%grmtools{yacckind: original(noaction)}",
+        "Original(NoAction)",
+    ),
+    (
+        "%grmtools{yacckind: YaccKind::Original ( UserAction )}",
+        "Original(UserAction)",
+    ),
+    (
+        "%grmtools{yacckind: Original(YaccOriginalActionKind::NoAction)}",
+        "Original(NoAction)",
+    ),
+    (
+        "%grmtools{yacckind: YACCKIND::ORIGINAL(YACCORIGINALACTIONKIND::USERACTION)}",
+        "Original(UserAction)",
+    ),
+];
+
 #[test]
 fn values_of_kinds(rt: HostRuntime) -> Result<(), Fail> {
-    let cases = [
-        ("%grmtools{yacckind: Grmtools}", "Grmtools"),
-        ("%grmtools{yacckind: Eco}", "Eco"),
-        ("%grmtools{YaccKind: GRMTOOLS}", "Grmtools"),
-        ("%grmtools{yacckind: eCO}", "Eco"),
-        ("%grmtools{yacckind: YaccKind::Eco}", "Eco"),
-        ("%grmtools{yacckind: yacckind::grmtools}", "Grmtools"),
-        (
-            "%grmtools{yacckind: Original(UserAction)}",
-            "Original(UserAction)",
-        ),
-        (
-            "%grmtools{yacckind: Original(GenericParseTree)}",
-            "Original(GenericParseTree)",
-        ),
-        (
-            "%grmtools{yacckind: Original(NoAction)}",
-            "Original(NoAction)",
-        ),
-        (
-            "%grmtools{yacckind: original(noaction)}",
-            "Original(NoAction)",
-        ),
-        (
-            "%grmtools{yacckind: YaccKind::Original ( UserAction )}",
-            "Original(UserAction)",
-        ),
-        (
-            "%grmtools{yacckind: Original(YaccOriginalActionKind::NoAction)}",
-            "Original(NoAction)",
-        ),
-        (
-            "%grmtools{yacckind: YACCKIND::ORIGINAL(YACCORIGINALACTIONKIND::USERACTION)}",
-            "Original(UserAction)",
-        ),
-    ];
-    compare(&rt, cases.as_slice())
+    compare(&rt, VALUES_OF_KINDS)
 }
 
 #[test]

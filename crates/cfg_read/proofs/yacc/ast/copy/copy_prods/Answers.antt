@@ -1,0 +1,6 @@
+use Rattle.cfg_read.specs.AstViews.{production_of}
+use Rattle.cfg_read.proofs.Clones.{clones_map}
+use Rattle.cfg_read.proofs.yacc.ast.copy.copy_prods.Goals as goal
+
+pub returns : goal.returns
+returns c = clones_map _ production_of (λ x y h. h) c.args.prods.now.items c.in_ok-copy.copy.items c.in_ok-copy.ensures.cases.0

@@ -1,0 +1,341 @@
+//! Makes a syntax tree from what a text says.
+
+ghost use Rattle.std.specs.Prelude.{◌≡◌, true, ◌++◌, [], map, fold, option_map, IfOk, OnOk, OnErr};
+ghost use Rattle.std.specs.List.{flat_map};
+ghost use Rattle.std.specs.Option.{option_or};
+ghost use Rattle.std.specs.String.{string_bytes};
+ghost use Rattle.cfg_read.specs.Asts.{first_of, last_text, text_of, param_texts, expected_ast, heads_in, productions_in, start_of, rule_ast, ast_of};
+ghost use Rattle.cfg_read.specs.AstViews.{ast_symbol_of, production_of, named_place, named_places, named_rules, rule_entry_of, rule_keys, own_names, placed_number, param_pair};
+ghost use Rattle.cfg_read.specs.Names.{is_among, distinct, headings, words_in, declared_tokens, tokens_of};
+ghost use Rattle.cfg_read.specs.Validity.{expected_symbols};
+ghost use Rattle.cfg_read.specs.Views.{word_of, words_of, symbol_of, line_of, param_of, rule_of, number_text, syntax_of};
+ghost use Rattle.cfg_read.specs.Showing.{symbols_at};
+ghost use Rattle.cfg_read.specs.Building.{headed, with_first, with_numbers, names_at, with_rules_of, with_tokens_of, with_texts_of, with_expected_of};
+ghost use Rattle.cfg_read.specs.AstChanges.{with_number};
+
+use super::{GrammarAST, Production, Rule, Symbol};
+use crate::yacc::parser::syntax::{self, Line, Number, Param, Syntax, Word};
+use crate::yacc::{ast_parts, names};
+use cfg_base::span::Span;
+use indexmap::IndexMap;
+use std::alloc::{AllocError, Global};
+
+fn to_named(word: Option<&Word>) -> Result<Option<(String, Span)>, AllocError>
+    ensures { IfOk result (λ named. option_map named_place named ≡ option_map (λ w. word_of w.now) word.entry) }
+{
+    match word {
+        Some(word) => Ok(Some((word.text.clone()?, word.span))),
+        None => Ok(None),
+    }
+}
+
+/// The first `%start`, else the first heading.
+fn start_word(x: &Syntax) -> Option<&Word>
+    ensures { option_map (λ w. word_of w.now) result ≡ start_of (syntax_of x.now) }
+{
+    match x.starts.first() {
+        Some(word) => Some(word),
+        None => match x.rules.first() {
+            Some(rule) => Some(&rule.name),
+            None => None,
+        },
+    }
+}
+
+fn to_number(numbers: &[Number]) -> Option<(usize, Span)>
+    ensures { option_map placed_number result ≡ first_of (map number_text numbers.now) }
+{
+    match numbers.first() {
+        Some(number) => Some((number.value, number.span)),
+        None => None,
+    }
+}
+
+fn to_param(param: &Option<Param>) -> Result<Option<(String, String)>, AllocError>
+    ensures { IfOk result (λ pair. option_map param_pair pair ≡ option_map param_texts (option_map param_of param.now)) }
+{
+    match param {
+        Some(param) => {
+            let name = param.name.text.clone()?;
+            let kind = param.param_type.text.clone()?;
+            Ok(Some((name, kind)))
+        }
+        None => Ok(None),
+    }
+}
+
+fn to_expected(symbol: &syntax::Symbol) -> Result<Symbol, AllocError>
+    ensures { IfOk result (λ s. ast_symbol_of s ≡ expected_ast (symbol_of symbol.now)) }
+{
+    let text = symbol.word.text.clone()?;
+    let span = symbol.word.span;
+    if symbol.is_quoted {
+        Ok(Symbol::Token(text, span))
+    } else {
+        Ok(Symbol::Rule(text, span))
+    }
+}
+
+fn to_all_expected(alloc: Global, symbols: &[&syntax::Symbol]) -> Result<Vec<Symbol>, AllocError>
+    ensures { IfOk result (λ made. map ast_symbol_of made.items ≡ map expected_ast (symbols_at symbols.now)) }
+{
+    let mut made = Vec::new(alloc);
+    'symbols: for symbol in symbols {
+        let new = to_expected(symbol)?;
+        made.push(new)?;
+    }
+    Ok(made)
+}
+
+/// The names of `%expect-unused`.
+fn expected(alloc: Global, x: &Syntax) -> Result<Vec<Symbol>, AllocError>
+    ensures { IfOk result (λ made. map ast_symbol_of made.items ≡ map expected_ast (expected_symbols (syntax_of x.now))) }
+{
+    let symbols = names::line_symbols(alloc, &x.expect_unused)?;
+    let made = to_all_expected(alloc, &symbols)?;
+    Ok(made)
+}
+
+/// The tokens of these lines, each with its first place.
+fn line_places(alloc: Global, lines: &[Line]) -> Result<IndexMap<String, Span>, AllocError>
+    ensures { IfOk result (λ places. named_places places ≡ distinct (flat_map words_in (map line_of lines.now))) }
+{
+    let words = names::line_words(alloc, lines)?;
+    let places = ast_parts::first_places(alloc, &words)?;
+    Ok(places)
+}
+
+/// The grammar's tokens, each with its first place.
+fn tokens(alloc: Global, x: &Syntax) -> Result<IndexMap<String, Span>, AllocError>
+    ensures { IfOk result (λ places. named_places places ≡ tokens_of (syntax_of x.now)) }
+{
+    let words = names::token_words(alloc, x)?;
+    let places = ast_parts::first_places(alloc, &words)?;
+    Ok(places)
+}
+
+fn prods(alloc: Global, x: &Syntax) -> Result<Vec<Production>, AllocError>
+    ensures { IfOk result (λ made. map production_of made.items
+        ≡ flat_map (productions_in (is_among (declared_tokens (syntax_of x.now)))) (syntax_of x.now).rules) }
+{
+    let declared = names::declared_names(alloc, x)?;
+    let made = ast_parts::productions(alloc, &x.rules, &declared)?;
+    Ok(made)
+}
+
+/// The type of a rule's actions: its own, else the one for all rules.
+fn to_type(own: &Option<Word>, shared: Option<&Word>) -> Result<Option<String>, AllocError>
+    ensures { IfOk result (λ made. option_map string_bytes made
+        ≡ option_or (text_of (option_map word_of own.now)) (text_of (option_map (λ w. word_of w.now) shared.entry))) }
+{
+    match own {
+        Some(word) => Ok(Some(word.text.clone()?)),
+        None => match shared {
+            Some(word) => Ok(Some(word.text.clone()?)),
+            None => Ok(None),
+        },
+    }
+}
+
+/// The last `%actiontype`.
+fn shared_type(words: &[Word]) -> Option<&Word>
+    ensures { text_of (option_map (λ w. word_of w.now) result) ≡ last_text (words_of words.now) }
+{
+    words.last()
+}
+
+/// The rule of a heading, without productions.
+fn to_rule(alloc: Global, rule: &syntax::Rule, shared: Option<&Word>) -> Result<Rule, AllocError>
+    ensures { IfOk result (λ made. rule_entry_of made
+        ≡ headed (text_of (option_map (λ w. word_of w.now) shared.entry)) (rule_of rule.now)) }
+{
+    let name = rule.name.text.clone()?;
+    let actiont = to_type(&rule.action_type, shared)?;
+    Ok(Rule {
+        name: (name, rule.name.span),
+        pidxs: Vec::new(alloc),
+        actiont,
+    })
+}
+
+/// Puts a heading's rule behind the others, without productions, where it isn't there yet.
+fn insert_heading(
+    alloc: Global,
+    rules: &mut IndexMap<String, Rule>,
+    rule: &syntax::Rule,
+    shared: Option<&Word>,
+) -> Result<(), AllocError>
+    requires { own_names rules.old ≡ rule_keys rules.old }
+    ensures rules { OnOk result (named_rules rules.new
+        ≡ with_first (named_rules rules.old) (headed (text_of (option_map (λ w. word_of w.now) shared.entry)) (rule_of rule.now))) }
+    ensures names { own_names rules.new ≡ rule_keys rules.new }
+{
+    if !rules.contains_key(rule.name.text.as_str()) {
+        let key = rule.name.text.clone()?;
+        let new = to_rule(alloc, rule, shared)?;
+        rules.insert(key, new)?;
+    }
+    Ok(())
+}
+
+/// The rules of these headings, without productions.
+fn headed_rules(
+    alloc: Global,
+    headings: &[syntax::Rule],
+    shared: Option<&Word>,
+) -> Result<IndexMap<String, Rule>, AllocError>
+    ensures rules { IfOk result (λ rules. named_rules rules
+        ≡ fold with_first [] (map (headed (text_of (option_map (λ w. word_of w.now) shared.entry))) (map rule_of headings.now))) }
+    ensures names { IfOk result (λ rules. own_names rules ≡ rule_keys rules) }
+{
+    let mut rules = IndexMap::new(alloc);
+    'headings: for rule in headings {
+        insert_heading(alloc, &mut rules, rule, shared)?;
+    }
+    Ok(rules)
+}
+
+/// Puts the rule's name behind the others, once for each alternative.
+fn push_heads<'a>(heads: &mut Vec<&'a str>, rule: &'a syntax::Rule) -> Result<(), AllocError>
+    ensures { OnOk result (names_at heads.new.items ≡ names_at heads.old.items ++ heads_in (rule_of rule.now)) }
+{
+    'alternatives: for _alternative in &rule.alternatives {
+        heads.push(rule.name.text.as_str())?;
+    }
+    Ok(())
+}
+
+/// For each production the name of its rule.
+fn heads<'a>(alloc: Global, rules: &'a [syntax::Rule]) -> Result<Vec<&'a str>, AllocError>
+    ensures { IfOk result (λ heads. names_at heads.items ≡ flat_map heads_in (map rule_of rules.now)) }
+{
+    let mut heads = Vec::new(alloc);
+    'rules: for rule in rules {
+        push_heads(&mut heads, rule)?;
+    }
+    Ok(heads)
+}
+
+/// Gives the rule of this name one more production.
+pub(super) fn push_number(
+    rules: &mut IndexMap<String, Rule>,
+    name: &str,
+    number: usize,
+) -> Result<(), AllocError>
+    requires { own_names rules.old ≡ rule_keys rules.old }
+    ensures rules { OnOk result (named_rules rules.new ≡ map (with_number name.now number) (named_rules rules.old)) }
+    ensures kept { OnErr result (named_rules rules.new ≡ named_rules rules.old) }
+    ensures names { own_names rules.new ≡ rule_keys rules.new }
+{
+    match rules.get_index_of(name) {
+        Some(index) => {
+            rules[index].pidxs.push(number)?;
+            Ok(())
+        }
+        None => Ok(()),
+    }
+}
+
+/// Gives the rules the numbers of their productions.
+fn number_rules(rules: &mut IndexMap<String, Rule>, heads: &[&str]) -> Result<(), AllocError>
+    requires { own_names rules.old ≡ rule_keys rules.old }
+    ensures rules { OnOk result (named_rules rules.new ≡ map (with_numbers (names_at heads.now)) (named_rules rules.old)) }
+    ensures names { own_names rules.new ≡ rule_keys rules.new }
+{
+    'heads: for (number, name) in heads.iter().enumerate() {
+        push_number(rules, name, number)?;
+    }
+    Ok(())
+}
+
+fn rules(alloc: Global, x: &Syntax) -> Result<IndexMap<String, Rule>, AllocError>
+    ensures rules { IfOk result (λ rules. named_rules rules
+        ≡ map (rule_ast (syntax_of x.now)) (distinct (headings (syntax_of x.now)))) }
+    ensures names { IfOk result (λ rules. own_names rules ≡ rule_keys rules) }
+{
+    let shared = shared_type(&x.action_types);
+    let mut rules = headed_rules(alloc, &x.rules, shared)?;
+    let heads = heads(alloc, &x.rules)?;
+    number_rules(&mut rules, &heads)?;
+    Ok(rules)
+}
+
+impl GrammarAST {
+    /// Puts in the start rule, the rules and the productions of a text.
+    fn fill_rules(&mut self, alloc: Global, x: &Syntax) -> Result<(), AllocError>
+        ensures { OnOk result (self.new ≡ with_rules_of (ast_of true (syntax_of x.now)) self.old) }
+    {
+        let start = to_named(start_word(x))?;
+        let rules = rules(alloc, x)?;
+        let prods = prods(alloc, x)?;
+        self.start = start;
+        self.rules = rules;
+        self.prods = prods;
+        Ok(())
+    }
+
+    /// Puts in the tokens of a text and what its declarations say of them.
+    fn fill_tokens(&mut self, alloc: Global, x: &Syntax) -> Result<(), AllocError>
+        ensures { OnOk result (self.new ≡ with_tokens_of (ast_of true (syntax_of x.now)) self.old) }
+    {
+        let tokens = tokens(alloc, x)?;
+        let precs = ast_parts::first_precedences(alloc, &x.levels)?;
+        let avoid_insert = line_places(alloc, &x.avoid_insert)?;
+        let implicit_tokens = line_places(alloc, &x.implicit_tokens)?;
+        self.tokens = tokens;
+        self.precs = precs;
+        self.avoid_insert = avoid_insert;
+        self.implicit_tokens = implicit_tokens;
+        Ok(())
+    }
+
+    /// Puts in what a text hands on: printed texts, the parameter, the generics and the programs.
+    fn fill_texts(&mut self, alloc: Global, x: &Syntax) -> Result<(), AllocError>
+        ensures { OnOk result (self.new ≡ with_texts_of (ast_of true (syntax_of x.now)) self.old) }
+    {
+        let epp = ast_parts::first_epps(alloc, &x.epp)?;
+        let parse_param = to_param(&x.parse_param)?;
+        let parse_generics = ast_parts::to_text(&x.parse_generics)?;
+        let programs = ast_parts::to_text(&x.programs)?;
+        self.epp = epp;
+        self.parse_param = parse_param;
+        self.parse_generics = parse_generics;
+        self.programs = programs;
+        Ok(())
+    }
+
+    /// Puts in what a text expects: numbers of conflicts, and names without use.
+    fn fill_expected(&mut self, alloc: Global, x: &Syntax) -> Result<(), AllocError>
+        ensures { OnOk result (self.new ≡ with_expected_of (ast_of true (syntax_of x.now)) self.old) }
+    {
+        let expect_unused = expected(alloc, x)?;
+        self.expect = to_number(&x.expect);
+        self.expectrr = to_number(&x.expect_rr);
+        self.expect_unused = expect_unused;
+        Ok(())
+    }
+
+    /// Puts in all that a text says.
+    fn fill(&mut self, alloc: Global, x: &Syntax) -> Result<(), AllocError>
+        ensures { OnOk result (self.new ≡ ast_of self.old.is_valid (syntax_of x.now)) }
+    {
+        self.fill_rules(alloc, x)?;
+        self.fill_tokens(alloc, x)?;
+        self.fill_texts(alloc, x)?;
+        self.fill_expected(alloc, x)?;
+        Ok(())
+    }
+
+    /// What a text says. `is_valid` tells whether it is valid.
+    pub(crate) fn of_syntax(
+        alloc: Global,
+        x: &Syntax,
+        is_valid: bool,
+    ) -> Result<GrammarAST, AllocError>
+        ensures { IfOk result (λ a. a ≡ ast_of is_valid (syntax_of x.now)) }
+    {
+        let mut tree = GrammarAST::empty(alloc, is_valid);
+        tree.fill(alloc, x)?;
+        Ok(tree)
+    }
+}

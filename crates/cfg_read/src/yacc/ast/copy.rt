@@ -1,0 +1,223 @@
+//! Copies of syntax trees.
+
+ghost use Rattle.std.specs.Prelude.{◌≡◌, map, option_map, IfOk, OnOk};
+ghost use Rattle.std.specs.String.{string_bytes};
+ghost use Rattle.cfg_read.specs.AstViews.{ast_symbol_of, production_of, named_place, param_pair, named_places, named_rules, named_epps, named_precedences, rule_keys, own_names};
+ghost use Rattle.cfg_read.specs.Building.{with_rules_of, with_tokens_of, with_texts_of, with_expected_of};
+
+use super::{GrammarAST, Production, Rule, Symbol};
+use crate::yacc::Precedence;
+use cfg_base::span::Span;
+use indexmap::IndexMap;
+use std::alloc::AllocError;
+
+impl Clone for Symbol {
+    ghost use Rattle.std.specs.Prelude.{◌≡◌};
+    ghost use Rattle.cfg_read.specs.AstViews.{ast_symbol_of};
+
+    ghost is_clone = { λ s t. ast_symbol_of t ≡ ast_symbol_of s };
+
+    fn clone(&self) -> Result<Symbol, AllocError> {
+        match self {
+            Symbol::Rule(text, span) => Ok(Symbol::Rule(text.clone()?, *span)),
+            Symbol::Token(text, span) => Ok(Symbol::Token(text.clone()?, *span)),
+        }
+    }
+}
+
+fn copy_text(text: &Option<String>) -> Result<Option<String>, AllocError>
+    ensures { IfOk result (λ copy. option_map string_bytes copy ≡ option_map string_bytes text.now) }
+{
+    match text {
+        Some(text) => Ok(Some(text.clone()?)),
+        None => Ok(None),
+    }
+}
+
+impl Clone for Production {
+    ghost use Rattle.std.specs.Prelude.{◌≡◌};
+    ghost use Rattle.cfg_read.specs.AstViews.{production_of};
+
+    ghost is_clone = { λ p q. production_of q ≡ production_of p };
+
+    fn clone(&self) -> Result<Production, AllocError> {
+        let symbols = self.symbols.clone()?;
+        let precedence = copy_text(&self.precedence)?;
+        let action = copy_text(&self.action)?;
+        Ok(Production {
+            symbols,
+            precedence,
+            action,
+            action_span: self.action_span,
+            prod_span: self.prod_span,
+        })
+    }
+}
+
+impl Clone for Rule {
+    ghost use Rattle.std.specs.Prelude.{◌≡◌};
+    ghost use Rattle.cfg_read.specs.AstViews.{rule_entry_of};
+
+    ghost is_clone = { λ r s. rule_entry_of s ≡ rule_entry_of r };
+
+    fn clone(&self) -> Result<Rule, AllocError> {
+        let name = self.name.0.clone()?;
+        let pidxs = Vec::from_slice(*self.pidxs.allocator(), &self.pidxs)?;
+        let actiont = copy_text(&self.actiont)?;
+        Ok(Rule {
+            name: (name, self.name.1),
+            pidxs,
+            actiont,
+        })
+    }
+}
+
+fn copy_start(start: &Option<(String, Span)>) -> Result<Option<(String, Span)>, AllocError>
+    ensures { IfOk result (λ copy. option_map named_place copy ≡ option_map named_place start.now) }
+{
+    match start {
+        Some((name, span)) => Ok(Some((name.clone()?, *span))),
+        None => Ok(None),
+    }
+}
+
+fn copy_param(param: &Option<(String, String)>) -> Result<Option<(String, String)>, AllocError>
+    ensures { IfOk result (λ copy. option_map param_pair copy ≡ option_map param_pair param.now) }
+{
+    match param {
+        Some((name, kind)) => {
+            let name = name.clone()?;
+            let kind = kind.clone()?;
+            Ok(Some((name, kind)))
+        }
+        None => Ok(None),
+    }
+}
+
+fn copy_places(places: &IndexMap<String, Span>) -> Result<IndexMap<String, Span>, AllocError>
+    ensures { IfOk result (λ copy. named_places copy ≡ named_places places.now) }
+{
+    let copy = places.clone()?;
+    Ok(copy)
+}
+
+fn copy_precs(
+    precs: &IndexMap<String, (Precedence, Span)>,
+) -> Result<IndexMap<String, (Precedence, Span)>, AllocError>
+    ensures { IfOk result (λ copy. named_precedences copy ≡ named_precedences precs.now) }
+{
+    let copy = precs.clone()?;
+    Ok(copy)
+}
+
+fn copy_epp(
+    epp: &IndexMap<String, (Span, (String, Span))>,
+) -> Result<IndexMap<String, (Span, (String, Span))>, AllocError>
+    ensures { IfOk result (λ copy. named_epps copy ≡ named_epps epp.now) }
+{
+    let copy = epp.clone()?;
+    Ok(copy)
+}
+
+fn copy_rules(rules: &IndexMap<String, Rule>) -> Result<IndexMap<String, Rule>, AllocError>
+    requires { own_names rules.now ≡ rule_keys rules.now }
+    ensures rules { IfOk result (λ copy. named_rules copy ≡ named_rules rules.now) }
+    ensures names { IfOk result (λ copy. own_names copy ≡ rule_keys copy) }
+{
+    let copy = rules.clone()?;
+    Ok(copy)
+}
+
+fn copy_prods(prods: &Vec<Production>) -> Result<Vec<Production>, AllocError>
+    ensures { IfOk result (λ copy. map production_of copy.items ≡ map production_of prods.now.items) }
+{
+    let copy = prods.clone()?;
+    Ok(copy)
+}
+
+fn copy_symbols(symbols: &Vec<Symbol>) -> Result<Vec<Symbol>, AllocError>
+    ensures { IfOk result (λ copy. map ast_symbol_of copy.items ≡ map ast_symbol_of symbols.now.items) }
+{
+    let copy = symbols.clone()?;
+    Ok(copy)
+}
+
+impl GrammarAST {
+    /// Puts in the start rule, the rules and the productions of another tree.
+    fn copy_rules_of(&mut self, from: &GrammarAST) -> Result<(), AllocError>
+        ensures { OnOk result (self.new ≡ with_rules_of from.now self.old) }
+    {
+        let start = copy_start(&from.start)?;
+        let rules = copy_rules(&from.rules)?;
+        let prods = copy_prods(&from.prods)?;
+        self.start = start;
+        self.rules = rules;
+        self.prods = prods;
+        Ok(())
+    }
+
+    /// Puts in the tokens of another tree and what its declarations say of them.
+    fn copy_tokens_of(&mut self, from: &GrammarAST) -> Result<(), AllocError>
+        ensures { OnOk result (self.new ≡ with_tokens_of from.now self.old) }
+    {
+        let tokens = copy_places(&from.tokens)?;
+        let precs = copy_precs(&from.precs)?;
+        let avoid_insert = copy_places(&from.avoid_insert)?;
+        let implicit_tokens = copy_places(&from.implicit_tokens)?;
+        self.tokens = tokens;
+        self.precs = precs;
+        self.avoid_insert = avoid_insert;
+        self.implicit_tokens = implicit_tokens;
+        Ok(())
+    }
+
+    /// Puts in what another tree hands on: printed texts, the parameter, the generics and the programs.
+    fn copy_texts_of(&mut self, from: &GrammarAST) -> Result<(), AllocError>
+        ensures { OnOk result (self.new ≡ with_texts_of from.now self.old) }
+    {
+        let epp = copy_epp(&from.epp)?;
+        let parse_param = copy_param(&from.parse_param)?;
+        let parse_generics = copy_text(&from.parse_generics)?;
+        let programs = copy_text(&from.programs)?;
+        self.epp = epp;
+        self.parse_param = parse_param;
+        self.parse_generics = parse_generics;
+        self.programs = programs;
+        Ok(())
+    }
+
+    /// Puts in what another tree expects: numbers of conflicts, and names without use.
+    fn copy_expected_of(&mut self, from: &GrammarAST) -> Result<(), AllocError>
+        ensures { OnOk result (self.new ≡ with_expected_of from.now self.old) }
+    {
+        let expect_unused = copy_symbols(&from.expect_unused)?;
+        self.expect = from.expect;
+        self.expectrr = from.expectrr;
+        self.expect_unused = expect_unused;
+        Ok(())
+    }
+
+    /// Puts in all that another tree says.
+    fn copy_all_of(&mut self, from: &GrammarAST) -> Result<(), AllocError>
+        requires { self.old.is_valid ≡ from.now.is_valid }
+        ensures { OnOk result (self.new ≡ from.now) }
+    {
+        self.copy_rules_of(from)?;
+        self.copy_tokens_of(from)?;
+        self.copy_texts_of(from)?;
+        self.copy_expected_of(from)?;
+        Ok(())
+    }
+}
+
+impl Clone for GrammarAST {
+    ghost use Rattle.std.specs.Prelude.{◌≡◌};
+
+    ghost is_clone = { λ a b. b ≡ a };
+
+    fn clone(&self) -> Result<GrammarAST, AllocError> {
+        let mut copy = GrammarAST::empty(*self.prods.allocator(), self.is_valid);
+        copy.copy_all_of(self)?;
+        Ok(copy)
+    }
+}

@@ -1,0 +1,364 @@
+//! What a valid grammar text declares and doesn't use.
+
+ghost use Rattle.std.specs.Prelude.{◌≡◌, ◌↔◌, ◌++◌, ◌∷◌, ◌||◌, [], ℕ, IsTrue, List, map, option_map, if◌then◌else◌, IfOk, OnOk};
+ghost use Rattle.std.specs.List.{flat_map, list_any, IsDistinct};
+ghost use Rattle.std.specs.Option.{option_map_or, option_copied};
+ghost use Rattle.std.specs.Str.{bytes_eq};
+ghost use Rattle.cfg_read.specs.AstChanges.{rule_named};
+ghost use Rattle.cfg_read.specs.AstViews.{ast_symbol_of, named_places};
+ghost use Rattle.cfg_read.specs.Names.{is_among};
+ghost use Rattle.cfg_read.specs.Showing.{names_in, has_name};
+ghost use Rattle.cfg_read.specs.Warnings.{UnusedRule, UnusedToken, AreUnused, AreWarnings, IsReached, IsUsed, expects_rule, expects_token, warnings_at, unused_rules, unused_tokens};
+ghost use Rattle.cfg_read.specs.WarningViews.{warning_kind, warning_of, warnings_in, warning_text, with_symbols, is_rule_symbol, is_token_symbol, is_any_symbol, symbols_of_all, symbols_under, rule_names, start_names};
+
+use super::{GrammarAST, Symbol};
+use cfg_base::span::{Span, Spanned, SpansKind};
+use indexmap::{IndexMap, IndexSet};
+use std::alloc::{AllocError, Global};
+use std::fmt;
+
+/// What a grammar text declares and doesn't use.
+#[derive(Clone, Copy, Debug, PartialEq, Eq)]
+pub enum YaccGrammarWarningKind {
+    /// A rule that the start rule doesn't lead to.
+    UnusedRule,
+    /// A token that stands in no rule that the start rule leads to.
+    UnusedToken,
+}
+
+impl fmt::Display for YaccGrammarWarningKind {
+    ghost use Rattle.std.specs.Prelude.{Some};
+    ghost use Rattle.cfg_read.specs.WarningViews.{warning_kind, warning_text};
+
+    ghost output = { λ k. Some (warning_text (warning_kind k)) };
+
+    fn fmt<W: fmt::Write>(&self, f: &mut fmt::Formatter<W>) -> fmt::Result {
+        match self {
+            YaccGrammarWarningKind::UnusedRule => write!(f, "Unused rule"),
+            YaccGrammarWarningKind::UnusedToken => write!(f, "Unused token"),
+        }
+    }
+}
+
+/// A warning, and the place that shows it.
+#[derive(Debug, Drop)]
+pub struct YaccGrammarWarning {
+    pub kind: YaccGrammarWarningKind,
+    /// Where the rule's first heading or the token's first appearance stands.
+    pub spans: Vec<Span>,
+}
+
+impl fmt::Display for YaccGrammarWarning {
+    ghost use Rattle.std.specs.Prelude.{Some};
+    ghost use Rattle.cfg_read.specs.WarningViews.{warning_of, warning_text};
+
+    ghost output = { λ w. Some (warning_text (warning_of w).kind) };
+
+    fn fmt<W: fmt::Write>(&self, f: &mut fmt::Formatter<W>) -> fmt::Result {
+        let kind = self.kind;
+        write!(f, "{kind}")
+    }
+}
+
+impl Spanned for YaccGrammarWarning {
+    ghost use Rattle.cfg_base.specs.declared.span.SpansKind.TheVariants.{Error};
+
+    ghost spans_of = { λ w. w.spans.items };
+
+    ghost spanskind_of = { λ w. Error };
+
+    fn spans(&self) -> &[Span] {
+        self.spans.as_slice()
+    }
+
+    fn spanskind(&self) -> SpansKind {
+        SpansKind::Error
+    }
+}
+
+/// Adds the names of the rules among these symbols.
+fn insert_rules<'a>(names: &mut IndexSet<&'a str>, symbols: &'a [Symbol]) -> Result<(), AllocError>
+    ensures { OnOk result (names_in names.new
+        ≡ with_symbols is_rule_symbol (names_in names.old) (map ast_symbol_of symbols.now)) }
+{
+    'symbols: for symbol in symbols {
+        if let Symbol::Rule(text, _span) = symbol {
+            names.insert(text.as_str())?;
+        }
+    }
+    Ok(())
+}
+
+/// Adds the names of the tokens among these symbols.
+fn insert_tokens<'a>(names: &mut IndexSet<&'a str>, symbols: &'a [Symbol]) -> Result<(), AllocError>
+    ensures { OnOk result (names_in names.new
+        ≡ with_symbols is_token_symbol (names_in names.old) (map ast_symbol_of symbols.now)) }
+{
+    'symbols: for symbol in symbols {
+        if let Symbol::Token(text, _span) = symbol {
+            names.insert(text.as_str())?;
+        }
+    }
+    Ok(())
+}
+
+/// The names of `%expect-unused` that stand there without quotes.
+fn expected_rules<'a>(alloc: Global, symbols: &'a [Symbol]) -> Result<IndexSet<&'a str>, AllocError>
+    ensures { IfOk result (λ s. (name : List ℕ) → has_name s name ≡ expects_rule (map ast_symbol_of symbols.now) name) }
+{
+    let mut names = IndexSet::new(alloc);
+    insert_rules(&mut names, symbols)?;
+    Ok(names)
+}
+
+/// All names of `%expect-unused`.
+fn expected_tokens<'a>(
+    alloc: Global,
+    symbols: &'a [Symbol],
+) -> Result<IndexSet<&'a str>, AllocError>
+    ensures { IfOk result (λ s. (name : List ℕ) → has_name s name ≡ expects_token (map ast_symbol_of symbols.now) name) }
+{
+    let mut names = IndexSet::new(alloc);
+    'symbols: for symbol in symbols {
+        match symbol {
+            Symbol::Rule(text, _span) | Symbol::Token(text, _span) => names.insert(text.as_str())?,
+        };
+    }
+    Ok(names)
+}
+
+/// Puts a warning behind the others, where it is wanted.
+fn push_if(
+    alloc: Global,
+    warnings: &mut Vec<YaccGrammarWarning>,
+    kind: YaccGrammarWarningKind,
+    span: Span,
+    wanted: bool,
+) -> Result<(), AllocError>
+    ensures { OnOk result (warnings_in warnings.new.items
+        ≡ warnings_in warnings.old.items ++ (if wanted then record { kind = warning_kind kind; spans = span ∷ [] } ∷ [] else [])) }
+{
+    if wanted {
+        let spans = vec![in alloc; span]?;
+        warnings.push(YaccGrammarWarning { kind, spans })?;
+    }
+    Ok(())
+}
+
+/// Whether a name is in one of these sets.
+fn is_in_either(name: &str, names: &IndexSet<&str>, others: &IndexSet<&str>) -> bool
+    ensures { result ≡ (has_name names.now name.now || has_name others.now name.now) }
+{
+    names.contains(name) || others.contains(name)
+}
+
+/// Whether this is a name of the map.
+fn is_key(name: &str, places: &IndexMap<String, Span>) -> bool
+    ensures { result ≡ is_among (named_places places.now) name.now }
+{
+    places.contains_key(name)
+}
+
+/// Whether a token is used, implicit or expected to be unused.
+fn is_silent(
+    name: &str,
+    used: &IndexSet<&str>,
+    implicit: &IndexMap<String, Span>,
+    expected: &IndexSet<&str>,
+) -> bool
+    ensures { result ≡ (has_name used.now name.now || (is_among (named_places implicit.now) name.now || has_name expected.now name.now)) }
+{
+    used.contains(name) || is_key(name, implicit) || expected.contains(name)
+}
+
+impl GrammarAST {
+    /// The numbers of the productions of the rule of this name.
+    fn numbers(&self, name: &str) -> Option<&Vec<usize>>
+        ensures numbers { option_map (λ ns. ns.items) (option_copied result)
+            ≡ option_map (λ r. r.productions) (rule_named self.now.rules name.now) }
+        ensures unique { IsDistinct bytes_eq (rule_names self.now) }
+    {
+        match self.rules.get_index_of(name) {
+            Some(index) => Some(&self.rules[index].pidxs),
+            None => None,
+        }
+    }
+
+    /// Adds the rules that stand in these productions.
+    fn insert_all_rules<'a>(
+        &'a self,
+        names: &mut IndexSet<&'a str>,
+        numbers: &[usize],
+    ) -> Result<(), AllocError>
+        ensures { OnOk result (names_in names.new
+            ≡ with_symbols is_rule_symbol (names_in names.old) (symbols_of_all self.now.productions numbers.now)) }
+    {
+        'pidxs: for number in numbers {
+            if let Some(production) = self.prods.get(*number) {
+                insert_rules(names, &production.symbols)?;
+            }
+        }
+        Ok(())
+    }
+
+    /// Adds the tokens that stand in these productions.
+    fn insert_all_tokens<'a>(
+        &'a self,
+        names: &mut IndexSet<&'a str>,
+        numbers: &[usize],
+    ) -> Result<(), AllocError>
+        ensures { OnOk result (names_in names.new
+            ≡ with_symbols is_token_symbol (names_in names.old) (symbols_of_all self.now.productions numbers.now)) }
+    {
+        'pidxs: for number in numbers {
+            if let Some(production) = self.prods.get(*number) {
+                insert_tokens(names, &production.symbols)?;
+            }
+        }
+        Ok(())
+    }
+
+    /// Adds the rules that stand in an alternative of the rule of this name.
+    fn insert_rules_under<'a>(
+        &'a self,
+        names: &mut IndexSet<&'a str>,
+        name: &str,
+    ) -> Result<(), AllocError>
+        ensures added { OnOk result (names_in names.new
+            ≡ with_symbols is_rule_symbol (names_in names.old) (symbols_under self.now name.now)) }
+        ensures unique { IsDistinct bytes_eq (rule_names self.now) }
+    {
+        if let Some(numbers) = self.numbers(name) {
+            self.insert_all_rules(names, numbers)?;
+        }
+        Ok(())
+    }
+
+    /// Adds the tokens that stand in an alternative of the rule of this name.
+    fn insert_tokens_under<'a>(
+        &'a self,
+        names: &mut IndexSet<&'a str>,
+        name: &str,
+    ) -> Result<(), AllocError>
+        ensures added { OnOk result (names_in names.new
+            ≡ with_symbols is_token_symbol (names_in names.old) (symbols_under self.now name.now)) }
+        ensures unique { IsDistinct bytes_eq (rule_names self.now) }
+    {
+        if let Some(numbers) = self.numbers(name) {
+            self.insert_all_tokens(names, numbers)?;
+        }
+        Ok(())
+    }
+
+    /// The name of the start rule.
+    fn start_names(&self, alloc: Global) -> Result<IndexSet<&str>, AllocError>
+        ensures { IfOk result (λ s. names_in s ≡ start_names self.now) }
+    {
+        let mut names = IndexSet::new(alloc);
+        if let Some((start, _span)) = &self.start {
+            names.insert(start.as_str())?;
+        }
+        Ok(names)
+    }
+
+    /// The names that the start rule leads to, each once: its own, and those in alternatives of the rules among them.
+    fn reached(&self, alloc: Global) -> Result<IndexSet<&str>, AllocError>
+        ensures { IfOk result (λ s. (name : List ℕ) → IsTrue (has_name s name) ↔ IsReached self.now name) }
+    {
+        let mut names = self.start_names(alloc)?;
+        let mut number = 0usize;
+        'rules: while number < names.len() {
+            let name: &str = names[number];
+            self.insert_rules_under(&mut names, name)?;
+            number += 1;
+        }
+        Ok(names)
+    }
+
+    /// The tokens that stand in alternatives of these rules.
+    fn used<'a>(
+        &'a self,
+        alloc: Global,
+        reached: &IndexSet<&'a str>,
+    ) -> Result<IndexSet<&'a str>, AllocError>
+        requires { (name : List ℕ) → IsTrue (has_name reached.now name) ↔ IsReached self.now name }
+        ensures { IfOk result (λ s. (token : List ℕ) → IsTrue (has_name s token) ↔ IsUsed self.now token) }
+    {
+        let mut names = IndexSet::new(alloc);
+        'rules: for name in reached.as_slice() {
+            self.insert_tokens_under(&mut names, name)?;
+        }
+        Ok(names)
+    }
+
+    fn push_unused_rules(
+        &self,
+        alloc: Global,
+        warnings: &mut Vec<YaccGrammarWarning>,
+        reached: &IndexSet<&str>,
+    ) -> Result<(), AllocError>
+        ensures { OnOk result (warnings_in warnings.new.items
+            ≡ warnings_in warnings.old.items ++ warnings_at UnusedRule (unused_rules (has_name reached.now) self.now)) }
+    {
+        let expected = expected_rules(alloc, &self.expect_unused)?;
+        'rules: for (name, rule) in &self.rules {
+            let is_silent = is_in_either(name.as_str(), reached, &expected);
+            push_if(
+                alloc,
+                warnings,
+                YaccGrammarWarningKind::UnusedRule,
+                rule.name.1,
+                !is_silent,
+            )?;
+        }
+        Ok(())
+    }
+
+    fn push_unused_tokens(
+        &self,
+        alloc: Global,
+        warnings: &mut Vec<YaccGrammarWarning>,
+        used: &IndexSet<&str>,
+    ) -> Result<(), AllocError>
+        ensures { OnOk result (warnings_in warnings.new.items
+            ≡ warnings_in warnings.old.items ++ warnings_at UnusedToken (unused_tokens (has_name used.now) self.now)) }
+    {
+        let expected = expected_tokens(alloc, &self.expect_unused)?;
+        'tokens: for (name, span) in &self.tokens {
+            let is_silent = is_silent(name.as_str(), used, &self.implicit_tokens, &expected);
+            push_if(
+                alloc,
+                warnings,
+                YaccGrammarWarningKind::UnusedToken,
+                *span,
+                !is_silent,
+            )?;
+        }
+        Ok(())
+    }
+
+    /// All unused rules, then all unused tokens, by number: none that `%expect-unused` names, and no implicit tokens.
+    fn unused(&self, alloc: Global) -> Result<Vec<YaccGrammarWarning>, AllocError>
+        ensures { IfOk result (λ ws. AreUnused self.now (warnings_in ws.items)) }
+    {
+        let mut warnings = Vec::new(alloc);
+        let reached = self.reached(alloc)?;
+        let used = self.used(alloc, &reached)?;
+        self.push_unused_rules(alloc, &mut warnings, &reached)?;
+        self.push_unused_tokens(alloc, &mut warnings, &used)?;
+        Ok(warnings)
+    }
+
+    /// The rules, then the tokens, that the start rule doesn't lead to, by number: none that `%expect-unused` names, no
+    /// implicit tokens, and none at all of a text that isn't valid.
+    pub fn warnings(&self, alloc: Global) -> Result<Vec<YaccGrammarWarning>, AllocError>
+        ensures { IfOk result (λ ws. AreWarnings self.now (map warning_of ws.items)) }
+    {
+        if self.is_valid {
+            let warnings = self.unused(alloc)?;
+            Ok(warnings)
+        } else {
+            Ok(Vec::new(alloc))
+        }
+    }
+}

@@ -1,7 +1,7 @@
 -- A list of symbols from its end.
-use Rattle.std.proofs.Common.{◌≡◌, ℕ, zero, suc, ◌+◌, ◌-◌, ◌<◌, ◌≤◌, ◌⊎◌, ◌↔◌, Bool, ◌&&◌, List, [], ◌∷◌, length, get_or, drop, Option, Some, slice_get, refl, sym, ap, ◌∙◌, subst, arith}
+use Rattle.std.proofs.Common.{◌≡◌, ℕ, zero, suc, ◌+◌, ◌-◌, ◌<◌, ◌↔◌, Bool, ◌&&◌, List, [], ◌∷◌, length, get_or, drop, Some, slice_get, sym, ap, ◌∙◌, subst, arith}
 use Rattle.std.specs.Prelude.{map, IsTrue}
-use Rattle.std.proofs.lemmas.List.{length-map, get_or-map, drop_all}
+use Rattle.std.proofs.lemmas.List.{length-map, get_or-map}
 use Rattle.cfg_theory.specs.Grammar.{Sym}
 use Rattle.cfg_theory.specs.First.{AllOf}
 use Rattle.cfgrammar.specs.Sets.{is_set}

@@ -1,13 +1,12 @@
 -- How passes fill the table of cheapest lists, and what it says at the end.
-use Rattle.std.proofs.Common.{◌≡◌, ℕ, zero, suc, ◌+◌, ◌-◌, ◌<◌, ◌≤◌, ◌⊎◌, inl, inr, ◌↔◌, Bool, true, false, List, [], ◌∷◌, ◌++◌, length, get_or, set, drop, replicate, map, Option, Some, None, refl, sym, ap, ◌∙◌, subst, arith}
+use Rattle.std.proofs.Common.{◌≡◌, ℕ, zero, suc, ◌<◌, ◌≤◌, ◌⊎◌, inl, inr, ◌↔◌, Bool, true, false, List, [], ◌∷◌, ◌++◌, length, get_or, set, drop, replicate, map, Option, Some, refl, sym, ap, ◌∙◌, subst, arith}
 use Rattle.std.specs.Prelude.{IsTrue, Contains, AllPairs}
-use Rattle.std.specs.List.{sum_by, flat_map}
 use Rattle.std.proofs.lemmas.List.{get_or-set_same, get_or-set_other, length-set, length-replicate}
 use Rattle.std.proofs.lemmas.List.Sums.{sum_by-set}
 use Rattle.std.proofs.lemmas.List.Elements.{Contains-append_left, Contains-append_right, Contains-append_cases}
 use Rattle.std.proofs.lemmas.Bool.{cases_eq}
-use Rattle.cfg_theory.specs.Grammar.{Sym, rule, token, Grammar, IsOf, InRange, WellFormed, head_of, body_of}
-use Rattle.cfg_theory.specs.Cost.{cost, Has, IsCheapest, IsLeastCost, IsBefore, AreCheapest}
+use Rattle.cfg_theory.specs.Grammar.{Sym, rule, token, Grammar, IsOf, WellFormed, head_of, body_of}
+use Rattle.cfg_theory.specs.Cost.{cost, Has, IsCheapest, IsBefore, AreCheapest}
 use Rattle.cfg_theory.specs.CostTables.{Sums, Concatenates}
 use Rattle.cfg_theory.specs.CheapestLists.{IsTight, HaveCosts, IsClosedOver, ListsOfWantedRules, ListsAreShort}
 use Rattle.cfg_theory.proofs.Lists.{get_from_drop}

@@ -1,18 +1,16 @@
 -- How passes fill the table of least costs, and what it says at the end.
-use Rattle.std.proofs.Common.{◌≡◌, ℕ, zero, suc, ◌+◌, ◌-◌, ◌<◌, ◌≤◌, ◌⊎◌, inl, inr, ◌↔◌, Bool, true, false, List, [], ◌∷◌, ◌++◌, length, get_or, set, drop, replicate, map, min, Option, Some, None, refl, sym, ap, ◌∙◌, subst, arith}
-use Rattle.std.specs.Prelude.{IsTrue}
-use Rattle.std.specs.List.{sum_by}
-use Rattle.std.proofs.lemmas.List.{get_or-set_same, get_or-set_other, length-set, length-replicate, get_or-replicate, get_or_past, get_or_read}
+use Rattle.std.proofs.Common.{◌≡◌, ℕ, zero, suc, ◌+◌, ◌<◌, ◌≤◌, ◌⊎◌, inl, inr, true, false, List, [], ◌∷◌, ◌++◌, length, get_or, set, drop, replicate, map, min, Option, Some, None, refl, sym, ap, ◌∙◌, subst, arith}
+use Rattle.std.proofs.lemmas.List.{get_or-set_same, get_or-set_other, length-set, length-replicate, get_or_read}
 use Rattle.std.proofs.lemmas.List.Sums.{sum_by-set}
 use Rattle.std.proofs.lemmas.Bool.{cases_eq, cases_lt}
 use Rattle.cfg_theory.specs.Grammar.{Sym, rule, token, Grammar, IsOf, InRange, WellFormed, head_of, body_of}
 use Rattle.cfg_theory.specs.Derivation.{Derives, DerivesTokens, IsProductive}
-use Rattle.cfg_theory.specs.Cost.{cost, Has, IsCheapest, IsLeastCost}
+use Rattle.cfg_theory.specs.Cost.{cost, Has, IsLeastCost}
 use Rattle.cfg_theory.specs.CostTables.{Sums, LeastCostsExist}
 use Rattle.cfg_theory.proofs.Lists.{get_from_drop}
 use Rattle.cfg_theory.proofs.Derivation.{derives_rule, tokens_both}
 use Rattle.cfg_theory.proofs.CostTables.{at_least, cost-append, one_sum}
-use Rattle.cfgrammar.specs.CostTable.{bound, cost_of, cost_in, cost_at, HasCost, AllHaveCosts, AreCapped, IsCost, HasNoCost, AreCosts, IsClosedBy, weight, fall, IsLess}
+use Rattle.cfgrammar.specs.CostTable.{bound, cost_of, cost_in, cost_at, HasCost, AllHaveCosts, IsCost, HasNoCost, AreCosts, IsClosedBy, weight, fall, IsLess}
 use Rattle.cfgrammar.specs.Passes.{Steps}
 use Rattle.std.proofs.Math.ListN.{get_or-append}
 use Rattle.std.proofs.Math.Seq.{get_or-append_seam}

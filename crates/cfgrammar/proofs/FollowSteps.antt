@@ -1,15 +1,15 @@
 -- How passes fill FOLLOW sets.
-use Rattle.std.proofs.Common.{◌≡◌, ◌≢◌, ℕ, zero, suc, ◌+◌, ◌-◌, ◌<◌, ◌≤◌, ◌⊎◌, inl, inr, ◌↔◌, Bool, true, false, ◌||◌, List, [], ◌∷◌, length, get_or, set, drop, replicate, Option, Some, None, slice_get, refl, sym, ap, ◌∙◌, subst, arith}
+use Rattle.std.proofs.Common.{◌≡◌, ℕ, zero, suc, ◌+◌, ◌-◌, ◌<◌, ◌≤◌, inl, inr, ◌↔◌, Bool, true, false, ◌||◌, List, [], ◌∷◌, length, get_or, set, drop, replicate, Some, slice_get, refl, sym, ap, ◌∙◌, subst, arith}
 use Rattle.std.specs.Prelude.{map, IsTrue}
 use Rattle.std.proofs.lemmas.Bool.{cases_eq}
-use Rattle.cfg_theory.specs.Grammar.{Sym, rule, token, Grammar, IsOf, IsNext, IsEnd, WellFormed, InRange, head_of, body_of, end_token}
-use Rattle.cfg_theory.specs.Derivation.{Nullable, IsFirst, IsFollow}
-use Rattle.cfg_theory.specs.First.{AllOf, FirstOf, IsFirstTable, FirstTablesAreExact}
+use Rattle.cfg_theory.specs.Grammar.{Sym, rule, token, Grammar, IsNext, IsEnd, WellFormed, InRange, head_of, body_of, end_token}
+use Rattle.cfg_theory.specs.Derivation.{IsFollow}
+use Rattle.cfg_theory.specs.First.{FirstTablesAreExact}
 use Rattle.cfg_theory.specs.Follow.{IsFollowTable, FollowTablesAreExact}
 use Rattle.cfg_theory.proofs.Derivation.{nullable_of, first_of_list}
 use Rattle.cfg_theory.proofs.Follow.{follow_after, follow_passed, follow_end}
-use Rattle.cfgrammar.specs.Sets.{is_set, is_set_in, missing_in, joined_to, HasAllOf, AreRows}
-use Rattle.cfgrammar.specs.Firsts.{FirstSets, HasEpsilon, HasFirst, AreFirsts, IsWithin, FirstBefore, FirstsOf}
+use Rattle.cfgrammar.specs.Sets.{is_set, is_set_in, missing_in, AreRows}
+use Rattle.cfgrammar.specs.Firsts.{FirstSets, HasEpsilon, HasFirst, AreFirsts, IsWithin, FirstBefore}
 use Rattle.cfgrammar.specs.Follows.{FollowSets, HasFollow, AreOf, AreFollows, AreSound, Behind, IsClosedFrom, HasSet, HasAll, added, room}
 use Rattle.cfgrammar.specs.Passes.{Steps}
 use Rattle.std.proofs.lemmas.List.{get_or-set_same, get_or-replicate, length-replicate, length-set}

@@ -22,3 +22,10 @@ pub mod CheapestSteps
 pub mod MadeNames
 pub mod MadeSymbols
 pub mod MadeWell
+pub mod MadeCounts
+pub mod MadeHeads
+pub mod MadeLookups
+pub mod MadeProductions
+pub mod MadeValues
+pub mod AddedNames
+pub mod MadeTexts

@@ -1,8 +1,8 @@
 -- Productions by their numbers.
-use Rattle.std.proofs.Common.{◌≡◌, ℕ, ◌<◌, ◌≤◌, List, [], length, get_or, refl, sym, ap, ◌∙◌, subst, arith}
+use Rattle.std.proofs.Common.{◌≡◌, ℕ, ◌<◌, List, [], length, get_or, refl, sym, ap, ◌∙◌, subst, arith}
 use Rattle.std.specs.Prelude.{map}
-use Rattle.std.proofs.lemmas.List.{get_or-map, length-map, get_or_read}
-use Rattle.cfg_theory.specs.Grammar.{Sym, Production, Grammar, IsOf, WellFormed, head_of, body_of}
+use Rattle.std.proofs.lemmas.List.{get_or-map, length-map}
+use Rattle.cfg_theory.specs.Grammar.{Production, Grammar, IsOf, WellFormed, head_of, body_of}
 use Rattle.cfgrammar.specs.Symbols.{syms_of}
 use Rattle.cfgrammar.specs.Value.{GrammarValue}
 use Rattle.cfgrammar.specs.Parts.{value_of, production_of, with_productions}

@@ -1,6 +1,6 @@
 -- What the productions of a sound tree name is in range.
-use Rattle.std.proofs.Common.{◌≡◌, ℕ, zero, suc, ◌+◌, ◌<◌, ◌≤◌, ◌&&◌, inl, inr, Bool, true, false, not, cond, List, [], ◌∷◌, ◌++◌, length, map, get_or, Option, Some, None, Contains, IsSomeAnd, All, slice_get, if◌then◌else◌, flat_map, option_map, eqb, eq-eqb, refl, sym, ap, ◌∙◌, subst, arith}
-use Rattle.std.specs.List.{list_any, position_or_len}
+use Rattle.std.proofs.Common.{◌≡◌, ℕ, zero, suc, ◌+◌, ◌<◌, ◌≤◌, ◌&&◌, Bool, true, false, List, [], ◌∷◌, ◌++◌, length, map, get_or, Option, Some, None, Contains, IsSomeAnd, All, if◌then◌else◌, flat_map, eqb, eq-eqb, refl, sym, subst, arith}
+use Rattle.std.specs.List.{list_any}
 use Rattle.std.specs.Option.{option_map_or}
 use Rattle.std.proofs.lemmas.List.{length-map, get_or-map}
 use Rattle.std.proofs.lemmas.List.Folds.{list_any_at}
@@ -9,8 +9,8 @@ use Rattle.std.proofs.lemmas.Option.{slice_get_within, get_or_from_slice_get}
 use Rattle.cfg_theory.specs.Grammar.{Sym, rule, token, Production}
 use Rattle.cfg_read.specs.SyntaxTexts.{WordText}
 use Rattle.cfg_read.specs.Asts.{Ast, RuleAst, ProductionAst, SymbolAst}
-use Rattle.cfg_read.specs.Sound.{names_of_rules, names_of_tokens, ListsProduction, NamesOne, IsSound}
-use Rattle.cfgrammar.specs.Made.{place, rule_number, token_number, implicit_start, implicit_rule, file_start, first_rule, sym_of, syms_of, file_body, file_head, file_productions, start_production, implicit_production, implicit_productions, productions_of}
+use Rattle.cfg_read.specs.Sound.{names_of_rules, names_of_tokens, NamesOne, IsSound}
+use Rattle.cfgrammar.specs.Made.{rule_number, token_number, implicit_start, implicit_rule, file_start, first_rule, sym_of, syms_of, file_body, file_head, file_productions, implicit_production, implicit_productions}
 use Rattle.cfgrammar.proofs.MadeNames.{no_later, place_within}
 
 -- a rule other than the first, a token other than the last
@@ -24,7 +24,7 @@ pub record IsGoodProduction (R T : ℕ) (q : Production) : Type 0 where
   pub high : q.head < R
   pub body : All (IsGood R T) q.body
 
-under : {A B : Type 0} (P : B → Type 0) (f : A → B) (xs : List A) → All P (map f xs) → All (λ x. P (f x)) xs
+pub under : {A B : Type 0} (P : B → Type 0) (f : A → B) (xs : List A) → All P (map f xs) → All (λ x. P (f x)) xs
 under P f xs h = λ k d lt. subst P (get_or-map f xs k d (f d) lt) (h k (f d) (let e = length-map xs f in omega (arith, e, lt)))
 
 -- R rules, of which the file's and the added ones are, and T tokens

@@ -1,21 +1,18 @@
 -- The grammar of a sound tree is one.
-use Rattle.std.proofs.Common.{◌≡◌, ℕ, zero, suc, ◌+◌, ◌-◌, ◌<◌, ◌≤◌, max, inl, inr, Bool, true, false, List, [], ◌∷◌, ◌++◌, length, map, get_or, Option, Some, None, All, slice_get, if◌then◌else◌, option_map, refl, sym, ap, ◌∙◌, subst, arith, append_assoc}
+use Rattle.std.proofs.Common.{◌≡◌, ℕ, zero, suc, ◌+◌, ◌-◌, ◌<◌, ◌≤◌, inl, inr, Bool, true, false, List, [], ◌∷◌, ◌++◌, length, map, get_or, Option, Some, None, All, slice_get, if◌then◌else◌, option_map, refl, sym, ap, ◌∙◌, subst, arith, append_assoc}
 use Rattle.std.specs.Prelude.{nat_lt}
-use Rattle.std.specs.List.{list_any}
-use Rattle.std.specs.Str.{bytes_eq}
 use Rattle.std.proofs.lemmas.Bool.{cases_lt, ltb-false}
 use Rattle.std.proofs.lemmas.List.{length-map, length-append, get_or_at, get_or_past}
-use Rattle.std.proofs.lemmas.List.Elements.{All-nil, All-cons, All-head, All-tail, All-append}
+use Rattle.std.proofs.lemmas.List.Elements.{All-nil, All-cons, All-tail, All-append}
 use Rattle.std.proofs.lemmas.Option.{slice_get_within, get_or_from_slice_get, slice_get-map}
-use Rattle.cfg_theory.specs.Grammar.{Sym, rule, token, Production, Grammar, IsOf, IsNext, IsEnd, InRange, WellFormed, head_of, body_of, end_token}
+use Rattle.cfg_theory.specs.Grammar.{Sym, rule, token, Production, Grammar, IsNext, InRange, WellFormed, head_of, body_of}
 use Rattle.cfg_read.specs.SyntaxTexts.{WordText}
 use Rattle.cfg_read.specs.Names.{texts}
 use Rattle.cfg_read.specs.Asts.{Ast, RuleAst, ProductionAst}
-use Rattle.cfg_read.specs.Sound.{AreDistinct, names_of_rules, names_of_tokens, IsSound}
-use Rattle.cfgrammar.specs.Value.{RuleFacts, TokenFacts, GrammarValue, IsRuleNamed, IsTokenNamed, Fits, IsGrammar, end_facts}
-use Rattle.cfgrammar.specs.declared.making.TooMany.{TooMany}
+use Rattle.cfg_read.specs.Sound.{AreDistinct, names_of_rules, IsSound}
+use Rattle.cfgrammar.specs.Value.{RuleFacts, TokenFacts, Fits, IsGrammar, end_facts}
 use Rattle.cfgrammar.specs.declared.making.TooMany.TheVariants as told
-use Rattle.cfgrammar.specs.Made.{start_name, implicit_start_name, implicit_name, implicit_rule, implicit_start, first_rule, file_productions, start_production, implicit_productions, productions_of, file_rule_facts, added_rule_facts, rules_of, file_token_facts, tokens_of, file_production_facts, added_production_facts, production_facts_of, kept_of, grammar_of, value_by, longest, as_told, too_many, NamesNoAdded}
+use Rattle.cfgrammar.specs.Made.{start_name, implicit_start_name, implicit_name, implicit_rule, first_rule, file_productions, start_production, implicit_productions, productions_of, file_rule_facts, added_rule_facts, rules_of, file_token_facts, tokens_of, file_production_facts, added_production_facts, production_facts_of, grammar_of, value_by, longest, as_told, too_many, NamesNoAdded}
 use Rattle.cfgrammar.proofs.MadeNames.{IsAbsent, absent, absent_push, same_some, distinct_cons, distinct_push}
 use Rattle.cfgrammar.proofs.MadeSymbols.{IsGood, IsGoodProduction, file_good, first_good, added_good}
 

@@ -1,11 +1,11 @@
 -- How passes fill the set of the rules that a rule reaches.
-use Rattle.std.proofs.Common.{◌≡◌, ℕ, ◌+◌, ◌<◌, ◌≤◌, ◌⊎◌, inl, inr, ◌↔◌, Bool, true, false, ◌||◌, List, [], length, set, replicate, Some, slice_get, refl, sym, ap, ◌∙◌, subst, arith}
+use Rattle.std.proofs.Common.{◌≡◌, ℕ, ◌+◌, ◌<◌, ◌≤◌, ◌⊎◌, inl, inr, ◌↔◌, Bool, true, false, ◌||◌, List, length, replicate, Some, slice_get, refl, sym, ap, ◌∙◌, subst, arith}
 use Rattle.std.specs.Prelude.{IsTrue}
 use Rattle.std.proofs.lemmas.List.{length-set}
 use Rattle.std.proofs.lemmas.Option.{slice_get_within}
 use Rattle.std.proofs.lemmas.Bool.{cases_eq}
-use Rattle.cfg_theory.specs.Grammar.{Sym, rule, token, Grammar, IsOf, IsNext, InRange, head_of, body_of}
-use Rattle.cfg_theory.specs.Derivation.{Refers, HasPath}
+use Rattle.cfg_theory.specs.Grammar.{Sym, rule, token, Grammar, IsNext, InRange, head_of, body_of}
+use Rattle.cfg_theory.specs.Derivation.{HasPath}
 use Rattle.cfg_theory.specs.Path.{IsReachTable, PathTablesAreExact}
 use Rattle.cfg_theory.proofs.Paths.{path_on}
 use Rattle.cfgrammar.specs.Sets.{is_set, missing}

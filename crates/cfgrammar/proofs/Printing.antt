@@ -1,10 +1,10 @@
 -- Texts of lists of symbols.
-use Rattle.std.proofs.Common.{◌≡◌, ℕ, List, [], ◌∷◌, ◌++◌, Some, get_or, refl, sym, ap, ◌∙◌}
-use Rattle.std.specs.Prelude.{map, slice_get}
+use Rattle.std.proofs.Common.{◌≡◌, ℕ, List, [], ◌∷◌, ◌++◌, sym, ap, ◌∙◌}
+use Rattle.std.specs.Prelude.{map}
 use Rattle.std.specs.List.{flat_map}
 use Rattle.std.proofs.lemmas.List.{flat_map_more}
 use Rattle.std.proofs.lemmas.Option.{slice_get-map, get_or_from_slice_get}
-use Rattle.cfg_theory.specs.Grammar.{Sym, rule}
+use Rattle.cfg_theory.specs.Grammar.{rule}
 use Rattle.cfgrammar.specs.Value.{GrammarValue, RuleFacts, IsRuleNamed}
 use Rattle.cfgrammar.specs.Shown.{name_of}
 

@@ -1,8 +1,8 @@
 -- The rows of a set of tokens for each rule, as lists of bits.
-use Rattle.std.proofs.Common.{◌≡◌, ◌≢◌, ℕ, ◌+◌, ◌<◌, ◌⊎◌, inl, inr, ◌↔◌, Bool, true, false, not, ◌||◌, List, [], length, get_or, set, replicate, refl, sym, ap, ◌∙◌, subst, arith}
+use Rattle.std.proofs.Common.{◌≡◌, ◌≢◌, ℕ, ◌<◌, inl, inr, ◌↔◌, Bool, true, false, not, ◌||◌, List, [], length, get_or, set, replicate, refl, sym, ap, ◌∙◌, subst, arith}
 use Rattle.std.specs.Prelude.{map, IsTrue}
 use Rattle.std.proofs.lemmas.List.{get_or-map, map-set, length-map, length-set, length-replicate, get_or-replicate}
-use Rattle.std.proofs.lemmas.Bool.{not-true, cases_Bool}
+use Rattle.std.proofs.lemmas.Bool.{cases_Bool}
 use Rattle.vob.specs.Packed.{Contents}
 use Rattle.cfgrammar.specs.Sets.{SetRows, is_set, is_set_in, missing_in, joined_to, HasAllOf, AreRows}
 use Rattle.cfgrammar.specs.Passes.{Steps}

@@ -1,19 +1,18 @@
 -- Which productions give the least cost, and how passes fill the set of the rules that they need.
-use Rattle.std.proofs.Common.{◌≡◌, ℕ, zero, suc, ◌+◌, ◌<◌, ◌≤◌, ◌⊎◌, inl, inr, ◌↔◌, ◌==◌, Bool, true, false, List, [], ◌∷◌, length, get_or, set, drop, replicate, min, Option, Some, None, slice_get, refl, sym, ap, ◌∙◌, subst, arith}
+use Rattle.std.proofs.Common.{◌≡◌, ℕ, suc, ◌<◌, ◌≤◌, inl, inr, ◌↔◌, ◌==◌, Bool, true, false, List, [], ◌∷◌, length, set, drop, replicate, min, Option, Some, refl, sym, ap, ◌∙◌, subst, arith}
 use Rattle.std.specs.Prelude.{IsTrue}
 use Rattle.std.proofs.lemmas.List.{length-set, length-replicate}
 use Rattle.std.proofs.lemmas.Option.{slice_get_within}
 use Rattle.std.proofs.lemmas.Bool.{eqb-true, eq-eqb}
-use Rattle.cfg_theory.specs.Grammar.{Sym, rule, token, Grammar, IsOf, IsNext, head_of, body_of}
+use Rattle.cfg_theory.specs.Grammar.{Sym, rule, token, Grammar, head_of, body_of}
 use Rattle.cfg_theory.specs.Productive.{RulesIn}
 use Rattle.cfg_theory.specs.CostTables.{Sums}
-use Rattle.cfg_theory.specs.CheapestLists.{IsTight}
 use Rattle.cfg_theory.proofs.Lists.{get_from_drop}
 use Rattle.cfg_theory.proofs.CostTables.{one_sum}
 use Rattle.cfgrammar.specs.Sets.{is_set, missing}
 use Rattle.cfgrammar.specs.Paths.{HasPlace, with_rule}
 use Rattle.cfgrammar.specs.Passes.{Steps}
-use Rattle.cfgrammar.specs.CostTable.{bound, cost_in, AreCosts, HasNoCost, IsCost}
+use Rattle.cfgrammar.specs.CostTable.{bound, cost_in}
 use Rattle.cfgrammar.specs.CheapestTable.{GivesLeast, AreNamedIn, IsHandedOn, AreKept}
 use Rattle.cfgrammar.proofs.Bits.{put_in}
 use Rattle.cfgrammar.proofs.PathSteps.{NamedBelow}

@@ -1,5 +1,5 @@
 -- A table of least costs as passes fill it: a cost past the bound is kept as the bound.
-use Rattle.std.specs.Prelude.{◌≡◌, ℕ, ◌+◌, ◌<◌, ◌≤◌, List, [], ◌∷◌, length, Option, Some, None, get_or, min}
+use Rattle.std.specs.Prelude.{◌≡◌, ℕ, ◌<◌, ◌≤◌, List, [], ◌∷◌, length, Option, Some, None, get_or, min}
 use Rattle.std.specs.List.{sum_by}
 use Rattle.cfg_theory.specs.Grammar.{Sym, rule, token, Grammar, head_of, body_of}
 use Rattle.cfg_theory.specs.Derivation.{IsProductive}

@@ -1,5 +1,5 @@
 -- FIRST sets as a program keeps them: a set of tokens for each rule, and the set of the nullable rules.
-use Rattle.std.specs.Prelude.{◌≡◌, ℕ, ◌+◌, ◌<◌, ◌⊎◌, ◌↔◌, Bool, true, false, IsTrue, List, [], ◌∷◌, length}
+use Rattle.std.specs.Prelude.{◌≡◌, ℕ, ◌+◌, ◌<◌, ◌⊎◌, ◌↔◌, Bool, IsTrue, List, [], ◌∷◌, length}
 use Rattle.cfg_theory.specs.Grammar.{Sym, rule, token, Grammar, head_of, body_of}
 use Rattle.cfg_theory.specs.Derivation.{Nullable, IsFirst}
 use Rattle.cfg_theory.specs.First.{AllOf, FirstOf}

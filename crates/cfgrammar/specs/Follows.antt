@@ -1,9 +1,9 @@
 -- FOLLOW sets as a program keeps them: a set of tokens for each rule.
-use Rattle.std.specs.Prelude.{◌≡◌, ℕ, suc, ◌≤◌, ◌<◌, ◌⊎◌, ◌↔◌, ◌||◌, Bool, IsTrue, List, [], length, get_or, slice_set, drop}
+use Rattle.std.specs.Prelude.{◌≡◌, ℕ, suc, ◌≤◌, ◌<◌, ◌⊎◌, ◌↔◌, Bool, IsTrue, List, length, drop}
 use Rattle.cfg_theory.specs.Grammar.{Sym, rule, token, Grammar, IsNext, head_of, body_of}
 use Rattle.cfg_theory.specs.Derivation.{IsFollow}
 use Rattle.cfg_theory.specs.First.{AllOf}
-use Rattle.cfgrammar.specs.Sets.{is_set, is_set_in, missing_in, joined_to, HasAllOf, AreRows}
+use Rattle.cfgrammar.specs.Sets.{is_set_in, missing_in, joined_to, HasAllOf, AreRows}
 use Rattle.cfgrammar.specs.Firsts.{FirstSets, HasEpsilon, FirstsOf}
 
 pub record FollowSets : Type 0 where

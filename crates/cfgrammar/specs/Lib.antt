@@ -13,3 +13,4 @@ pub mod Greatest
 pub mod TokenLists
 pub mod CheapestTable
 pub mod Made
+pub mod MadeParts

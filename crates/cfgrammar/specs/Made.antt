@@ -1,5 +1,5 @@
 -- The grammar of a tree: its rules, tokens and productions by numbers, and the rules that are added.
-use Rattle.std.specs.Prelude.{◌≡◌, ℕ, zero, suc, Bool, true, false, not, ◌&&◌, ◌==◌, nat_lt, min, max, ◌-◌, ◌^◌, List, [], ◌∷◌, ◌++◌, length, map, fold, Option, None, Some, option_map, if◌then◌else◌}
+use Rattle.std.specs.Prelude.{◌≡◌, ℕ, zero, suc, Bool, true, false, not, ◌&&◌, ◌==◌, nat_lt, min, max, ◌-◌, ◌^◌, List, [], ◌∷◌, ◌++◌, length, map, fold, Option, None, Some, option_map, Result, Ok, Err, if◌then◌else◌}
 use Rattle.std.specs.List.{flat_map, list_any, find, position_or_len}
 use Rattle.std.specs.Option.{option_or, option_and_then, option_map_or}
 use Rattle.std.specs.Str.{bytes_eq}
@@ -11,10 +11,17 @@ use Rattle.cfg_read.specs.SyntaxTexts.{WordText, NumberText, EppText}
 use Rattle.cfg_read.specs.Names.{is_among}
 use Rattle.cfg_read.specs.Asts.{Ast, RuleAst, ProductionAst, SymbolAst, PrecedenceAst}
 use Rattle.cfg_read.specs.Sound.{names_of_rules, names_of_tokens}
+use Rattle.cfg_read.specs.Validity.{FailureText}
+use Rattle.cfg_read.specs.Showing.{failures_in}
+use Rattle.cfg_read.specs.CheckedAst.{CheckedAst}
+use Rattle.cfg_read.specs.Judging.{is_valid, IsChecked}
+use Rattle.cfg_read.specs.Files.{TellsKind, LacksKind}
 use Rattle.cfg_theory.specs.Grammar.{Sym, rule, token, Production, Grammar}
 use Rattle.cfgrammar.specs.Value.{RuleFacts, TokenFacts, ProductionFacts, ParamFacts, KeptFacts, GrammarValue, end_facts}
 use Rattle.cfgrammar.specs.declared.making.TooMany.{TooMany}
 use Rattle.cfgrammar.specs.declared.making.TooMany.TheVariants as told
+use Rattle.cfgrammar.specs.declared.making.YaccGrammarMakeError.{YaccGrammarMakeError}
+use Rattle.cfgrammar.specs.declared.making.YaccGrammarMakeError.TheVariants as errors
 
 -- the names of the added rules: `^`, `^~` and `~`
 abbrev pub start_name : List ℕ
@@ -209,3 +216,34 @@ pub record NamesNoAdded (ast : Ast) : Type 0 where
   pub start : list_any (bytes_eq start_name) (names_of_rules ast) ≡ false
   pub implicit_start : list_any (bytes_eq implicit_start_name) (names_of_rules ast) ≡ false
   pub implicit : list_any (bytes_eq implicit_name) (names_of_rules ast) ≡ false
+
+-- What is answered where a grammar of the tree of a valid text is asked for: the grammar, where all its counts fit; else
+-- the first that doesn't. Of want of memory nothing is said, here and below.
+abbrev pub MakesTree : ℕ → YaccKind → Ast → Result GrammarValue YaccGrammarMakeError → Type 0
+MakesTree top kind ast (Ok g) = (too_many top (made kind ast).grammar ≡ None) × (g ≡ made kind ast)
+MakesTree top kind ast (Err (errors.Memory e)) = Unit {0}
+MakesTree top kind ast (Err (errors.Invalid es)) = ⊥
+MakesTree top kind ast (Err (errors.TooMany t)) = too_many top (made kind ast).grammar ≡ Some t
+
+-- and where this is wrong with the text: all of it
+abbrev pub Refuses : List FailureText → Result GrammarValue YaccGrammarMakeError → Type 0
+Refuses fs (Ok g) = ⊥
+Refuses fs (Err (errors.Memory e)) = Unit {0}
+Refuses fs (Err (errors.Invalid es)) = failures_in es.items ≡ fs
+Refuses fs (Err (errors.TooMany t)) = ⊥
+
+-- what is answered of what is kept of a text, which is valid or isn't
+pub data Makes (top : ℕ) (c : CheckedAst) (r : Result GrammarValue YaccGrammarMakeError) : Type 0 where
+  of_valid : is_valid c.errors ≡ true → MakesTree top c.kind c.ast r → Makes top c r
+  of_invalid : is_valid c.errors ≡ false → Refuses c.errors r → Makes top c r
+
+-- of a text of a kind
+pub record MakesText (top : ℕ) (kind : YaccKind) (text : List ℕ) (r : Result GrammarValue YaccGrammarMakeError) : Type 0 where
+  pub kept : CheckedAst
+  pub checked : IsChecked kind text kept
+  pub answer : Makes top kept r
+
+-- of a text that tells its kind by its section, or doesn't
+pub data MakesFile (top : ℕ) (text : List ℕ) (r : Result GrammarValue YaccGrammarMakeError) : Type 0 where
+  of_kind : (kind : YaccKind) → TellsKind text kind → MakesText top kind text r → MakesFile top text r
+  without_kind : (fs : List FailureText) → LacksKind text fs → Refuses fs r → MakesFile top text r

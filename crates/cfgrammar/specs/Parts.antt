@@ -2,7 +2,6 @@
 use Rattle.std.specs.Prelude.{◌≡◌, ℕ, ◌<◌, ◌==◌, List, [], length, map, option_map, get_or, filter, slice_get, Option, Some}
 use Rattle.std.specs.List.{range_with_len, filter_map}
 use Rattle.std.specs.String.{string_bytes}
-use Rattle.std.specs.declared.vec.Vec.{Vec}
 use Rattle.std.specs.declared.alloc.Global.{Global}
 use Rattle.std.specs.declared.string.String.{String}
 use Rattle.cfg_theory.specs.Grammar.{Production, Grammar, head_of}

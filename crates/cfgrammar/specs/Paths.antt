@@ -2,7 +2,7 @@
 use Rattle.std.specs.Prelude.{◌≡◌, ℕ, ◌<◌, ◌⊎◌, Bool, true, IsTrue, List, length, slice_set}
 use Rattle.cfg_theory.specs.Grammar.{Sym, rule, token, Grammar, IsNext, head_of}
 use Rattle.cfg_theory.specs.Derivation.{HasPath}
-use Rattle.cfgrammar.specs.Sets.{is_set, missing}
+use Rattle.cfgrammar.specs.Sets.{is_set}
 
 -- the set holds no more than the rules that A reaches
 abbrev pub AreReached : Grammar → ℕ → List Bool → Type 0

@@ -1,5 +1,5 @@
 -- Sets of tokens and of rules as bits.
-use Rattle.std.specs.Prelude.{◌≡◌, ℕ, ◌+◌, ◌<◌, ◌||◌, Bool, false, not, IsTrue, List, [], length, get_or, slice_index_or, slice_set}
+use Rattle.std.specs.Prelude.{◌≡◌, ℕ, ◌<◌, ◌||◌, Bool, false, not, IsTrue, List, [], length, get_or, slice_index_or, slice_set}
 use Rattle.vob.specs.Bits.{bitwise}
 use Rattle.std.specs.List.{sum_by, count_by}
 

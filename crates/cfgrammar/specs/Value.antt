@@ -4,7 +4,7 @@ use Rattle.std.specs.List.{range_with_len}
 use Rattle.std.specs.Option.{option_or}
 use Rattle.cfg_base.specs.Place.{Places}
 use Rattle.cfg_read.specs.declared.yacc.Precedence.{Precedence}
-use Rattle.cfg_theory.specs.Grammar.{Sym, rule, Grammar, head_of, body_of, end_token, WellFormed}
+use Rattle.cfg_theory.specs.Grammar.{Grammar, head_of, body_of, end_token, WellFormed}
 
 pub record RuleFacts : Type 0 where
   pub name : List ℕ

@@ -12,6 +12,7 @@ ghost use Rattle.cfgrammar.specs.Parts.{value_of, production_of, with_production
 pub mod laws;
 mod name_sets;
 mod names;
+mod new;
 mod printed;
 mod texts;
 mod tokens_map;

@@ -30,10 +30,10 @@ use vob::Vob;
 #[derive(Debug, Drop, Error)]
 pub enum CostError {
     /// The rule derives no token list.
-    #[error("no sentence")]
+    #[error("NoSentence")]
     NoSentence,
     /// The cost is past 65,535.
-    #[error("cost too large")]
+    #[error("CostTooLarge")]
     CostTooLarge,
 }
 
@@ -41,13 +41,13 @@ pub enum CostError {
 #[derive(Debug, Drop, Error)]
 pub enum SentenceError {
     /// The rule derives no token list.
-    #[error("no sentence")]
+    #[error("NoSentence")]
     NoSentence,
     /// The lists' cost is past 65,535.
-    #[error("cost too large")]
+    #[error("CostTooLarge")]
     CostTooLarge,
     /// The lists don't fit into memory.
-    #[error("out of memory")]
+    #[error("OutOfMemory")]
     OutOfMemory,
 }
 

@@ -1,9 +1,8 @@
-use Rattle.std.proofs.Common.{◌≡◌, ℕ, ◌+◌, ◌<◌, ◌++◌, ◌∷◌, [], length, get_or, set, refl, sym, ap, ◌∙◌, subst, arith}
+use Rattle.std.proofs.Common.{◌≡◌, ◌<◌, refl, sym, ap, ◌∙◌, arith}
 use Rattle.std.specs.Prelude.{map}
-use Rattle.std.proofs.lemmas.List.{map-set, map-append, get_or-map, length-map}
-use Rattle.cfg_theory.specs.Grammar.{Grammar, IsOf, head_of}
+use Rattle.std.proofs.lemmas.List.{length-map}
 use Rattle.cfgrammar.specs.Symbols.{numbers_of}
-use Rattle.cfgrammar.specs.Parts.{production_of, with_productions, ListsBelow}
+use Rattle.cfgrammar.specs.Parts.{production_of, with_productions}
 use Rattle.cfgrammar.proofs.Lookups.{is_of}
 use Rattle.cfgrammar.proofs.RuleLists.{below_none, put_last, numbers_push, all_below}
 use Rattle.cfgrammar.proofs.grammar.list_productions.Goals as goal

@@ -1,4 +1,4 @@
-use Rattle.std.proofs.Common.{◌≡◌, ◌+◌, ◌-◌, ◌<◌, List, length, drop, min, Some, sym, ◌∙◌, subst, arith}
+use Rattle.std.proofs.Common.{◌≡◌, ◌+◌, ◌-◌, List, length, drop, min, Some, sym, ◌∙◌, subst, arith}
 use Rattle.cfg_theory.specs.Grammar.{Sym}
 use Rattle.cfgrammar.specs.Symbols.{sym_of, syms_of}
 use Rattle.cfgrammar.specs.CostTable.{bound, cost_at, IsCost, HasNoCost}

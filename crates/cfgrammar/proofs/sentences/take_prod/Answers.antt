@@ -1,9 +1,8 @@
-use Rattle.std.proofs.Common.{◌≡◌, ℕ, ◌<◌, Bool, true, false, List, Option, length, get_or, Some, None, min, refl, sym, ap, ◌∙◌, subst, arith}
+use Rattle.std.proofs.Common.{◌≡◌, ℕ, ◌<◌, Bool, true, false, List, Option, length, get_or, None, refl, sym, ap, ◌∙◌, subst, arith}
 use Rattle.std.proofs.lemmas.List.{get_or_read}
 use Rattle.cfg_theory.specs.Grammar.{Sym, IsOf, head_of, body_of}
-use Rattle.cfg_theory.specs.CostTables.{Sums}
 use Rattle.cfgrammar.specs.Symbols.{syms_of}
-use Rattle.cfgrammar.specs.CostTable.{bound, cost_of, cost_in, AllHaveCosts, IsCost, IsLess}
+use Rattle.cfgrammar.specs.CostTable.{cost_of, cost_in, AllHaveCosts, IsCost}
 use Rattle.cfgrammar.proofs.CostSteps.{body_costs, closed_step, cheaper_step, cheaper}
 use Rattle.cfgrammar.proofs.sentences.take_prod.Goals as goal
 

@@ -1,4 +1,4 @@
-use Rattle.std.proofs.Common.{◌≡◌, ◌+◌, ◌-◌, ◌<◌, length, arith}
+use Rattle.std.proofs.Common.{◌≡◌, ◌+◌, ◌-◌, length, arith}
 use Rattle.cfgrammar.specs.Symbols.{sym_of}
 use Rattle.cfgrammar.proofs.FirstSteps.{all_at}
 use Rattle.cfgrammar.proofs.Backwards.{null_next, first_next}

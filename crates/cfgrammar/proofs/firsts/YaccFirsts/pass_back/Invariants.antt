@@ -1,4 +1,4 @@
-use Rattle.std.proofs.Common.{◌≡◌, ℕ, length}
+use Rattle.std.proofs.Common.{◌≡◌, length}
 use Rattle.cfgrammar.specs.Firsts.{AreOf, AreSound, room}
 use Rattle.cfgrammar.specs.Passes.{Steps, Anything}
 use Rattle.cfgrammar.proofs.firsts.YaccFirsts.pass_back.Given as goal

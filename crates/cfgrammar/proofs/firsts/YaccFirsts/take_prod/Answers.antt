@@ -1,10 +1,9 @@
-use Rattle.std.proofs.Common.{◌≡◌, ℕ, ◌<◌, ◌↔◌, Bool, true, List, [], length, get_or, set, refl, sym, ap, ◌∙◌, subst}
+use Rattle.std.proofs.Common.{◌≡◌, ℕ, ◌<◌, ◌↔◌, Bool, true, List, length, set, refl, sym, ap, ◌∙◌, subst}
 use Rattle.std.specs.Prelude.{IsTrue, if◌then◌else◌}
-use Rattle.cfg_theory.specs.Grammar.{Sym, Grammar, IsOf, head_of, body_of}
+use Rattle.cfg_theory.specs.Grammar.{Sym, IsOf, head_of}
 use Rattle.cfg_theory.specs.First.{AllOf}
-use Rattle.cfgrammar.specs.Symbols.{syms_of}
 use Rattle.cfgrammar.specs.Sets.{is_set, joined_to}
-use Rattle.cfgrammar.specs.Firsts.{FirstSets, HasEpsilon, FirstsOf, AllWithin}
+use Rattle.cfgrammar.specs.Firsts.{HasEpsilon, FirstsOf, AllWithin}
 use Rattle.cfgrammar.proofs.FirstSteps.{body_within, taken_sizes, still_sound}
 use Rattle.cfgrammar.proofs.firsts.YaccFirsts.take_prod.Goals as goal
 

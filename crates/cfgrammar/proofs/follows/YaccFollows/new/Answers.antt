@@ -1,6 +1,5 @@
-use Rattle.std.proofs.Common.{◌≡◌, ℕ, ◌<◌, false, length, replicate, sym, ap, ◌∙◌, subst}
+use Rattle.std.proofs.Common.{◌≡◌, ℕ, ◌<◌, false, length, ap, ◌∙◌, subst}
 use Rattle.std.proofs.lemmas.List.{length-replicate}
-use Rattle.cfg_theory.specs.Grammar.{end_token}
 use Rattle.cfgrammar.specs.Sets.{SetRows}
 use Rattle.cfgrammar.specs.Follows.{FollowSets, IsClosedFrom, room}
 use Rattle.cfgrammar.proofs.Passed.{done}

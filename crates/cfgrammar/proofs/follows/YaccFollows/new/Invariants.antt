@@ -1,6 +1,5 @@
 use Rattle.std.proofs.Common.{◌≡◌, ℕ, length}
 use Rattle.cfg_theory.specs.Grammar.{IsEnd}
-use Rattle.cfgrammar.specs.Firsts.{AreFirsts}
 use Rattle.cfgrammar.specs.Follows.{AreOf, AreSound, HasFollow, room}
 use Rattle.cfgrammar.proofs.follows.YaccFollows.new.Given as goal
 

@@ -1,8 +1,8 @@
-use Rattle.std.proofs.Common.{◌≡◌, ℕ, ◌+◌, ◌-◌, ◌<◌, ◌≤◌, ◌↔◌, List, length, refl, sym, ap, ◌∙◌, subst, arith}
+use Rattle.std.proofs.Common.{◌≡◌, ℕ, ◌+◌, ◌-◌, ◌≤◌, ◌↔◌, length, sym, ap, ◌∙◌, subst, arith}
 use Rattle.std.specs.Prelude.{IsTrue}
 use Rattle.std.proofs.lemmas.List.{length-map}
 use Rattle.cfg_theory.specs.Grammar.{head_of, body_of}
-use Rattle.cfgrammar.specs.Symbols.{sym_of, syms_of}
+use Rattle.cfgrammar.specs.Symbols.{sym_of}
 use Rattle.cfgrammar.specs.Sets.{is_set, is_set_in, AreRows}
 use Rattle.cfgrammar.specs.Follows.{HasFollow}
 use Rattle.cfgrammar.proofs.FollowSteps.{nothing_behind, starts_behind, has_set, is_within, in_rules, true_bits, new_bits, new_steps, added_sizes, added_sound, added_keeps}

@@ -1,7 +1,6 @@
-use Rattle.std.proofs.Common.{◌≡◌, ◌<◌, List, length, refl, sym, ap, ◌∙◌, subst, arith}
+use Rattle.std.proofs.Common.{◌<◌, length, refl, ap, ◌∙◌, subst, arith}
 use Rattle.std.specs.Prelude.{map}
 use Rattle.std.specs.List.{filter_map}
-use Rattle.cfg_theory.specs.Grammar.{Production}
 use Rattle.cfgrammar.specs.Symbols.{numbers_of}
 use Rattle.cfgrammar.specs.Parts.{value_of, production_of, with_productions, part_name, token_part_name, texts_in, IsPartNamed, IsTokenPartNamed, ListsProductions, ListsNames}
 use Rattle.cfgrammar.proofs.Lookups.{is_of_any}

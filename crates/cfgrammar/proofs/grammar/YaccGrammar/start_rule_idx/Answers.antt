@@ -1,4 +1,4 @@
-use Rattle.std.proofs.Common.{◌<◌, sym, subst}
+use Rattle.std.proofs.Common.{◌<◌, subst}
 use Rattle.cfgrammar.proofs.Lookups.{some_rule}
 use Rattle.cfgrammar.proofs.grammar.YaccGrammar.start_rule_idx.Goals as goal
 

@@ -1,4 +1,4 @@
-use Rattle.std.proofs.Common.{◌≡◌, ◌<◌, ◌≤◌, length, refl, subst, arith}
+use Rattle.std.proofs.Common.{◌<◌, length, refl, subst, arith}
 use Rattle.cfg_theory.specs.Grammar.{WellFormed}
 use Rattle.cfgrammar.specs.CostTable.{cost_of}
 use Rattle.cfgrammar.specs.Sentences.{Costed}

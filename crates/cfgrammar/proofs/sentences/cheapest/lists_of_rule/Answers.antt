@@ -1,4 +1,4 @@
-use Rattle.std.proofs.Common.{◌≡◌, ℕ, ◌<◌, List, [], length, get_or, sym, ◌∙◌, subst, arith}
+use Rattle.std.proofs.Common.{◌≡◌, ℕ, ◌<◌, List, [], length, get_or, sym, subst, arith}
 use Rattle.cfg_theory.specs.Cost.{AreCheapest}
 use Rattle.cfgrammar.specs.CostTable.{cost_of}
 use Rattle.cfgrammar.proofs.Dictionary.{lists_count}

@@ -1,4 +1,4 @@
-use Rattle.std.proofs.Common.{◌≡◌, ℕ, ◌+◌, ◌-◌, ◌<◌, ◌↔◌, List, length, drop, refl, subst, arith}
+use Rattle.std.proofs.Common.{◌≡◌, ℕ, ◌+◌, ◌-◌, ◌↔◌, length, drop, subst, arith}
 use Rattle.std.specs.Prelude.{Contains}
 use Rattle.cfg_theory.specs.CostTables.{Concatenates}
 use Rattle.cfgrammar.specs.Symbols.{sym_of, syms_of}

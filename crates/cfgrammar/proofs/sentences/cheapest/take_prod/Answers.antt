@@ -1,12 +1,10 @@
-use Rattle.std.proofs.Common.{◌≡◌, ℕ, ◌<◌, ◌↔◌, List, length, refl, sym, ap, ◌∙◌, subst, arith}
-use Rattle.std.specs.Prelude.{Contains, IsTrue}
-use Rattle.cfg_theory.specs.Grammar.{Sym, head_of, body_of}
-use Rattle.cfg_theory.specs.CostTables.{Concatenates}
+use Rattle.std.proofs.Common.{◌≡◌, ℕ, ◌<◌, List, length, refl, sym, ap, ◌∙◌, subst, arith}
+use Rattle.cfg_theory.specs.Grammar.{head_of, body_of}
 use Rattle.cfgrammar.specs.Symbols.{syms_of}
 use Rattle.cfgrammar.specs.Sets.{is_set}
 use Rattle.cfgrammar.specs.CostTable.{cost_of}
 use Rattle.cfgrammar.specs.TokenLists.{lists_of}
-use Rattle.cfgrammar.specs.CheapestTable.{lists_in, AllHaveLists}
+use Rattle.cfgrammar.specs.CheapestTable.{AllHaveLists}
 use Rattle.cfgrammar.proofs.CheapestSteps.{not_wanted, not_given, body_has, made_of, joins, lists_with}
 use Rattle.cfgrammar.proofs.sentences.cheapest.take_prod.Goals as goal
 

@@ -1,6 +1,5 @@
-use Rattle.std.proofs.Common.{◌≡◌, ◌<◌, List, Option, length, nat_eq, refl, sym, ap, ◌∙◌, subst, arith}
+use Rattle.std.proofs.Common.{◌≡◌, List, nat_eq, sym, ap, ◌∙◌, subst}
 use Rattle.cfg_theory.specs.Grammar.{Sym, head_of, body_of}
-use Rattle.cfgrammar.specs.Symbols.{syms_of}
 use Rattle.cfgrammar.specs.CostTable.{cost_of, cost_in, AllHaveCosts, IsCost}
 use Rattle.cfgrammar.proofs.CostSteps.{body_costs}
 use Rattle.cfgrammar.proofs.WantedSteps.{gives_none, gives_if, eq_told}

@@ -1,4 +1,4 @@
-use Rattle.std.proofs.Common.{◌≡◌, ◌<◌, length, refl, sym, ap, ◌∙◌, subst, arith}
+use Rattle.std.proofs.Common.{◌<◌, refl, sym, ap, ◌∙◌, arith}
 use Rattle.cfg_theory.specs.Grammar.{head_of}
 use Rattle.cfgrammar.specs.Sets.{is_set}
 use Rattle.cfgrammar.specs.CostTable.{cost_of}

@@ -1,4 +1,4 @@
-use Rattle.std.proofs.Common.{◌≡◌, ◌<◌, ◌≤◌, Bool, true, false, [], length, get_or, sym, ◌∙◌, subst, arith}
+use Rattle.std.proofs.Common.{◌≡◌, ◌<◌, Bool, true, false, [], length, get_or, sym, ◌∙◌, subst, arith}
 use Rattle.cfg_theory.specs.Cost.{IsBefore}
 use Rattle.cfgrammar.specs.TokenLists.{tokens_of, lists_of}
 use Rattle.cfgrammar.proofs.Dictionary.{lists_count, list_at, all_behind, any_default, same_if}

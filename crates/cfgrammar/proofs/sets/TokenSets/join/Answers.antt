@@ -1,4 +1,4 @@
-use Rattle.std.proofs.Common.{◌≡◌, sym, ◌∙◌}
+use Rattle.std.proofs.Common.{sym, ◌∙◌}
 use Rattle.cfgrammar.proofs.TokenRows.{row_width, join_rows, join_value, join_steps}
 use Rattle.cfgrammar.proofs.sets.TokenSets.join.Goals as goal
 

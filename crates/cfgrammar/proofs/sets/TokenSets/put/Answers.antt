@@ -1,4 +1,4 @@
-use Rattle.std.proofs.Common.{◌≡◌, ◌<◌, sym, ◌∙◌, subst, arith}
+use Rattle.std.proofs.Common.{arith}
 use Rattle.cfgrammar.proofs.TokenRows.{row_width, put_rows, put_value, put_was}
 use Rattle.cfgrammar.proofs.sets.TokenSets.put.Goals as goal
 

@@ -1,4 +1,4 @@
-use Rattle.std.proofs.Common.{◌≡◌, ◌<◌, ◌+◌, ◌-◌, ◌∷◌, length, sym, ap, ◌∙◌, arith, rules}
+use Rattle.std.proofs.Common.{◌<◌, ◌+◌, ◌-◌, ◌∷◌, length, sym, ap, ◌∙◌, arith, rules}
 use Rattle.std.specs.List.{range_with_len}
 use Rattle.cfgrammar.proofs.Ranges.{range_first}
 use Rattle.cfgrammar.proofs.grammar.walks.PIdxsIterator.next.Goals as goal

@@ -1,4 +1,4 @@
-use Rattle.std.proofs.Common.{◌≡◌, ◌++◌, ap, sym, ◌∙◌}
+use Rattle.std.proofs.Common.{◌++◌, ap, ◌∙◌}
 use Rattle.cfgrammar.proofs.Dictionary.{still_ordered, still_sound}
 use Rattle.cfgrammar.proofs.sentences.words.TokenLists.insert.Goals as goal
 

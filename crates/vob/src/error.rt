@@ -11,7 +11,7 @@ use thiserror::Error;
 #[derive(Debug, Drop, Error)]
 pub enum VobError {
     /// The length asked for is past `usize::MAX`.
-    #[error("length past usize::MAX")]
+    #[error("TooLong")]
     TooLong,
     /// There is no memory.
     #[error(transparent)]

@@ -167,6 +167,48 @@ fn answer(alloc: Global, kind: YaccKind, text: &str) -> Result<String, AllocErro
     }
 }
 
+const DECLARATIONS_AT_THE_END: &[(YaccKind, &str, &str)] = &[
+    (YACC, "%left", "File ends prematurely 5"),
+    (YACC, "%left a", "File ends prematurely 7"),
+    (YACC, "%right 'a'", "File ends prematurely 10"),
+    (YACC, "%nonassoc a 'b'", "File ends prematurely 15"),
+    (YACC, "%avoid_insert", "File ends prematurely 13"),
+    (YACC, "%avoid_insert a", "File ends prematurely 15"),
+    (
+        YaccKind::Eco,
+        "%implicit_tokens",
+        "File ends prematurely 16",
+    ),
+    (
+        YaccKind::Eco,
+        "%implicit_tokens a",
+        "File ends prematurely 18",
+    ),
+    (YACC, "%expect-unused", "File ends prematurely 14"),
+    (YACC, "%expect-unused a", "File ends prematurely 16"),
+    (YACC, "%start S", "File ends prematurely 8"),
+    (YACC, "%expect 3", "File ends prematurely 9"),
+    (YACC, "%expect-rr 4", "File ends prematurely 12"),
+    (YACC, "%epp a 'x'", "File ends prematurely 10"),
+    (YACC, "%actiontype T", "File ends prematurely 13"),
+    (YACC, "%parse-param a: b", "File ends prematurely 17"),
+    (YACC, "%parse-generics 'a", "File ends prematurely 18"),
+    (
+        YACC,
+        "%parse-generics",
+        "Reached end of line without finding expected content 15",
+    ),
+];
+
+#[test]
+fn declarations_at_the_end(rt: HostRuntime) -> Result<(), Fail> {
+    for (kind, text, expected) in DECLARATIONS_AT_THE_END {
+        let found = answer(rt.alloc(), *kind, text)?;
+        assert_eq!(rt; found.as_str(), *expected);
+    }
+    Ok(())
+}
+
 const FAULTS_OF_ACTIONS_AND_ENDS: &[(YaccKind, &str, &str)] = &[
     (YACC, "%% S: 'a'", "Incomplete rule 9"),
     (YACC, "%% S: {a} 'b", "Illegal string 10"),

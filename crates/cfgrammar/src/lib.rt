@@ -2,7 +2,8 @@
 //!
 //! A `YaccGrammar` numbers rules, tokens and productions in an index type; contracts see it as a grammar of
 //! numbers, well formed, with names, spans, precedences and kept texts beside them. The contracts that matter most
-//! are those of `prod`, `prod_to_rule` and `start_prod`, with the law
+//! are those of `YaccGrammar::new` and the other ways from a text to a grammar, by the rules of numbering in
+//! `specs/Made`; of `prod`, `prod_to_rule` and `start_prod`, with the law
 //! `grammar::laws::productions_stand_in_one_list` on the lists of `rule_to_prods`; of `firsts` and `follows`,
 //! whose sets hold exactly what derivations show; of `has_path`; and of `sentence_generator`, whose least and
 //! greatest costs and cheapest sentences are over all token lists that a rule derives.

@@ -10,9 +10,12 @@ mod names;
 pub mod parser;
 pub mod validity;
 
+pub use ast::warnings::{YaccGrammarWarning, YaccGrammarWarningKind};
 pub use checked::{ASTModificationError, ASTWithValidityInfo, one_answer, valid_trees_are_sound};
 pub use file::{YaccGrammarFailure, YaccGrammarResult, one_file, one_kind};
 pub use kind::{KindError, kind_comes_back};
+pub use parser::error::YaccGrammarErrorKind;
+pub use validity::YaccGrammarError;
 
 /// What a grammar text is written for.
 #[derive(Clone, Copy, Debug, PartialEq, Eq)]

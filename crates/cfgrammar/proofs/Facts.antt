@@ -7,7 +7,7 @@ use Rattle.std.proofs.lemmas.Bool.{cases_lt}
 use Rattle.cfg_theory.specs.Grammar.{end_token}
 use Rattle.cfgrammar.specs.Value.{GrammarValue, TokenFacts, IsGrammar, IsRuleNamed, end_facts, shown_text}
 use Rattle.cfgrammar.specs.Parts.{token_facts}
-use Rattle.cfgrammar.specs.declared.parts.TokenParts.{TokenParts}
+use Rattle.cfgrammar.specs.declared.yacc.parts.TokenParts.{TokenParts}
 
 -- the facts of a token by its parts
 pub token_in : (tokens : List TokenParts) (facts : List TokenFacts) → map token_facts tokens ≡ facts → (count i t : ℕ) (x : TokenParts) → length tokens ≡ count → i ≡ t → t < count → x ≡ get_or tokens i x → slice_get facts t ≡ Some (token_facts x)

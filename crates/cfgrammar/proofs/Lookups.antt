@@ -6,10 +6,10 @@ use Rattle.cfg_theory.specs.Grammar.{Production, Grammar, IsOf, WellFormed, head
 use Rattle.cfgrammar.specs.Symbols.{syms_of}
 use Rattle.cfgrammar.specs.Value.{GrammarValue}
 use Rattle.cfgrammar.specs.Parts.{value_of, production_of, with_productions}
-use Rattle.cfgrammar.specs.declared.parts.RuleParts.{RuleParts}
-use Rattle.cfgrammar.specs.declared.parts.TokenParts.{TokenParts}
-use Rattle.cfgrammar.specs.declared.parts.ProductionParts.{ProductionParts}
-use Rattle.cfgrammar.specs.declared.parts.KeptParts.{KeptParts}
+use Rattle.cfgrammar.specs.declared.yacc.parts.RuleParts.{RuleParts}
+use Rattle.cfgrammar.specs.declared.yacc.parts.TokenParts.{TokenParts}
+use Rattle.cfgrammar.specs.declared.yacc.parts.ProductionParts.{ProductionParts}
+use Rattle.cfgrammar.specs.declared.yacc.parts.KeptParts.{KeptParts}
 
 module _ {X : Type 0} (view : X → Production) (G : Grammar) (xs : List X) (e : G.productions ≡ map view xs) where
   -- the production of a number

@@ -6,7 +6,7 @@ use Rattle.cfg_read.specs.Asts.{Ast, ProductionAst}
 use Rattle.cfgrammar.specs.Made.{file_head, file_body, file_productions, added_production_facts}
 use Rattle.cfgrammar.specs.MadeParts.{Adds}
 use Rattle.cfgrammar.specs.Parts.{production_of, production_facts}
-use Rattle.cfgrammar.specs.declared.parts.ProductionParts.{ProductionParts}
+use Rattle.cfgrammar.specs.declared.yacc.parts.ProductionParts.{ProductionParts}
 
 -- one more production of the file
 pub files_more : (implicit : Bool) (ast : Ast) (n : ℕ) (ps : List ProductionAst) (p : ProductionAst) (m : ℕ) → m ≡ n + length ps

@@ -5,7 +5,7 @@ use Rattle.cfg_read.specs.declared.yacc.YaccKind.{YaccKind}
 use Rattle.cfg_read.specs.Files.{FileOutcome, reads_file, fails_file, KindOutcome, tells_kind, lacks_kind}
 use Rattle.cfg_read.specs.CheckedAst.{CheckedAst}
 use Rattle.cfg_read.specs.Judging.{is_valid, read_as, unread, reads_as, has_errors}
-use Rattle.cfgrammar.specs.declared.making.YaccGrammarMakeError.TheVariants as errors
+use Rattle.cfgrammar.specs.declared.yacc.making.YaccGrammarMakeError.TheVariants as errors
 use Rattle.cfgrammar.specs.Made.{Makes, of_valid, of_invalid, MakesText, MakesFile, of_kind, without_kind}
 
 makes_memory : (top : ℕ) (c : CheckedAst) (e : AllocError) → Makes top c (Err (errors.Memory e))

@@ -5,10 +5,10 @@ use Rattle.cfg_read.specs.Asts.{Ast}
 use Rattle.cfg_read.specs.Sound.{IsSound}
 use Rattle.cfgrammar.specs.Parts.{rule_facts, token_facts, production_of, production_facts, kept_facts, value_of}
 use Rattle.cfgrammar.specs.Made.{rules_of, tokens_of, productions_of, production_facts_of, kept_of, grammar_of, value_by, too_many, NamesNoAdded}
-use Rattle.cfgrammar.specs.declared.parts.RuleParts.{RuleParts}
-use Rattle.cfgrammar.specs.declared.parts.TokenParts.{TokenParts}
-use Rattle.cfgrammar.specs.declared.parts.ProductionParts.{ProductionParts}
-use Rattle.cfgrammar.specs.declared.parts.KeptParts.{KeptParts}
+use Rattle.cfgrammar.specs.declared.yacc.parts.RuleParts.{RuleParts}
+use Rattle.cfgrammar.specs.declared.yacc.parts.TokenParts.{TokenParts}
+use Rattle.cfgrammar.specs.declared.yacc.parts.ProductionParts.{ProductionParts}
+use Rattle.cfgrammar.specs.declared.yacc.parts.KeptParts.{KeptParts}
 use Rattle.cfgrammar.proofs.MadeCounts.{count_productions}
 use Rattle.cfgrammar.proofs.MadeWell.{made_well}
 

@@ -15,8 +15,8 @@ use Rattle.indexmap.specs.IndexSet.{insert_key}
 use Rattle.cfg_theory.specs.Grammar.{end_token}
 use Rattle.cfgrammar.specs.Value.{GrammarValue, RuleFacts, TokenFacts, IsGrammar, IsRuleNamed, IsTokenNamed, end_facts}
 use Rattle.cfgrammar.specs.Parts.{rule_facts, token_facts, part_name, token_part_name, texts_in, IsPartNamed, IsTokenPartNamed, ListsNames}
-use Rattle.cfgrammar.specs.declared.parts.RuleParts.{RuleParts}
-use Rattle.cfgrammar.specs.declared.parts.TokenParts.{TokenParts}
+use Rattle.cfgrammar.specs.declared.yacc.parts.RuleParts.{RuleParts}
+use Rattle.cfgrammar.specs.declared.yacc.parts.TokenParts.{TokenParts}
 
 some_none : {X : Type 0} (x : X) → Some x ≡ None → ⊥
 some_none x e = cc

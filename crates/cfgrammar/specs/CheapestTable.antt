@@ -9,8 +9,8 @@ use Rattle.cfg_theory.specs.CheapestLists.{IsTight, HaveCosts}
 use Rattle.cfgrammar.specs.CostTable.{bound, cost_in}
 use Rattle.cfgrammar.specs.Sets.{is_set}
 use Rattle.cfgrammar.specs.TokenLists.{joined, spare}
-use Rattle.cfgrammar.specs.declared.sentences.SentenceError.{SentenceError}
-use Rattle.cfgrammar.specs.declared.sentences.SentenceError.TheVariants.{NoSentence, CostTooLarge, OutOfMemory}
+use Rattle.cfgrammar.specs.declared.yacc.sentences.SentenceError.{SentenceError}
+use Rattle.cfgrammar.specs.declared.yacc.sentences.SentenceError.TheVariants.{NoSentence, CostTooLarge, OutOfMemory}
 
 -- the rule derives no token list; or its least cost is past 65,535; of want of memory nothing is said
 abbrev pub ListsAreRefused : Grammar → (ℕ → ℕ) → ℕ → SentenceError → Type 0

@@ -6,8 +6,8 @@ use Rattle.cfg_theory.specs.Derivation.{IsProductive}
 use Rattle.cfg_theory.specs.Cost.{cost, Has, IsGreatestCost}
 use Rattle.cfg_theory.specs.CostTables.{Sums}
 use Rattle.cfg_theory.specs.Greatest.{AreUnbounded, Gains, IsKeptTable}
-use Rattle.cfgrammar.specs.declared.sentences.CostError.{CostError}
-use Rattle.cfgrammar.specs.declared.sentences.CostError.TheVariants.{NoSentence, CostTooLarge}
+use Rattle.cfgrammar.specs.declared.yacc.sentences.CostError.{CostError}
+use Rattle.cfgrammar.specs.declared.yacc.sentences.CostError.TheVariants.{NoSentence, CostTooLarge}
 use Rattle.cfgrammar.specs.CostTable.{bound, cost_in}
 use Rattle.cfgrammar.specs.Sets.{is_set}
 

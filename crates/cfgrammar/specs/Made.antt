@@ -18,10 +18,10 @@ use Rattle.cfg_read.specs.Judging.{is_valid, IsChecked}
 use Rattle.cfg_read.specs.Files.{TellsKind, LacksKind}
 use Rattle.cfg_theory.specs.Grammar.{Sym, rule, token, Production, Grammar}
 use Rattle.cfgrammar.specs.Value.{RuleFacts, TokenFacts, ProductionFacts, ParamFacts, KeptFacts, GrammarValue, end_facts}
-use Rattle.cfgrammar.specs.declared.making.TooMany.{TooMany}
-use Rattle.cfgrammar.specs.declared.making.TooMany.TheVariants as told
-use Rattle.cfgrammar.specs.declared.making.YaccGrammarMakeError.{YaccGrammarMakeError}
-use Rattle.cfgrammar.specs.declared.making.YaccGrammarMakeError.TheVariants as errors
+use Rattle.cfgrammar.specs.declared.yacc.making.TooMany.{TooMany}
+use Rattle.cfgrammar.specs.declared.yacc.making.TooMany.TheVariants as told
+use Rattle.cfgrammar.specs.declared.yacc.making.YaccGrammarMakeError.{YaccGrammarMakeError}
+use Rattle.cfgrammar.specs.declared.yacc.making.YaccGrammarMakeError.TheVariants as errors
 
 -- the names of the added rules: `^`, `^~` and `~`
 abbrev pub start_name : List ℕ

@@ -3,7 +3,7 @@ use Rattle.std.specs.Prelude.{◌≡◌, ℕ, List, ◌++◌, map}
 use Rattle.cfg_theory.specs.Grammar.{Production}
 use Rattle.cfgrammar.specs.Parts.{production_of, production_facts}
 use Rattle.cfgrammar.specs.Made.{added_production_facts}
-use Rattle.cfgrammar.specs.declared.parts.ProductionParts.{ProductionParts}
+use Rattle.cfgrammar.specs.declared.yacc.parts.ProductionParts.{ProductionParts}
 
 -- added productions stand behind the others
 pub record Adds {S : Type 0} (number : S → ℕ) (old new : List (ProductionParts S)) (added : List Production) : Type 0 where

@@ -7,10 +7,10 @@ use Rattle.std.specs.declared.string.String.{String}
 use Rattle.cfg_theory.specs.Grammar.{Production, Grammar, head_of}
 use Rattle.cfgrammar.specs.Symbols.{syms_of}
 use Rattle.cfgrammar.specs.Value.{RuleFacts, TokenFacts, ProductionFacts, ParamFacts, KeptFacts, GrammarValue, productions_of}
-use Rattle.cfgrammar.specs.declared.parts.RuleParts.{RuleParts}
-use Rattle.cfgrammar.specs.declared.parts.TokenParts.{TokenParts}
-use Rattle.cfgrammar.specs.declared.parts.ProductionParts.{ProductionParts}
-use Rattle.cfgrammar.specs.declared.parts.KeptParts.{KeptParts}
+use Rattle.cfgrammar.specs.declared.yacc.parts.RuleParts.{RuleParts}
+use Rattle.cfgrammar.specs.declared.yacc.parts.TokenParts.{TokenParts}
+use Rattle.cfgrammar.specs.declared.yacc.parts.ProductionParts.{ProductionParts}
+use Rattle.cfgrammar.specs.declared.yacc.parts.KeptParts.{KeptParts}
 
 -- the names of a list
 abbrev pub texts_in : List (String Global) → List (List ℕ)

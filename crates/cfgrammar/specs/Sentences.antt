@@ -4,8 +4,8 @@ use Rattle.cfg_base.specs.declared.symbol.TIdx.{TIdx}
 use Rattle.cfg_theory.specs.Grammar.{Grammar}
 use Rattle.cfg_theory.specs.Derivation.{IsProductive}
 use Rattle.cfg_theory.specs.Cost.{IsLeastCost}
-use Rattle.cfgrammar.specs.declared.sentences.CostError.{CostError}
-use Rattle.cfgrammar.specs.declared.sentences.CostError.TheVariants.{NoSentence, CostTooLarge}
+use Rattle.cfgrammar.specs.declared.yacc.sentences.CostError.{CostError}
+use Rattle.cfgrammar.specs.declared.yacc.sentences.CostError.TheVariants.{NoSentence, CostTooLarge}
 
 -- a grammar with the costs of its tokens
 pub record Costed : Type 0 where

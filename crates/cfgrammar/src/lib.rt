@@ -4,7 +4,7 @@
 //! numbers, well formed, with names, spans, precedences and kept texts beside them. The contracts that matter most
 //! are those of `YaccGrammar::new` and the other ways from a text to a grammar, by the rules of numbering in
 //! `specs/Made`; of `prod`, `prod_to_rule` and `start_prod`, with the law
-//! `grammar::laws::productions_stand_in_one_list` on the lists of `rule_to_prods`; of `firsts` and `follows`,
+//! `yacc::grammar::laws::productions_stand_in_one_list` on the lists of `rule_to_prods`; of `firsts` and `follows`,
 //! whose sets hold exactly what derivations show; of `has_path`; and of `sentence_generator`, whose least and
 //! greatest costs and cheapest sentences are over all token lists that a rule derives.
 //!
@@ -13,14 +13,9 @@
 //! closed under the productions, and sets or costs that are both are exact by the laws of `cfg_theory`.
 #![tactic(auto)]
 
-pub mod firsts;
-pub mod follows;
-pub mod grammar;
-pub mod making;
-mod parts;
-mod paths;
-pub mod sentences;
-mod sets;
+pub mod yacc;
 
+pub use cfg_base::newlinecache::NewlineCache;
+pub use cfg_base::span::{Location, Span, Spanned};
+pub use cfg_base::symbol::{PIdx, RIdx, SIdx, Symbol, TIdx};
 pub use cfg_base::{header, index, markmap, newlinecache, span, symbol};
-pub use cfg_read::yacc;

@@ -1,9 +1,8 @@
 //! Texts, and the rules, productions and tokens of their grammars.
 
 use crate::make::{TREE, has_prod, has_rule, has_token, made};
-use cfgrammar::grammar::YaccGrammar;
 use cfgrammar::index::IndexStorage;
-use cfgrammar::yacc::{AssocKind, Precedence, YaccKind};
+use cfgrammar::yacc::{AssocKind, Precedence, YaccGrammar, YaccKind};
 use std::alloc::{AllocError, Global};
 use std::process::Abort;
 use std::test::*;

@@ -2,13 +2,11 @@
 
 ghost use Rattle.std.specs.Prelude.{◌<◌, IsTrue, length};
 
-use cfg_base::span::Spanned;
-use cfgrammar::grammar::YaccGrammar;
 use cfgrammar::index::IndexStorage;
-use cfgrammar::making::{TooMany, YaccGrammarMakeError};
-use cfgrammar::symbol::{PIdx, RIdx, TIdx};
-use cfgrammar::yacc::validity::YaccGrammarError;
-use cfgrammar::yacc::{YaccKind, YaccOriginalActionKind};
+use cfgrammar::yacc::{
+    TooMany, YaccGrammar, YaccGrammarError, YaccGrammarMakeError, YaccKind, YaccOriginalActionKind,
+};
+use cfgrammar::{PIdx, RIdx, Spanned, TIdx};
 use std::alloc::{AllocError, Global};
 use std::test::*;
 

@@ -1,9 +1,8 @@
 //! Texts without a grammar, and the ways to a grammar.
 
 use crate::make::{TREE, refusal, spell_refusal};
-use cfgrammar::grammar::YaccGrammar;
 use cfgrammar::index::IndexStorage;
-use cfgrammar::yacc::{ASTModificationError, ASTWithValidityInfo, YaccKind};
+use cfgrammar::yacc::{ASTModificationError, ASTWithValidityInfo, YaccGrammar, YaccKind};
 use std::alloc::{AllocError, Global};
 use std::process::Abort;
 use std::test::*;

@@ -4,8 +4,8 @@ ghost use Rattle.std.specs.Prelude.{◌≡◌, ◌<◌};
 
 use crate::make::{TREE, has_rule, made};
 use cfgrammar::index::IndexStorage;
-use cfgrammar::sentences::{CostError, SentenceError, SentenceGenerator};
-use cfgrammar::symbol::{RIdx, TIdx};
+use cfgrammar::yacc::{CostError, SentenceError, SentenceGenerator};
+use cfgrammar::{RIdx, TIdx};
 use std::alloc::{AllocError, Global};
 use std::process::Abort;
 use std::test::*;

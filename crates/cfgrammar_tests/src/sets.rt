@@ -3,11 +3,9 @@
 ghost use Rattle.std.specs.Prelude.{◌≡◌, ◌<◌, length};
 
 use crate::make::{TREE, has_rule, has_token, made};
-use cfgrammar::firsts::YaccFirsts;
-use cfgrammar::follows::YaccFollows;
-use cfgrammar::grammar::YaccGrammar;
+use cfgrammar::RIdx;
 use cfgrammar::index::IndexStorage;
-use cfgrammar::symbol::RIdx;
+use cfgrammar::yacc::{YaccFirsts, YaccFollows, YaccGrammar};
 use std::alloc::{AllocError, Global};
 use std::process::Abort;
 use std::test::*;

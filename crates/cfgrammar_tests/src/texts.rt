@@ -3,10 +3,9 @@
 ghost use Rattle.std.specs.Prelude.{◌≡◌, ◌<◌, length};
 
 use crate::make::{TREE, has_prod, has_rule, has_token, made};
-use cfgrammar::grammar::YaccGrammar;
+use cfgrammar::RIdx;
 use cfgrammar::index::IndexStorage;
-use cfgrammar::symbol::RIdx;
-use cfgrammar::yacc::{YaccKind, YaccOriginalActionKind};
+use cfgrammar::yacc::{YaccGrammar, YaccKind, YaccOriginalActionKind};
 use std::alloc::{AllocError, Global};
 use std::process::Abort;
 use std::test::*;

@@ -1,0 +1,13 @@
+use Rattle.cfgrammar.specs.Firsts.{IsClosedAt, room}
+use Rattle.cfgrammar.proofs.Passed.{step_loose}
+use Rattle.cfgrammar.proofs.yacc.firsts.YaccFirsts.pass_back.Goals as goal
+
+pub prods-preserved : goal.prods-preserved
+prods-preserved g c =
+    let G = c.args.grm.now.grammar in
+    record {
+      sizes = c.take_prod-changed.ensures.sizes;
+      width = c.take_prod-changed.ensures.width;
+      sound = c.take_prod-changed.ensures.sound;
+      steps = step_loose room (λ s. IsClosedAt G s (g.S.IndexStorage.number c.index_of.result)) c.args.self.now c.prods.self c.take_prod-changed.new.self c.prods.changed c.take_prod-changed.result c.prods.invariant.steps c.take_prod-changed.ensures.steps;
+    }

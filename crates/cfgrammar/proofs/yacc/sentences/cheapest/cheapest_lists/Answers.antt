@@ -1,0 +1,17 @@
+use Rattle.std.proofs.Common.{◌≡◌, ℕ, ◌<◌, List, length, ◌∙◌}
+use Rattle.cfgrammar.specs.CostTable.{cost_of}
+use Rattle.cfgrammar.specs.CheapestTable.{IsJoined, spare_in}
+use Rattle.cfgrammar.proofs.Passed.{done}
+use Rattle.cfgrammar.proofs.CheapestSteps.{no_lists_yet}
+use Rattle.cfgrammar.proofs.yacc.sentences.cheapest.cheapest_lists.Goals as goal
+
+pub passes-init : goal.passes-init
+passes-init g c =
+    let G = c.args.grm.now.grammar in
+    let n : c.to_usize.result ≡ G.rules = c.to_usize.ensures.value ∙ c.rules_len.ensures in
+    no_lists_yet G (cost_of c.args.costs.now) c.args.least.now c.to_usize.result c.in_ok-table.table.items n c.in_ok-table.ensures
+
+pub returns-then-not-changed-clause-joined : goal.returns-then-not-changed-clause-joined
+returns-then-not-changed-clause-joined g c =
+    let G = c.args.grm.now.grammar in
+    done spare_in (λ (t : List (List (List ℕ))). (p : ℕ) → p < length G.productions → IsJoined G (cost_of c.args.costs.now) c.args.least.now c.args.wanted.now.bits p t) c.passes.table.items c.sweep.new.table.items c.in_ok-changed.changed c.if-not-changed.true c.in_ok-changed.ensures.steps

@@ -1,0 +1,11 @@
+use Rattle.std.proofs.Common.{ℕ, ◌<◌, Bool, List, length}
+use Rattle.cfgrammar.specs.CostTable.{cost_of}
+use Rattle.cfgrammar.specs.Sets.{missing}
+use Rattle.cfgrammar.specs.Greatest.{IsNarrowedBy}
+use Rattle.cfgrammar.proofs.Passed.{done}
+use Rattle.cfgrammar.proofs.yacc.sentences.unbounded.narrowed.Goals as goal
+
+pub returns-then-not-sweep-clause-closed : goal.returns-then-not-sweep-clause-closed
+returns-then-not-sweep-clause-closed g c =
+    let G = c.args.grm.now.grammar in
+    done missing (λ (b : List Bool). (p : ℕ) → p < length G.productions → IsNarrowedBy G (cost_of c.args.costs.now) c.args.costly.now c.args.old.now.bits p b) c.passes.new.bits c.sweep.new.new.bits c.sweep.result c.if-not-sweep.true c.sweep.ensures.steps

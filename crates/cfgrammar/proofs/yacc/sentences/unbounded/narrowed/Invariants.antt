@@ -1,0 +1,14 @@
+use Rattle.std.proofs.Common.{◌≡◌, length}
+use Rattle.cfgrammar.specs.CostTable.{cost_of}
+use Rattle.cfgrammar.specs.Sets.{missing}
+use Rattle.cfgrammar.specs.Greatest.{AreGaining}
+use Rattle.cfgrammar.proofs.yacc.sentences.unbounded.narrowed.Given as goal
+
+abbrev pub invariant-passes : goal.invariant-passes
+invariant-passes g l = record {
+  width : length l.new.bits ≡ l.grm.grammar.rules;
+  sound : AreGaining l.grm.grammar (cost_of l.costs) l.old.bits l.new.bits;
+}
+
+abbrev pub decreases-passes : goal.decreases-passes
+decreases-passes g l = missing l.new.bits

@@ -1,0 +1,11 @@
+use Rattle.std.proofs.Common.{ℕ, ◌<◌, Bool, List, length}
+use Rattle.cfgrammar.specs.CostTable.{cost_of}
+use Rattle.cfgrammar.specs.Sets.{missing}
+use Rattle.cfgrammar.specs.Greatest.{IsNarrowedBy}
+use Rattle.cfgrammar.proofs.Passed.{step_last}
+use Rattle.cfgrammar.proofs.yacc.sentences.unbounded.sweep.Goals as goal
+
+pub returns-clause-steps : goal.returns-clause-steps
+returns-clause-steps g c =
+    let G = c.args.grm.now.grammar in
+    step_last missing (λ (b : List Bool). (p : ℕ) → p < length G.productions → IsNarrowedBy G (cost_of c.args.costs.now) c.args.costly.now c.args.old.now.bits p b) c.args.new.now.bits c.pass_back-back.new.new.bits c.pass-on.new.new.bits c.pass_back-back.result c.pass-on.result c.pass_back-back.ensures.steps c.pass-on.ensures.steps

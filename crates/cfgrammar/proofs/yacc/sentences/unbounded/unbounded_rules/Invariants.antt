@@ -1,0 +1,15 @@
+use Rattle.std.proofs.Common.{◌≡◌, ℕ, length}
+use Rattle.cfg_theory.specs.Greatest.{IsBoundedBy}
+use Rattle.cfgrammar.specs.CostTable.{cost_of}
+use Rattle.cfgrammar.specs.Sets.{is_set}
+use Rattle.cfgrammar.specs.Greatest.{held}
+use Rattle.cfgrammar.proofs.yacc.sentences.unbounded.unbounded_rules.Given as goal
+
+abbrev pub invariant-rounds : goal.invariant-rounds
+invariant-rounds g l = record {
+  width : length l.kept.bits ≡ l.grm.grammar.rules;
+  bounded : (n : ℕ) × IsBoundedBy l.grm.grammar (cost_of l.costs) (is_set l.kept.bits) n;
+}
+
+abbrev pub decreases-rounds : goal.decreases-rounds
+decreases-rounds g l = held l.kept.bits

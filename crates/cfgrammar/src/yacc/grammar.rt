@@ -1,0 +1,214 @@
+//! The grammar value: rules, productions and tokens by numbers.
+
+ghost use Rattle.std.specs.Prelude.{◌≡◌, ℕ, zero, ◌<◌, ◌≤◌, ◌↔◌, ◌-◌, List, [], length, map, get_or, slice_get, option_map, Some, MatchOption, IfOk, replicate};
+ghost use Rattle.std.specs.List.{range_with_len};
+ghost use Rattle.std.specs.Option.{option_copied};
+ghost use Rattle.std.specs.String.{string_bytes};
+ghost use Rattle.cfg_theory.specs.Grammar.{Grammar, WellFormed, IsOf, head_of, body_of, end_token};
+ghost use Rattle.cfgrammar.specs.Symbols.{syms_of, numbers_of};
+ghost use Rattle.cfgrammar.specs.Value.{GrammarValue, IsGrammar, IsRuleNamed, IsTokenNamed, productions_of};
+ghost use Rattle.cfgrammar.specs.Parts.{value_of, production_of, with_productions, texts_in, ListsProductions, ListsNames};
+
+pub mod laws;
+mod name_sets;
+mod names;
+mod new;
+mod printed;
+mod texts;
+mod tokens_map;
+mod walks;
+
+use crate::yacc::parts::{KeptParts, ProductionParts, RuleParts, TokenParts};
+use cfg_base::index::IndexStorage;
+use cfg_base::symbol::{PIdx, RIdx, SIdx, Symbol, TIdx};
+use indexmap::IndexSet;
+use std::alloc::{AllocError, Global};
+use std::marker::Model;
+pub use walks::{PIdxs, RIdxs, TIdxs};
+
+/// A grammar whose rules, tokens and productions have numbers of `S`.
+#[derive(Drop)]
+pub struct YaccGrammar<S: IndexStorage> {
+    rules: Vec<RuleParts>,
+    rule_prods: Vec<Vec<PIdx<S>>>,
+    tokens: Vec<TokenParts>,
+    prods: Vec<ProductionParts<S>>,
+    start: PIdx<S>,
+    kept: KeptParts<S>,
+    rule_names: IndexSet<String>,
+    token_names: IndexSet<String>,
+}
+
+impl<S: IndexStorage> Model for YaccGrammar<S> {
+    ghost use Rattle.std.specs.Prelude.{map};
+    ghost use Rattle.cfgrammar.specs.Symbols.{numbers_of};
+    ghost use Rattle.cfgrammar.specs.Value.{GrammarValue, IsGrammar};
+    ghost use Rattle.cfgrammar.specs.Parts.{value_of, texts_in, ListsProductions, ListsNames};
+
+    ghost Value = { GrammarValue };
+
+    ghost view = { λ g. value_of S.number g.rules.items g.tokens.items g.prods.items (S.number g.start.0) g.kept };
+
+    ghost invariant = { λ g.
+        IsGrammar S.MAX (value_of S.number g.rules.items g.tokens.items g.prods.items (S.number g.start.0) g.kept) ×
+        ListsProductions (value_of S.number g.rules.items g.tokens.items g.prods.items (S.number g.start.0) g.kept).grammar (map (λ l. numbers_of S.number l.items) g.rule_prods.items) ×
+        ListsNames (value_of S.number g.rules.items g.tokens.items g.prods.items (S.number g.start.0) g.kept) (texts_in g.rule_names.keys) (texts_in g.token_names.keys) };
+}
+
+/// The index of a number that fits.
+pub(crate) fn index_of<S: IndexStorage>(n: usize) -> S
+    requires { n ≤ S.MAX }
+    ensures { S.number result ≡ n }
+{
+    S::from_usize(n).unwrap()
+}
+
+/// A kept text as a slice.
+fn text_of(text: &Option<String>) -> Option<&str>
+    ensures { option_map (λ s. s.now) result ≡ option_map string_bytes text.now }
+{
+    match text {
+        Some(text) => Some(text.as_str()),
+        None => None,
+    }
+}
+
+/// The productions of each rule.
+fn list_productions<S: IndexStorage>(
+    alloc: Global,
+    rules: usize,
+    prods: &[ProductionParts<S>],
+) -> Result<Vec<Vec<PIdx<S>>>, AllocError>
+    requires fits { length prods.now ≤ S.MAX }
+    requires heads { (p A : ℕ) → IsOf (with_productions rules (map (production_of S.number) prods.now)) p A → A < rules }
+    ensures { IfOk result (λ v. ListsProductions (with_productions rules (map (production_of S.number) prods.now)) (map (λ l. numbers_of S.number l.items) v.items)) }
+{
+    let mut lists = empty_lists(alloc, rules)?;
+    'prods: for number in 0..prods.len() {
+        let rule = prods[number].rule.0.to_usize();
+        let list = &mut lists[rule];
+        list.push(PIdx(index_of(number)))?;
+    }
+    Ok(lists)
+}
+
+fn empty_lists<S: IndexStorage>(
+    alloc: Global,
+    rules: usize,
+) -> Result<Vec<Vec<PIdx<S>>>, AllocError>
+    ensures { IfOk result (λ v. map (λ l. numbers_of S.number l.items) v.items ≡ replicate rules []) }
+{
+    let mut lists = Vec::new(alloc);
+    'rules: for _ in 0..rules {
+        lists.push(Vec::new(alloc))?;
+    }
+    Ok(lists)
+}
+
+impl<S: IndexStorage> YaccGrammar<S> {
+    /// Of parts that make a well-formed grammar, whose counts fit.
+    pub(crate) fn of_parts(
+        alloc: Global,
+        rules: Vec<RuleParts>,
+        tokens: Vec<TokenParts>,
+        prods: Vec<ProductionParts<S>>,
+        start: PIdx<S>,
+        kept: KeptParts<S>,
+    ) -> Result<Self, AllocError>
+        requires { IsGrammar S.MAX (value_of S.number rules.items tokens.items prods.items (S.number start.0) kept) }
+        ensures { IfOk result (λ g. g ≡ value_of S.number rules.items tokens.items prods.items (S.number start.0) kept) }
+    {
+        let rule_prods = list_productions(alloc, rules.len(), prods.as_slice())?;
+        let rule_names = name_sets::rule_names(alloc, rules.as_slice())?;
+        let token_names = name_sets::token_names(alloc, tokens.as_slice())?;
+        Ok(YaccGrammar {
+            rules,
+            rule_prods,
+            tokens,
+            prods,
+            start,
+            kept,
+            rule_names,
+            token_names,
+        })
+    }
+
+    /// How many productions there are.
+    pub fn prods_len(&self) -> PIdx<S>
+        ensures { S.number result.0 ≡ length self.now.grammar.productions }
+    {
+        PIdx(index_of(self.prods.len()))
+    }
+
+    /// How many rules there are.
+    pub fn rules_len(&self) -> RIdx<S>
+        ensures { S.number result.0 ≡ self.now.grammar.rules }
+    {
+        RIdx(index_of(self.rules.len()))
+    }
+
+    /// How many tokens there are, the end token among them.
+    pub fn tokens_len(&self) -> TIdx<S>
+        ensures { S.number result.0 ≡ self.now.grammar.tokens }
+    {
+        TIdx(index_of(self.tokens.len()))
+    }
+
+    /// The symbols of a production.
+    pub fn prod(&self, pidx: PIdx<S>) -> &[Symbol<S>]
+        requires { S.number pidx.0 < length self.now.grammar.productions }
+        ensures { syms_of S.number result.now ≡ body_of self.now.grammar (S.number pidx.0) }
+    {
+        self.prods[pidx.0.to_usize()].symbols.as_slice()
+    }
+
+    /// How many symbols a production has.
+    pub fn prod_len(&self, pidx: PIdx<S>) -> SIdx<S>
+        requires { S.number pidx.0 < length self.now.grammar.productions }
+        ensures { S.number result.0 ≡ length (body_of self.now.grammar (S.number pidx.0)) }
+    {
+        let symbols = self.prods[pidx.0.to_usize()].symbols.as_slice();
+        SIdx(index_of(symbols.len()))
+    }
+
+    /// The rule of a production.
+    pub fn prod_to_rule(&self, pidx: PIdx<S>) -> RIdx<S>
+        requires { S.number pidx.0 < length self.now.grammar.productions }
+        ensures { S.number result.0 ≡ head_of self.now.grammar (S.number pidx.0) }
+    {
+        self.prods[pidx.0.to_usize()].rule
+    }
+
+    /// The productions of a rule, in order.
+    pub fn rule_to_prods(&self, ridx: RIdx<S>) -> &[PIdx<S>]
+        requires { S.number ridx.0 < self.now.grammar.rules }
+        ensures { numbers_of S.number result.now ≡ productions_of self.now.grammar (S.number ridx.0) }
+    {
+        self.rule_prods[ridx.0.to_usize()].as_slice()
+    }
+
+    /// The production of the start rule, whose one symbol is the rule that a text begins with.
+    pub fn start_prod(&self) -> PIdx<S>
+        ensures value { S.number result.0 ≡ self.now.grammar.start }
+        ensures well_formed { WellFormed self.now.grammar }
+    {
+        self.start
+    }
+
+    /// The start rule, which no production names.
+    pub fn start_rule_idx(&self) -> RIdx<S>
+        ensures value { S.number result.0 ≡ 0 }
+        ensures within { 0 < self.now.grammar.rules }
+    {
+        let _rules = &self.rules;
+        RIdx(index_of(0))
+    }
+
+    /// The end token, which is the last one and stands in no production.
+    pub fn eof_token_idx(&self) -> TIdx<S>
+        ensures value { S.number result.0 ≡ end_token self.now.grammar }
+        ensures within { S.number result.0 < self.now.grammar.tokens }
+    {
+        TIdx(index_of(self.tokens.len() - 1))
+    }
+}

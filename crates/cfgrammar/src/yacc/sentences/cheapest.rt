@@ -1,0 +1,278 @@
+//! All cheapest token lists of a rule.
+//!
+//! Productions that give their rules the least cost put together lists of the rules that they name, in passes
+//! over the productions until no list is new. Only rules that the asked one needs take part, so each list is a
+//! part of one that is answered.
+
+ghost use Rattle.std.specs.Prelude.{◌≡◌, ℕ, ◌<◌, ◌≤◌, ◌↔◌, ◌∷◌, IsTrue, IfOk, IfErr, List, [], length, get_or, replicate, Contains, Some};
+ghost use Rattle.cfg_theory.specs.Grammar.{Grammar, body_of};
+ghost use Rattle.cfg_theory.specs.Cost.{cost, AreCheapest};
+ghost use Rattle.cfg_theory.specs.CostTables.{Concatenates};
+ghost use Rattle.cfgrammar.specs.Symbols.{sym_of, syms_of};
+ghost use Rattle.cfgrammar.specs.Passes.{Steps, Anything};
+ghost use Rattle.cfgrammar.specs.CostTable.{bound, cost_of, cost_in, AreCosts, IsClosedBy};
+ghost use Rattle.cfgrammar.specs.TokenLists.{tokens_of, lists_of};
+ghost use Rattle.cfgrammar.specs.CheapestTable.{ListsAreRefused, IsFirstCheapest, lists_in, lists_before, AllHaveLists, AreLists, IsJoined, spare_in};
+
+use super::wanted::{gives_least, wanted_rules};
+use super::words::{TokenLists, insert_all, join_all, put_before};
+use super::{BOUND, SentenceError, SentenceGenerator};
+use crate::yacc::grammar::{YaccGrammar, index_of};
+use cfg_base::index::IndexStorage;
+use cfg_base::symbol::{PIdx, RIdx, Symbol, TIdx};
+use cfg_theory::cost::{
+    cheap_lists_are_short, cheapest_lists_of_wanted_rules, productive_rules_have_least_costs,
+};
+use std::alloc::{AllocError, Global};
+use vob::Vob;
+
+impl<'a, S: IndexStorage> SentenceGenerator<'a, S> {
+    /// All cheapest token lists of the rule in the dictionary order of token numbers, each once. Where a token
+    /// costs nothing there may be no end of them, and then they don't fit into memory.
+    pub fn min_sentences(
+        &self,
+        alloc: Global,
+        ridx: RIdx<S>,
+    ) -> Result<Vec<Vec<TIdx<S>>>, SentenceError>
+        requires { S.number ridx.0 < self.now.grammar.rules }
+        ensures ok { IfOk result (λ v. AreCheapest self.now.grammar (cost_of self.now.costs) (S.number ridx.0) (lists_of S.number v.items)) }
+        ensures some { IfOk result (λ v. 0 < length v.items) }
+        ensures err { IfErr result (λ e. ListsAreRefused self.now.grammar (cost_of self.now.costs) (S.number ridx.0) e) }
+    {
+        productive_rules_have_least_costs();
+        self.grm.start_prod();
+        match self.least[ridx.0.to_usize()] {
+            None => Err(SentenceError::NoSentence),
+            Some(cost) if cost < BOUND => {
+                let lists = lists_of_rule(
+                    alloc,
+                    self.grm,
+                    self.costs.as_slice(),
+                    self.least.as_slice(),
+                    ridx,
+                )?;
+                Ok(lists)
+            }
+            Some(_) => Err(SentenceError::CostTooLarge),
+        }
+    }
+
+    /// The first of the cheapest token lists of the rule.
+    pub fn min_sentence(&self, alloc: Global, ridx: RIdx<S>) -> Result<Vec<TIdx<S>>, SentenceError>
+        requires { S.number ridx.0 < self.now.grammar.rules }
+        ensures ok { IfOk result (λ w. IsFirstCheapest self.now.grammar (cost_of self.now.costs) (S.number ridx.0) (tokens_of S.number w.items)) }
+        ensures short { ((t : ℕ) → t < self.now.grammar.tokens → 1 ≤ cost_of self.now.costs t) → IfOk result (λ w. length w.items ≤ cost (cost_of self.now.costs) (tokens_of S.number w.items)) }
+        ensures err { IfErr result (λ e. ListsAreRefused self.now.grammar (cost_of self.now.costs) (S.number ridx.0) e) }
+    {
+        cheap_lists_are_short();
+        self.grm.start_prod();
+        let mut lists = self.min_sentences(alloc, ridx)?;
+        Ok(lists.swap_remove(0))
+    }
+}
+
+/// The cheapest lists of a rule whose least cost is below the bound.
+fn lists_of_rule<S: IndexStorage>(
+    alloc: Global,
+    grm: &YaccGrammar<S>,
+    costs: &[u8],
+    least: &[Option<u32>],
+    ridx: RIdx<S>,
+) -> Result<Vec<Vec<TIdx<S>>>, AllocError>
+    requires rule { S.number ridx.0 < grm.now.grammar.rules }
+    requires tokens { length costs.now ≡ grm.now.grammar.tokens }
+    requires costs { AreCosts grm.now.grammar (cost_of costs.now) least.now }
+    requires closed { (p : ℕ) → p < length grm.now.grammar.productions → IsClosedBy grm.now.grammar (cost_of costs.now) p least.now }
+    requires cost { (n : ℕ) × (cost_in least.now (S.number ridx.0) ≡ Some n) × (n < bound) }
+    ensures lists { IfOk result (λ v. AreCheapest grm.now.grammar (cost_of costs.now) (S.number ridx.0) (lists_of S.number v.items)) }
+    ensures some { IfOk result (λ v. 0 < length v.items) }
+{
+    cheapest_lists_of_wanted_rules();
+    let wanted = wanted_rules(alloc, grm, costs, least, ridx)?;
+    let mut table = cheapest_lists(alloc, grm, costs, least, &wanted)?;
+    let lists = table.swap_remove(ridx.0.to_usize());
+    Ok(lists.into_vec())
+}
+
+/// What a symbol and lists behind it give.
+fn put_symbol<S: IndexStorage>(
+    alloc: Global,
+    symbol: Symbol<S>,
+    table: &[TokenLists<S>],
+    rests: &[Vec<TIdx<S>>],
+) -> Result<Vec<Vec<TIdx<S>>>, AllocError>
+    requires { AllHaveLists table.now (sym_of S.number symbol ∷ []) }
+    ensures { IfOk result (λ out. lists_of S.number out.items ≡ lists_before table.now (sym_of S.number symbol) (lists_of S.number rests.now)) }
+{
+    match symbol {
+        Symbol::Rule(rule) => join_all(alloc, table[rule.0.to_usize()].as_slice(), rests),
+        Symbol::Token(token) => {
+            let mut list = Vec::new(alloc);
+            list.push(token)?;
+            let mut out = Vec::new(alloc);
+            put_before(alloc, list.as_slice(), rests, &mut out)?;
+            Ok(out)
+        }
+    }
+}
+
+/// The lists that symbols put together, of lists of the rules.
+fn put_together<S: IndexStorage>(
+    alloc: Global,
+    symbols: &[Symbol<S>],
+    table: &[TokenLists<S>],
+) -> Result<Vec<Vec<TIdx<S>>>, AllocError>
+    requires { AllHaveLists table.now (syms_of S.number symbols.now) }
+    ensures { IfOk result (λ out. (w : List ℕ) → Contains (lists_of S.number out.items) w ↔ Concatenates (lists_in table.now) (syms_of S.number symbols.now) w) }
+{
+    let mut out = Vec::new(alloc);
+    out.push(Vec::new(alloc))?;
+    'back: for place in 0..symbols.len() {
+        let symbol = symbols[symbols.len() - 1 - place];
+        out = put_symbol(alloc, symbol, table, out.as_slice())?;
+    }
+    Ok(out)
+}
+
+/// Takes in one production, and says whether a list was new.
+fn take_prod<S: IndexStorage>(
+    alloc: Global,
+    grm: &YaccGrammar<S>,
+    costs: &[u8],
+    least: &[Option<u32>],
+    wanted: &Vob,
+    pidx: PIdx<S>,
+    table: &mut Vec<TokenLists<S>>,
+) -> Result<bool, AllocError>
+    requires production { S.number pidx.0 < length grm.now.grammar.productions }
+    requires tokens { length costs.now ≡ grm.now.grammar.tokens }
+    requires costs { AreCosts grm.now.grammar (cost_of costs.now) least.now }
+    requires width { length wanted.now.bits ≡ grm.now.grammar.rules }
+    requires lists { AreLists grm.now.grammar (cost_of costs.now) least.now table.old.items }
+    ensures lists { IfOk result (λ _. AreLists grm.now.grammar (cost_of costs.now) least.now table.new.items) }
+    ensures steps { IfOk result (λ b. Steps spare_in (IsJoined grm.now.grammar (cost_of costs.now) least.now wanted.now.bits (S.number pidx.0)) table.old.items table.new.items b) }
+{
+    cheapest_lists_of_wanted_rules();
+    grm.start_prod();
+    let rule = grm.prod_to_rule(pidx).0.to_usize();
+    if !wanted.get_unchecked(rule) {
+        return Ok(false);
+    }
+    if !gives_least(grm, costs, least, pidx) {
+        return Ok(false);
+    }
+    let lists = put_together(alloc, grm.prod(pidx), table.as_slice())?;
+    let own = &mut table[rule];
+    let changed = insert_all(alloc, lists.as_slice(), own)?;
+    Ok(changed)
+}
+
+/// Takes in each production once, and says whether a list was new.
+fn pass<S: IndexStorage>(
+    alloc: Global,
+    grm: &YaccGrammar<S>,
+    costs: &[u8],
+    least: &[Option<u32>],
+    wanted: &Vob,
+    table: &mut Vec<TokenLists<S>>,
+) -> Result<bool, AllocError>
+    requires tokens { length costs.now ≡ grm.now.grammar.tokens }
+    requires costs { AreCosts grm.now.grammar (cost_of costs.now) least.now }
+    requires width { length wanted.now.bits ≡ grm.now.grammar.rules }
+    requires lists { AreLists grm.now.grammar (cost_of costs.now) least.now table.old.items }
+    ensures lists { IfOk result (λ _. AreLists grm.now.grammar (cost_of costs.now) least.now table.new.items) }
+    ensures steps { IfOk result (λ b. Steps spare_in (λ t. (p : ℕ) → p < length grm.now.grammar.productions → IsJoined grm.now.grammar (cost_of costs.now) least.now wanted.now.bits p t) table.old.items table.new.items b) }
+{
+    let mut changed = false;
+    'prods: for number in 0..grm.prods_len().0.to_usize() {
+        changed |= take_prod(
+            alloc,
+            grm,
+            costs,
+            least,
+            wanted,
+            PIdx(index_of(number)),
+            table,
+        )?;
+    }
+    Ok(changed)
+}
+
+/// The same, from the last production to the first.
+fn pass_back<S: IndexStorage>(
+    alloc: Global,
+    grm: &YaccGrammar<S>,
+    costs: &[u8],
+    least: &[Option<u32>],
+    wanted: &Vob,
+    table: &mut Vec<TokenLists<S>>,
+) -> Result<bool, AllocError>
+    requires tokens { length costs.now ≡ grm.now.grammar.tokens }
+    requires costs { AreCosts grm.now.grammar (cost_of costs.now) least.now }
+    requires width { length wanted.now.bits ≡ grm.now.grammar.rules }
+    requires lists { AreLists grm.now.grammar (cost_of costs.now) least.now table.old.items }
+    ensures lists { IfOk result (λ _. AreLists grm.now.grammar (cost_of costs.now) least.now table.new.items) }
+    ensures steps { IfOk result (λ b. Steps spare_in Anything table.old.items table.new.items b) }
+{
+    let count = grm.prods_len().0.to_usize();
+    let mut changed = false;
+    'prods: for number in 0..count {
+        let pidx = PIdx(index_of(count - 1 - number));
+        changed |= take_prod(alloc, grm, costs, least, wanted, pidx, table)?;
+    }
+    Ok(changed)
+}
+
+/// Both: lists of later rules, and of earlier ones, are then taken in at once.
+fn sweep<S: IndexStorage>(
+    alloc: Global,
+    grm: &YaccGrammar<S>,
+    costs: &[u8],
+    least: &[Option<u32>],
+    wanted: &Vob,
+    table: &mut Vec<TokenLists<S>>,
+) -> Result<bool, AllocError>
+    requires tokens { length costs.now ≡ grm.now.grammar.tokens }
+    requires costs { AreCosts grm.now.grammar (cost_of costs.now) least.now }
+    requires width { length wanted.now.bits ≡ grm.now.grammar.rules }
+    requires lists { AreLists grm.now.grammar (cost_of costs.now) least.now table.old.items }
+    ensures lists { IfOk result (λ _. AreLists grm.now.grammar (cost_of costs.now) least.now table.new.items) }
+    ensures steps { IfOk result (λ b. Steps spare_in (λ t. (p : ℕ) → p < length grm.now.grammar.productions → IsJoined grm.now.grammar (cost_of costs.now) least.now wanted.now.bits p t) table.old.items table.new.items b) }
+{
+    let back = pass_back(alloc, grm, costs, least, wanted, table)?;
+    let on = pass(alloc, grm, costs, least, wanted, table)?;
+    Ok(back | on)
+}
+
+fn no_lists<S: IndexStorage>(alloc: Global, rules: usize) -> Result<Vec<TokenLists<S>>, AllocError>
+    ensures { IfOk result (λ v. v.items ≡ replicate rules []) }
+{
+    let mut table = Vec::new(alloc);
+    'rules: for _ in 0..rules {
+        table.push(TokenLists::none(alloc))?;
+    }
+    Ok(table)
+}
+
+/// The lists of the wanted rules.
+fn cheapest_lists<S: IndexStorage>(
+    alloc: Global,
+    grm: &YaccGrammar<S>,
+    costs: &[u8],
+    least: &[Option<u32>],
+    wanted: &Vob,
+) -> Result<Vec<TokenLists<S>>, AllocError>
+    requires tokens { length costs.now ≡ grm.now.grammar.tokens }
+    requires costs { AreCosts grm.now.grammar (cost_of costs.now) least.now }
+    requires width { length wanted.now.bits ≡ grm.now.grammar.rules }
+    ensures lists { IfOk result (λ v. AreLists grm.now.grammar (cost_of costs.now) least.now v.items) }
+    ensures joined { IfOk result (λ v. (p : ℕ) → p < length grm.now.grammar.productions → IsJoined grm.now.grammar (cost_of costs.now) least.now wanted.now.bits p v.items) }
+{
+    let mut table = no_lists(alloc, grm.rules_len().0.to_usize())?;
+    'passes: loop {
+        let changed = sweep(alloc, grm, costs, least, wanted, &mut table)?;
+        if !changed {
+            return Ok(table);
+        }
+    }
+}

@@ -1,45 +1,59 @@
 use cfg_base::index::IndexStorage;
 use cfg_base::symbol::{PIdx, RIdx, SIdx, Symbol, TIdx};
 use std::collections::BTreeMap;
+use std::process::Abort;
 use std::test::Fail;
 
 fn round_trip<S: IndexStorage>(n: usize) -> Option<usize> {
     S::from_usize(n).map(|index| index.to_usize())
 }
 
+const NUMBERS: &[(usize, bool, bool, bool)] = &[
+    (0, true, true, true),
+    (255, true, true, true),
+    (256, false, true, true),
+    (65_535, false, true, true),
+    (65_536, false, false, true),
+    (4_294_967_295, false, false, true),
+    (4_294_967_296, false, false, false),
+    (usize::MAX, false, false, false),
+];
+
 #[test]
 fn numbers_up_to_the_greatest_fit(rt: HostRuntime) {
-    for (n, narrow, middle, wide) in [
-        (0, true, true, true),
-        (255, true, true, true),
-        (256, false, true, true),
-        (65_535, false, true, true),
-        (65_536, false, false, true),
-        (4_294_967_295, false, false, true),
-        (4_294_967_296, false, false, false),
-        (usize::MAX, false, false, false),
-    ] {
-        assert_eq!(rt; round_trip::<u8>(n), narrow.then_some(n), "u8 at {n}");
-        assert_eq!(rt; round_trip::<u16>(n), middle.then_some(n), "u16 at {n}");
-        assert_eq!(rt; round_trip::<u32>(n), wide.then_some(n), "u32 at {n}");
+    'numbers: for (n, narrow, middle, wide) in NUMBERS {
+        fits::<u8>(&rt, *n, *narrow, "u8");
+        fits::<u16>(&rt, *n, *middle, "u16");
+        fits::<u32>(&rt, *n, *wide, "u32");
     }
 }
 
+fn fits<S: IndexStorage>(rt: &impl Abort, n: usize, does: bool, kind: &str) {
+    assert_eq!(rt; round_trip::<S>(n), does.then_some(n), "{kind} at {n}");
+}
+
 #[test]
-fn indices_give_their_numbers(rt: HostRuntime) -> Result<(), Fail> {
+fn indices_give_their_numbers(rt: HostRuntime) {
     assert_eq!(rt; RIdx(7u8).as_storaget(), 7);
     assert_eq!(rt; PIdx(8u16).as_storaget(), 8);
     assert_eq!(rt; SIdx(9u32).as_storaget(), 9);
     assert_eq!(rt; TIdx(10u8).as_storaget(), 10);
+}
+
+#[test]
+fn indices_are_numbers_of_any_size(rt: HostRuntime) {
     assert_eq!(rt; usize::from(RIdx(255u8)), 255);
     assert_eq!(rt; usize::from(PIdx(65_535u16)), 65_535);
     assert_eq!(rt; usize::from(SIdx(4_294_967_295u32)), 4_294_967_295);
     assert_eq!(rt; usize::from(TIdx(1u16)), 1);
+}
+
+#[test]
+fn indices_are_wide_numbers(rt: HostRuntime) {
     assert_eq!(rt; u32::from(RIdx(4_294_967_295u32)), 4_294_967_295);
     assert_eq!(rt; u32::from(PIdx(2u8)), 2);
     assert_eq!(rt; u32::from(SIdx(3u16)), 3);
     assert_eq!(rt; u32::from(TIdx(4u32)), 4);
-    Ok(())
 }
 
 #[test]

@@ -1,5 +1,7 @@
 use cfg_base::newlinecache::NewlineCache;
 use cfg_base::span::Span;
+use std::alloc::AllocError;
+use std::process::Abort;
 use std::test::Fail;
 
 #[test]
@@ -20,54 +22,87 @@ fn spans_answer_their_places(rt: HostRuntime) -> Result<(), Fail> {
     Ok(())
 }
 
+const LINES: &[(usize, usize, usize)] = &[(0, 1, 0), (2, 1, 0), (3, 1, 0), (4, 2, 4), (5, 2, 4)];
+
+const PLACES: &[(usize, (usize, usize))] = &[
+    (0, (1, 1)),
+    (1, (1, 2)),
+    (2, (1, 2)),
+    (3, (1, 3)),
+    (4, (2, 1)),
+    (5, (2, 2)),
+];
+
 #[test]
-fn places_of_a_text(rt: HostRuntime) -> Result<(), Fail> {
+fn places_of_a_text(rt: HostRuntime) -> Result<(), AllocError> {
     let text = "aé\nb";
     let cache = NewlineCache::from_str(rt.alloc(), text)?;
-    for (byte, line, start) in [(0, 1, 0), (2, 1, 0), (3, 1, 0), (4, 2, 4), (5, 2, 4)] {
-        assert_eq!(rt; cache.byte_to_line_num(byte), Some(line), "line of {byte}");
-        assert_eq!(rt;
-            cache.byte_to_line_byte(byte),
-            Some(start),
-            "start of the line of {byte}"
-        );
+    'lines: for (byte, line, start) in LINES {
+        stands_in_line(&rt, &cache, *byte, Some(*line), Some(*start));
     }
-    assert_eq!(rt; cache.byte_to_line_num(6), None);
-    assert_eq!(rt; cache.byte_to_line_byte(6), None);
-    for (byte, place) in [
-        (0, (1, 1)),
-        (1, (1, 2)),
-        (2, (1, 2)),
-        (3, (1, 3)),
-        (4, (2, 1)),
-        (5, (2, 2)),
-    ] {
-        assert_eq!(rt;
-            cache.byte_to_line_num_and_col_num(text, byte),
-            Some(place),
-            "at {byte}"
-        );
+    stands_in_line(&rt, &cache, 6, None, None);
+    'places: for (byte, place) in PLACES {
+        stands_at(&rt, &cache, text, *byte, Some(*place));
     }
-    assert_eq!(rt; cache.byte_to_line_num_and_col_num(text, 6), None);
+    stands_at(&rt, &cache, text, 6, None);
+    stands_at(&rt, &cache, "a\nb", 1, None);
+    Ok(())
+}
+
+fn stands_in_line(
+    rt: &impl Abort,
+    cache: &NewlineCache,
+    byte: usize,
+    line: Option<usize>,
+    start: Option<usize>,
+) {
+    assert_eq!(rt; cache.byte_to_line_num(byte), line, "line of {byte}");
+    assert_eq!(rt;
+        cache.byte_to_line_byte(byte),
+        start,
+        "start of the line of {byte}"
+    );
+}
+
+fn stands_at(
+    rt: &impl Abort,
+    cache: &NewlineCache,
+    text: &str,
+    byte: usize,
+    place: Option<(usize, usize)>,
+) {
+    assert_eq!(rt;
+        cache.byte_to_line_num_and_col_num(text, byte),
+        place,
+        "at {byte}"
+    );
+}
+
+#[test]
+fn pieces_are_fed(rt: HostRuntime) -> Result<(), AllocError> {
     let mut by_pieces = NewlineCache::new(rt.alloc());
     by_pieces.feed("aé")?;
     by_pieces.feed("")?;
     by_pieces.feed("\nb")?;
-    assert_eq!(rt;
-        by_pieces.byte_to_line_num_and_col_num(text, 5),
-        Some((2, 2))
-    );
-    assert_eq!(rt; cache.byte_to_line_num_and_col_num("a\nb", 1), None);
-    for (start, end, lines) in [
-        (1, 3, (0, 3)),
-        (1, 4, (0, 5)),
-        (4, 5, (4, 5)),
-        (0, 0, (0, 3)),
-    ] {
-        assert!(rt; end <= 5 && start <= end);
+    stands_at(&rt, &by_pieces, "aé\nb", 5, Some((2, 2)));
+    Ok(())
+}
+
+const LINES_OF_SPANS: &[(usize, usize, (usize, usize))] = &[
+    (1, 3, (0, 3)),
+    (1, 4, (0, 5)),
+    (4, 5, (4, 5)),
+    (0, 0, (0, 3)),
+];
+
+#[test]
+fn spans_take_whole_lines(rt: HostRuntime) -> Result<(), AllocError> {
+    let cache = NewlineCache::from_str(rt.alloc(), "aé\nb")?;
+    'spans: for (start, end, lines) in LINES_OF_SPANS {
+        assert!(rt; *end <= 5 && *start <= *end);
         assert_eq!(rt;
-            cache.span_line_bytes(Span::new(start, end)),
-            lines,
+            cache.span_line_bytes(Span::new(*start, *end)),
+            *lines,
             "of {start} to {end}"
         );
     }

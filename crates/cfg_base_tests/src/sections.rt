@@ -1,12 +1,14 @@
 //! Sections, and what they say or where they fail.
 
+ghost use Rattle.std.specs.Prelude.{◌<◌};
+
 use cfg_base::header::{
     GrmtoolsSectionParser, Header, HeaderError, HeaderErrorKind, HeaderValue, KeyValueError,
     Namespaced, SectionError, Setting, Value, try_from_header,
 };
 use cfg_base::span::{Location, Span, Spanned, SpansKind};
 use std::alloc::{AllocError, Global};
-use std::test::*;
+use std::process::Abort;
 
 fn spell_span(alloc: Global, text: &mut String, span: &Span) -> Result<(), AllocError> {
     let (start, end) = (span.start(), span.end());
@@ -63,10 +65,14 @@ fn spell_setting(
     }
 }
 
+fn spell_flag(alloc: Global, text: &mut String, flag: bool) -> Result<(), AllocError> {
+    text.push_str(format!(in alloc; "{flag}@")?.as_str())
+}
+
 fn spell_value(alloc: Global, text: &mut String, value: &Value<Span>) -> Result<(), AllocError> {
     match value {
         Value::Flag(flag, span) => {
-            text.push_str(format!(in alloc; "{flag}@")?.as_str())?;
+            spell_flag(alloc, text, *flag)?;
             spell_span(alloc, text, span)
         }
         Value::Setting(setting) => spell_setting(alloc, text, setting),
@@ -116,186 +122,195 @@ fn read(alloc: Global, text: &str, required: bool) -> Result<String, AllocError>
     }
 }
 
-#[test]
-fn sections_and_gaps(rt: HostRuntime) -> Result<(), Fail> {
-    let cases = [
-        ("", "|0"),
-        ("%% S: 'a';", "|0"),
-        ("%Grmtools{a}", "|0"),
-        ("% grmtools{a}", "|0"),
-        ("/* c%grmtools{a}", "|0"),
-        ("/*/%grmtools{a}", "|0"),
-        ("%grmtools{}", "|11"),
-        ("%grmtools{} %% S: 'a';", "|11"),
-        (" \n%grmtools {}", "|14"),
-        ("/*c*/%grmtools{}", "|16"),
-        ("// c\n%grmtools{}", "|16"),
-        ("%grmtools{ \t\r\n}", "|15"),
-        ("%grmtools{a/*x*/:/*y*/b/**/,/**/}", "a@10-11=b@22-23 |33"),
-        ("%grmtools{a//x\n}", "a@10-11=true@10-11 |16"),
-        ("%grmtools{a/* b}", "Expected token '}' @ 11-11;"),
-        ("%grmtools{/* b}", "Illegal name @ 10-10;"),
-        ("%grmtools{a: [1 /* , 2]}", "Expected token ']' @ 16-16;"),
-        ("%grmtoolsx{}", "Expected token '{' @ 9-9;"),
-        ("%grmtools", "Expected token '{' @ 9-9;"),
-        ("%grmtools/* {}", "Expected token '{' @ 9-9;"),
-    ];
-    for (text, expected) in cases {
-        assert_eq!(rt; read(rt.alloc(), text, false)?.as_str(), expected);
+fn reads_as(
+    rt: &impl Abort,
+    alloc: Global,
+    text: &str,
+    required: bool,
+    expected: &str,
+) -> Result<(), AllocError> {
+    assert_eq!(rt; read(alloc, text, required)?.as_str(), expected);
+    Ok(())
+}
+
+fn all_read(
+    rt: &impl Abort,
+    alloc: Global,
+    cases: &[(&str, &str)],
+    required: bool,
+) -> Result<(), AllocError> {
+    'cases: for (text, expected) in cases {
+        reads_as(rt, alloc, text, required, expected)?;
     }
     Ok(())
 }
 
-#[test]
-fn required_sections(rt: HostRuntime) -> Result<(), Fail> {
-    let cases = [
-        ("", "Missing %grmtools section @ 0-0;"),
-        (" \n%% S: 'a';", "Missing %grmtools section @ 0-0;"),
-        ("/* c%grmtools{a}", "Missing %grmtools section @ 0-0;"),
-        ("%grmtools{a}", "a@10-11=true@10-11 |12"),
-    ];
-    for (text, expected) in cases {
-        assert_eq!(rt; read(rt.alloc(), text, true)?.as_str(), expected);
-    }
-    Ok(())
-}
+const SECTIONS_AND_GAPS: &[(&str, &str)] = &[
+    ("", "|0"),
+    ("%% S: 'a';", "|0"),
+    ("%Grmtools{a}", "|0"),
+    ("% grmtools{a}", "|0"),
+    ("/* c%grmtools{a}", "|0"),
+    ("/*/%grmtools{a}", "|0"),
+    ("%grmtools{}", "|11"),
+    ("%grmtools{} %% S: 'a';", "|11"),
+    (" \n%grmtools {}", "|14"),
+    ("/*c*/%grmtools{}", "|16"),
+    ("// c\n%grmtools{}", "|16"),
+    ("%grmtools{ \t\r\n}", "|15"),
+    ("%grmtools{a/*x*/:/*y*/b/**/,/**/}", "a@10-11=b@22-23 |33"),
+    ("%grmtools{a//x\n}", "a@10-11=true@10-11 |16"),
+    ("%grmtools{a/* b}", "Expected token '}' @ 11-11;"),
+    ("%grmtools{/* b}", "Illegal name @ 10-10;"),
+    ("%grmtools{a: [1 /* , 2]}", "Expected token ']' @ 16-16;"),
+    ("%grmtoolsx{}", "Expected token '{' @ 9-9;"),
+    ("%grmtools", "Expected token '{' @ 9-9;"),
+    ("%grmtools/* {}", "Expected token '{' @ 9-9;"),
+];
 
 #[test]
-fn pairs(rt: HostRuntime) -> Result<(), Fail> {
-    let cases = [
-        (
-            "%grmtools{a, !b}",
-            "a@10-11=true@10-11 b@14-15=false@13-15 |16",
-        ),
-        ("%grmtools{a,}", "a@10-11=true@10-11 |13"),
-        ("%grmtools{a:b}", "a@10-11=b@12-13 |14"),
-        ("%grmtools{Ab_C: x}", "ab_c@10-14=x@16-17 |18"),
-        (
-            "%grmtools{z, Y}",
-            "y@13-14=true@13-14 z@10-11=true@10-11 |15",
-        ),
-        ("%grmtools{,}", "Illegal name @ 10-10;"),
-        ("%grmtools{a,,}", "Illegal name @ 12-12;"),
-        ("%grmtools{1}", "Illegal name @ 10-10;"),
-        ("%grmtools{_a}", "Illegal name @ 10-10;"),
-        ("%grmtools{é}", "Illegal name @ 10-10;"),
-        ("%grmtools{", "Illegal name @ 10-10;"),
-        ("%grmtools{!}", "Illegal name @ 11-11;"),
-        ("%grmtools{! a}", "Illegal name @ 11-11;"),
-        ("%grmtools{!", "Illegal name @ 11-11;"),
-        ("%grmtools{!a: 1}", "Expected token '}' @ 12-12;"),
-        ("%grmtools{a b}", "Expected token '}' @ 12-12;"),
-        ("%grmtools{a1}", "Expected token '}' @ 11-11;"),
-        ("%grmtools{a", "Expected token '}' @ 11-11;"),
-        ("%grmtools{a: 1", "Expected token '}' @ 14-14;"),
-        ("%grmtools{a: }", "Illegal name @ 13-13;"),
-        ("%grmtools{a:", "Illegal name @ 12-12;"),
-    ];
-    for (text, expected) in cases {
-        assert_eq!(rt; read(rt.alloc(), text, false)?.as_str(), expected);
-    }
-    Ok(())
+fn sections_and_gaps(rt: HostRuntime) -> Result<(), AllocError> {
+    all_read(&rt, rt.alloc(), SECTIONS_AND_GAPS, false)
 }
 
-#[test]
-fn repeated_keys(rt: HostRuntime) -> Result<(), Fail> {
-    let cases = [
-        ("%grmtools{a, A}", "Duplicate entry @ 10-11 13-14;"),
-        ("%grmtools{b: 1, !B}", "Duplicate entry @ 10-11 17-18;"),
-        (
-            "%grmtools{b, a, B, A, c, b}",
-            "Duplicate entry @ 10-11 16-17 25-26;Duplicate entry @ 13-14 19-20;",
-        ),
-        ("%grmtools{a, a, 1}", "Illegal name @ 16-16;"),
-    ];
-    for (text, expected) in cases {
-        assert_eq!(rt; read(rt.alloc(), text, false)?.as_str(), expected);
-    }
-    Ok(())
-}
+const REQUIRED_SECTIONS: &[(&str, &str)] = &[
+    ("", "Missing %grmtools section @ 0-0;"),
+    (" \n%% S: 'a';", "Missing %grmtools section @ 0-0;"),
+    ("/* c%grmtools{a}", "Missing %grmtools section @ 0-0;"),
+    ("%grmtools{a}", "a@10-11=true@10-11 |12"),
+];
 
 #[test]
-fn numbers_and_texts(rt: HostRuntime) -> Result<(), Fail> {
-    let cases = [
-        (
-            "%grmtools{a: 18446744073709551615}",
-            "a@10-11=18446744073709551615@13-33 |34",
-        ),
-        (
-            "%grmtools{a: 18446744073709551616}",
-            "Invalid entry 'number' @ 13-13;",
-        ),
-        ("%grmtools{a: 007}", "a@10-11=7@13-16 |17"),
-        ("%grmtools{a: 007x}", "Expected token '}' @ 16-16;"),
-        ("%grmtools{a: +7}", "Illegal name @ 13-13;"),
-        ("%grmtools{a: \"x y\"}", "a@10-11=\"x y\"@13-18 |19"),
-        ("%grmtools{a: \"\"}", "a@10-11=\"\"@13-15 |16"),
-        ("%grmtools{a: \"/*\n\"}", "a@10-11=\"/*\n\"@13-18 |19"),
-        ("%grmtools{a: \"\\\"}", "a@10-11=\"\\\"@13-16 |17"),
-        ("%grmtools{a: \"é\"}", "a@10-11=\"é\"@13-17 |18"),
-        ("%grmtools{a: \"x", "Expected token '\"' @ 15-15;"),
-        ("%grmtools{a: \"", "Expected token '\"' @ 14-14;"),
-    ];
-    for (text, expected) in cases {
-        assert_eq!(rt; read(rt.alloc(), text, false)?.as_str(), expected);
-    }
-    Ok(())
+fn required_sections(rt: HostRuntime) -> Result<(), AllocError> {
+    all_read(&rt, rt.alloc(), REQUIRED_SECTIONS, true)
 }
 
-#[test]
-fn paths_and_constructors(rt: HostRuntime) -> Result<(), Fail> {
-    let cases = [
-        ("%grmtools{a: _b1}", "a@10-11=_b1@13-16 |17"),
-        ("%grmtools{a: b::c}", "a@10-11=b@13-14::c@16-17 |18"),
-        ("%grmtools{a: b::}", "Illegal name @ 16-16;"),
-        ("%grmtools{a: b:: c}", "Illegal name @ 16-16;"),
-        ("%grmtools{a: b ::c}", "Expected token '}' @ 15-15;"),
-        ("%grmtools{a: b::c::d}", "Expected token '}' @ 17-17;"),
-        ("%grmtools{a: b(c)}", "a@10-11=b@13-14(c@15-16) |18"),
-        (
-            "%grmtools{a: b::c ( d::e ) }",
-            "a@10-11=b@13-14::c@16-17(d@20-21::e@23-24) |28",
-        ),
-        ("%grmtools{a: b()}", "Illegal name @ 15-15;"),
-        ("%grmtools{a: b(1)}", "Illegal name @ 15-15;"),
-        ("%grmtools{a: b(c::)}", "Illegal name @ 18-18;"),
-        ("%grmtools{a: b(c}", "Expected token ')' @ 16-16;"),
-        ("%grmtools{a: b(c(d))}", "Expected token ')' @ 16-16;"),
-    ];
-    for (text, expected) in cases {
-        assert_eq!(rt; read(rt.alloc(), text, false)?.as_str(), expected);
-    }
-    Ok(())
-}
+const PAIRS: &[(&str, &str)] = &[
+    (
+        "%grmtools{a, !b}",
+        "a@10-11=true@10-11 b@14-15=false@13-15 |16",
+    ),
+    ("%grmtools{a,}", "a@10-11=true@10-11 |13"),
+    ("%grmtools{a:b}", "a@10-11=b@12-13 |14"),
+    ("%grmtools{Ab_C: x}", "ab_c@10-14=x@16-17 |18"),
+    (
+        "%grmtools{z, Y}",
+        "y@13-14=true@13-14 z@10-11=true@10-11 |15",
+    ),
+    ("%grmtools{,}", "Illegal name @ 10-10;"),
+    ("%grmtools{a,,}", "Illegal name @ 12-12;"),
+    ("%grmtools{1}", "Illegal name @ 10-10;"),
+    ("%grmtools{_a}", "Illegal name @ 10-10;"),
+    ("%grmtools{é}", "Illegal name @ 10-10;"),
+    ("%grmtools{", "Illegal name @ 10-10;"),
+    ("%grmtools{!}", "Illegal name @ 11-11;"),
+    ("%grmtools{! a}", "Illegal name @ 11-11;"),
+    ("%grmtools{!", "Illegal name @ 11-11;"),
+    ("%grmtools{!a: 1}", "Expected token '}' @ 12-12;"),
+    ("%grmtools{a b}", "Expected token '}' @ 12-12;"),
+    ("%grmtools{a1}", "Expected token '}' @ 11-11;"),
+    ("%grmtools{a", "Expected token '}' @ 11-11;"),
+    ("%grmtools{a: 1", "Expected token '}' @ 14-14;"),
+    ("%grmtools{a: }", "Illegal name @ 13-13;"),
+    ("%grmtools{a:", "Illegal name @ 12-12;"),
+];
 
 #[test]
-fn arrays(rt: HostRuntime) -> Result<(), Fail> {
-    let cases = [
-        ("%grmtools{a: []}", "a@10-11=[]@13-14,14-15 |16"),
-        (
-            "%grmtools{a: [1, \"x\", b,]}",
-            "a@10-11=[1@14-15 \"x\"@17-20 b@22-23 ]@13-14,24-25 |26",
-        ),
-        (
-            "%grmtools{a: [[1], []]}",
-            "a@10-11=[[1@15-16 ]@14-15,16-17 []@19-20,20-21 ]@13-14,21-22 |23",
-        ),
-        (
-            "%grmtools{a: [b(c), d]}",
-            "a@10-11=[b@14-15(c@16-17) d@20-21 ]@13-14,21-22 |23",
-        ),
-        ("%grmtools{a: [,]}", "Illegal name @ 14-14;"),
-        ("%grmtools{a: [1,,]}", "Illegal name @ 16-16;"),
-        ("%grmtools{a: [", "Illegal name @ 14-14;"),
-        ("%grmtools{a: [1 2]}", "Expected token ']' @ 16-16;"),
-        ("%grmtools{a: [1}", "Expected token ']' @ 15-15;"),
-        ("%grmtools{a: [1", "Expected token ']' @ 15-15;"),
-        ("%grmtools{a: ]}", "Illegal name @ 13-13;"),
-    ];
-    for (text, expected) in cases {
-        assert_eq!(rt; read(rt.alloc(), text, false)?.as_str(), expected);
-    }
-    Ok(())
+fn pairs(rt: HostRuntime) -> Result<(), AllocError> {
+    all_read(&rt, rt.alloc(), PAIRS, false)
+}
+
+const REPEATED_KEYS: &[(&str, &str)] = &[
+    ("%grmtools{a, A}", "Duplicate entry @ 10-11 13-14;"),
+    ("%grmtools{b: 1, !B}", "Duplicate entry @ 10-11 17-18;"),
+    (
+        "%grmtools{b, a, B, A, c, b}",
+        "Duplicate entry @ 10-11 16-17 25-26;Duplicate entry @ 13-14 19-20;",
+    ),
+    ("%grmtools{a, a, 1}", "Illegal name @ 16-16;"),
+];
+
+#[test]
+fn repeated_keys(rt: HostRuntime) -> Result<(), AllocError> {
+    all_read(&rt, rt.alloc(), REPEATED_KEYS, false)
+}
+
+const NUMBERS_AND_TEXTS: &[(&str, &str)] = &[
+    (
+        "%grmtools{a: 18446744073709551615}",
+        "a@10-11=18446744073709551615@13-33 |34",
+    ),
+    (
+        "%grmtools{a: 18446744073709551616}",
+        "Invalid entry 'number' @ 13-13;",
+    ),
+    ("%grmtools{a: 007}", "a@10-11=7@13-16 |17"),
+    ("%grmtools{a: 007x}", "Expected token '}' @ 16-16;"),
+    ("%grmtools{a: +7}", "Illegal name @ 13-13;"),
+    ("%grmtools{a: \"x y\"}", "a@10-11=\"x y\"@13-18 |19"),
+    ("%grmtools{a: \"\"}", "a@10-11=\"\"@13-15 |16"),
+    ("%grmtools{a: \"/*\n\"}", "a@10-11=\"/*\n\"@13-18 |19"),
+    ("%grmtools{a: \"\\\"}", "a@10-11=\"\\\"@13-16 |17"),
+    ("%grmtools{a: \"é\"}", "a@10-11=\"é\"@13-17 |18"),
+    ("%grmtools{a: \"x", "Expected token '\"' @ 15-15;"),
+    ("%grmtools{a: \"", "Expected token '\"' @ 14-14;"),
+];
+
+#[test]
+fn numbers_and_texts(rt: HostRuntime) -> Result<(), AllocError> {
+    all_read(&rt, rt.alloc(), NUMBERS_AND_TEXTS, false)
+}
+
+const PATHS_AND_CONSTRUCTORS: &[(&str, &str)] = &[
+    ("%grmtools{a: _b1}", "a@10-11=_b1@13-16 |17"),
+    ("%grmtools{a: b::c}", "a@10-11=b@13-14::c@16-17 |18"),
+    ("%grmtools{a: b::}", "Illegal name @ 16-16;"),
+    ("%grmtools{a: b:: c}", "Illegal name @ 16-16;"),
+    ("%grmtools{a: b ::c}", "Expected token '}' @ 15-15;"),
+    ("%grmtools{a: b::c::d}", "Expected token '}' @ 17-17;"),
+    ("%grmtools{a: b(c)}", "a@10-11=b@13-14(c@15-16) |18"),
+    (
+        "%grmtools{a: b::c ( d::e ) }",
+        "a@10-11=b@13-14::c@16-17(d@20-21::e@23-24) |28",
+    ),
+    ("%grmtools{a: b()}", "Illegal name @ 15-15;"),
+    ("%grmtools{a: b(1)}", "Illegal name @ 15-15;"),
+    ("%grmtools{a: b(c::)}", "Illegal name @ 18-18;"),
+    ("%grmtools{a: b(c}", "Expected token ')' @ 16-16;"),
+    ("%grmtools{a: b(c(d))}", "Expected token ')' @ 16-16;"),
+];
+
+#[test]
+fn paths_and_constructors(rt: HostRuntime) -> Result<(), AllocError> {
+    all_read(&rt, rt.alloc(), PATHS_AND_CONSTRUCTORS, false)
+}
+
+const ARRAYS: &[(&str, &str)] = &[
+    ("%grmtools{a: []}", "a@10-11=[]@13-14,14-15 |16"),
+    (
+        "%grmtools{a: [1, \"x\", b,]}",
+        "a@10-11=[1@14-15 \"x\"@17-20 b@22-23 ]@13-14,24-25 |26",
+    ),
+    (
+        "%grmtools{a: [[1], []]}",
+        "a@10-11=[[1@15-16 ]@14-15,16-17 []@19-20,20-21 ]@13-14,21-22 |23",
+    ),
+    (
+        "%grmtools{a: [b(c), d]}",
+        "a@10-11=[b@14-15(c@16-17) d@20-21 ]@13-14,21-22 |23",
+    ),
+    ("%grmtools{a: [,]}", "Illegal name @ 14-14;"),
+    ("%grmtools{a: [1,,]}", "Illegal name @ 16-16;"),
+    ("%grmtools{a: [", "Illegal name @ 14-14;"),
+    ("%grmtools{a: [1 2]}", "Expected token ']' @ 16-16;"),
+    ("%grmtools{a: [1}", "Expected token ']' @ 15-15;"),
+    ("%grmtools{a: [1", "Expected token ']' @ 15-15;"),
+    ("%grmtools{a: ]}", "Illegal name @ 13-13;"),
+];
+
+#[test]
+fn arrays(rt: HostRuntime) -> Result<(), AllocError> {
+    all_read(&rt, rt.alloc(), ARRAYS, false)
 }
 
 /// `%grmtools{a:`, this many arrays within one another, and `}`.
@@ -321,16 +336,31 @@ fn end_of(alloc: Global, text: &str) -> Result<Option<usize>, AllocError> {
 }
 
 #[test]
-fn nesting(rt: HostRuntime) -> Result<(), Fail> {
-    let alloc = rt.alloc();
-    let text = nested(alloc, 64)?;
-    assert_eq!(rt; end_of(alloc, text.as_str())?, Some(141));
-    let text = nested(alloc, 65)?;
-    assert_eq!(rt;
-        read(alloc, text.as_str(), false)?.as_str(),
-        "Invalid entry 'array' @ 76-76;"
-    );
-    Ok(())
+fn nesting(rt: HostRuntime) -> Result<(), AllocError> {
+    let text = nested(rt.alloc(), 64)?;
+    assert_eq!(rt; end_of(rt.alloc(), text.as_str())?, Some(141));
+    let text = nested(rt.alloc(), 65)?;
+    reads_as(
+        &rt,
+        rt.alloc(),
+        text.as_str(),
+        false,
+        "Invalid entry 'array' @ 76-76;",
+    )
+}
+
+fn spell_pair(
+    alloc: Global,
+    spelt: &mut String,
+    span: &Span,
+    value: &Value<Span>,
+    end: usize,
+) -> Result<(), AllocError> {
+    spelt.push_str("@")?;
+    spell_span(alloc, spelt, span)?;
+    spelt.push_str("=")?;
+    spell_value(alloc, spelt, value)?;
+    spelt.push_str(format!(in alloc; " |{end}")?.as_str())
 }
 
 fn read_pair(alloc: Global, text: &str, i: usize) -> Result<String, AllocError> {
@@ -340,11 +370,8 @@ fn read_pair(alloc: Global, text: &str, i: usize) -> Result<String, AllocError> 
     }
     match GrmtoolsSectionParser::new(text, false).parse_key_value(alloc, i) {
         Ok((key, span, value, end)) => {
-            spelt.push_str(format!(in alloc; "{key}@")?.as_str())?;
-            spell_span(alloc, &mut spelt, &span)?;
-            spelt.push_str("=")?;
-            spell_value(alloc, &mut spelt, &value)?;
-            spelt.push_str(format!(in alloc; " |{end}")?.as_str())?;
+            spelt.push_str(key.as_str())?;
+            spell_pair(alloc, &mut spelt, &span, &value, end)?;
         }
         Err(KeyValueError::Memory(e)) => return Err(e),
         Err(KeyValueError::Invalid(error)) => spell_error(alloc, &mut spelt, &error)?,
@@ -352,79 +379,115 @@ fn read_pair(alloc: Global, text: &str, i: usize) -> Result<String, AllocError> 
     Ok(spelt)
 }
 
+const SINGLE_PAIRS: &[(&str, usize, &str)] = &[
+    ("a: 1, b", 0, "a@0-1=1@3-4 |4"),
+    ("a: 1, b", 6, "b@6-7=true@6-7 |7"),
+    ("!A }", 0, "a@1-2=false@0-2 |3"),
+    ("x: [1] ,", 0, "x@0-1=[1@4-5 ]@3-4,5-6 |7"),
+    ("}", 0, "Illegal name @ 0-0;"),
+    ("a", 1, "Illegal name @ 1-1;"),
+    ("a: ", 0, "Illegal name @ 3-3;"),
+];
+
 #[test]
-fn single_pairs(rt: HostRuntime) -> Result<(), Fail> {
-    let cases = [
-        ("a: 1, b", 0, "a@0-1=1@3-4 |4"),
-        ("a: 1, b", 6, "b@6-7=true@6-7 |7"),
-        ("!A }", 0, "a@1-2=false@0-2 |3"),
-        ("x: [1] ,", 0, "x@0-1=[1@4-5 ]@3-4,5-6 |7"),
-        ("}", 0, "Illegal name @ 0-0;"),
-        ("a", 1, "Illegal name @ 1-1;"),
-        ("a: ", 0, "Illegal name @ 3-3;"),
-    ];
-    for (text, i, expected) in cases {
-        assert_eq!(rt; read_pair(rt.alloc(), text, i)?.as_str(), expected);
+fn single_pairs(rt: HostRuntime) -> Result<(), AllocError> {
+    'cases: for (text, i, expected) in SINGLE_PAIRS {
+        pair_reads_as(&rt, rt.alloc(), text, *i, expected)?;
     }
     Ok(())
 }
 
+fn pair_reads_as(
+    rt: &impl Abort,
+    alloc: Global,
+    text: &str,
+    i: usize,
+    expected: &str,
+) -> Result<(), AllocError> {
+    assert_eq!(rt; read_pair(alloc, text, i)?.as_str(), expected);
+    Ok(())
+}
+
+const TEXTS_OF_ERRORS: &[(HeaderErrorKind, &str)] = &[
+    (
+        HeaderErrorKind::MissingGrmtoolsSection,
+        "Missing %grmtools section",
+    ),
+    (HeaderErrorKind::IllegalName, "Illegal name"),
+    (HeaderErrorKind::ExpectedToken('{'), "Expected token '{'"),
+    (
+        HeaderErrorKind::UnexpectedToken(':', "a hint"),
+        "Unexpected token ':'",
+    ),
+    (HeaderErrorKind::DuplicateEntry, "Duplicate entry"),
+    (
+        HeaderErrorKind::InvalidEntry("number"),
+        "Invalid entry 'number'",
+    ),
+    (
+        HeaderErrorKind::ConversionError("YaccKind", "Unknown variant"),
+        "Cannot convert to YaccKind: Unknown variant",
+    ),
+];
+
 #[test]
-fn texts_of_errors(rt: HostRuntime) -> Result<(), Fail> {
-    let cases = [
-        (
-            HeaderErrorKind::MissingGrmtoolsSection,
-            "Missing %grmtools section",
-        ),
-        (HeaderErrorKind::IllegalName, "Illegal name"),
-        (HeaderErrorKind::ExpectedToken('{'), "Expected token '{'"),
-        (
-            HeaderErrorKind::UnexpectedToken(':', "a hint"),
-            "Unexpected token ':'",
-        ),
-        (HeaderErrorKind::DuplicateEntry, "Duplicate entry"),
-        (
-            HeaderErrorKind::InvalidEntry("number"),
-            "Invalid entry 'number'",
-        ),
-        (
-            HeaderErrorKind::ConversionError("YaccKind", "Unknown variant"),
-            "Cannot convert to YaccKind: Unknown variant",
-        ),
-    ];
-    for (kind, expected) in cases {
-        let locations: Vec<Span> = Vec::new(rt.alloc());
-        let error = HeaderError { kind, locations };
-        assert_eq!(rt;
-            format!(in rt.alloc(); "{kind}|{error}")?.as_str(),
-            format!(in rt.alloc(); "{expected}|{expected}")?.as_str()
-        );
-        let is_duplicate = kind == HeaderErrorKind::DuplicateEntry;
-        assert_eq!(rt;
-            error.spanskind() == SpansKind::DuplicationError,
-            is_duplicate
-        );
+fn texts_of_errors(rt: HostRuntime) -> Result<(), AllocError> {
+    'cases: for (kind, expected) in TEXTS_OF_ERRORS {
+        kind_is_told(&rt, rt.alloc(), *kind, expected)?;
+        error_is_told(&rt, rt.alloc(), *kind, expected)?;
     }
     Ok(())
 }
 
-#[test]
-fn primary_locations(rt: HostRuntime) -> Result<(), Fail> {
-    let alloc = rt.alloc();
-    let at = Span::new(3, 5);
-    let elsewhere = Span::new(0, 1);
+fn kind_is_told(
+    rt: &impl Abort,
+    alloc: Global,
+    kind: HeaderErrorKind,
+    expected: &str,
+) -> Result<(), AllocError> {
+    assert_eq!(rt; format!(in alloc; "{kind}")?.as_str(), expected);
+    Ok(())
+}
+
+fn error_is_told(
+    rt: &impl Abort,
+    alloc: Global,
+    kind: HeaderErrorKind,
+    expected: &str,
+) -> Result<(), AllocError> {
+    let locations: Vec<Span> = Vec::new(alloc);
+    let error = HeaderError { kind, locations };
+    assert_eq!(rt; format!(in alloc; "{error}")?.as_str(), expected);
+    let is_duplicate = kind == HeaderErrorKind::DuplicateEntry;
+    assert_eq!(rt;
+        error.spanskind() == SpansKind::DuplicationError,
+        is_duplicate
+    );
+    Ok(())
+}
+
+fn stands_at(rt: &impl Abort, value: &Value<Span>, at: Span) {
+    assert!(rt; *value.primary_location() == at);
+}
+
+fn path_value(alloc: Global, at: Span, elsewhere: Span) -> Result<Value<Span>, AllocError> {
     let word = String::from_str(alloc, "w")?;
-    let flag: Value<Span> = Value::Flag(true, at);
-    assert!(rt; *flag.primary_location() == at);
-    let number: Value<Span> = Value::Setting(Setting::Num(1, at));
-    assert!(rt; *number.primary_location() == at);
-    let array: Value<Span> = Value::Setting(Setting::Array(Vec::new(alloc), at, elsewhere));
-    assert!(rt; *array.primary_location() == at);
-    let path: Value<Span> = Value::Setting(Setting::Unitary(Namespaced {
+    Ok(Value::Setting(Setting::Unitary(Namespaced {
         namespace: Some((String::new(alloc), elsewhere)),
         member: (word, at),
-    }));
-    assert!(rt; *path.primary_location() == at);
+    })))
+}
+
+#[test]
+fn primary_locations(rt: HostRuntime) -> Result<(), AllocError> {
+    let at = Span::new(3, 5);
+    let elsewhere = Span::new(0, 1);
+    stands_at(&rt, &Value::Flag(true, at), at);
+    stands_at(&rt, &Value::Setting(Setting::Num(1, at)), at);
+    let array = Value::Setting(Setting::Array(Vec::new(rt.alloc()), at, elsewhere));
+    stands_at(&rt, &array, at);
+    let path = path_value(rt.alloc(), at, elsewhere)?;
+    stands_at(&rt, &path, at);
     Ok(())
 }
 
@@ -467,42 +530,82 @@ fn at_locations(alloc: Global, text: &str) -> Result<Option<Header<Location>>, A
     }
 }
 
-#[test]
-fn locations(rt: HostRuntime) -> Result<(), Fail> {
-    let alloc = rt.alloc();
-    let a = HeaderValue(
-        Location::Span(Span::new(10, 11)),
-        Value::Setting(array_of_three(alloc)?),
-    );
+fn first_value(alloc: Global) -> Result<HeaderValue<Location>, AllocError> {
+    let value = Value::Setting(array_of_three(alloc)?);
+    Ok(HeaderValue(Location::Span(Span::new(10, 11)), value))
+}
+
+fn second_value() -> HeaderValue<Location> {
     let flag = Value::Flag(false, Location::Span(Span::new(32, 34)));
-    let e = HeaderValue(Location::Span(Span::new(33, 34)), flag);
-    let first_key = String::from_str(alloc, "a")?;
-    let second_key = String::from_str(alloc, "e")?;
-    match at_locations(alloc, "%grmtools{a: [b::c(d), 1, \"x\"], !e}")? {
+    HeaderValue(Location::Span(Span::new(33, 34)), flag)
+}
+
+fn holds_value(
+    rt: &impl Abort,
+    alloc: Global,
+    header: &Header<Location>,
+    key: &str,
+    value: &HeaderValue<Location>,
+) -> Result<(), AllocError> {
+    let key = String::from_str(alloc, key)?;
+    let found = has(header, &key, value);
+    assert!(rt; found);
+    Ok(())
+}
+
+fn holds_first_value(
+    rt: &impl Abort,
+    alloc: Global,
+    header: &Header<Location>,
+) -> Result<(), AllocError> {
+    let value = first_value(alloc)?;
+    holds_value(rt, alloc, header, "a", &value)
+}
+
+fn holds_second_value(
+    rt: &impl Abort,
+    alloc: Global,
+    header: &Header<Location>,
+) -> Result<(), AllocError> {
+    let value = second_value();
+    holds_value(rt, alloc, header, "e", &value)
+}
+
+#[test]
+fn locations(rt: HostRuntime) -> Result<(), AllocError> {
+    match at_locations(rt.alloc(), "%grmtools{a: [b::c(d), 1, \"x\"], !e}")? {
         Some(header) => {
-            let found = has(&header, &first_key, &a);
-            assert!(rt; found);
-            let found = has(&header, &second_key, &e);
-            assert!(rt; found);
+            holds_first_value(&rt, rt.alloc(), &header)?;
+            holds_second_value(&rt, rt.alloc(), &header)?;
         }
         None => assert!(rt; false),
     }
     Ok(())
 }
 
+const LETTERS: &[&str] = &["a", "b", "c", "d", "e", "f", "g", "h", "i", "j"];
+
+fn add_letter(text: &mut String, digit: usize) -> Result<(), AllocError>
+    requires { digit < 10 }
+{
+    text.push_str(LETTERS[digit])
+}
+
+fn add_pair(text: &mut String, i: usize) -> Result<(), AllocError> {
+    add_letter(text, i % 10)?;
+    add_letter(text, i / 10 % 10)?;
+    add_letter(text, i / 100 % 10)?;
+    add_letter(text, i / 1000 % 10)?;
+    text.push_str(",")
+}
+
 #[test]
-fn ten_thousand_pairs(rt: HostRuntime) -> Result<(), Fail> {
-    let alloc = rt.alloc();
-    let letters = ["a", "b", "c", "d", "e", "f", "g", "h", "i", "j"];
-    let mut text = String::from_str(alloc, "%grmtools{")?;
+fn ten_thousand_pairs(rt: HostRuntime) -> Result<(), AllocError> {
+    let mut text = String::from_str(rt.alloc(), "%grmtools{")?;
     for i in 0..10_000usize {
-        text.push_str(letters[i % 10])?;
-        text.push_str(letters[i / 10 % 10])?;
-        text.push_str(letters[i / 100 % 10])?;
-        text.push_str(letters[i / 1000 % 10])?;
-        text.push_str(",")?;
+        add_pair(&mut text, i)?;
     }
     text.push_str("}")?;
-    assert_eq!(rt; end_of(alloc, text.as_str())?, Some(50_011));
+    assert_eq!(rt; end_of(rt.alloc(), text.as_str())?, Some(50_011));
     Ok(())
 }

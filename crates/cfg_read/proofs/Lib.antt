@@ -18,6 +18,7 @@ pub mod KindValues
 pub mod FileFailures
 pub mod TextKinds
 pub mod Sound
+pub mod SoundLevels
 pub mod SoundNames
 pub mod SoundNumbers
 pub mod SoundParts

@@ -20,6 +20,7 @@ start_is_free ast w s known = record {
   epp = s.epp;
   avoid_insert = s.avoid_insert;
   implicit_tokens = s.implicit_tokens;
+  levels = s.levels;
   has_rule = λ p below. ((s.has_rule p below).0, lists_same ast w (s.has_rule p below).0 p (s.has_rule p below).1);
   one_rule = λ A B p a b. s.one_rule A B p (lists_back ast w A p a) (lists_back ast w B p b);
   in_range = λ A p a. s.in_range A p (lists_back ast w A p a);

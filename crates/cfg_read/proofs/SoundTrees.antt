@@ -11,6 +11,7 @@ use Rattle.cfg_read.specs.Asts.{RuleAst, ProductionAst, symbol_ast, rule_ast, fi
 use Rattle.cfg_read.specs.Sound.{AreDistinct, ListsProduction, NamesOne, IsSound, names_of_rules, names_of_tokens, names_of_precedences}
 use Rattle.cfg_read.proofs.NameLemmas.{among_distinct}
 use Rattle.cfg_read.proofs.SoundNames.{Known, or_true, among_contains, by_place_among, distinct_texts, known_distinct, known_themselves}
+use Rattle.cfg_read.proofs.SoundLevels.{one_kind}
 use Rattle.cfg_read.proofs.SoundNumbers.{Lists, as_many, some_lists, one_lists, listed_below, lists_ascend}
 use Rattle.cfg_read.proofs.SoundParts.{RuleIs, TokenIs, nil_left, nil_right, all_known, rules_named, tokens_named, in_productions, prec_text, precedence_names, epp_names, start_known}
 
@@ -127,6 +128,7 @@ module _ (told : Bool) where
         epp = subst AreDistinct (sym (epp_names x.epp)) (distinct_texts (epp_tokens x));
         avoid_insert = distinct_texts (avoided_tokens x);
         implicit_tokens = distinct_texts (implicit_tokens_of x);
+        levels = one_kind x.levels;
         has_rule = has_rule x;
         one_rule = λ A B p a b. one_lists x A B p (listed x A p a) (listed x B p b);
         in_range = λ A p l. subst (λ n. p < n) (as_many (is_among (declared_tokens x)) x.rules) (listed_below x A p (listed x A p l));

@@ -23,6 +23,10 @@ names_of_epp ast = map (λ (e : EppText). e.token.text) ast.epp
 abbrev pub AreDistinct : List (List ℕ) → Type 0
 AreDistinct names = (i j : ℕ) (name : List ℕ) → slice_get names i ≡ Some name → slice_get names j ≡ Some name → i ≡ j
 
+-- precedences of one level have one kind
+abbrev pub LevelsHaveOneKind : List PrecedenceAst → Type 0
+LevelsHaveOneKind ps = (i j : ℕ) (p q : PrecedenceAst) → slice_get ps i ≡ Some p → slice_get ps j ≡ Some q → p.level ≡ q.level → p.kind ≡ q.kind
+
 -- the rule at the place A lists the production p
 pub record ListsProduction (ast : Ast) (A p : ℕ) : Type 0 where
   pub rule : RuleAst
@@ -47,6 +51,8 @@ pub record IsSound (ast : Ast) : Type 0 where
   pub epp : AreDistinct (names_of_epp ast)
   pub avoid_insert : AreDistinct (texts ast.avoid_insert)
   pub implicit_tokens : AreDistinct (texts ast.implicit_tokens)
+  -- each level has one kind
+  pub levels : LevelsHaveOneKind ast.precedences
   -- each production is listed by one rule, once, and nothing else is; each list ascends
   pub has_rule : (p : ℕ) → p < length ast.productions → (A : ℕ) × ListsProduction ast A p
   pub one_rule : (A B p : ℕ) → ListsProduction ast A p → ListsProduction ast B p → A ≡ B

@@ -21,6 +21,7 @@ pub mod WantedSteps
 pub mod CheapestSteps
 pub mod MadeNames
 pub mod MadeSymbols
+pub mod MadeLevels
 pub mod MadeWell
 pub mod MadeCounts
 pub mod MadeHeads

@@ -13,6 +13,7 @@ use Rattle.cfg_read.specs.Sound.{AreDistinct, names_of_rules, IsSound}
 use Rattle.cfgrammar.specs.Value.{RuleFacts, TokenFacts, Fits, IsGrammar, end_facts}
 use Rattle.cfgrammar.specs.declared.yacc.making.TooMany.TheVariants as told
 use Rattle.cfgrammar.specs.Made.{start_name, implicit_start_name, implicit_name, implicit_rule, first_rule, file_productions, start_production, implicit_productions, productions_of, file_rule_facts, added_rule_facts, rules_of, file_token_facts, tokens_of, file_production_facts, added_production_facts, production_facts_of, grammar_of, value_by, longest, as_told, too_many, NamesNoAdded}
+use Rattle.cfgrammar.proofs.MadeLevels.{made_levels}
 use Rattle.cfgrammar.proofs.MadeNames.{IsAbsent, absent, absent_push, same_some, distinct_cons, distinct_push}
 use Rattle.cfgrammar.proofs.MadeSymbols.{IsGood, IsGoodProduction, file_good, first_good, added_good}
 
@@ -232,6 +233,7 @@ made_well top b ast sound free fit = record {
   token_names = λ t u name x y. sound.tokens t u name (token_at ast ast.tokens t name x.at) (token_at ast ast.tokens u name y.at);
   named = λ t lt. let n = count_tokens ast in let at = token_named ast ast.tokens t (omega (arith, lt, n)) in (at.0, record { at = at.1 });
   end_unnamed = subst (λ n. slice_get (tokens_of ast) n ≡ Some end_facts) last (end_at ast ast.tokens);
+  levels = made_levels b ast sound.levels;
   implicit_rule = λ A e. record { at = implicit_named b ast A e };
 }
   where

@@ -165,13 +165,18 @@ module _ (top : ℕ) (v : GrammarValue) (good : IsGrammar top v) (rs ts : List (
   low_token None t name e n = absurd (none-some (Some name) n)
   low_token (Some k) t name e n = slice_get_within v.tokens t k e
 
-  pub token_fits : (t : ℕ) (name : List ℕ) → slice_get ts t ≡ Some name → t ≤ top
-  token_fits t name e =
+  pub token_below : (t : ℕ) (name : List ℕ) → slice_get ts t ≡ Some name → t < v.grammar.tokens
+  token_below t name e =
       let n = token_at t name e in
       let low = low_token (slice_get v.tokens t) t name refl n.at in
       let count = good.tokens in
+      omega (arith, low, count)
+
+  pub token_fits : (t : ℕ) (name : List ℕ) → slice_get ts t ≡ Some name → t ≤ top
+  token_fits t name e =
+      let below = token_below t name e in
       let fit = good.fits.tokens in
-      omega (arith, low, count, fit)
+      omega (arith, below, fit)
 
 -- names of parts are those of a value
 over_map : {X Y Z : Type 0} (f : X → Y) (g : Y → Z) (k : X → Z) → ((x : X) → g (f x) ≡ k x) → (o : Option X) → option_map g (option_map f o) ≡ option_map k o

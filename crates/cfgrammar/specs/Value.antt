@@ -3,6 +3,7 @@ use Rattle.std.specs.Prelude.{◌≡◌, ℕ, ◌<◌, ◌≤◌, ◌==◌, Bool
 use Rattle.std.specs.List.{range_with_len}
 use Rattle.std.specs.Option.{option_or}
 use Rattle.cfg_base.specs.Place.{Places}
+use Rattle.cfg_read.specs.declared.yacc.AssocKind.{AssocKind}
 use Rattle.cfg_read.specs.declared.yacc.Precedence.{Precedence}
 use Rattle.cfg_theory.specs.Grammar.{Grammar, head_of, body_of, end_token, WellFormed}
 
@@ -67,6 +68,15 @@ pub record IsRuleNamed (g : GrammarValue) (A : ℕ) (name : List ℕ) : Type 0 w
 pub record IsTokenNamed (g : GrammarValue) (t : ℕ) (name : List ℕ) : Type 0 where
   pub at : option_map (λ k. k.name) (slice_get g.tokens t) ≡ Some (Some name)
 
+-- some token or production has a precedence of this level and kind
+pub data HasLevel (g : GrammarValue) (level : ℕ) (kind : AssocKind) : Type 0 where
+  of_token : (t : ℕ) → option_map (λ k. k.precedence) (slice_get g.tokens t) ≡ Some (Some (record { level = level; kind = kind })) → HasLevel g level kind
+  of_production : (p : ℕ) → option_map (λ q. q.precedence) (slice_get g.productions p) ≡ Some (Some (record { level = level; kind = kind })) → HasLevel g level kind
+
+-- each level has one kind
+abbrev pub LevelsHaveOneKind : GrammarValue → Type 0
+LevelsHaveOneKind g = (level : ℕ) (j k : AssocKind) → HasLevel g level j → HasLevel g level k → j ≡ k
+
 -- the productions of the rule A, in order
 abbrev pub productions_of : Grammar → ℕ → List ℕ
 productions_of G A = filter (λ p. head_of G p == A) (range_with_len 0 (length G.productions))
@@ -92,5 +102,7 @@ pub record IsGrammar (top : ℕ) (g : GrammarValue) : Type 0 where
   -- each token but the end token has a name
   pub named : (t : ℕ) → t < end_token g.grammar → (name : List ℕ) × IsTokenNamed g t name
   pub end_unnamed : slice_get g.tokens (end_token g.grammar) ≡ Some end_facts
+  -- precedences of one level have one kind
+  pub levels : LevelsHaveOneKind g
   -- the implicit rule is `~`
   pub implicit_rule : (A : ℕ) → g.kept.implicit_rule ≡ Some A → IsRuleNamed g A (126 ∷ [])

@@ -6,6 +6,8 @@ mod grammars;
 #[cfg(test)]
 mod make;
 #[cfg(test)]
+mod numbers;
+#[cfg(test)]
 mod refusals;
 #[cfg(test)]
 mod sentences;

@@ -1,3 +1,6 @@
+ghost use Rattle.std.specs.Prelude.{◌≤◌};
+
+use crate::calls::{greatest_room_is_refused, holds_blocks, pops};
 use std::alloc::{AllocError, Global};
 use std::process::Abort;
 use std::test::Fail;
@@ -28,20 +31,42 @@ fn holds<T: Block>(rt: &impl Abort, list: &Vob<T>, from: usize, to: usize) {
     assert_eq!(rt; list.get(at), None);
 }
 
+fn is_made<T: Block>(
+    rt: &impl Abort,
+    alloc: Global,
+    list: &Vob<T>,
+    from: usize,
+    to: usize,
+) -> Result<(), VobError> {
+    let wanted = made::<T>(alloc, from, to)?;
+    assert!(rt; *list == wanted);
+    Ok(())
+}
+
 // Two lists are joined, and parted again where they were joined.
-fn joined<T: Block>(rt: &impl Abort, alloc: Global, at: usize, to: usize) -> Result<(), Fail> {
+fn joined<T: Block>(rt: &impl Abort, alloc: Global, at: usize, to: usize) -> Result<(), VobError> {
     let mut list = made::<T>(alloc, 0, at)?;
     let other = made::<T>(alloc, at, to)?;
     list.extend_from_vob(&other)?;
     holds(rt, &list, 0, to);
-    assert!(rt; list == made::<T>(alloc, 0, to)?);
+    is_made(rt, alloc, &list, 0, to)?;
+    parted(rt, &mut list, &other, at, to)?;
+    is_made(rt, alloc, &list, 0, at)
+}
+
+fn parted<T: Block>(
+    rt: &impl Abort,
+    list: &mut Vob<T>,
+    other: &Vob<T>,
+    at: usize,
+    to: usize,
+) -> Result<(), AllocError> {
     let capacity = list.capacity();
     assert!(rt; at <= list.len());
     let part = list.split_off(at)?;
-    holds(rt, &list, 0, at);
+    holds(rt, list, 0, at);
     holds(rt, &part, at, to);
-    assert!(rt; list == made::<T>(alloc, 0, at)?);
-    assert!(rt; part == other);
+    assert!(rt; part == *other);
     assert_eq!(rt; list.capacity(), capacity);
     Ok(())
 }
@@ -51,7 +76,7 @@ fn all_joined<T: Block>(
     alloc: Global,
     lowest: usize,
     highest: usize,
-) -> Result<(), Fail> {
+) -> Result<(), VobError> {
     'at: for at in lowest..highest {
         'len: for len in lowest..highest {
             joined::<T>(rt, alloc, at, at.saturating_add(len))?;
@@ -61,12 +86,12 @@ fn all_joined<T: Block>(
 }
 
 #[test]
-fn bytes_are_joined_at_each_place(rt: HostRuntime) -> Result<(), Fail> {
+fn bytes_are_joined_at_each_place(rt: HostRuntime) -> Result<(), VobError> {
     all_joined::<u8>(&rt, rt.alloc(), 0, 18)
 }
 
 #[test]
-fn wide_blocks_are_joined(rt: HostRuntime) -> Result<(), Fail> {
+fn wide_blocks_are_joined(rt: HostRuntime) -> Result<(), VobError> {
     all_joined::<u64>(&rt, rt.alloc(), 62, 67)?;
     all_joined::<u128>(&rt, rt.alloc(), 126, 131)?;
     all_joined::<usize>(&rt, rt.alloc(), 0, 3)?;
@@ -77,40 +102,51 @@ fn wide_blocks_are_joined(rt: HostRuntime) -> Result<(), Fail> {
 }
 
 #[test]
-fn a_list_is_parted_at_each_place(rt: HostRuntime) -> Result<(), Fail> {
+fn a_list_is_parted_at_each_place(rt: HostRuntime) -> Result<(), VobError> {
     'at: for at in 0..36 {
-        let mut list = made::<u16>(rt.alloc(), 0, 35)?;
-        assert_eq!(rt; list.len(), 35);
-        let part = list.split_off(at)?;
-        holds(&rt, &list, 0, at);
-        holds(&rt, &part, at, 35);
+        is_parted(&rt, rt.alloc(), at)?;
     }
     Ok(())
 }
 
-#[test]
-fn nine_true_items_are_parted_and_joined(rt: HostRuntime) -> Result<(), Fail> {
-    let mut nine: Vob<u8> = Vob::from_elem_with_storage_type(rt.alloc(), true, 9)?;
-    assert_eq!(rt; nine.len(), 9);
-    let part = nine.split_off(8)?;
-    assert_eq!(rt; part.get_storage(), [0x01u8].as_slice());
-    assert_eq!(rt; part.len(), 1);
-    assert_eq!(rt; nine.get_storage(), [0xffu8].as_slice());
-    nine.extend_from_vob(&part)?;
-    assert_eq!(rt; nine.get_storage(), [0xffu8, 0x01].as_slice());
-    assert_eq!(rt; nine.len(), 9);
+fn is_parted(rt: &impl Abort, alloc: Global, at: usize) -> Result<(), VobError>
+    requires { at ≤ 35 }
+{
+    let mut list = made::<u16>(alloc, 0, 35)?;
+    assert_eq!(rt; list.len(), 35);
+    let part = list.split_off(at)?;
+    holds(rt, &list, 0, at);
+    holds(rt, &part, at, 35);
     Ok(())
 }
 
 #[test]
-fn a_length_past_the_greatest_is_refused(rt: HostRuntime) -> Result<(), Fail> {
+fn nine_true_items_are_parted_and_joined(rt: HostRuntime) -> Result<(), VobError> {
     let mut nine: Vob<u8> = Vob::from_elem_with_storage_type(rt.alloc(), true, 9)?;
-    assert!(rt; matches!(nine.reserve(usize::MAX), Err(VobError::TooLong)));
-    assert_eq!(rt; nine.get_storage(), [0xffu8, 0x01].as_slice());
+    let part = last_of_nine(&rt, &mut nine)?;
+    holds_blocks(&rt, &part, [0x01u8].as_slice());
+    assert_eq!(rt; part.len(), 1);
+    holds_blocks(&rt, &nine, [0xffu8].as_slice());
+    nine.extend_from_vob(&part)?;
+    holds_blocks(&rt, &nine, [0xffu8, 0x01].as_slice());
+    assert_eq!(rt; nine.len(), 9);
+    Ok(())
+}
+
+fn last_of_nine<T: Block>(rt: &impl Abort, nine: &mut Vob<T>) -> Result<Vob<T>, AllocError> {
+    assert_eq!(rt; nine.len(), 9);
+    nine.split_off(8)
+}
+
+#[test]
+fn a_length_past_the_greatest_is_refused(rt: HostRuntime) -> Result<(), VobError> {
+    let mut nine: Vob<u8> = Vob::from_elem_with_storage_type(rt.alloc(), true, 9)?;
+    greatest_room_is_refused(&rt, &mut nine);
+    holds_blocks(&rt, &nine, [0xffu8, 0x01].as_slice());
     assert_eq!(rt; nine.len(), 9);
     nine.reserve(100)?;
     assert!(rt; nine.capacity() >= 109);
-    assert_eq!(rt; nine.get_storage(), [0xffu8, 0x01].as_slice());
+    holds_blocks(&rt, &nine, [0xffu8, 0x01].as_slice());
     Ok(())
 }
 
@@ -127,41 +163,63 @@ fn a_byte_comes_from_its_top(rt: HostRuntime) -> Result<(), Fail> {
 }
 
 #[test]
-fn items_are_added_past_the_room(rt: HostRuntime) -> Result<(), Fail> {
+fn items_are_added_past_the_room(rt: HostRuntime) -> Result<(), VobError> {
     let mut list = made::<u8>(rt.alloc(), 0, 9)?;
     list.extend((9..50).map(item))?;
     holds(&rt, &list, 0, 50);
     let mut list = made::<u8>(rt.alloc(), 0, 5)?;
     list.extend_from_slice([false, true, false, true, true].as_slice())?;
-    assert_eq!(rt; list.len(), 10);
-    assert_eq!(rt; list.get(5), Some(false));
-    assert_eq!(rt; list.get(6), Some(true));
-    assert_eq!(rt; list.get(8), Some(true));
-    assert_eq!(rt; list.get(9), Some(true));
+    holds_ten(&rt, &list);
     let list = Vob::from_iter(rt.alloc(), (0..70).map(item))?;
     holds(&rt, &list, 0, 70);
     Ok(())
 }
 
+fn holds_ten<T: Block>(rt: &impl Abort, list: &Vob<T>) {
+    assert_eq!(rt; list.len(), 10);
+    assert_eq!(rt; list.get(5), Some(false));
+    assert_eq!(rt; list.get(6), Some(true));
+    assert_eq!(rt; list.get(8), Some(true));
+    assert_eq!(rt; list.get(9), Some(true));
+}
+
 #[test]
-fn items_are_changed_one_by_one(rt: HostRuntime) -> Result<(), Fail> {
+fn items_are_changed_one_by_one(rt: HostRuntime) -> Result<(), VobError> {
     let mut list: Vob<u8> = Vob::from_elem_with_storage_type(rt.alloc(), false, 9)?;
+    items_are_set(&rt, &mut list);
+    holds_blocks(&rt, &list, [0x01u8, 0x01].as_slice());
+    list.push(true)?;
+    holds_blocks(&rt, &list, [0x01u8, 0x03].as_slice());
+    items_are_added(&rt, &mut list)?;
+    last_items_are_removed(&rt, &mut list);
+    three_are_left(&rt, &mut list)?;
+    list.clear();
+    pops(&rt, &mut list, None);
+    Ok(())
+}
+
+fn items_are_set<T: Block>(rt: &impl Abort, list: &mut Vob<T>) {
     assert_eq!(rt; list.len(), 9);
     assert!(rt; list.set(8, true));
     assert!(rt; !list.set_unchecked(8, true));
     assert!(rt; list.set_unchecked(0, true));
-    assert_eq!(rt; list.get_storage(), [0x01u8, 0x01].as_slice());
-    list.push(true)?;
-    assert_eq!(rt; list.get_storage(), [0x01u8, 0x03].as_slice());
+}
+
+fn items_are_added(rt: &impl Abort, list: &mut Vob<u8>) -> Result<(), AllocError> {
     list.resize(12, true)?;
-    assert_eq!(rt; list.get_storage(), [0x01u8, 0x0f].as_slice());
-    assert_eq!(rt; list.pop(), Some(true));
+    holds_blocks(rt, list, [0x01u8, 0x0f].as_slice());
+    Ok(())
+}
+
+fn last_items_are_removed(rt: &impl Abort, list: &mut Vob<u8>) {
+    pops(rt, list, Some(true));
     list.truncate(9);
-    assert_eq!(rt; list.get_storage(), [0x01u8, 0x01].as_slice());
+    holds_blocks(rt, list, [0x01u8, 0x01].as_slice());
+}
+
+fn three_are_left(rt: &impl Abort, list: &mut Vob<u8>) -> Result<(), AllocError> {
     list.resize(3, true)?;
     list.shrink_to_fit();
-    assert_eq!(rt; list.get_storage(), [0x01u8].as_slice());
-    list.clear();
-    assert_eq!(rt; list.pop(), None);
+    holds_blocks(rt, list, [0x01u8].as_slice());
     Ok(())
 }

@@ -6,7 +6,8 @@ ghost use Rattle.cfg_read.specs.Validity.{IsValid};
 ghost use Rattle.cfg_read.specs.Asts.{Ast, ast_of};
 ghost use Rattle.cfg_read.specs.Sound.{IsSound, names_of_rules};
 
-/// What the tree of a valid text names is there, each name once, and each production is one rule's.
+/// What the tree of a valid text names is there, each name once, each production is one rule's, and precedences of one
+/// level have one kind.
 pub fn valid_texts_have_sound_trees()
     ensures { (told : Bool) (x : SyntaxText) → IsValid x → IsSound (ast_of told x) }
 {}

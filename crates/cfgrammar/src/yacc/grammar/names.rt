@@ -2,7 +2,7 @@
 
 ghost use Rattle.std.specs.Prelude.{◌≡◌, ◌<◌, ℕ, length, slice_get, option_map, Some, IfSome, IfNone, MatchOption};
 ghost use Rattle.cfg_theory.specs.Grammar.{end_token};
-ghost use Rattle.cfgrammar.specs.Value.{IsRuleNamed, IsTokenNamed};
+ghost use Rattle.cfgrammar.specs.Value.{IsRuleNamed, IsTokenNamed, LevelsHaveOneKind};
 
 use super::{YaccGrammar, index_of, name_sets, text_of};
 use cfg_base::index::IndexStorage;
@@ -30,6 +30,7 @@ impl<S: IndexStorage> YaccGrammar<S> {
     /// The rule with a name. A name is that of one rule at most.
     pub fn rule_idx(&self, name: &str) -> Option<RIdx<S>>
         ensures found { IfSome result (λ r. IsRuleNamed self.now (S.number r.0) name.now) }
+        ensures within { IfSome result (λ r. S.number r.0 < self.now.grammar.rules) }
         ensures none { IfNone result ((A : ℕ) → IsRuleNamed self.now A name.now → ⊥) }
         ensures only { (A B : ℕ) → IsRuleNamed self.now A name.now → IsRuleNamed self.now B name.now → A ≡ B }
     {
@@ -42,6 +43,7 @@ impl<S: IndexStorage> YaccGrammar<S> {
     /// The token with a name. A name is that of one token at most, and the end token has none.
     pub fn token_idx(&self, name: &str) -> Option<TIdx<S>>
         ensures found { IfSome result (λ t. IsTokenNamed self.now (S.number t.0) name.now) }
+        ensures within { IfSome result (λ t. S.number t.0 < self.now.grammar.tokens) }
         ensures none { IfNone result ((t : ℕ) → IsTokenNamed self.now t name.now → ⊥) }
         ensures only { (t u : ℕ) → IsTokenNamed self.now t name.now → IsTokenNamed self.now u name.now → t ≡ u }
     {
@@ -76,18 +78,21 @@ impl<S: IndexStorage> YaccGrammar<S> {
         self.tokens[tidx.0.to_usize()].span
     }
 
-    /// The precedence that the text declares for a token.
+    /// The precedence that the text declares for a token. Precedences of one level have one kind, those of productions
+    /// too.
     pub fn token_precedence(&self, tidx: TIdx<S>) -> Option<Precedence>
         requires { S.number tidx.0 < self.now.grammar.tokens }
-        ensures { option_map (λ t. t.precedence) (slice_get self.now.tokens (S.number tidx.0)) ≡ Some result }
+        ensures value { option_map (λ t. t.precedence) (slice_get self.now.tokens (S.number tidx.0)) ≡ Some result }
+        ensures levels { LevelsHaveOneKind self.now }
     {
         self.tokens[tidx.0.to_usize()].precedence
     }
 
-    /// The precedence of a production.
+    /// The precedence of a production. Precedences of one level have one kind, those of tokens too.
     pub fn prod_precedence(&self, pidx: PIdx<S>) -> Option<Precedence>
         requires { S.number pidx.0 < length self.now.grammar.productions }
-        ensures { option_map (λ p. p.precedence) (slice_get self.now.productions (S.number pidx.0)) ≡ Some result }
+        ensures value { option_map (λ p. p.precedence) (slice_get self.now.productions (S.number pidx.0)) ≡ Some result }
+        ensures levels { LevelsHaveOneKind self.now }
     {
         self.prods[pidx.0.to_usize()].precedence
     }

@@ -1,29 +1,14 @@
 #!/bin/sh
 # Instructions of `or` and of walks over 1,000,000 bits in blocks of usize, by differences of 0, 1 and 11 calls:
-# tools/bench_vob/run.sh. It wants valgrind. The program is proved and built in a repository of its own, beside the
-# crate as it stands and what was proved of it: program.txt is its src/main.rt.
+# tools/bench_vob/run.sh
 set -eu
 here=$(dirname "$(readlink -f "$0")")
-crates=$here/../../crates
-work=$(mktemp -d)
-trap 'rm -rf "$work"' EXIT
-mkdir "$work/crates"
-cp -r "$crates/vob" "$work/crates/vob"
-mkdir -p "$work/crates/bench_vob/src"
-cp "$here/program.txt" "$work/crates/bench_vob/src/main.rt"
-printf 'vob: num_traits thiserror\nbench_vob status=1: vob\n' > "$work/crates.txt"
-(cd "$work" && git init -q . && cd crates/bench_vob && rt run > "$work/log" 2>&1) || [ -x "$work/crates/bench_vob/out/bench_vob" ] || {
-    cat "$work/log" >&2
-    exit 1
-}
-program=$work/crates/bench_vob/out/bench_vob
-instructions() {
-    valgrind --tool=callgrind --callgrind-out-file=/dev/null "$program" "$1" "$2" 2>&1 >/dev/null | sed -n 's/.*Collected : //p'
-}
+. "$here/../count.sh"
+prepare or 0 -- vob
 for what in or walk empty; do
-    none=$(instructions $what 0)
-    one=$(instructions $what 1)
-    eleven=$(instructions $what 11)
+    none=$(count $what 0)
+    one=$(count $what 1)
+    eleven=$(count $what 11)
     each=$(((eleven - one) / 10))
     echo "$what: 0 calls $none, 1 call $one, 11 calls $eleven instructions: the first takes $((one - none)), each further one $each"
     case $what in

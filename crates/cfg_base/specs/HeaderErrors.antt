@@ -1,11 +1,10 @@
 -- Errors of a section, with their texts as bytes.
-use Rattle.std.specs.Prelude.{ℕ, Bool, List}
-use Rattle.cfg_base.specs.Place.{Places}
+use Rattle.std.specs.Prelude.{ℕ, List, ◌++◌, codes}
+use Rattle.std.specs.Char.{encode_utf8}
 use Rattle.cfg_base.specs.declared.span.SpansKind.{SpansKind}
 use Rattle.cfg_base.specs.declared.span.SpansKind.TheVariants as spans
 use Rattle.cfg_base.specs.declared.header.error.HeaderErrorKind.{HeaderErrorKind}
 use Rattle.cfg_base.specs.declared.header.error.HeaderErrorKind.TheVariants as kinds
-use Rattle.cfg_base.specs.declared.header.error.HeaderError.{HeaderError}
 
 pub data KindText : Type 0 where
   missing_section : KindText
@@ -29,3 +28,13 @@ kind_text (kinds.ConversionError to why) = no_conversion to.now why.now
 abbrev pub spanskind_of : KindText → SpansKind
 spanskind_of duplicate_entry = spans.DuplicationError
 spanskind_of _ = spans.Error
+
+-- as they are printed
+abbrev pub header_error_text : KindText → List ℕ
+header_error_text missing_section = codes "Missing %grmtools section"
+header_error_text illegal_name = codes "Illegal name"
+header_error_text (expected_token c) = codes "Expected token '" ++ (encode_utf8 c ++ codes "'")
+header_error_text (unexpected_token c why) = codes "Unexpected token '" ++ (encode_utf8 c ++ codes "'")
+header_error_text duplicate_entry = codes "Duplicate entry"
+header_error_text (invalid_entry what) = codes "Invalid entry '" ++ (what ++ codes "'")
+header_error_text (no_conversion to why) = codes "Cannot convert to " ++ (to ++ (codes ": " ++ why))

@@ -1,5 +1,5 @@
 -- What is kept of a text is one thing, and a text that doesn't read is invalid.
-use Rattle.std.proofs.Common.{◌≡◌, ℕ, Bool, false, List, [], ◌∷◌, map, refl, sym, ◌∙◌, ap}
+use Rattle.std.proofs.Common.{◌≡◌, ℕ, Bool, false, List, [], ◌∷◌, map, refl, sym, ◌∙◌, ap, subst}
 use Rattle.cfg_base.specs.Place.{Places}
 use Rattle.cfg_base.specs.SectionFaults.{ErrorText, repeat_text}
 use Rattle.cfg_base.specs.SectionAnswers.{Refuses, one_fault, repeated_keys}
@@ -35,6 +35,10 @@ refused_some text es (repeated_keys pairs end r more is) = ap (λ xs. is_valid (
 pub fails_some : (kind : YaccKind) (text : List ℕ) (fs : List FailureText) → FailsFile kind text fs → is_valid fs ≡ false
 fails_some kind text fs (in_section f) = ap is_valid f.is ∙ refused_some text f.errors f.refuses
 fails_some kind text fs (in_rest pairs end s f) = ap is_valid f.is
+
+pub told_valid : (kind : YaccKind) (text : List ℕ) (c : CheckedAst) → IsChecked kind text c → c.ast.is_valid ≡ is_valid c.errors
+told_valid kind text c (reads_as x r is) = subst (λ d. d.ast.is_valid ≡ is_valid d.errors) (sym is) refl
+told_valid kind text c (has_errors fs f is) = subst (λ d. d.ast.is_valid ≡ is_valid d.errors) (sym is) (sym (fails_some kind text fs f))
 
 -- a kept value, by its parts
 abbrev pub made : YaccKind → Ast → List FailureText → CheckedAst

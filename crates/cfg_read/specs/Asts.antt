@@ -1,5 +1,5 @@
 -- What a text that reads is kept as: rules, productions and tokens by number, and what the declarations say.
-use Rattle.std.specs.Prelude.{ℕ, suc, Bool, true, List, [], ◌∷◌, ◌++◌, map, fold, Option, None, Some, option_map, if◌then◌else◌}
+use Rattle.std.specs.Prelude.{ℕ, suc, Bool, false, List, [], ◌∷◌, ◌++◌, map, fold, Option, None, Some, option_map, if◌then◌else◌}
 use Rattle.std.specs.List.{flat_map, list_any}
 use Rattle.std.specs.Option.{option_or}
 use Rattle.std.specs.Str.{bytes_eq}
@@ -34,7 +34,7 @@ pub record PrecedenceAst : Type 0 where
   pub kind : AssocKind
 
 pub record Ast : Type 0 where
-  -- whether the text that it was made from is valid; true without one
+  -- whether the text that it was made from is valid
   pub is_valid : Bool
   pub start : Option WordText
   pub rules : List RuleAst
@@ -53,10 +53,10 @@ pub record Ast : Type 0 where
   -- the names of `%expect-unused`, of which the quoted ones are told as tokens
   pub expect_unused : List SymbolAst
 
--- an empty one: that of a text that doesn't read
+-- an empty one: that of a text that doesn't read, which is invalid
 abbrev pub no_ast : Ast
 no_ast = record {
-  is_valid = true;
+  is_valid = false;
   start = None;
   rules = [];
   productions = [];

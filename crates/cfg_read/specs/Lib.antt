@@ -10,6 +10,7 @@ pub mod Scanning
 pub mod Names
 pub mod Validity
 pub mod Showing
+pub mod ErrorTexts
 pub mod Asts
 pub mod AstViews
 pub mod Warnings

@@ -2,6 +2,8 @@
 #![tactic(auto)]
 
 #[cfg(test)]
+mod error_texts;
+#[cfg(test)]
 mod files;
 #[cfg(test)]
 mod kinds;

@@ -7,26 +7,41 @@ use crate::span::{Span, Spanned, SpansKind};
 use std::error::Error;
 use std::fmt;
 use std::fmt::{Debug, Display, Formatter, Write};
-use thiserror::Error;
 
 /// What is wrong.
-#[derive(Clone, Copy, Debug, PartialEq, Eq, Error)]
+#[derive(Clone, Copy, Debug, PartialEq, Eq)]
 pub enum HeaderErrorKind {
-    #[error("Missing %grmtools section")]
     MissingGrmtoolsSection,
-    #[error("Illegal name")]
     IllegalName,
-    #[error("Expected token '{0}'")]
     ExpectedToken(char),
-    #[error("Unexpected token '{0}'")]
     UnexpectedToken(char, &'static str),
-    #[error("Duplicate entry")]
+    /// A key that is there more than once.
     DuplicateEntry,
-    #[error("Invalid entry '{0}'")]
     InvalidEntry(&'static str),
-    #[error("Cannot convert to {0}: {1}")]
+    /// What the value should have been, and why it isn't.
     ConversionError(&'static str, &'static str),
 }
+
+impl Display for HeaderErrorKind {
+    ghost use Rattle.std.specs.Prelude.{Some};
+    ghost use Rattle.cfg_base.specs.HeaderErrors.{kind_text, header_error_text};
+
+    ghost output = { λ k. Some (header_error_text (kind_text k)) };
+
+    fn fmt<W: Write>(&self, f: &mut Formatter<W>) -> fmt::Result {
+        match self {
+            HeaderErrorKind::MissingGrmtoolsSection => write!(f, "Missing %grmtools section"),
+            HeaderErrorKind::IllegalName => write!(f, "Illegal name"),
+            HeaderErrorKind::ExpectedToken(c) => write!(f, "Expected token '{c}'"),
+            HeaderErrorKind::UnexpectedToken(c, _) => write!(f, "Unexpected token '{c}'"),
+            HeaderErrorKind::DuplicateEntry => write!(f, "Duplicate entry"),
+            HeaderErrorKind::InvalidEntry(what) => write!(f, "Invalid entry '{what}'"),
+            HeaderErrorKind::ConversionError(to, why) => write!(f, "Cannot convert to {to}: {why}"),
+        }
+    }
+}
+
+impl Error for HeaderErrorKind {}
 
 /// What is wrong, and where: for a repeated key all its places, the first one first.
 #[derive(Debug, PartialEq, Eq, Drop)]
@@ -48,6 +63,11 @@ impl<T> HeaderError<T> {
 }
 
 impl<T> Display for HeaderError<T> {
+    ghost use Rattle.std.specs.Prelude.{Some};
+    ghost use Rattle.cfg_base.specs.HeaderErrors.{kind_text, header_error_text};
+
+    ghost output = { λ e. Some (header_error_text (kind_text e.kind)) };
+
     fn fmt<W: Write>(&self, f: &mut Formatter<W>) -> fmt::Result {
         Display::fmt(&self.kind, f)
     }

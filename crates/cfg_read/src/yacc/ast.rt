@@ -3,7 +3,6 @@
 ghost use Rattle.std.specs.Prelude.{◌≡◌, Some, map, option_map, slice_get};
 ghost use Rattle.std.specs.Option.{option_copied};
 ghost use Rattle.std.specs.String.{string_bytes};
-ghost use Rattle.cfg_read.specs.Asts.{no_ast};
 ghost use Rattle.cfg_read.specs.AstChanges.{with_start};
 ghost use Rattle.cfg_read.specs.Building.{empty_ast};
 ghost use Rattle.cfg_read.specs.AstViews.{ast_symbol_of, production_of, named_place, named_places, named_rules, named_epps, named_precedences, rule_keys, own_names, placed_number, param_pair};
@@ -116,15 +115,8 @@ impl Model for GrammarAST {
 }
 
 impl GrammarAST {
-    /// One that says nothing.
-    pub(crate) fn new(alloc: Global) -> GrammarAST
-        ensures { result ≡ no_ast }
-    {
-        GrammarAST::empty(alloc, true)
-    }
-
     /// One that says nothing but whether it is valid.
-    fn empty(alloc: Global, is_valid: bool) -> GrammarAST
+    pub(crate) fn empty(alloc: Global, is_valid: bool) -> GrammarAST
         ensures { result ≡ empty_ast is_valid }
     {
         GrammarAST {

@@ -22,17 +22,34 @@ use crate::yacc::validity::{YaccGrammarError, failures};
 use cfg_base::span::Span;
 use indexmap::IndexMap;
 use std::alloc::{AllocError, Global};
+use std::error::Error;
+use std::fmt;
+use std::fmt::{Display, Formatter, Write};
 use std::marker::Model;
-use thiserror::Error;
 
 /// Why a syntax tree isn't changed.
-#[derive(Debug, Drop, Error)]
+#[derive(Debug, Drop)]
 pub enum ASTModificationError {
-    #[error(transparent)]
     Memory(AllocError),
-    #[error("Rule does not appear in grammar")]
+    /// No rule has this name.
     UnknownRule,
 }
+
+impl Display for ASTModificationError {
+    ghost use Rattle.std.specs.Prelude.{Some};
+    ghost use Rattle.cfg_read.specs.ErrorTexts.{change_error_text};
+
+    ghost output = { λ e. Some (change_error_text e) };
+
+    fn fmt<W: Write>(&self, f: &mut Formatter<W>) -> fmt::Result {
+        match self {
+            ASTModificationError::Memory(_) => write!(f, "Memory"),
+            ASTModificationError::UnknownRule => write!(f, "Rule does not appear in grammar"),
+        }
+    }
+}
+
+impl Error for ASTModificationError {}
 
 /// The syntax tree of a grammar text, empty where the text can't be read, and all that is wrong with the
 /// text.
@@ -112,7 +129,7 @@ impl ASTWithValidityInfo {
         requires { is_valid (failures_in errors.items) ≡ false }
         ensures { result ≡ unread yacc_kind (failures_in errors.items) }
     {
-        let ast = GrammarAST::new(alloc);
+        let ast = GrammarAST::empty(alloc, false);
         ASTWithValidityInfo {
             yacc_kind,
             ast,
@@ -256,11 +273,12 @@ impl ASTWithValidityInfo {
     }
 }
 
-/// A law: what is kept of a text of a kind is a function of both, and a text that doesn't read is
-/// invalid.
+/// A law: what is kept of a text of a kind is a function of both, a text that doesn't read is invalid, and
+/// the tree of a text tells whether this is valid, so that an invalid one has no warnings.
 pub fn one_answer()
     ensures answers { (kind : YaccKind) (text : List ℕ) (c d : CheckedAst) → IsChecked kind text c → IsChecked kind text d → c ≡ d }
     ensures unread { (kind : YaccKind) (text : List ℕ) (fs : List FailureText) → FailsFile kind text fs → is_valid fs ≡ false }
+    ensures told { (kind : YaccKind) (text : List ℕ) (c : CheckedAst) → IsChecked kind text c → c.ast.is_valid ≡ is_valid c.errors }
 {
     one_file();
 }

@@ -34,7 +34,7 @@ use thiserror::Error;
 /// Why a text gives no grammar.
 #[derive(Debug, Drop, Error)]
 pub enum YaccGrammarFailure {
-    #[error(transparent)]
+    #[error("Memory")]
     Memory(AllocError),
     /// All that is wrong with the text.
     #[error("Invalid")]

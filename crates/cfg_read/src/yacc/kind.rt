@@ -26,10 +26,15 @@ pub enum KindError<T> {
 }
 
 impl<T> Display for KindError<T> {
+    ghost use Rattle.std.specs.Prelude.{Some};
+    ghost use Rattle.cfg_read.specs.ErrorTexts.{kind_error_text};
+
+    ghost output = { λ e. Some (kind_error_text e) };
+
     fn fmt<W: Write>(&self, f: &mut Formatter<W>) -> fmt::Result {
         match self {
-            KindError::Memory(e) => Display::fmt(e, f),
-            KindError::Invalid(e) => Display::fmt(e, f),
+            KindError::Memory(_) => write!(f, "Memory"),
+            KindError::Invalid(_) => write!(f, "Invalid"),
         }
     }
 }

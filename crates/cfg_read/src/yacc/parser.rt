@@ -12,4 +12,8 @@ mod scan;
 pub mod syntax;
 mod words;
 
+pub use crate::yacc::ast::warnings::{YaccGrammarWarning, YaccGrammarWarningKind};
+pub use crate::yacc::validity::YaccGrammarError;
+pub use cfg_base::span::SpansKind;
+pub use error::YaccGrammarErrorKind;
 pub use rules::read_syntax;

@@ -14,16 +14,32 @@ use cfg_base::header::HeaderError;
 use cfg_base::span::{Span, Spanned, SpansKind};
 use indexmap::IndexSet;
 use std::alloc::{AllocError, Global};
-use thiserror::Error;
+use std::error::Error;
+use std::fmt;
+use std::fmt::{Display, Formatter, Write};
 
 /// What is wrong with a grammar text, and the places that show it.
-#[derive(Debug, Drop, Error)]
-#[error("{kind}")]
+#[derive(Debug, Drop)]
 pub struct YaccGrammarError {
     pub kind: YaccGrammarErrorKind,
     /// Of what stands more than once all occurrences, in order; else one place.
     pub spans: Vec<Span>,
 }
+
+impl Display for YaccGrammarError {
+    ghost use Rattle.std.specs.Prelude.{Some};
+    ghost use Rattle.cfg_read.specs.Showing.{failure_of};
+    ghost use Rattle.cfg_read.specs.ErrorTexts.{failure_text};
+
+    ghost output = { λ e. Some (failure_text (failure_of e).kind) };
+
+    fn fmt<W: Write>(&self, f: &mut Formatter<W>) -> fmt::Result {
+        let kind = &self.kind;
+        write!(f, "{kind}")
+    }
+}
+
+impl Error for YaccGrammarError {}
 
 impl Spanned for YaccGrammarError {
     ghost use Rattle.cfg_read.specs.Showing.{spans_kind};

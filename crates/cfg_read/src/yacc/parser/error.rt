@@ -2,86 +2,55 @@
 
 ghost use Rattle.std.specs.Prelude.{◌≡◌, false};
 ghost use Rattle.cfg_read.specs.Payloads.{holds_value};
+ghost use Rattle.cfg_read.specs.Showing.{kind_of};
+ghost use Rattle.cfg_read.specs.ErrorTexts.{failure_text};
 ghost use Rattle.cfg_read.specs.declared.yacc.parser.error.ReadError.TheVariants.{Memory};
 
 use cfg_base::header::HeaderErrorKind;
 use cfg_base::span::SpansKind;
 use std::alloc::{AllocError, AllocFailed};
-use thiserror::Error;
+use std::error::Error;
+use std::fmt;
+use std::fmt::{Display, Formatter, Write};
 
-/// What is wrong with a grammar text.
-#[derive(Debug, PartialEq, Eq, Drop, Error)]
+/// What is wrong with a grammar text. `MismatchedBrace`, `ProgramsNotSupported` and `ExpectedInput` are never told.
+#[derive(Debug, PartialEq, Eq, Drop)]
 pub enum YaccGrammarErrorKind {
-    #[error("Illegal integer")]
     IllegalInteger,
-    #[error("Illegal name")]
     IllegalName,
-    #[error("Illegal string")]
     IllegalString,
-    #[error("Incomplete rule")]
     IncompleteRule,
-    #[error("Incomplete comment")]
     IncompleteComment,
-    #[error("Incomplete action")]
     IncompleteAction,
-    #[error("Missing ':'")]
     MissingColon,
-    #[error("Missing '->'")]
     MissingRightArrow,
-    #[error("MismatchedBrace")]
     MismatchedBrace,
-    #[error("%empty used in non-empty production")]
     NonEmptyProduction,
-    #[error("File ends prematurely")]
     PrematureEnd,
-    #[error("Production not terminated correctly")]
     ProductionNotTerminated,
-    #[error("ProgramsNotSupported")]
     ProgramsNotSupported,
-    #[error("Unknown declaration")]
     UnknownDeclaration,
-    #[error("%prec not followed by token name")]
     PrecNotFollowedByToken,
-    #[error("Token has multiple precedences specified")]
     DuplicatePrecedence,
-    #[error("Duplicated %avoid_insert declaration")]
     DuplicateAvoidInsertDeclaration,
-    #[error("Duplicated %implicit_tokens declaration")]
     DuplicateImplicitTokensDeclaration,
-    #[error("Duplicated %expect declaration")]
     DuplicateExpectDeclaration,
-    #[error("Duplicated %expect-rr declaration")]
     DuplicateExpectRRDeclaration,
-    #[error("Duplicated %start declaration")]
     DuplicateStartDeclaration,
-    #[error("Duplicated %actiontype declaration")]
     DuplicateActiontypeDeclaration,
-    #[error("Duplicated %epp declaration")]
     DuplicateEPP,
-    #[error("Reached end of line without finding expected content")]
     ReachedEOL,
-    #[error("Invalid string")]
     InvalidString,
-    #[error("No start rule specified")]
     NoStartRule,
-    #[error("Unknown symbol, expected a rule or token")]
     UnknownSymbol,
-    #[error("Start rule '{0}' does not appear in grammar")]
     InvalidStartRule(String),
-    #[error("Unknown reference to rule '{0}'")]
     UnknownRuleRef(String),
-    #[error("Unknown token '{0}'")]
     UnknownToken(String),
-    #[error("Token '{0}' used in %prec has no precedence attached")]
     NoPrecForToken(String),
-    #[error("Unknown token '{0}' in %epp declaration")]
     UnknownEPP(String),
-    #[error("ExpectedInput")]
     ExpectedInput,
-    #[error("Invalid yacc kind")]
     InvalidYaccKind,
     /// An error of the section, or of a value in it, and what its places are.
-    #[error("{0}")]
     Header(HeaderErrorKind, SpansKind),
 }
 
@@ -123,7 +92,71 @@ impl YaccGrammarErrorKind {
             _ => Self::InvalidYaccKind,
         }
     }
+
+    /// What one without a value prints.
+    fn plain_text(&self) -> &'static str
+        requires { holds_value self.now ≡ false }
+        ensures { result.now ≡ failure_text (kind_of self.now) }
+    {
+        match self {
+            Self::IllegalInteger => "Illegal integer",
+            Self::IllegalName => "Illegal name",
+            Self::IllegalString => "Illegal string",
+            Self::IncompleteRule => "Incomplete rule",
+            Self::IncompleteComment => "Incomplete comment",
+            Self::IncompleteAction => "Incomplete action",
+            Self::MissingColon => "Missing ':'",
+            Self::MissingRightArrow => "Missing '->'",
+            Self::MismatchedBrace => "MismatchedBrace",
+            Self::NonEmptyProduction => "%empty used in non-empty production",
+            Self::PrematureEnd => "File ends prematurely",
+            Self::ProductionNotTerminated => "Production not terminated correctly",
+            Self::ProgramsNotSupported => "ProgramsNotSupported",
+            Self::UnknownDeclaration => "Unknown declaration",
+            Self::PrecNotFollowedByToken => "%prec not followed by token name",
+            Self::DuplicatePrecedence => "Token has multiple precedences specified",
+            Self::DuplicateAvoidInsertDeclaration => "Duplicated %avoid_insert declaration",
+            Self::DuplicateImplicitTokensDeclaration => "Duplicated %implicit_tokens declaration",
+            Self::DuplicateExpectDeclaration => "Duplicated %expect declaration",
+            Self::DuplicateExpectRRDeclaration => "Duplicated %expect-rr declaration",
+            Self::DuplicateStartDeclaration => "Duplicated %start declaration",
+            Self::DuplicateActiontypeDeclaration => "Duplicated %actiontype declaration",
+            Self::DuplicateEPP => "Duplicated %epp declaration",
+            Self::ReachedEOL => "Reached end of line without finding expected content",
+            Self::InvalidString => "Invalid string",
+            Self::NoStartRule => "No start rule specified",
+            Self::UnknownSymbol => "Unknown symbol, expected a rule or token",
+            Self::ExpectedInput => "ExpectedInput",
+            _ => "Invalid yacc kind",
+        }
+    }
 }
+
+impl Display for YaccGrammarErrorKind {
+    ghost use Rattle.std.specs.Prelude.{Some};
+    ghost use Rattle.cfg_read.specs.Showing.{kind_of};
+    ghost use Rattle.cfg_read.specs.ErrorTexts.{failure_text};
+
+    ghost output = { λ k. Some (failure_text (kind_of k)) };
+
+    fn fmt<W: Write>(&self, f: &mut Formatter<W>) -> fmt::Result {
+        match self {
+            Self::InvalidStartRule(name) => {
+                write!(f, "Start rule '{name}' does not appear in grammar")
+            }
+            Self::UnknownRuleRef(name) => write!(f, "Unknown reference to rule '{name}'"),
+            Self::UnknownToken(name) => write!(f, "Unknown token '{name}'"),
+            Self::NoPrecForToken(name) => {
+                write!(f, "Token '{name}' used in %prec has no precedence attached")
+            }
+            Self::UnknownEPP(name) => write!(f, "Unknown token '{name}' in %epp declaration"),
+            Self::Header(kind, _) => write!(f, "{kind}"),
+            plain => f.write_str(plain.plain_text()),
+        }
+    }
+}
+
+impl Error for YaccGrammarErrorKind {}
 
 impl Clone for YaccGrammarErrorKind {
     ghost use Rattle.std.specs.Prelude.{◌≡◌};
@@ -152,6 +185,22 @@ pub enum ReadError {
     /// The text's fault, and its byte place.
     Fault(YaccGrammarErrorKind, usize),
 }
+
+impl Display for ReadError {
+    ghost use Rattle.std.specs.Prelude.{Some};
+    ghost use Rattle.cfg_read.specs.ErrorTexts.{read_error_text};
+
+    ghost output = { λ e. Some (read_error_text e) };
+
+    fn fmt<W: Write>(&self, f: &mut Formatter<W>) -> fmt::Result {
+        match self {
+            ReadError::Memory => write!(f, "Memory"),
+            ReadError::Fault(kind, _) => write!(f, "{kind}"),
+        }
+    }
+}
+
+impl Error for ReadError {}
 
 impl From<AllocError> for ReadError {
     ghost from_gives = { λ _ e. e ≡ Memory };

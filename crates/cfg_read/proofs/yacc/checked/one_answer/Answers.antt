@@ -1,4 +1,4 @@
-use Rattle.cfg_read.proofs.OneAnswer.{FileLaws, one_checked, fails_some}
+use Rattle.cfg_read.proofs.OneAnswer.{FileLaws, one_checked, fails_some, told_valid}
 use Rattle.cfg_read.proofs.yacc.checked.one_answer.Goals as goal
 
 pub returns-clause-answers : goal.returns-clause-answers
@@ -8,3 +8,6 @@ returns-clause-answers c =
 
 pub returns-clause-unread : goal.returns-clause-unread
 returns-clause-unread c = fails_some
+
+pub returns-clause-told : goal.returns-clause-told
+returns-clause-told c = told_valid

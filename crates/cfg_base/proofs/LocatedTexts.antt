@@ -2,7 +2,7 @@
 use Rattle.std.proofs.Common.{◌≡◌, ℕ, ◌+◌, ◌<◌, ◌≤◌, List, [], ◌∷◌, ◌++◌, length, take, get_or, refl, sym, ap, ◌∙◌}
 use Rattle.std.proofs.lemmas.List.{take_more, take_all}
 use Rattle.cfg_base.specs.declared.header.value.Setting.{Setting}
-use Rattle.cfg_base.specs.HeaderTexts.{more, setting_text, items_text}
+use Rattle.cfg_base.specs.HeaderTexts.{setting_text, items_text}
 use Rattle.cfg_base.specs.HeaderMaps.{map_setting, map_items}
 use Rattle.cfg_base.proofs.SettingTexts.{items_text-push}
 

@@ -1,12 +1,16 @@
 -- A key's entry is filled.
-use Rattle.std.proofs.Common.{◌≡◌, Bool, true, false, cond, Option, Some, List, [], ◌∷◌, unwrap_or, ap, refl, sym, ◌∙◌}
+use Rattle.std.proofs.Common.{◌≡◌, Bool, true, false, cond, Option, Some, List, [], ◌∷◌, unwrap_or, is_some, None, ap, refl, sym, ◌∙◌}
 use Rattle.std.specs.declared.cmp.Ordering.{Ordering}
 use Rattle.std.specs.declared.cmp.Ordering.TheVariants.{Less, Equal, Greater}
 use Rattle.std.specs.Cmp.{IsTotalOrder}
 use Rattle.std.specs.Ordering.{is_eq, match_ordering}
-use Rattle.std.specs.Map.{lookup, set_value}
+use Rattle.std.specs.Map.{keys_of, lookup, set_value}
 use Rattle.std.specs.BTreeMap.{insert_entry, is_at}
+use Rattle.std.specs.List.Sorted.{IsStrictlySortedBy}
 use Rattle.std.proofs.lemmas.Cmp.{tied_back}
+use Rattle.std.proofs.lemmas.Map.{lookup-none}
+use Rattle.std.proofs.lemmas.Map.Entries.{none_below_head}
+use Rattle.std.proofs.lemmas.Map.Keys.{sorted_tail}
 use Rattle.cfg_base.specs.declared.markmap.Slot.{Slot}
 use Rattle.cfg_base.specs.declared.markmap.Marks.{Marks}
 use Rattle.cfg_base.specs.declared.markmap.MergeBehavior.{MergeBehavior}
@@ -32,6 +36,23 @@ insert_set : {K X : Type 0} (cmp : K → K → Ordering) → IsTotalOrder cmp �
 insert_set cmp o [] k a s t e = ap (λ (b : Bool). cond b ((k, t) ∷ []) ((k, s) ∷ [])) (ap is_eq (tied_back o k a e))
 insert_set cmp o (x ∷ es) k a s t e =
     set_case (is_at (cmp a)) x es s t k (insert_entry cmp es k s) (insert_entry cmp es k t) (cmp k x.0) (ap is_eq (tied_back o k a e)) (ap is_eq (sym (o.congr k a x.0 e))) (insert_set cmp o es k a s t e)
+
+put_case : {K X : Type 0} (f : K → Bool) (e : K × X) (es : List (K × X)) (k : K) (t : X) (put : List (K × X)) (r : Ordering) → f e.0 ≡ is_eq r → is_some (cond (f e.0) (Some e.1) (lookup f es)) ≡ true → (r ≡ Less → lookup f es ≡ None) → (is_some (lookup f es) ≡ true → set_value f es t ≡ put) → cond (f e.0) ((e.0, t) ∷ es) (e ∷ set_value f es t) ≡ match_ordering r ((k, t) ∷ e ∷ es) ((e.0, t) ∷ es) (e ∷ put)
+put_case {K} {X} f e es k t put Less here there none rec =
+    let absent : is_some (lookup f es) ≡ true = sym (ap (λ (b : Bool). is_some (cond b (Some e.1) (lookup f es))) here) ∙ there in
+    let wrong : false ≡ true = sym (ap (λ (o : Option X). is_some o) (none refl)) ∙ absent in cc
+put_case f e es k t put Equal here there none rec = ap (λ (b : Bool). cond b ((e.0, t) ∷ es) (e ∷ set_value f es t)) here
+put_case {K} {X} f e es k t put Greater here there none rec =
+    ap (λ (b : Bool). cond b ((e.0, t) ∷ es) (e ∷ set_value f es t)) here
+    ∙ ap (λ (xs : List (K × X)). e ∷ xs) (rec (sym (ap (λ (b : Bool). is_some (cond b (Some e.1) (lookup f es))) here) ∙ there))
+
+-- a key that is there takes its value in place, as if it were put in
+pub set_there : {K X : Type 0} (cmp : K → K → Ordering) → IsTotalOrder cmp → (es : List (K × X)) (k : K) (t : X) → IsStrictlySortedBy cmp (keys_of es) → is_some (lookup (is_at (cmp k)) es) ≡ true → set_value (is_at (cmp k)) es t ≡ insert_entry cmp es k t
+set_there cmp o [] k t sorted there = cc
+set_there cmp o (e ∷ es) k t sorted there =
+    put_case (is_at (cmp k)) e es k t (insert_entry cmp es k t) (cmp k e.0) refl there
+    (λ less. lookup-none (is_at (cmp k)) es (none_below_head o k e es sorted less).1)
+    (set_there cmp o es k t (sorted_tail cmp e.0 (keys_of es) sorted))
 
 abbrev marked : {K V : Type 0} → List (K × Slot V) → MergeBehavior → Marked K V
 marked es d = record { entries = es; default = d }

@@ -14,7 +14,7 @@ use Rattle.cfg_base.specs.declared.header.read.Pair.{Pair}
 use Rattle.cfg_base.specs.declared.header.value.HeaderValue.{HeaderValue}
 use Rattle.cfg_base.specs.HeaderTexts.{ValueText}
 use Rattle.cfg_base.specs.Sections.{PairText}
-use Rattle.cfg_base.specs.SectionFaults.{pair_text, ErrorText, error_text, repeat_text}
+use Rattle.cfg_base.specs.SectionFaults.{pair_text, ErrorText, repeat_text}
 use Rattle.cfg_base.specs.SectionRepeats.{places_of, is_named, several, repeats_behind, said_by, said_of, entry_text, Holds}
 
 places_step : (q : List ℕ) (p : Pair) (ps : List Pair) (t : Bool) → bytes_eq q (string_bytes p.key) ≡ t → places_of q (map pair_text ps) ≡ map (λ p. p.span) (filter (λ p. bytes_eq q (string_bytes p.key)) ps) →

@@ -1,5 +1,5 @@
 -- Constructs of a section, one after another.
-use Rattle.std.proofs.Common.{◌≡◌, ℕ, ◌+◌, Bool, List, Option, Some, None, refl, sym, ◌∙◌, Global}
+use Rattle.std.proofs.Common.{◌≡◌, ℕ, ◌+◌, List, Some, None, Global}
 use Rattle.std.specs.Prelude.{slice_range}
 use Rattle.std.specs.String.{string_bytes}
 use Rattle.std.specs.declared.string.String.{String}
@@ -7,7 +7,6 @@ use Rattle.cfg_base.specs.Place.{Places}
 use Rattle.cfg_base.specs.declared.header.scan.PathMark.TheVariants as paths
 use Rattle.cfg_base.specs.declared.header.read.Fault.{Fault}
 use Rattle.cfg_base.specs.declared.header.read.Fault.TheVariants as faults
-use Rattle.cfg_base.specs.declared.header.value.Namespaced.{Namespaced}
 use Rattle.cfg_base.specs.HeaderErrors.{KindText}
 use Rattle.cfg_base.specs.HeaderTexts.{path_text}
 use Rattle.cfg_base.specs.HeaderWords.{path_at}

@@ -1,5 +1,5 @@
 -- From each state at most one construct goes on, or one fault stops.
-use Rattle.std.proofs.Common.{◌≡◌, ℕ, ◌+◌, ◌<◌, ◌≤◌, ◌^◌, Bool, true, false, cond, List, [], ◌∷◌, ◌++◌, length, Option, Some, None, refl, sym, ◌∙◌, subst, ap, arith}
+use Rattle.std.proofs.Common.{◌≡◌, ℕ, ◌+◌, ◌<◌, ◌≤◌, ◌^◌, Bool, true, false, cond, List, [], ◌∷◌, ◌++◌, length, Option, Some, None, refl, sym, ◌∙◌, subst, arith}
 use Rattle.std.specs.Prelude.{slice_range, nat_lt}
 use Rattle.std.proofs.lemmas.Bool.Decides.{nat_tests}
 use lib.Chars.{codes}
@@ -11,7 +11,7 @@ use Rattle.cfg_base.specs.declared.header.scan.PathMark.TheVariants as paths
 use Rattle.cfg_base.specs.HeaderErrors.{KindText, missing_section, illegal_name, expected_token, invalid_entry}
 use Rattle.cfg_base.specs.HeaderTexts.{PathText, SettingText, unitary, construct, num, quoted, array, ItemsText, none, more, flag, setting}
 use Rattle.cfg_base.specs.HeaderWords.{gap_part, mark_at, path_at, begins_word}
-use Rattle.cfg_base.specs.Sections.{span, PairText, Open, top, inside, depth, most_depth, Key, Wanted, Section, Brace, Pairs, Pair, Colon, PairEnd, Value, Paren, Argument, CloseParen, Items, Behind, Nothing, State, Spaced, At, key_of, pair_of, word_of, IsPath, alone, within, key_end, number_end, number_at, text_end, is_section_at, is_colon, is_open_paren, is_close_paren, is_open_brace, is_close_brace, is_close_bracket, begins_key, begins_pair, ends_pair, ends_item, begins_setting, Step, gap_more, gap_end, section, no_section, open_brace, close_brace, next_pair, key, negated_key, colon, no_colon, comma, no_comma, number, quote, path, open_bracket, open_paren, no_paren, argument, close_paren, close_bracket, item, item_comma, no_item_comma, whole, IsNoPath, no_word, no_member, Stops, missing, no_brace, no_end_brace, no_end_bracket, no_end_paren, no_pair, no_key, no_setting, no_path, no_argument, no_end_quote, large_number, deep_array, Steps, here, then, StopsFrom, beginning, Reads, Faults}
+use Rattle.cfg_base.specs.Sections.{span, PairText, Open, top, inside, depth, most_depth, Key, Wanted, Section, Brace, Pairs, Pair, Colon, PairEnd, Value, Paren, Argument, CloseParen, Items, Behind, Nothing, State, Spaced, At, key_of, pair_of, word_of, IsPath, alone, within, key_end, number_end, number_at, text_end, is_section_at, is_colon, is_open_paren, is_close_paren, is_open_brace, is_close_brace, is_close_bracket, begins_key, begins_pair, ends_pair, ends_item, begins_setting, Step, gap_more, gap_end, section, no_section, open_brace, close_brace, next_pair, key, negated_key, colon, no_colon, comma, no_comma, number, quote, path, open_bracket, open_paren, no_paren, argument, close_paren, close_bracket, item, item_comma, no_item_comma, whole, IsNoPath, no_word, no_member, Stops, missing, no_brace, no_end_brace, no_end_bracket, no_end_paren, no_pair, no_key, no_setting, no_path, no_argument, no_end_quote, large_number, deep_array, Steps, here, then, Reads, Faults}
 
 -- what comes after a state
 data Next : Type 0 where

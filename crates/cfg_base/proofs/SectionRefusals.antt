@@ -1,5 +1,5 @@
 -- Errors of sections, from faults and from repeated keys.
-use Rattle.std.proofs.Common.{◌≡◌, ℕ, List, [], ◌∷◌, refl, sym, ap, subst}
+use Rattle.std.proofs.Common.{ℕ, List, [], ◌∷◌, refl, sym, ap, subst}
 use Rattle.cfg_base.specs.declared.header.read.Fault.{Fault}
 use Rattle.cfg_base.specs.declared.header.read.Fault.TheVariants as faults
 use Rattle.cfg_base.specs.declared.header.section.SectionError.{SectionError}

@@ -1,7 +1,7 @@
 -- From each state reading goes on, stops, or is at its end, and it doesn't go on for ever.
-use Rattle.std.proofs.Common.{◌≡◌, ℕ, zero, suc, ◌+◌, ◌-◌, ◌*◌, ◌<◌, ◌≤◌, ◌^◌, Bool, true, false, cond, List, [], ◌∷◌, ◌++◌, length, drop, Option, Some, None, refl, sym, ◌∙◌, ap, subst, arith}
+use Rattle.std.proofs.Common.{◌≡◌, ℕ, zero, suc, ◌+◌, ◌-◌, ◌*◌, ◌<◌, ◌≤◌, ◌^◌, Bool, true, false, List, [], ◌∷◌, length, drop, Option, Some, None, refl, sym, ◌∙◌, ap, subst, arith}
 use Rattle.std.specs.Prelude.{slice_get, option_map, nat_lt, nat_eq, ◌==◌}
-use Rattle.std.specs.List.{prefix_len, starts_with}
+use Rattle.std.specs.List.{starts_with}
 use Rattle.std.proofs.lemmas.List.{length-drop}
 use lib.Chars.{codes}
 use Rattle.std.proofs.lemmas.Bool.Decides.{nat_tests}
@@ -13,8 +13,8 @@ use Rattle.cfg_base.specs.declared.header.scan.PathMark.{PathMark}
 use Rattle.cfg_base.specs.declared.header.scan.PathMark.TheVariants as paths
 use Rattle.cfg_base.specs.HeaderErrors.{KindText}
 use Rattle.cfg_base.specs.HeaderTexts.{PathText, SettingText, ItemsText}
-use Rattle.cfg_base.specs.HeaderWords.{is_white, is_at, passes, is_in_line, is_digit, is_key_byte, is_word_byte, is_in_text, run_end, close_len, close_at, gap_part, mark_of, mark_at, begins_word, colons_at, path_at, path_on}
-use Rattle.cfg_base.specs.Sections.{PairText, Open, top, inside, depth, most_depth, Key, Wanted, Section, Brace, Pairs, Pair, Colon, PairEnd, Value, Paren, Argument, CloseParen, Items, Behind, Nothing, State, Spaced, At, IsPath, alone, within, number_at, number_end, text_end, is_section_at, is_colon, is_open_paren, is_close_paren, is_open_brace, is_close_brace, is_close_bracket, begins_key, begins_pair, ends_pair, ends_item, begins_setting, Step, gap_more, gap_end, section, no_section, open_brace, close_brace, next_pair, key, negated_key, colon, no_colon, comma, no_comma, number, quote, path, open_bracket, open_paren, no_paren, argument, close_paren, close_bracket, item, item_comma, no_item_comma, whole, no_word, no_member, Stops, missing, no_brace, no_end_brace, no_end_bracket, no_end_paren, no_pair, no_key, no_setting, no_path, no_argument, no_end_quote, large_number, deep_array, Steps, here, then, StopsFrom, beginning, Reads, Faults}
+use Rattle.cfg_base.specs.HeaderWords.{is_white, is_at, passes, is_in_line, is_digit, is_key_byte, is_word_byte, is_in_text, run_end, close_len, close_at, gap_part, mark_of, mark_at, begins_word, colons_at, path_at}
+use Rattle.cfg_base.specs.Sections.{PairText, Open, top, inside, depth, most_depth, Key, Wanted, Section, Brace, Pairs, Pair, Colon, PairEnd, Value, Paren, Argument, CloseParen, Items, Behind, Nothing, State, Spaced, At, IsPath, alone, within, number_at, text_end, is_section_at, is_colon, is_open_paren, is_close_paren, is_open_brace, is_close_brace, is_close_bracket, begins_key, begins_pair, ends_pair, ends_item, begins_setting, Step, gap_more, gap_end, section, no_section, open_brace, close_brace, next_pair, key, negated_key, colon, no_colon, comma, no_comma, number, quote, path, open_bracket, open_paren, no_paren, argument, close_paren, close_bracket, item, item_comma, no_item_comma, whole, no_word, no_member, Stops, missing, no_brace, no_end_brace, no_end_bracket, no_end_paren, no_pair, no_key, no_setting, no_path, no_argument, no_end_quote, large_number, deep_array, Steps, here, then, StopsFrom, beginning, Reads}
 use Rattle.cfg_base.specs.SectionRepeats.{repeats_of}
 use Rattle.cfg_base.specs.SectionOutcomes.{IsAnswered, reads_header, repeats_keys, has_fault}
 use Rattle.cfg_base.proofs.HeaderMarks.{letter_begins}

@@ -1,5 +1,5 @@
 -- Numbers, texts and pairs, as constructs.
-use Rattle.std.proofs.Common.{◌≡◌, ℕ, zero, suc, ◌+◌, ◌-◌, ◌<◌, ◌≤◌, ◌^◌, Bool, true, false, cond, List, [], ◌∷◌, length, drop, take, Result, Ok, Err, refl, sym, ap, ◌∙◌, subst, arith, Global}
+use Rattle.std.proofs.Common.{◌≡◌, ℕ, suc, ◌+◌, ◌<◌, ◌≤◌, ◌^◌, Bool, true, false, List, [], ◌∷◌, length, drop, take, refl, ap, subst, arith, Global}
 use Rattle.std.specs.Prelude.{slice_range, nat_lt, nat_eq, map}
 use Rattle.std.specs.String.{string_bytes}
 use Rattle.std.specs.declared.string.String.{String}
@@ -14,8 +14,8 @@ use Rattle.cfg_base.specs.declared.header.scan.Mark.TheVariants as marks
 use Rattle.cfg_base.specs.declared.header.value.Setting.TheVariants as settings
 use Rattle.cfg_base.specs.declared.header.value.Value.{Value as RustValue}
 use Rattle.cfg_base.specs.HeaderTexts.{setting_text, value_text}
-use Rattle.cfg_base.specs.HeaderWords.{mark_at, run_end, is_digit, FitsWord}
-use Rattle.cfg_base.specs.Sections.{Wanted, Value, Behind, State, At, Spaced, Key, Open, PairText, Steps, number, quote, number_at, number_end, text_end, span, key_of, key_end, pair_of}
+use Rattle.cfg_base.specs.HeaderWords.{mark_at, run_end, is_digit}
+use Rattle.cfg_base.specs.Sections.{Wanted, Value, Behind, At, Spaced, Key, Open, PairText, Steps, number, quote, number_at, number_end, text_end, span, key_of, key_end, pair_of}
 use Rattle.cfg_base.specs.SectionFaults.{pair_text}
 use Rattle.cfg_base.proofs.HeaderRuns.{number_fits}
 use Rattle.cfg_base.proofs.SectionChains.{one, join}

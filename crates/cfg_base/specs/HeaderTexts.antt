@@ -8,7 +8,6 @@ use Rattle.cfg_base.specs.declared.header.value.Setting.{Setting, fold-Setting}
 use Rattle.cfg_base.specs.declared.header.value.Setting.TheOpen.{Setting-F}
 use Rattle.cfg_base.specs.declared.header.value.Value.{Value}
 use Rattle.cfg_base.specs.declared.header.value.Value.TheVariants as values
-use Rattle.cfg_base.specs.declared.header.value.HeaderValue.{HeaderValue}
 
 pub record WordText (L : Type 0) : Type 0 where
   pub text : List ℕ

@@ -1,5 +1,5 @@
 -- What reading answers, against what the text says.
-use Rattle.std.specs.Prelude.{◌≡◌, ℕ, Bool, List, [], map}
+use Rattle.std.specs.Prelude.{◌≡◌, ℕ, List}
 use Rattle.std.specs.String.{string_bytes}
 use Rattle.cfg_base.specs.Place.{Places}
 use Rattle.cfg_base.specs.declared.header.read.Fault.{Fault}
@@ -8,8 +8,8 @@ use Rattle.cfg_base.specs.declared.header.read.Pair.{Pair}
 use Rattle.cfg_base.specs.declared.header.value.Setting.{Setting}
 use Rattle.cfg_base.specs.declared.header.error.HeaderError.{HeaderError}
 use Rattle.cfg_base.specs.HeaderErrors.{KindText, duplicate_entry, kind_text}
-use Rattle.cfg_base.specs.HeaderTexts.{value_text, setting_text, path_text, PathText}
-use Rattle.cfg_base.specs.Sections.{PairText, State, At, Spaced, Value, Argument, Behind, Pair as PairWanted, PairEnd, Key, Open, depth, Steps, StopsFrom, IsNoPath}
+use Rattle.cfg_base.specs.HeaderTexts.{value_text, setting_text}
+use Rattle.cfg_base.specs.Sections.{PairText, State, At, Value, Behind, Pair as PairWanted, PairEnd, Key, Open, depth, Steps, StopsFrom, IsNoPath}
 
 abbrev pub pair_text : Pair → PairText
 pair_text p = record { key = string_bytes p.key; at = p.span; value = value_text p.value }

@@ -1,10 +1,11 @@
 //! A map with marks on its keys, which can be merged with another.
 
-ghost use Rattle.std.specs.Prelude.{◌≡◌, unwrap_or, ◌++◌, ◌∷◌, if◌then◌else◌, IfOk, OnOk, OnErr, Some, None, true, is_some, is_none, not, ◌&&◌, [], map};
+ghost use Rattle.std.specs.Prelude.{◌≡◌, unwrap_or, ◌++◌, ◌∷◌, if◌then◌else◌, IfOk, OnOk, OnErr, IsOk, Some, None, true, is_some, is_none, not, ◌&&◌, [], map};
 ghost use Rattle.std.specs.Option.{option_copied, option_copied_mut};
 ghost use Rattle.std.specs.Borrow.{sem};
 ghost use Rattle.std.specs.BTreeMap.{get, insert_entry, is_at, keys};
 ghost use Rattle.std.specs.Map.{remove_entry};
+ghost use Rattle.std.specs.declared.cmp.Ordering.TheVariants.{Equal};
 ghost use Rattle.cfg_base.specs.declared.markmap.MergeBehavior.TheVariants.{MutuallyExclusive as Exclusive};
 ghost use Rattle.cfg_base.specs.MarkMaps.{ClonesAreEqual, blank, unmarked, SetsValue, SetsMarks, Forgets, behavior_at, is_stored, slot_in, stored_keys, value_at, marks_at, keys_of, unused_of, missing_of};
 
@@ -128,7 +129,8 @@ impl<K: Ord, V> MarkMap<K, V> {
         }
     }
 
-    /// Gives a key a value, and answers the one that it had. A stored key stays, and so do its marks.
+    /// Gives a key a value, and answers the one that it had. A stored key stays, and so do its marks, and no
+    /// memory is taken for it.
     pub fn insert(&mut self, key: K, value: V) -> Result<Option<V>, AllocError>
     where
         K: Drop,
@@ -138,6 +140,7 @@ impl<K: Ord, V> MarkMap<K, V> {
         ensures entries { OnOk result (self.new.entries ≡ insert_entry K.cmp self.old.entries key
             (record { value = Some value; marks = marks_at K.cmp self.old key })) }
         ensures stored { OnOk result (is_stored K.cmp self.old key ≡ true → stored_keys self.new ≡ stored_keys self.old) }
+        ensures in_place { is_stored K.cmp self.old key ≡ true → IsOk result }
         ensures err { OnErr result (self.new ≡ self.old) }
     {
         let marks = self.marks_of(&key);
@@ -236,6 +239,7 @@ impl<K: Ord, V> MarkMap<K, V> {
         requires { ClonesAreEqual K.is_clone K.cmp }
         ensures ok { OnOk result (SetsMarks K.cmp self.old self.new key.now marks) }
         ensures stored { OnOk result (is_stored K.cmp self.old key.now ≡ true → stored_keys self.new ≡ stored_keys self.old) }
+        ensures in_place { is_stored K.cmp self.old key.now ≡ true → IsOk result }
         ensures err { OnErr result (self.new ≡ self.old) }
     {
         if let Some(slot) = self.slots.get_mut(key) {
@@ -264,6 +268,29 @@ impl<K: Ord, V> MarkMap<K, V> {
         }
     }
 
+    // Gives a key a value, and hands back a key that equals it. For a key that is stored no memory is taken,
+    // and none is cloned.
+    fn put_value(&mut self, key: K, value: V) -> Result<K, AllocError>
+    where
+        K: Clone + Drop,
+        V: Drop,
+        requires { ClonesAreEqual K.is_clone K.cmp }
+        ensures ok { OnOk result (SetsValue K.cmp self.old self.new key (Some value)) }
+        ensures entries { OnOk result (self.new.entries ≡ insert_entry K.cmp self.old.entries key
+            (record { value = Some value; marks = marks_at K.cmp self.old key })) }
+        ensures key { IfOk result (λ kept. K.cmp key kept ≡ Equal) }
+        ensures in_place { is_stored K.cmp self.old key ≡ true → IsOk result }
+        ensures err { OnErr result (self.new ≡ self.old) }
+    {
+        if self.slots.contains_key(&key) {
+            put_value_at(&mut self.slots, &key, value);
+            return Ok(key);
+        }
+        let kept = key.clone()?;
+        self.insert(key, value)?;
+        Ok(kept)
+    }
+
     // Gives a key that has a value another one.
     fn replace_value(&mut self, key: &K, value: V) -> V
         requires { is_some (value_at K.cmp self.old key.now) ≡ true }
@@ -286,7 +313,8 @@ impl<K: Ord, V> MarkMap<K, V> {
         }
     }
 
-    /// Marks a key as used, and makes it, without a value, where it is absent. Clones of keys equal them.
+    /// Marks a key as used, and makes it, without a value, where it is absent, which alone takes memory.
+    /// Clones of keys equal them.
     pub fn mark_used(&mut self, key: &K) -> Result<(), AllocError>
     where
         K: Clone,
@@ -295,6 +323,7 @@ impl<K: Ord, V> MarkMap<K, V> {
         ensures ok { let marks = marks_at K.cmp self.old key.now in
             OnOk result (SetsMarks K.cmp self.old self.new key.now (record marks { used = true })) }
         ensures stored { OnOk result (is_stored K.cmp self.old key.now ≡ true → stored_keys self.new ≡ stored_keys self.old) }
+        ensures in_place { is_stored K.cmp self.old key.now ≡ true → IsOk result }
         ensures err { OnErr result (self.new ≡ self.old) }
     {
         let marks = self.marks_of(key);
@@ -307,8 +336,8 @@ impl<K: Ord, V> MarkMap<K, V> {
         )
     }
 
-    /// Marks a key as required, and makes it, without a value, where it is absent. Clones of keys equal
-    /// them.
+    /// Marks a key as required, and makes it, without a value, where it is absent, which alone takes memory.
+    /// Clones of keys equal them.
     pub fn mark_required(&mut self, key: &K) -> Result<(), AllocError>
     where
         K: Clone,
@@ -317,6 +346,7 @@ impl<K: Ord, V> MarkMap<K, V> {
         ensures ok { let marks = marks_at K.cmp self.old key.now in
             OnOk result (SetsMarks K.cmp self.old self.new key.now (record marks { required = true })) }
         ensures stored { OnOk result (is_stored K.cmp self.old key.now ≡ true → stored_keys self.new ≡ stored_keys self.old) }
+        ensures in_place { is_stored K.cmp self.old key.now ≡ true → IsOk result }
         ensures err { OnErr result (self.new ≡ self.old) }
     {
         let marks = self.marks_of(key);
@@ -329,8 +359,8 @@ impl<K: Ord, V> MarkMap<K, V> {
         )
     }
 
-    /// Sets what a merge does with a key, and makes it, without a value, where it is absent. Clones of
-    /// keys equal them.
+    /// Sets what a merge does with a key, and makes it, without a value, where it is absent, which alone
+    /// takes memory. Clones of keys equal them.
     pub fn set_merge_behavior(&mut self, key: &K, behavior: MergeBehavior) -> Result<(), AllocError>
     where
         K: Clone,
@@ -339,6 +369,7 @@ impl<K: Ord, V> MarkMap<K, V> {
         ensures ok { let marks = marks_at K.cmp self.old key.now in
             OnOk result (SetsMarks K.cmp self.old self.new key.now (record marks { behavior = Some behavior })) }
         ensures stored { OnOk result (is_stored K.cmp self.old key.now ≡ true → stored_keys self.new ≡ stored_keys self.old) }
+        ensures in_place { is_stored K.cmp self.old key.now ≡ true → IsOk result }
         ensures err { OnErr result (self.new ≡ self.old) }
     {
         let marks = self.marks_of(key);
@@ -371,6 +402,21 @@ fn replace_value_at<K: Ord, V>(slots: &mut BTreeMap<K, Slot<V>>, key: &K, value:
 {
     match slots.get_mut(key) {
         Some(slot) => slot.replace_value(value),
+        None => unreachable!(),
+    }
+}
+
+// Gives a stored key a value.
+fn put_value_at<K: Ord, V: Drop>(slots: &mut BTreeMap<K, Slot<V>>, key: &K, value: V)
+    requires { is_some (get K.cmp slots.old key.now) ≡ true }
+    ensures updates { (q : K) → get K.cmp slots.new q ≡
+        (if is_at (K.cmp key.now) q then Some (record (slot_in K.cmp slots.old.entries key.now) { value = Some value })
+        else get K.cmp slots.old q) }
+    ensures entries { slots.new.entries ≡ insert_entry K.cmp slots.old.entries key.now
+        (record (slot_in K.cmp slots.old.entries key.now) { value = Some value }) }
+{
+    match slots.get_mut(key) {
+        Some(slot) => slot.value = Some(value),
         None => unreachable!(),
     }
 }

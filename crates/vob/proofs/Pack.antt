@@ -387,3 +387,7 @@ module _ {T : Type 0} (bits : T → List Bool) (w : ℕ) (each : (x : T) → len
         λ t. (e, rest ∙ ap (drop (n % w)) (test.0 t ∙ low) ∙ drop_at (take (n % w) (bits x)) (replicate (w - n % w) false) (n % w) front ∙ ap (λ k. replicate k false) u),
         λ h. test.1 (sym (take-append-drop (n % w) (bits x)) ∙ ap (λ (ys : List Bool). take (n % w) (bits x) ++ ys) (sym rest ∙ h.1 ∙ ap (λ k. replicate k false) (sym u)) ∙ sym low),
       )
+
+-- no item takes no block
+pub no_blocks : {T : Type 0} (bits : T → List Bool) (w : ℕ) → ((x : T) → length (bits x) ≡ w) → (xs : List T) (n : ℕ) → 0 < w → Packs w n (flat_map bits xs) → n ≡ 0 → length xs ≡ 0
+no_blocks bits w each xs n some packs none = blocks_are bits w each xs n some packs ∙ (ap (blocks_for w) none ∙ sym (blocks_for_unique w 0 0 some (omega arith) (omega arith)))

@@ -14,7 +14,7 @@ pub enum VobError {
     #[error("TooLong")]
     TooLong,
     /// There is no memory.
-    #[error(transparent)]
+    #[error("Memory")]
     Memory(AllocError),
 }
 

@@ -6,7 +6,7 @@
 //! `iter_set_bits` and `iter_unset_bits`, whose places are a filter of a range that is cut at the length.
 #![tactic(auto)]
 
-ghost use Rattle.std.specs.Prelude.{◌≡◌, ◌<◌, ◌≤◌, ◌+◌, ◌-◌, ◌*◌, ◌^◌, ◌==◌, ◌↔◌, false, [], ◌++◌, length, take, replicate, slice_index_or, slice_get, IsTrue, IfOk};
+ghost use Rattle.std.specs.Prelude.{◌≡◌, ◌<◌, ◌≤◌, ◌+◌, ◌-◌, ◌*◌, ◌^◌, ◌==◌, ◌↔◌, false, [], ◌++◌, length, take, replicate, slice_index_or, slice_get, IsTrue, IsOk, IfOk};
 ghost use Rattle.std.specs.List.{flat_map};
 ghost use Rattle.vob.specs.Packed.{Contents, blocks_for};
 
@@ -62,39 +62,43 @@ impl Vob<usize> {
         }
     }
 
-    /// With no item, and room for so many.
+    /// With no item, and room for so many. Room for none takes no memory.
     pub fn with_capacity(alloc: Global, capacity: usize) -> Result<Self, AllocError>
         ensures bits { IfOk result (λ v. v.bits ≡ []) }
         ensures capacity { IfOk result (λ v. capacity ≤ v.capacity) }
+        ensures empty { capacity ≡ 0 → IsOk result }
     {
         Vob::new_with_storage_type(alloc, capacity)
     }
 
-    /// So many items that all are `value`.
+    /// So many items that all are `value`. None take no memory.
     pub fn from_elem(alloc: Global, value: bool, len: usize) -> Result<Self, AllocError>
-        ensures { IfOk result (λ v. v.bits ≡ replicate len value) }
+        ensures bits { IfOk result (λ v. v.bits ≡ replicate len value) }
+        ensures empty { len ≡ 0 → IsOk result }
     {
         Vob::from_elem_with_storage_type(alloc, value, len)
     }
 }
 
 impl<T: Block> Vob<T> {
-    /// With no item, and room for so many.
+    /// With no item, and room for so many. Room for none takes no memory.
     pub fn new_with_storage_type(alloc: Global, capacity: usize) -> Result<Self, AllocError>
         ensures bits { IfOk result (λ v. v.bits ≡ []) }
         ensures capacity { IfOk result (λ v. capacity ≤ v.capacity) }
+        ensures empty { capacity ≡ 0 → IsOk result }
     {
         let blocks = Vec::with_capacity(alloc, packed::blocks_for::<T>(capacity))?;
         Ok(Vob { len: 0, blocks })
     }
 
-    /// So many items that all are `value`.
+    /// So many items that all are `value`. None take no memory.
     pub fn from_elem_with_storage_type(
         alloc: Global,
         value: bool,
         len: usize,
     ) -> Result<Self, AllocError>
-        ensures { IfOk result (λ v. v.bits ≡ replicate len value) }
+        ensures bits { IfOk result (λ v. v.bits ≡ replicate len value) }
+        ensures empty { len ≡ 0 → IsOk result }
     {
         let mut blocks = Vec::new(alloc);
         packed::widen(&mut blocks, 0, len, value)?;

@@ -1,13 +1,13 @@
 //! Blocks as one list of bits.
 #![tactic(auto)]
 
-ghost use Rattle.std.specs.Prelude.{◌≡◌, ◌<◌, ◌≤◌, ◌+◌, ◌-◌, ◌*◌, ◌↔◌, ℕ, Bool, true, false, not, List, ◌++◌, length, map, take, drop, replicate, slice_index_or, slice_set, IsTrue, IsOk, OnOk, OnErr};
+ghost use Rattle.std.specs.Prelude.{◌≡◌, ◌<◌, ◌≤◌, ◌+◌, ◌-◌, ◌*◌, ◌↔◌, ℕ, Bool, true, false, not, List, ◌++◌, length, map, take, drop, replicate, slice_index_or, slice_set, IsTrue, IsOk, IfOk, OnOk, OnErr};
 ghost use Rattle.std.specs.List.{flat_map};
 ghost use Rattle.std.specs.Vec.{vec_capacity};
 ghost use Rattle.vob.specs.Packed.{Packs, Spells, blocks_for};
 
 use crate::block::Block;
-use std::alloc::AllocError;
+use std::alloc::{AllocError, Global};
 
 /// How many blocks so many items take.
 pub fn blocks_for<T: Block>(len: usize) -> usize
@@ -15,6 +15,17 @@ pub fn blocks_for<T: Block>(len: usize) -> usize
 {
     let whole = len / T::BITS;
     if len % T::BITS == 0 { whole } else { whole + 1 }
+}
+
+/// The same blocks at a place of their own. Those of no item take no memory.
+pub fn copied<T: Block>(alloc: Global, blocks: &[T], len: usize) -> Result<Vec<T>, AllocError>
+    requires { Packs T.BITS len (flat_map T.bits blocks.now) }
+    ensures items { IfOk result (λ v. v.items ≡ blocks.now) }
+    ensures empty { len ≡ 0 → IsOk result }
+{
+    let mut made = Vec::with_capacity(alloc, blocks.len())?;
+    made.extend_from_slice(blocks).unwrap();
+    Ok(made)
 }
 
 /// The bit at a place.

@@ -1,7 +1,7 @@
 //! Raw storage, which is tested on its way back.
 #![tactic(auto)]
 
-ghost use Rattle.std.specs.Prelude.{◌≡◌, ◌<◌, ◌+◌, ◌-◌, ◌*◌, false, ◌++◌, length, take, replicate, IfOk, IfErr};
+ghost use Rattle.std.specs.Prelude.{◌≡◌, ◌<◌, ◌+◌, ◌-◌, ◌*◌, false, ◌++◌, length, take, replicate, IsOk, IfOk, IfErr};
 ghost use Rattle.std.specs.List.{flat_map};
 ghost use Rattle.vob.specs.Packed.{Spells, blocks_for};
 
@@ -80,12 +80,13 @@ impl<T: Block> RawVob<T> {
 }
 
 impl Vob<usize> {
-    /// The list as plain data.
+    /// The list as plain data. One without items takes no memory.
     pub fn to_record(&self) -> Result<VobRecord, AllocError>
         ensures len { IfOk result (λ r. r.len ≡ length self.now.bits) }
         ensures blocks { IfOk result (λ r. flat_map ⟦<usize as Block>⟧.bits r.vec.items ≡ self.now.bits ++ replicate (blocks_for 64 (length self.now.bits) * 64 - length self.now.bits) false) }
+        ensures empty { length self.now.bits ≡ 0 → IsOk result }
     {
-        let vec = Vec::from_slice(*self.blocks.allocator(), self.blocks.as_slice())?;
+        let vec = packed::copied(*self.blocks.allocator(), self.blocks.as_slice(), self.len)?;
         Ok(VobRecord { len: self.len, vec })
     }
 

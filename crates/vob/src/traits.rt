@@ -1,7 +1,7 @@
 //! Traits of the standard library.
 #![tactic(auto)]
 
-ghost use Rattle.std.specs.Prelude.{◌≡◌, ◌<◌, ◌↔◌, ◌&&◌, ◌||◌, length, slice_index_or, IsTrue, IfOk, false};
+ghost use Rattle.std.specs.Prelude.{◌≡◌, ◌<◌, ◌↔◌, ◌&&◌, ◌||◌, length, slice_index_or, IsTrue, IsOk, IfOk, false};
 ghost use Rattle.std.proofs.Common.{ap, rules};
 ghost use Rattle.std.specs.Cmp.{booleans_Decides};
 ghost use Rattle.std.specs.Cmp.Lexicographic.{pointwise, pointwise_decides};
@@ -11,7 +11,7 @@ ghost use Rattle.vob.specs.Bits.{bitwise, differs};
 ghost use Rattle.vob.specs.Fed.{fed_list};
 
 use crate::block::Block;
-use crate::{Vob, sets};
+use crate::{Vob, packed, sets};
 use std::alloc::AllocError;
 use std::fmt;
 use std::hash::{Hash, Hasher};
@@ -20,8 +20,11 @@ use std::ops::{BitAnd, BitAndAssign, BitOr, BitOrAssign, BitXor, BitXorAssign, I
 impl<T: Block> Clone for Vob<T> {
     ghost is_clone = { λ v w. w.bits ≡ v.bits };
 
+    // A list without items is cloned without memory.
+    ghost is_infallible = { λ v. length v.bits ≡ 0 };
+
     fn clone(&self) -> Result<Self, AllocError> {
-        let blocks = Vec::from_slice(*self.blocks.allocator(), self.blocks.as_slice())?;
+        let blocks = packed::copied(*self.blocks.allocator(), self.blocks.as_slice(), self.len)?;
         Ok(Vob {
             len: self.len,
             blocks,
@@ -118,7 +121,7 @@ impl<'a, 'b, T: Block> BitAnd<&'b Vob<T>> for &'a Vob<T> {
 
     ghost can_bitand = { λ a b. length a.now.bits ≡ length b.now.bits };
 
-    ghost bitand_gives = { λ a b r. IfOk r (λ c. c.bits ≡ bitwise (λ x y. x && y) a.now.bits b.now.bits) };
+    ghost bitand_gives = { λ a b r. IfOk r (λ c. c.bits ≡ bitwise (λ x y. x && y) a.now.bits b.now.bits) × (length a.now.bits ≡ 0 → IsOk r) };
 
     fn bitand(self, other: &'b Vob<T>) -> Result<Vob<T>, AllocError> {
         let mut made = self.clone()?;
@@ -155,7 +158,7 @@ impl<'a, 'b, T: Block> BitOr<&'b Vob<T>> for &'a Vob<T> {
 
     ghost can_bitor = { λ a b. length a.now.bits ≡ length b.now.bits };
 
-    ghost bitor_gives = { λ a b r. IfOk r (λ c. c.bits ≡ bitwise (λ x y. x || y) a.now.bits b.now.bits) };
+    ghost bitor_gives = { λ a b r. IfOk r (λ c. c.bits ≡ bitwise (λ x y. x || y) a.now.bits b.now.bits) × (length a.now.bits ≡ 0 → IsOk r) };
 
     fn bitor(self, other: &'b Vob<T>) -> Result<Vob<T>, AllocError> {
         let mut made = self.clone()?;
@@ -192,7 +195,7 @@ impl<'a, 'b, T: Block> BitXor<&'b Vob<T>> for &'a Vob<T> {
 
     ghost can_bitxor = { λ a b. length a.now.bits ≡ length b.now.bits };
 
-    ghost bitxor_gives = { λ a b r. IfOk r (λ c. c.bits ≡ bitwise differs a.now.bits b.now.bits) };
+    ghost bitxor_gives = { λ a b r. IfOk r (λ c. c.bits ≡ bitwise differs a.now.bits b.now.bits) × (length a.now.bits ≡ 0 → IsOk r) };
 
     fn bitxor(self, other: &'b Vob<T>) -> Result<Vob<T>, AllocError> {
         let mut made = self.clone()?;

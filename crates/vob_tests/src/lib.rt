@@ -5,3 +5,5 @@
 mod calls;
 #[cfg(test)]
 mod lists;
+#[cfg(test)]
+mod operators;

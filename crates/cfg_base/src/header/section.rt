@@ -26,21 +26,21 @@ pub type Header<T> = MarkMap<String, HeaderValue<T>>;
 /// Why there is no header.
 #[derive(Debug, Error, Drop)]
 pub enum SectionError {
-    #[error(transparent)]
+    #[error("Memory")]
     Memory(AllocError),
     /// The one place where the section can't be read; or, where it reads, each repeated key at all its
     /// places, in order of the keys' first places.
-    #[error("Invalid %grmtools section")]
+    #[error("Invalid")]
     Invalid(Vec<HeaderError<Span>>),
 }
 
 /// Why there is no pair.
 #[derive(Debug, Error, Drop)]
 pub enum KeyValueError {
-    #[error(transparent)]
+    #[error("Memory")]
     Memory(AllocError),
     /// The place where the pair can't be read.
-    #[error(transparent)]
+    #[error("Invalid")]
     Invalid(HeaderError<Span>),
 }
 

@@ -1,8 +1,8 @@
 // The place of a key, for several steps.
 
-ghost use Rattle.std.specs.Prelude.{◌≡◌, IfOk, OnErr, OnOk, None, Some, is_some, true, false};
+ghost use Rattle.std.specs.Prelude.{◌≡◌, IfOk, OnErr, OnOk, IsOk, None, Some, is_some, true, false};
 ghost use Rattle.std.specs.Borrow.{sem};
-ghost use Rattle.cfg_base.specs.MarkMaps.{ClonesAreEqual, SetsMarks, SetsValue, marks_at, stored_keys, value_at};
+ghost use Rattle.cfg_base.specs.MarkMaps.{ClonesAreEqual, SetsMarks, SetsValue, is_stored, marks_at, stored_keys, value_at};
 
 use super::{MarkMap, Marks, MergeBehavior};
 use std::alloc::AllocError;
@@ -144,8 +144,8 @@ impl<'a, K: Ord, V> VacantEntry<'a, K, V> {
         &self.key
     }
 
-    /// Gives the key a value, and answers its place. A stored key stays, and so do its marks. Clones of
-    /// keys equal them.
+    /// Gives the key a value, and answers its place. A stored key stays, and so do its marks, and no memory is
+    /// taken for it. Clones of keys equal them.
     pub fn insert(self, value: V) -> Result<&'a mut V, AllocError>
     where
         K: Clone + Drop,
@@ -153,18 +153,18 @@ impl<'a, K: Ord, V> VacantEntry<'a, K, V> {
         requires { ClonesAreEqual K.is_clone K.cmp }
         ensures* writes_back { sem 𝓛 (lends_filled K.row V.row self.entry result) }
         ensures value { IfOk result (λ x. x.now ≡ value) }
+        ensures in_place { is_stored K.cmp (vacant_map self.entry) (vacant_key self.entry) ≡ true → IsOk result }
     {
         let VacantEntry { map, key } = self;
-        let again = key.clone()?;
-        map.insert(key, value)?;
-        match map.value_mut(&again) {
+        let kept = map.put_value(key, value)?;
+        match map.value_mut(&kept) {
             Some(value) => Ok(value),
-            None => Err(AllocError),
+            None => unreachable!(),
         }
     }
 
-    /// Gives the key a value, and answers its entry. A stored key stays, and so do its marks. Clones of
-    /// keys equal them.
+    /// Gives the key a value, and answers its entry. A stored key stays, and so do its marks, and no memory is
+    /// taken for it. Clones of keys equal them.
     pub fn insert_entry(self, value: V) -> Result<OccupiedEntry<'a, K, V>, AllocError>
     where
         K: Clone + Drop,
@@ -172,15 +172,15 @@ impl<'a, K: Ord, V> VacantEntry<'a, K, V> {
         requires { ClonesAreEqual K.is_clone K.cmp }
         ensures* err { sem 𝓛 (rests_if_refused K.row V.row self.entry result) }
         ensures ok { IfOk result (Fills self.entry value) }
+        ensures in_place { is_stored K.cmp (vacant_map self.entry) (vacant_key self.entry) ≡ true → IsOk result }
     {
         let VacantEntry { map, key } = self;
-        let kept = key.clone()?;
-        map.insert(key, value)?;
-        Ok(OccupiedEntry { map, key: kept })
+        let key = map.put_value(key, value)?;
+        Ok(OccupiedEntry { map, key })
     }
 
-    /// Marks the key as required, and makes it, without a value, where it is absent. Clones of keys equal
-    /// them.
+    /// Marks the key as required, and makes it, without a value, where it is absent, which alone takes memory.
+    /// Clones of keys equal them.
     pub fn mark_required(&mut self) -> Result<(), AllocError>
     where
         K: Clone,
@@ -189,13 +189,14 @@ impl<'a, K: Ord, V> VacantEntry<'a, K, V> {
         ensures gap { IsSameGap self.old self.new }
         ensures ok { let marks = marks_at K.cmp (vacant_map self.old) (vacant_key self.old) in
             OnOk result (SetsMarks K.cmp (vacant_map self.old) (vacant_map self.new) (vacant_key self.old) (record marks { required = true })) }
+        ensures in_place { is_stored K.cmp (vacant_map self.old) (vacant_key self.old) ≡ true → IsOk result }
         ensures err { OnErr result (vacant_map self.new ≡ vacant_map self.old) }
     {
         self.map.mark_required(&self.key)
     }
 
-    /// Sets what a merge does with the key, and makes it, without a value, where it is absent. Clones of
-    /// keys equal them.
+    /// Sets what a merge does with the key, and makes it, without a value, where it is absent, which alone
+    /// takes memory. Clones of keys equal them.
     pub fn set_merge_behavior(&mut self, behavior: MergeBehavior) -> Result<(), AllocError>
     where
         K: Clone,
@@ -204,6 +205,7 @@ impl<'a, K: Ord, V> VacantEntry<'a, K, V> {
         ensures gap { IsSameGap self.old self.new }
         ensures ok { let marks = marks_at K.cmp (vacant_map self.old) (vacant_key self.old) in
             OnOk result (SetsMarks K.cmp (vacant_map self.old) (vacant_map self.new) (vacant_key self.old) (record marks { behavior = Some behavior })) }
+        ensures in_place { is_stored K.cmp (vacant_map self.old) (vacant_key self.old) ≡ true → IsOk result }
         ensures err { OnErr result (vacant_map self.new ≡ vacant_map self.old) }
     {
         self.map.set_merge_behavior(&self.key, behavior)

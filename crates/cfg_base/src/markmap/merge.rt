@@ -18,7 +18,7 @@ pub enum MergeError<K, V> {
     /// This key has values on both sides, and may not. The value is the other map's.
     #[error("Value on both sides")]
     Exclusivity(K, V),
-    #[error(transparent)]
+    #[error("Memory")]
     Memory(AllocError),
 }
 

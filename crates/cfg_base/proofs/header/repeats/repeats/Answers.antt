@@ -1,6 +1,5 @@
 use Rattle.std.proofs.Common.{sym, ◌∙◌, refl}
 use Rattle.std.specs.Prelude.{map}
-use Rattle.std.proofs.lemmas.List.{take_all}
 use Rattle.cfg_base.specs.SectionFaults.{pair_text}
 use Rattle.cfg_base.proofs.RepeatLists.{places_text, earlier_more, later_more, left_more, told_more}
 use Rattle.cfg_base.proofs.header.repeats.repeats.Goals as goal

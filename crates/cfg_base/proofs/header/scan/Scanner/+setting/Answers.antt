@@ -1,7 +1,7 @@
-use Rattle.std.proofs.Common.{◌≡◌, ◌≤◌, ◌<◌, ◌+◌, ◌∷◌, [], ◌++◌, suc, refl, sym, ap, ◌∙◌, subst, arith}
+use Rattle.std.proofs.Common.{◌≡◌, sym, ap, ◌∙◌, arith}
 use Rattle.std.proofs.lemmas.Result.{err_from_is_err_and}
 use Rattle.cfg_base.specs.HeaderTexts.{items_text, more, setting_text}
-use Rattle.cfg_base.specs.Sections.{here, depth, most_depth, inside, open_bracket, close_bracket, item, deep_array, no_setting, begins_setting}
+use Rattle.cfg_base.specs.Sections.{here, open_bracket, close_bracket, item, deep_array, no_setting, begins_setting}
 use Rattle.cfg_base.proofs.HeaderMarks.{no_setting_begins}
 use Rattle.cfg_base.proofs.SectionChains.{one, join, and_then, and_stops, join_fails}
 use Rattle.cfg_base.proofs.SettingReads.{span_is}

@@ -1,4 +1,4 @@
-use Rattle.std.proofs.Common.{ℕ, ◌≡◌, ◌+◌, ◌-◌, ◌*◌, ◌≤◌, List, length}
+use Rattle.std.proofs.Common.{◌≡◌, ◌+◌, ◌-◌, ◌*◌, ◌≤◌, List, length}
 use Rattle.cfg_base.specs.HeaderTexts.{items_text}
 use Rattle.cfg_base.specs.Sections.{At, Value, Items, Key, Open, PairText, Steps, depth, span}
 use Rattle.cfg_base.proofs.header.scan.Scanner.+setting.Given as goal

@@ -1,4 +1,4 @@
-use Rattle.std.proofs.Common.{sym, arith, ap, ◌∙◌}
+use Rattle.std.proofs.Common.{sym, arith}
 use Rattle.cfg_base.specs.Sections.{here, gap_more, gap_end}
 use Rattle.cfg_base.proofs.SectionChains.{and_then}
 use Rattle.cfg_base.proofs.header.scan.Scanner.gap.Goals as goal

@@ -1,5 +1,4 @@
-use Rattle.std.proofs.Common.{◌∙◌, sym, subst}
-use Rattle.cfg_base.specs.HeaderWords.{FitsMark, mark_at}
+use Rattle.cfg_base.specs.HeaderWords.{mark_at}
 use Rattle.cfg_base.proofs.HeaderRuns.{mark_fits}
 use Rattle.cfg_base.proofs.header.scan.Scanner.mark.Goals as goal
 

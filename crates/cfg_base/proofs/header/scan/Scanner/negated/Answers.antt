@@ -1,4 +1,4 @@
-use Rattle.std.proofs.Common.{◌≡◌, ◌+◌, false, sym, ap, ◌∙◌, subst}
+use Rattle.std.proofs.Common.{◌≡◌, ◌+◌, false, sym, ◌∙◌, subst}
 use Rattle.cfg_base.specs.HeaderWords.{mark_at}
 use Rattle.cfg_base.specs.declared.header.scan.Mark.TheVariants as marks
 use Rattle.cfg_base.specs.declared.header.value.Value.TheVariants as values

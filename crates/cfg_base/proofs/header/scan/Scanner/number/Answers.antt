@@ -1,6 +1,5 @@
-use Rattle.std.proofs.Common.{◌≡◌, ◌≤◌, ◌<◌, ◌+◌, length, subst, arith}
-use Rattle.cfg_base.specs.HeaderWords.{FitsWord, run_end, is_digit}
-use Rattle.cfg_base.specs.Sections.{here, large_number, number_end}
+use Rattle.std.proofs.Common.{arith}
+use Rattle.cfg_base.specs.Sections.{here, large_number}
 use Rattle.cfg_base.proofs.HeaderRuns.{number_fits}
 use Rattle.cfg_base.proofs.SectionChains.{and_stops}
 use Rattle.cfg_base.proofs.SettingReads.{num_reads, number_ok, number_err}

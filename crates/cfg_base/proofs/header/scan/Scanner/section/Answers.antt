@@ -1,4 +1,4 @@
-use Rattle.std.proofs.Common.{sym, ap, ◌∙◌}
+use Rattle.std.proofs.Common.{sym, ◌∙◌}
 use Rattle.std.proofs.lemmas.Result.{err_from_is_err_and}
 use Rattle.cfg_base.specs.Sections.{missing, no_section, section, open_brace}
 use Rattle.cfg_base.proofs.SectionChains.{join, and_then, and_stops, join_fails}

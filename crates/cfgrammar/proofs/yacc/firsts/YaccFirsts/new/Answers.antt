@@ -14,7 +14,7 @@ passes-init g c =
     let tokens : m ≡ G.tokens = c.to_usize-tokens.ensures.value ∙ c.tokens_len.ensures in
     record {
       sizes = empty_of G c.in_ok-firsts.firsts n m rules tokens c.in_ok-firsts.ensures.tokens c.in_ok-firsts.ensures.rows c.in_ok-firsts.ensures.epsilons;
-      width = ap length c.in_ok-begins.ensures ∙ length-replicate m false ∙ tokens;
+      width = ap length c.in_ok-begins.ensures.bits ∙ length-replicate m false ∙ tokens;
       sound = none_sound G n m n c.in_ok-firsts.firsts c.in_ok-firsts.ensures.rows c.in_ok-firsts.ensures.epsilons;
     }
 

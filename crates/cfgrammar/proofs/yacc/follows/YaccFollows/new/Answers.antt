@@ -20,7 +20,7 @@ passes-init g c =
     (subst (λ (k : ℕ). k < G.tokens) c.eof_token_idx.ensures.value c.eof_token_idx.ensures.within) (ap (λ (s : SetRows). s.width) c.in_ok-empty.ensures) (ap (λ (s : SetRows). s.rows) c.in_ok-empty.ensures) c.put.ensures.tokens c.put.ensures.rows in
     record {
       sizes = b.sizes;
-      width = ap length c.in_ok-behind.ensures ∙ length-replicate m false ∙ tokens;
+      width = ap length c.in_ok-behind.ensures.bits ∙ length-replicate m false ∙ tokens;
       sound = b.sound;
       end = b.end;
     }

@@ -9,4 +9,4 @@ unbounded_rules-requires-clause-table g c =
     let G = c.args.grm.now.grammar in
     let f = cost_of c.args.costs.now in
     subst (λ (l : List (Option ℕ)). IsKeptTable G f 1 (λ _. false) (cost_in l)) (sym c.as_slice.ensures.value)
-    (none_skipped G f c.to_usize.result c.in_ok-none.none.bits c.in_ok-costly.costly.items c.in_ok-none.ensures c.in_ok-costly.ensures.table)
+    (none_skipped G f c.to_usize.result c.in_ok-none.none.bits c.in_ok-costly.costly.items c.in_ok-none.ensures.bits c.in_ok-costly.ensures.table)

@@ -13,7 +13,7 @@ passes-init g c =
     let n : c.to_usize.result ≡ G.rules = c.to_usize.ensures.value ∙ c.rules_len.ensures in
     let A : c.to_usize-2.result ≡ g.S.IndexStorage.number c.args.ridx.0 = c.to_usize-2.ensures.value in
     let rule = c.requires.rule in
-    let r = first_wanted c.to_usize.result c.to_usize-2.result c.in_ok-wanted.wanted.bits c.set.new.self.bits (omega (arith, n, A, rule)) c.in_ok-wanted.ensures c.set.ensures.bits in
+    let r = first_wanted c.to_usize.result c.to_usize-2.result c.in_ok-wanted.wanted.bits c.set.new.self.bits (omega (arith, n, A, rule)) c.in_ok-wanted.ensures.bits c.set.ensures.bits in
     record { width = r.0 ∙ n; rule = subst (λ (i : ℕ). IsTrue (is_set c.set.new.self.bits i)) A r.1 }
 
 pub returns-then-not-sweep-clause-handed_on : goal.returns-then-not-sweep-clause-handed_on

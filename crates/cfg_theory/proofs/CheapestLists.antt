@@ -1,7 +1,7 @@
 -- Cheapest lists of the rules that one rule needs, and the length of lists whose tokens cost something.
-use Rattle.std.proofs.Common.{◌≡◌, ℕ, zero, suc, ◌+◌, ◌<◌, ◌≤◌, List, [], ◌∷◌, ◌++◌, map, length, drop, Bool, Option, Some, refl, sym, ap, ◌∙◌, subst, append-nil, length-append, arith}
+use Rattle.std.proofs.Common.{◌≡◌, ℕ, suc, ◌<◌, ◌≤◌, List, [], ◌∷◌, ◌++◌, length, drop, Bool, Option, Some, refl, sym, ap, ◌∙◌, subst, append-nil, length-append, arith}
 use Rattle.std.specs.Prelude.{Contains, IsTrue}
-use Rattle.cfg_theory.specs.Grammar.{Sym, rule, token, Grammar, IsOf, IsNext, InRange, WellFormed, head_of, body_of}
+use Rattle.cfg_theory.specs.Grammar.{Sym, rule, token, Grammar, IsOf, InRange, WellFormed, head_of, body_of}
 use Rattle.cfg_theory.specs.Derivation.{Derives, DerivesTokens}
 use Rattle.cfg_theory.specs.Productive.{RulesIn}
 use Rattle.cfg_theory.specs.Tree.{Tree, leaf, node, Forest, none, before, root, roots, yield, yields, IsTree, AreTrees}
@@ -11,7 +11,7 @@ use Rattle.cfg_theory.specs.CheapestLists.{NoneIsCheaper, IsTight, HaveCosts, Is
 use Rattle.cfg_theory.proofs.Lists.{get_from_drop}
 use Rattle.cfg_theory.proofs.Derivation.{derives_rule, tokens_both}
 use Rattle.cfg_theory.proofs.Trees.{derivation_of}
-use Rattle.cfg_theory.proofs.CostTables.{cost-append, as_is, sums_split, one_sum, of_sum, to_sum, tree_least, forest_least, at_least, concatenates_cons}
+use Rattle.cfg_theory.proofs.CostTables.{cost-append, as_is, sums_split, one_sum, of_sum, to_sum, tree_least, forest_least, concatenates_cons}
 
 some_same : (m n : ℕ) → Some m ≡ Some n → m ≡ n
 some_same m n e = cc

@@ -1,9 +1,9 @@
 -- A set of productive rules that is closed under the productions holds all of them.
-use Rattle.std.proofs.Common.{ℕ, ◌↔◌, List, [], ◌∷◌, ◌++◌, map, sym, subst}
-use Rattle.cfg_theory.specs.Grammar.{Sym, rule, token, Grammar, IsOf, body_of}
-use Rattle.cfg_theory.specs.Derivation.{Replaces, Derives, DerivesTokens, IsProductive}
-use Rattle.cfg_theory.specs.Productive.{RulesIn, IsProductiveTable, ProductiveIsExact, ProductiveTablesAreExact}
-use Rattle.cfg_theory.proofs.Derivation.{tokens_both}
+use Rattle.std.proofs.Common.{◌≡◌, ℕ, zero, suc, ◌<◌, List, [], ◌∷◌, ◌++◌, map, slice_get, Some, refl, sym, subst}
+use Rattle.cfg_theory.specs.Grammar.{Sym, rule, token, Grammar, WellFormed, IsOf, body_of}
+use Rattle.cfg_theory.specs.Derivation.{Replaces, Derives, DerivesTokens, IsProductive, AllProductive}
+use Rattle.cfg_theory.specs.Productive.{RulesIn, IsProductiveTable, ProductiveIsExact, ProductiveTablesAreExact, AllRulesProductive}
+use Rattle.cfg_theory.proofs.Derivation.{derives_rule, tokens_both}
 
 module _ (P : ℕ → Type 0) where
   rules_front : (a b : List Sym) → RulesIn P (a ++ b) → RulesIn P a
@@ -61,3 +61,21 @@ module _ (G : Grammar) (P : ℕ → Type 0) where
 
 pub productive_tables_exact : ProductiveTablesAreExact
 productive_tables_exact = record { exact = λ G productive h. productive_exact G _ h }
+
+-- the rules of a list that stand at its places
+rules_at : (P : ℕ → Type 0) (a : List Sym) → ((d A : ℕ) → slice_get a d ≡ Some (rule A) → P A) → RulesIn P a
+rules_at P [] h = tt
+rules_at P (rule A ∷ a) h = (h zero A refl, rules_at P a (λ d. h (suc d)))
+rules_at P (token t ∷ a) h = rules_at P a (λ d. h (suc d))
+
+pub all_rules_productive : AllRulesProductive
+all_rules_productive = record { agree = λ G good has. (there G has, back G good) }
+  where
+    there : (G : Grammar) → ((A : ℕ) → A < G.rules → (p : ℕ) × IsOf G p A) → AllProductive G → (A : ℕ) → A < G.rules → IsProductive G A
+    there G has all A lt =
+        let (p, o) = has A lt in
+        let (w, d) = list_of G (IsProductive G) (λ B h. h) (body_of G p) (rules_at (IsProductive G) (body_of G p) (λ d B e. all p d B (record { at = e }))) in
+        (w, derives_rule G o d)
+
+    back : (G : Grammar) → WellFormed G → ((A : ℕ) → A < G.rules → IsProductive G A) → AllProductive G
+    back G good all p d A n = all A (good.symbols p d (rule A) n)

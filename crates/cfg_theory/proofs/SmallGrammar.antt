@@ -1,34 +1,32 @@
 -- Each definition is met on the small grammar.
-use Rattle.std.proofs.Common.{◌≡◌, ℕ, zero, suc, ◌+◌, ◌<◌, ◌≤◌, ◌⊎◌, inl, inr, Bool, true, false, List, [], ◌∷◌, ◌++◌, length, map, drop, Option, Some, None, refl, sym, ap, ◌∙◌, subst, arith}
-use Rattle.std.specs.Prelude.{Contains, IsTrue, slice_index_or}
-use Rattle.cfg_theory.specs.Grammar.{Sym, rule, token, Grammar, WellFormed, InRange, IsOf, IsNext, IsEnd, head_of, body_of, start_symbol}
-use Rattle.cfg_theory.specs.Derivation.{Derives, DerivesTokens, Nullable, IsFirst, IsFollow, Refers, HasPath, IsProductive, AllProductive, IsSentence}
+use Rattle.std.proofs.Common.{◌≡◌, ℕ, zero, suc, ◌+◌, ◌<◌, ◌≤◌, ◌⊎◌, inl, inr, true, false, List, [], ◌∷◌, ◌++◌, drop, Some, None, refl, sym, ap, ◌∙◌, subst, arith}
+use Rattle.std.specs.Prelude.{Contains, IsTrue}
+use Rattle.cfg_theory.specs.Grammar.{Sym, rule, token, WellFormed, InRange, IsOf, IsNext, head_of, body_of, start_symbol}
+use Rattle.cfg_theory.specs.Derivation.{Derives, Nullable, IsFirst, IsFollow, HasPath, IsProductive, AllProductive, IsSentence}
 use Rattle.cfg_theory.specs.Tree.{IsDerivation}
-use Rattle.cfg_theory.specs.Fold.{no_span, by_functions, Folds}
-use Rattle.cfg_theory.specs.First.{AllOf, FirstOf, IsFirstTable}
+use Rattle.cfg_theory.specs.First.{FirstOf, IsFirstTable}
 use Rattle.cfg_theory.specs.Follow.{IsFollowTable}
 use Rattle.cfg_theory.specs.Path.{IsReachTable}
-use Rattle.cfg_theory.specs.Productive.{RulesIn, IsProductiveTable}
-use Rattle.cfg_theory.specs.Cost.{cost, Has, IsCheapest, AreCheapest, IsBefore}
-use Rattle.cfg_theory.specs.CostTables.{Sums, Surrounds, IsLeastTable, IsGreatestTable, IsCheapestTable, Concatenates}
-use Rattle.cfg_theory.specs.SmallGrammar.{example, as_is, place, tree, numbers, one_number, each_rule, first_bits, follow_bits, reached, one, least_costs, greatest_costs, cheapest_lists, ExampleIsMet}
+use Rattle.cfg_theory.specs.Productive.{IsProductiveTable}
+use Rattle.cfg_theory.specs.Cost.{cost, Has, IsCheapest, AreCheapest}
+use Rattle.cfg_theory.specs.CostTables.{Sums, IsLeastTable, IsGreatestTable, IsCheapestTable, Concatenates}
+use Rattle.cfg_theory.specs.SmallGrammar.{example, as_is, tree, each_rule, first_bits, follow_bits, reached, one, least_costs, greatest_costs, cheapest_lists}
 use Rattle.cfg_theory.proofs.Derivation.{derives_rule}
 use Rattle.cfg_theory.proofs.Follow.{follow_end, follow_passed}
 use Rattle.cfg_theory.proofs.Trees.{sentences_are_derived}
-use Rattle.cfg_theory.proofs.Folds.{folds_iff}
-use Rattle.cfg_theory.proofs.CostTables.{is_least, is_greatest, cost_tables_exact, unbounded_by_cycles}
+use Rattle.cfg_theory.proofs.CostTables.{cost_tables_exact}
 
-some_same : {X : Type 0} (x y : X) → Some x ≡ Some y → x ≡ y
+pub some_same : {X : Type 0} (x y : X) → Some x ≡ Some y → x ≡ y
 some_same x y e = cc
 
-none_some : {X : Type 0} (x : X) → None ≡ Some x → ⊥
+pub none_some : {X : Type 0} (x : X) → None ≡ Some x → ⊥
 none_some x e = cc
 
-false_true : false ≡ true → ⊥
+pub false_true : false ≡ true → ⊥
 false_true e = cc
 
 -- the productions with their rules
-of_each : (P : ℕ → ℕ → Type 0) → P 0 1 → P 1 1 → P 2 2 → P 3 2 → P 4 0 → (p A : ℕ) → IsOf example p A → P p A
+pub of_each : (P : ℕ → ℕ → Type 0) → P 0 1 → P 1 1 → P 2 2 → P 3 2 → P 4 0 → (p A : ℕ) → IsOf example p A → P p A
 unfolding head_of
 of_each P a b c d e zero A o = subst (P 0) o.head a
 of_each P a b c d e (suc zero) A o = subst (P 1) o.head b
@@ -38,7 +36,7 @@ of_each P a b c d e (suc (suc (suc (suc zero)))) A o = subst (P 4) o.head e
 of_each P a b c d e (suc (suc (suc (suc (suc p))))) A o = let lt : suc (suc (suc (suc (suc p)))) < 5 = o.in_range in absurd (omega arith)
 
 -- the symbols with their places
-next_each : (P : ℕ → ℕ → Sym → Type 0) → P 0 0 (token 0) → P 0 1 (rule 1) → P 1 0 (rule 2) → P 2 0 (token 1) → P 4 0 (rule 1) → (p d : ℕ) (X : Sym) → IsNext example p d X → P p d X
+pub next_each : (P : ℕ → ℕ → Sym → Type 0) → P 0 0 (token 0) → P 0 1 (rule 1) → P 1 0 (rule 2) → P 2 0 (token 1) → P 4 0 (rule 1) → (p d : ℕ) (X : Sym) → IsNext example p d X → P p d X
 unfolding body_of
 next_each P a b c d e zero zero X n = subst (P 0 0) (some_same (token 0) X n.at) a
 next_each P a b c d e zero (suc zero) X n = subst (P 0 1) (some_same (rule 1) X n.at) b
@@ -52,11 +50,11 @@ next_each P a b c d e (suc (suc (suc (suc zero)))) zero X n = subst (P 4 0) (som
 next_each P a b c d e (suc (suc (suc (suc zero)))) (suc i) X n = absurd (none_some X n.at)
 next_each P a b c d e (suc (suc (suc (suc (suc p))))) i X n = absurd (none_some X n.at)
 
-of0 : IsOf example 0 1
+pub of0 : IsOf example 0 1
 unfolding head_of
 of0 = record { in_range = omega arith; head = refl }
 
-of1 : IsOf example 1 1
+pub of1 : IsOf example 1 1
 unfolding head_of
 of1 = record { in_range = omega arith; head = refl }
 
@@ -68,11 +66,11 @@ of3 : IsOf example 3 2
 unfolding head_of
 of3 = record { in_range = omega arith; head = refl }
 
-of4 : IsOf example 4 0
+pub of4 : IsOf example 4 0
 unfolding head_of
 of4 = record { in_range = omega arith; head = refl }
 
-next01 : IsNext example 0 1 (rule 1)
+pub next01 : IsNext example 0 1 (rule 1)
 unfolding body_of
 next01 = record { at = refl }
 
@@ -80,32 +78,32 @@ next10 : IsNext example 1 0 (rule 2)
 unfolding body_of
 next10 = record { at = refl }
 
-next40 : IsNext example 4 0 (rule 1)
+pub next40 : IsNext example 4 0 (rule 1)
 unfolding body_of
 next40 = record { at = refl }
 
 -- derivations by single productions
-by0 : {b : List Sym} → Derives example (token 0 ∷ rule 1 ∷ []) b → Derives example (rule 1 ∷ []) b
+pub by0 : {b : List Sym} → Derives example (token 0 ∷ rule 1 ∷ []) b → Derives example (rule 1 ∷ []) b
 unfolding body_of
 by0 d = derives_rule example of0 d
 
-by1 : {b : List Sym} → Derives example (rule 2 ∷ []) b → Derives example (rule 1 ∷ []) b
+pub by1 : {b : List Sym} → Derives example (rule 2 ∷ []) b → Derives example (rule 1 ∷ []) b
 unfolding body_of
 by1 d = derives_rule example of1 d
 
-by2 : {b : List Sym} → Derives example (token 1 ∷ []) b → Derives example (rule 2 ∷ []) b
+pub by2 : {b : List Sym} → Derives example (token 1 ∷ []) b → Derives example (rule 2 ∷ []) b
 unfolding body_of
 by2 d = derives_rule example of2 d
 
-by3 : {b : List Sym} → Derives example [] b → Derives example (rule 2 ∷ []) b
+pub by3 : {b : List Sym} → Derives example [] b → Derives example (rule 2 ∷ []) b
 unfolding body_of
 by3 d = derives_rule example of3 d
 
-by4 : {b : List Sym} → Derives example (rule 1 ∷ []) b → Derives example (rule 0 ∷ []) b
+pub by4 : {b : List Sym} → Derives example (rule 1 ∷ []) b → Derives example (rule 0 ∷ []) b
 unfolding body_of
 by4 d = derives_rule example of4 d
 
-good : WellFormed example
+pub good : WellFormed example
 unfolding body_of head_of
 good = record {
   start_of = of4;
@@ -118,21 +116,21 @@ good = record {
   end_token = omega arith;
 }
 
-derivation : IsDerivation example as_is (rule 1) (0 ∷ 1 ∷ []) tree
+pub derivation : IsDerivation example as_is (rule 1) (0 ∷ 1 ∷ []) tree
 unfolding body_of head_of
 derivation = record { is_tree = (omega arith, refl, (tt, ((omega arith, refl, ((omega arith, refl, (tt, tt)), tt)), tt))); root_is = refl; yield_is = refl }
 
-sentence : IsSentence example (start_symbol example) (0 ∷ 1 ∷ [])
+pub sentence : IsSentence example (start_symbol example) (0 ∷ 1 ∷ [])
 unfolding body_of
 sentence = (sentences_are_derived ℕ).of_tree example as_is (rule 1) (0 ∷ 1 ∷ []) tree derivation
 
-nullable : (A : ℕ) → IsTrue (each_rule A) → Nullable example (rule A ∷ [])
+pub nullable : (A : ℕ) → IsTrue (each_rule A) → Nullable example (rule A ∷ [])
 nullable zero h = by4 (by1 (by3 Derives.none))
 nullable (suc zero) h = by1 (by3 Derives.none)
 nullable (suc (suc zero)) h = by3 Derives.none
 nullable (suc (suc (suc A))) h = absurd (false_true h)
 
-first_tokens : (A t : ℕ) → IsTrue (first_bits A t) → IsFirst example (rule A ∷ []) t
+pub first_tokens : (A t : ℕ) → IsTrue (first_bits A t) → IsFirst example (rule A ∷ []) t
 first_tokens zero zero h = (_, by4 (by0 Derives.none))
 first_tokens zero (suc zero) h = (_, by4 (by1 (by2 Derives.none)))
 first_tokens zero (suc (suc t)) h = absurd (false_true h)
@@ -155,20 +153,20 @@ same_firsts zero h = refl
 same_firsts (suc zero) h = refl
 same_firsts (suc (suc t)) h = h
 
-abbrev N : ℕ → Type 0
+abbrev pub N : ℕ → Type 0
 N A = IsTrue (each_rule A)
 
-abbrev F : ℕ → ℕ → Type 0
+abbrev pub F : ℕ → ℕ → Type 0
 F A t = IsTrue (first_bits A t)
 
-abbrev W : ℕ → ℕ → Type 0
+abbrev pub W : ℕ → ℕ → Type 0
 W R t = IsTrue (follow_bits R t)
 
 of_left : (A : ℕ) {P Q : Type 0} → P ⊎ (Q × ⊥) → P
 of_left A (inl x) = x
 of_left A (inr x) = absurd x.1
 
-first_table : IsFirstTable example N F
+pub first_table : IsFirstTable example N F
 unfolding body_of
 first_table = record {
   nullable = nullable;
@@ -177,7 +175,7 @@ first_table = record {
   first_closed = λ p A t o. of_each (λ p A. FirstOf N F (body_of example p) t → F A t) (λ e. subst (F 1) e refl) (λ h. widen t (of_left 0 h)) (λ e. subst (F 2) e refl) (λ h. absurd h) (λ h. same_firsts t (of_left 0 h)) p A o;
 }
 
-follow_true : (R t : ℕ) → W R t → IsFollow example R t
+pub follow_true : (R t : ℕ) → W R t → IsFollow example R t
 unfolding body_of
 follow_true zero zero h = absurd (false_true h)
 follow_true zero (suc zero) h = absurd (false_true h)
@@ -230,7 +228,7 @@ nothing_behind : (p d R : ℕ) → IsNext example p d (rule R) → (t : ℕ) →
 unfolding body_of
 nothing_behind p d R n t = next_each (λ p d X. X ≡ rule R → FirstOf N F (drop (suc d) (body_of example p)) t → ⊥) (λ e. cc) (λ e h. h) (λ e h. h) (λ e. cc) (λ e h. h) p d (rule R) n refl
 
-follow_table : IsFollowTable example N F W
+pub follow_table : IsFollowTable example N F W
 follow_table = record {
   follow = follow_true;
   after = λ p A d R t o n h. absurd (nothing_behind p d R n t h);
@@ -238,7 +236,7 @@ follow_table = record {
   at_end = λ t e. subst (W 0) (sym e) refl;
 }
 
-reach_true : (B : ℕ) → IsTrue (reached B) → HasPath example 1 B
+pub reach_true : (B : ℕ) → IsTrue (reached B) → HasPath example 1 B
 reach_true zero h = absurd (false_true h)
 reach_true (suc zero) h = HasPath.one (0, 1, of0, next01)
 reach_true (suc (suc zero)) h = HasPath.one (1, 0, of1, next10)
@@ -251,13 +249,13 @@ named_rule p d R n = next_each (λ p d X. (R : ℕ) → X ≡ rule R → IsTrue 
     rule_same : (A B : ℕ) → rule A ≡ rule B → A ≡ B
     rule_same A B e = cc
 
-reach_table : IsReachTable example 1 (λ B. IsTrue (reached B))
+pub reach_table : IsReachTable example 1 (λ B. IsTrue (reached B))
 reach_table = record { reached = reach_true; named = λ B r. named_rule r.0 r.1 B r.3; closed = λ B C h r. named_rule r.0 r.1 C r.3 }
 
-productive : (A : ℕ) → N A → IsProductive example A
+pub productive : (A : ℕ) → N A → IsProductive example A
 productive A h = ([], nullable A h)
 
-productive_table : IsProductiveTable example N
+pub productive_table : IsProductiveTable example N
 productive_table = record { productive = productive; closed = λ p A o h. of_each (λ p A. N A) refl refl refl refl refl p A o }
 
 all_named : (R : ℕ) → IsTrue (reached R) → N R
@@ -266,7 +264,7 @@ all_named (suc zero) h = refl
 all_named (suc (suc zero)) h = refl
 all_named (suc (suc (suc R))) h = h
 
-all_productive : AllProductive example
+pub all_productive : AllProductive example
 all_productive p d A n = productive A (all_named A (named_rule p d A n))
 
 least_lists : (A n : ℕ) → least_costs A ≡ Some n → (w : List ℕ) × Has example A w × (cost one w ≡ n)
@@ -275,7 +273,7 @@ least_lists (suc zero) n e = ([], nullable 1 refl, some_same 0 n e)
 least_lists (suc (suc zero)) n e = ([], nullable 2 refl, some_same 0 n e)
 least_lists (suc (suc (suc A))) n e = absurd (none_some n e)
 
-least_table : IsLeastTable example one least_costs
+pub least_table : IsLeastTable example one least_costs
 least_table = record {
   lists = least_lists;
   closed = λ p A n o s. of_each (λ p A. (m : ℕ) × (least_costs A ≡ Some m) × (m ≤ n)) (0, refl, omega arith) (0, refl, omega arith) (0, refl, omega arith) (0, refl, omega arith) (0, refl, omega arith) p A o;
@@ -287,17 +285,17 @@ greatest_lists (suc zero) n e = absurd (none_some n e)
 greatest_lists (suc (suc zero)) n e = (1 ∷ [], by2 Derives.none, some_same 1 n e)
 greatest_lists (suc (suc (suc A))) n e = absurd (none_some n e)
 
-greatest_table : IsGreatestTable example one greatest_costs
+pub greatest_table : IsGreatestTable example one greatest_costs
 unfolding body_of
 greatest_table = record {
   lists = greatest_lists;
   closed = λ p A m e o r. of_each (λ p A. greatest_costs A ≡ Some m → (n : ℕ) × Sums one greatest_costs (body_of example p) n × (n ≤ m)) (λ e. absurd (none_some m e)) (λ e. absurd (none_some m e)) (λ e. let q = some_same 1 m e in (1, (0, refl, refl), omega (arith, q))) (λ e. (0, refl, omega arith)) (λ e. absurd (none_some m e)) p A o e;
 }
 
-abbrev lone : List (List ℕ)
+abbrev pub lone : List (List ℕ)
 lone = [] ∷ []
 
-lone_is : (w : List ℕ) → Contains lone w → w ≡ []
+pub lone_is : (w : List ℕ) → Contains lone w → w ≡ []
 lone_is w (zero, lt, e) = sym e
 lone_is w (suc k, lt, e) = absurd (omega (arith, lt))
 
@@ -314,7 +312,7 @@ is_cheapest (suc (suc (suc A))) w c = absurd (omega (arith, c.1))
 one_part : (A : ℕ) (w : List ℕ) → (cheapest_lists A ≡ lone) → Concatenates cheapest_lists (rule A ∷ []) w → Contains lone w
 one_part A w e (u, v, c, z, q) = let h : u ≡ [] = lone_is u (subst (λ l. Contains l u) e c) in lone_has w (q ∙ ap (λ x. x ++ v) h ∙ z)
 
-cheapest_table : IsCheapestTable example one least_costs cheapest_lists
+pub cheapest_table : IsCheapestTable example one least_costs cheapest_lists
 unfolding body_of
 cheapest_table = record {
   cheapest = is_cheapest;
@@ -324,40 +322,8 @@ cheapest_table = record {
     dear : (n : ℕ) → Some 0 ≡ Some n → (k : ℕ) → n ≡ 1 + k → ⊥
     dear n e k q = let z = some_same 0 n e in omega (arith, z, q)
 
-all_cheapest : AreCheapest example one 1 lone
+pub all_cheapest : AreCheapest example one 1 lone
 all_cheapest = record {
   all = λ w. cost_tables_exact.cheapest example one least_costs cheapest_lists least_table cheapest_table 1 w;
   ordered = λ i j d lt le. absurd (omega (arith, lt, le));
 }
-
-pub example_is_met : ExampleIsMet
-unfolding body_of head_of
-example_is_met = record {
-  well_formed = good;
-  sentence = sentence;
-  begins = (1 ∷ [], sentence);
-  derivation = derivation;
-  span = refl;
-  value = refl;
-  folds = (folds_iff ℕ (List ℕ) example place one_number numbers tree no_span (0 ∷ 0 ∷ [])).1 refl;
-  nullable = nullable 1 refl;
-  first_token = first_tokens 1 1 refl;
-  follow_token = follow_true 2 2 refl;
-  path = reach_true 1 refl;
-  productive = all_productive;
-  first_table = first_table;
-  follow_table = follow_table;
-  reach_table = reach_table;
-  productive_table = productive_table;
-  least_table = least_table;
-  greatest_table = greatest_table;
-  cheapest_table = cheapest_table;
-  least_cost = is_least example one least_costs least_table 1 0 refl;
-  greatest_cost = is_greatest example one greatest_costs greatest_table 2 1 refl;
-  all_cheapest = all_cheapest;
-  cycle = around;
-  unbounded = unbounded_by_cycles.cycle example one 1 1 (omega arith) around (productive 1 refl);
-}
-  where
-    around : Surrounds example one 1 1 1
-    around = unbounded_by_cycles.by_production example one 0 1 1 1 (0 ∷ []) [] of0 next01 Derives.none Derives.none

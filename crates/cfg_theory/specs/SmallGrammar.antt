@@ -1,14 +1,16 @@
 -- A small grammar on which each definition is met: ^: S; S: 'a' S | B; B: 'b' | ;
 use Rattle.std.specs.Prelude.{◌≡◌, ℕ, zero, suc, Bool, true, false, IsTrue, List, [], ◌∷◌, Option, Some, None}
 use Rattle.cfg_theory.specs.Grammar.{Sym, rule, token, Production, Grammar, WellFormed, start_symbol}
-use Rattle.cfg_theory.specs.Derivation.{Nullable, IsFirst, IsFollow, HasPath, AllProductive, IsSentence, BeginsSentence}
+use Rattle.cfg_theory.specs.Derivation.{Nullable, IsFirst, IsFirstBefore, IsFollow, HasPath, AllProductive, IsSentence, BeginsSentence}
 use Rattle.cfg_theory.specs.Tree.{Tree, leaf, node, none, before, IsDerivation}
 use Rattle.cfg_theory.specs.Fold.{Span, no_span, span_of, fold, by_functions, Folds}
 use Rattle.cfg_theory.specs.First.{IsFirstTable}
 use Rattle.cfg_theory.specs.Follow.{IsFollowTable}
 use Rattle.cfg_theory.specs.Path.{IsReachTable}
 use Rattle.cfg_theory.specs.Productive.{IsProductiveTable}
-use Rattle.cfg_theory.specs.Cost.{IsLeastCost, IsGreatestCost, IsUnbounded, AreCheapest}
+use Rattle.cfg_theory.specs.Cost.{IsLeastCost, IsGreatestCost, IsUnbounded, IsBefore, AreCheapest}
+use Rattle.cfg_theory.specs.Greatest.{AreUnbounded, Gains, IsNarrowed, IsKeptTable}
+use Rattle.cfg_theory.specs.CheapestLists.{NoneIsCheaper, IsTight, HaveCosts, IsClosedOver}
 use Rattle.cfg_theory.specs.CostTables.{IsLeastTable, IsGreatestTable, IsCheapestTable, Surrounds}
 
 abbrev pub production : ℕ → List Sym → Production
@@ -88,6 +90,25 @@ cheapest_lists (suc zero) = [] ∷ []
 cheapest_lists (suc (suc zero)) = [] ∷ []
 cheapest_lists (suc (suc (suc A))) = []
 
+-- the rules that are unbounded
+abbrev pub open_rules : ℕ → Bool
+open_rules zero = true
+open_rules (suc zero) = true
+open_rules (suc (suc A)) = false
+
+-- the greatest costs, kept below 2, and below 1
+abbrev pub costs_to_two : ℕ → Option ℕ
+costs_to_two zero = Some 2
+costs_to_two (suc zero) = Some 2
+costs_to_two (suc (suc zero)) = Some 1
+costs_to_two (suc (suc (suc A))) = None
+
+abbrev pub costs_to_one : ℕ → Option ℕ
+costs_to_one zero = Some 1
+costs_to_one (suc zero) = Some 1
+costs_to_one (suc (suc zero)) = Some 1
+costs_to_one (suc (suc (suc A))) = None
+
 pub record ExampleIsMet : Type 0 where
   pub well_formed : WellFormed example
   pub sentence : IsSentence example (start_symbol example) (0 ∷ 1 ∷ [])
@@ -98,6 +119,7 @@ pub record ExampleIsMet : Type 0 where
   pub folds : Folds example (by_functions one_number numbers) place no_span tree (0 ∷ 0 ∷ [])
   pub nullable : Nullable example (rule 1 ∷ [])
   pub first_token : IsFirst example (rule 1 ∷ []) 1
+  pub first_before : IsFirstBefore example (rule 2 ∷ []) 2 2
   pub follow_token : IsFollow example 2 2
   pub path : HasPath example 1 1
   pub productive : AllProductive example
@@ -111,5 +133,15 @@ pub record ExampleIsMet : Type 0 where
   pub least_cost : IsLeastCost example one 1 0
   pub greatest_cost : IsGreatestCost example one 2 1
   pub all_cheapest : AreCheapest example one 1 ([] ∷ [])
+  pub in_order : IsBefore (0 ∷ 0 ∷ []) (0 ∷ 1 ∷ [])
   pub cycle : Surrounds example one 1 1 1
   pub unbounded : IsUnbounded example one 1
+  pub unbounded_rules : AreUnbounded example one open_rules
+  pub gains : Gains example one open_rules 1
+  pub below_one : IsKeptTable example one 1 (λ A. false) costs_to_one
+  pub below_two : IsKeptTable example one 2 open_rules costs_to_two
+  pub narrowed : IsNarrowed example one costs_to_one each_rule open_rules
+  pub none_cheaper : NoneIsCheaper example one least_costs
+  pub tight : IsTight example one least_costs 1 1 0
+  pub have_costs : HaveCosts example one least_costs cheapest_lists
+  pub closed_lists : IsClosedOver example one least_costs 1 each_rule cheapest_lists

@@ -1,5 +1,5 @@
 ghost use Rattle.cfg_theory.specs.Path.{PathTablesAreExact};
-ghost use Rattle.cfg_theory.specs.Productive.{ProductiveTablesAreExact};
+ghost use Rattle.cfg_theory.specs.Productive.{ProductiveTablesAreExact, AllRulesProductive};
 
 /// A set of rules that a rule reaches, closed under references, holds exactly the rules that it reaches.
 #[tactic(auto, using(crate::proofs::Paths::path_tables_exact))]
@@ -11,4 +11,10 @@ pub fn path_tables_are_exact()
 #[tactic(auto, using(crate::proofs::Productive::productive_tables_exact))]
 pub fn productive_tables_are_exact()
     ensures { ProductiveTablesAreExact }
+{}
+
+/// Where each rule has a production, the rules that bodies name all derive some token list exactly where all rules do.
+#[tactic(auto, using(crate::proofs::Productive::all_rules_productive))]
+pub fn named_rules_are_productive_where_all_are()
+    ensures { AllRulesProductive }
 {}

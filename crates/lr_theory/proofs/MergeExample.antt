@@ -1,17 +1,12 @@
 -- Two sets of one core that don't join: after a c and after b c stand the same items, whose lookaheads are the other way round.
-use Rattle.std.proofs.Common.{◌≡◌, ℕ, zero, suc, ◌<◌, ◌⊎◌, inl, inr, Bool, true, false, cond, ◌&&◌, nat_eq, eqb-true, List, [], ◌∷◌, slice_get, Option, Some, None, refl, sym, ap, ◌∙◌, subst, arith}
+use Rattle.std.proofs.Common.{◌≡◌, ℕ, zero, suc, ◌<◌, ◌⊎◌, inl, inr, Bool, true, false, cond, ◌&&◌, nat_eq, eqb-true, List, [], ◌∷◌, slice_get, Some, refl, sym, ap, ◌∙◌, subst, arith}
 use Rattle.cfg_theory.specs.Grammar.{Sym, rule, token, IsOf, IsNext, head_of, body_of}
-use Rattle.cfg_theory.specs.Derivation.{Derives, IsFirst}
+use Rattle.cfg_theory.specs.Derivation.{Derives}
 use Rattle.lr_theory.specs.Canonical.{Present, Look, from_dot}
-use Rattle.lr_theory.specs.Itemset.{Entry, ItemSet, HasItem, HasLook, SameItems, entry_at, IsCore, HasCore, WeaklyCompatible, Meet, Cross}
-use Rattle.lr_theory.specs.Building.{Incompatible, StaysOut}
-use Rattle.lr_theory.specs.SmallGrammars.{crossing, d_alone, e_alone, completed, after_a, after_b, Looks, with_first, CrossingStaysApart}
-
-some_same : {X : Type 0} (x y : X) → Some x ≡ Some y → x ≡ y
-some_same x y e = cc
-
-none_some : {X : Type 0} (x : X) → None ≡ Some x → ⊥
-none_some x e = cc
+use Rattle.lr_theory.specs.Itemset.{Entry, ItemSet, HasItem, HasLook, entry_at, IsCore, HasCore, WeaklyCompatible, Meet, Cross}
+use Rattle.lr_theory.specs.Building.{Incompatible}
+use Rattle.lr_theory.proofs.Literal.{some_same, none_some}
+use Rattle.lr_theory.specs.SmallGrammars.{crossing, d_alone, e_alone, completed, after_a, after_b, Looks, CrossingStaysApart}
 
 -- what such a set has
 at4 : (a b : List Bool) → entry_at (completed a b) 4 1 ≡ Some a

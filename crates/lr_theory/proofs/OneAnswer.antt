@@ -1,5 +1,5 @@
 -- A parse with repairs has one answer.
-use Rattle.std.proofs.Common.{◌≡◌, ◌≢◌, ℕ, ◌+◌, ◌-◌, ◌<◌, ◌≤◌, ◌⊎◌, inl, inr, ⊎_elim, List, [], ◌∷◌, ◌++◌, Option, Some, None, refl, sym, ap, ◌∙◌, subst, arith}
+use Rattle.std.proofs.Common.{◌≡◌, ℕ, ◌+◌, ◌-◌, ⊎_elim, List, [], ◌∷◌, ◌++◌, Option, Some, refl, sym, ap, ◌∙◌, subst, arith}
 use Rattle.std.specs.List.{AllByRecursion}
 use Rattle.std.proofs.lemmas.Bool.{cases_lt}
 use Rattle.cfg_theory.specs.Grammar.{Grammar}
@@ -42,7 +42,7 @@ module _ (L : Type 0) (G : Grammar) (a : Automaton) (tok : L → ℕ) where
     one_first d (x ∷ before) (y ∷ other) es fs behind rest e h k s t = one_first d before other es fs behind rest (tail_same x y (before ++ es ∷ behind) (other ++ fs ∷ rest) e) h.1 k.1 s t
 
     -- none is refused that can be taken
-    not_refused : (d : Config L) (before : List (List Edit)) (es : List Edit) (behind : List (List Edit)) → AllByRecursion (Refused d) (before ++ es ∷ behind) → Takes G a tok make d es → ⊥
+    pub not_refused : (d : Config L) (before : List (List Edit)) (es : List Edit) (behind : List (List Edit)) → AllByRecursion (Refused d) (before ++ es ∷ behind) → Takes G a tok make d es → ⊥
     not_refused d [] es behind h t = h.0 t
     not_refused d (x ∷ before) es behind h t = not_refused d before es behind h.1 t
 

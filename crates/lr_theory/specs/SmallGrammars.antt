@@ -1,6 +1,6 @@
--- Small grammars on which the definitions are met: a contest, a graph with its automaton, sets of one core that stay
--- apart, and a repair.
-use Rattle.std.specs.Prelude.{◌≡◌, ℕ, zero, suc, Bool, true, false, List, [], ◌∷◌, Option, Some, None}
+-- Small grammars on which the definitions are met: a contest, graphs with their automata, sets of one core that stay
+-- apart, a state that grows, and a repair.
+use Rattle.std.specs.Prelude.{◌≡◌, ℕ, zero, suc, Bool, true, false, List, [], ◌∷◌, length, Some, None}
 use Rattle.cfg_theory.specs.Grammar.{Sym, rule, token, Grammar, WellFormed}
 use Rattle.cfg_theory.specs.Derivation.{AllProductive}
 use Rattle.cfg_theory.specs.Tree.{Tree, leaf, node, none, before}
@@ -8,8 +8,8 @@ use Rattle.cfg_theory.specs.Fold.{Span, by_functions}
 use Rattle.cfg_theory.specs.SmallGrammar.{production, as_is}
 use Rattle.lr_theory.specs.Canonical.{Look, Contested}
 use Rattle.lr_theory.specs.Itemset.{Entry, ItemSet, HasItem, HasLook, SameItems, HasCore, WeaklyCompatible}
-use Rattle.lr_theory.specs.Graph.{Graph}
-use Rattle.lr_theory.specs.Building.{IsGraph, StaysOut}
+use Rattle.lr_theory.specs.Graph.{Graph, CoreItem, CoreLook}
+use Rattle.lr_theory.specs.Building.{Building, Reached, Step, IsTodo, with_edge, IsGraph, StaysOut}
 use Rattle.lr_theory.specs.Automaton.{Action, shift, reduce, accept, error, Automaton}
 use Rattle.lr_theory.specs.Machine.{Config, accepted, run, start_config}
 use Rattle.lr_theory.specs.Chains.{ChainsWithin}
@@ -37,18 +37,22 @@ pub record ClashIsContested : Type 0 where
 abbrev pub tiny : Grammar
 tiny = record { rules = 2; tokens = 1; productions = production 0 (rule 1 ∷ []) ∷ production 1 [] ∷ []; start = 0 }
 
--- its automaton meets what the laws of the machine ask, and accepts the empty text
+-- an automaton and its grammar meet what the laws of the machine ask, and no more than cap reductions come one after another
+pub record MeetsLaws (G : Grammar) (a : Automaton) (x : Sym) (cap : ℕ) : Type 0 where
+  pub well_formed : WellFormed G
+  pub graph : IsGraph G a.graph
+  pub is_automaton : IsAutomatonOf G a
+  pub fills : FillsCells G a
+  pub uncontested : IsUncontested G
+  pub productive : AllProductive G
+  pub ready : IsReady G a x
+  pub present : HasPresent G a
+  pub chains : ChainsWithin G a cap
+
+-- its automaton meets them, and accepts the empty text
 pub record TinyIsReady : Type 0 where
   pub automaton : Automaton
-  pub well_formed : WellFormed tiny
-  pub graph : IsGraph tiny automaton.graph
-  pub is_automaton : IsAutomatonOf tiny automaton
-  pub fills : FillsCells tiny automaton
-  pub uncontested : IsUncontested tiny
-  pub productive : AllProductive tiny
-  pub ready : IsReady tiny automaton (rule 1)
-  pub present : HasPresent tiny automaton
-  pub chains : ChainsWithin tiny automaton 1
+  pub meets : MeetsLaws tiny automaton (rule 1) 1
   pub accepts : run tiny automaton as_is 2 (start_config automaton []) ≡ accepted (node 1 none)
 
 -- `S: a A d | b B d | a B e | b A e; A: c; B: c;`: after a c and after b c stand the same items, whose lookaheads d and
@@ -82,8 +86,8 @@ abbrev pub Looks : ItemSet → List Sym → Type 0
 Looks s w = (p d t : ℕ) → HasLook s p d t → Look crossing w p d t
 
 -- a graph with the first set for a state
-abbrev pub with_first : Graph
-with_first = record { cores = after_a ∷ []; start = 0; edge = λ s X. None }
+abbrev pub graph_after_a : Graph
+graph_after_a = record { cores = after_a ∷ []; start = 0; edge = λ s X. None }
 
 -- the second set has the state's core, and doesn't join it
 pub record CrossingStaysApart : Type 0 where
@@ -93,12 +97,43 @@ pub record CrossingStaysApart : Type 0 where
   pub looks_after_b : Looks after_b (token 2 ∷ token 1 ∷ [])
   pub same : SameItems (HasItem after_a) (HasItem after_b)
   pub apart : WeaklyCompatible (HasItem after_a) (HasLook after_a) (HasLook after_b) → ⊥
-  pub stays_out : StaysOut with_first 0 (HasItem after_b) (HasLook after_b)
+  pub stays_out : StaysOut graph_after_a 0 (HasItem after_b) (HasLook after_b)
 
--- `^: S; S: x;` with its table. x and the end are the tokens 0 and 1; the states are those after nothing, after S and
--- after x.
+-- `S: a S b | ;`: the state behind a leads to itself, with b for a lookahead more.
+-- a, b and the end are the tokens 0 to 2; ^ and S the rules 0 and 1.
+abbrev pub nested : Grammar
+nested = record { rules = 2; tokens = 3; productions = production 1 (token 0 ∷ rule 1 ∷ token 1 ∷ []) ∷ production 1 [] ∷ production 0 (rule 1 ∷ []) ∷ []; start = 2 }
+
+-- the step that handles it lets it grow, and it is to be taken again
+pub record StateGrows : Type 0 where
+  pub well_formed : WellFormed nested
+  pub before : Building
+  pub after : Building
+  pub reached : Reached nested before
+  pub step : Step nested before after
+  pub item : CoreItem before.graph step.state 0 1
+  pub without : CoreLook before.graph step.state 0 1 1 → ⊥
+  pub grown : CoreLook after.graph step.state 0 1 1
+  pub again : IsTodo after step.state
+  -- the whole graph has five states
+  pub graph : Graph
+  pub is_graph : IsGraph nested graph
+  pub states : length graph.cores ≡ 5
+
+-- `^: S; S: x;`. x and the end are the tokens 0 and 1.
 abbrev pub single : Grammar
 single = record { rules = 2; tokens = 2; productions = production 1 (token 0 ∷ []) ∷ production 0 (rule 1 ∷ []) ∷ []; start = 1 }
+
+abbrev pub before_end : ℕ → ℕ → Entry
+before_end p d = record { production = p; dot = d; lookaheads = false ∷ true ∷ [] }
+
+-- its states are those after nothing, after S and after x
+abbrev pub single_graph : Graph
+single_graph = record {
+  cores = (before_end 1 0 ∷ []) ∷ (before_end 1 1 ∷ []) ∷ (before_end 0 1 ∷ []) ∷ [];
+  start = 0;
+  edge = with_edge (with_edge (λ s X. None) 0 (rule 1) 1) 0 (token 0) 2;
+}
 
 abbrev pub single_action : ℕ → ℕ → Action
 single_action zero zero = shift 2
@@ -106,12 +141,13 @@ single_action (suc zero) (suc zero) = accept
 single_action (suc (suc zero)) (suc zero) = reduce 0
 single_action _ _ = error
 
-abbrev pub single_goto : ℕ → ℕ → Option ℕ
-single_goto zero (suc zero) = Some 1
-single_goto _ _ = None
-
 abbrev pub single_machine : Automaton
-single_machine = record { graph = record { cores = []; start = 0; edge = λ s X. None }; closed = []; action = single_action; goto = single_goto }
+single_machine = record {
+  graph = single_graph;
+  closed = (before_end 0 0 ∷ before_end 1 0 ∷ []) ∷ (before_end 1 1 ∷ []) ∷ (before_end 0 1 ∷ []) ∷ [];
+  action = single_action;
+  goto = λ s A. single_graph.edge s (rule A);
+}
 
 -- an inserted lexeme is its token
 abbrev pub made : ℕ → List ℕ → ℕ
@@ -127,8 +163,9 @@ single_tree = node 0 (before (leaf 0) none)
 abbrev pub place : ℕ → Span
 place t = record { from = 0; to = 0 }
 
--- the empty text gets the missing x, with one error
+-- its machine meets the laws, and gives the empty text the missing x, with one error
 pub record MissingLexemeIsInserted : Type 0 where
+  pub meets : MeetsLaws single single_machine (rule 1) 1
   pub takes : Takes single single_machine as_is made (start_config single_machine []) (insert 0 ∷ [])
   pub parses : Parses ℕ single single_machine as_is made offered (start_config single_machine []) (Some single_tree) (start_config single_machine [] ∷ []) (0 ∷ [])
   pub advances : Advances (start_config {L = ℕ} single_machine [] ∷ [])

@@ -1,7 +1,7 @@
 -- Small tables: a cell in which actions meet, a refused grammar, and a grammar with its table.
-use Rattle.std.proofs.Common.{length, ◌≡◌, ℕ, zero, suc, ◌<◌, ◌≤◌, ◌⊎◌, inl, inr, Bool, true, false, List, [], ◌∷◌, Option, Some, None, refl, sym, ap, ◌∙◌, subst, arith}
+use Rattle.std.proofs.Common.{◌≡◌, ℕ, zero, suc, ◌<◌, inl, true, false, List, [], ◌∷◌, refl, arith}
 use Rattle.std.specs.Prelude.{AllPairs, IsTrue}
-use Rattle.cfg_theory.specs.Grammar.{rule, token, IsOf, IsNext, head_of, body_of}
+use Rattle.cfg_theory.specs.Grammar.{rule, IsOf, IsNext, head_of, body_of}
 use Rattle.cfg_theory.specs.Derivation.{Derives, Nullable}
 use Rattle.lr_theory.specs.Canonical.{Present, Look, from_dot}
 use Rattle.lr_theory.specs.Building.{with_edge}
@@ -9,8 +9,8 @@ use Rattle.lr_theory.specs.Automaton.{Action, closed_of}
 use Rattle.lr_theory.specs.SmallGrammars.{tiny}
 use Rattle.lr_theory.proofs.GraphExample.{is_graph}
 use Rattle.lr_theory.proofs.MachineExample.{tiny_action, tiny_lr, tiny_closes}
-use Rattle.table_theory.specs.Cells.{ItemBefore, Candidates, Refuses, NotRefused, cell_of}
-use Rattle.table_theory.specs.TableCells.{candidates_of, HasCells, IsBuilt, listed_conflicts}
+use Rattle.table_theory.specs.Cells.{ItemBefore, cell_of}
+use Rattle.table_theory.specs.TableCells.{candidates_of, HasCells}
 use Rattle.table_theory.specs.SmallTables.{no_precedences, endless, MeetingIsSettled, EndlessIsRefused, TinyHasTable}
 
 pub meeting_is_settled : MeetingIsSettled

@@ -1,10 +1,10 @@
 -- A cell in which a shift and two reductions meet, a grammar that is refused, and a grammar with its table.
-use Rattle.std.specs.Prelude.{◌≡◌, ℕ, false, List, [], ◌∷◌, Option, Some, None}
+use Rattle.std.specs.Prelude.{◌≡◌, ℕ, false, [], ◌∷◌, Some, None}
 use Rattle.cfg_theory.specs.Grammar.{rule, token, Grammar}
 use Rattle.lr_theory.specs.Automaton.{Action, Automaton}
 use Rattle.cfg_theory.specs.SmallGrammar.{production}
 use Rattle.lr_theory.specs.SmallGrammars.{tiny}
-use Rattle.table_theory.specs.Cells.{Left, Right, Nonassoc, Precedence, Precedences, NoPrecedences, Candidates, ListsPair, ListsShiftOf, SettlesShiftOf, pairs_at, shifts_at, cell_of}
+use Rattle.table_theory.specs.Cells.{Left, Precedences, NoPrecedences, Candidates, ListsPair, ListsShiftOf, SettlesShiftOf, pairs_at, shifts_at, cell_of}
 use Rattle.table_theory.specs.CellLaws.{IsTold}
 use Rattle.table_theory.specs.TableCells.{IsBuilt, listed_conflicts}
 

@@ -5,10 +5,11 @@ use Rattle.std.proofs.lemmas.List.{get_or-set_same, get_or-set_other, length-set
 use Rattle.std.proofs.lemmas.List.Sums.{sum_by-set}
 use Rattle.std.proofs.lemmas.List.Elements.{Contains-append_left, Contains-append_right, Contains-append_cases}
 use Rattle.std.proofs.lemmas.Bool.{cases_eq}
-use Rattle.cfg_theory.specs.Grammar.{Sym, rule, token, Grammar, IsOf, WellFormed, head_of, body_of}
+use Rattle.cfg_theory.specs.Grammar.{Sym, rule, token, Grammar, WellFormed, head_of, body_of}
+use Rattle.cfg_theory.specs.Productive.{RulesIn}
 use Rattle.cfg_theory.specs.Cost.{cost, Has, IsCheapest, IsBefore, AreCheapest}
-use Rattle.cfg_theory.specs.CostTables.{Sums, Concatenates}
-use Rattle.cfg_theory.specs.CheapestLists.{IsTight, HaveCosts, IsClosedOver, ListsOfWantedRules, ListsAreShort}
+use Rattle.cfg_theory.specs.CostTables.{Concatenates}
+use Rattle.cfg_theory.specs.CheapestLists.{NoneIsCheaper, IsTight, HaveCosts, IsClosedOver, ListsOfWantedRules, ListsAreShort}
 use Rattle.cfg_theory.proofs.Lists.{get_from_drop}
 use Rattle.cfgrammar.specs.Sets.{is_set}
 use Rattle.cfgrammar.specs.Passes.{Steps}
@@ -190,21 +191,26 @@ row_at table i A row e lt is = is ∙ ap (λ k. get_or table k row) e ∙ within
     within (x ∷ l) zero less = refl
     within (x ∷ l) (suc k) less = within l k (omega (arith, less))
 
-module _ (G : Grammar) (f : ℕ → ℕ) (least : List (Option ℕ)) (wanted : List Bool) (table : List (List (List ℕ))) (h : AreCosts G f least) (closed : (p : ℕ) → p < length G.productions → IsClosedBy G f p least)
-    (law : ListsOfWantedRules) (handed : (p : ℕ) → p < length G.productions → IsHandedOn G f least p wanted) (lists : AreLists G f least table) (all_joined : (p : ℕ) → p < length G.productions → IsJoined G f least wanted p table) where
-  none_cheaper : (p A n : ℕ) → IsOf G p A → Sums f (cost_in least) (body_of G p) n → (m : ℕ) × (cost_in least A ≡ Some m) × (m ≤ n)
-  none_cheaper p A n o s = let (m, e, le) = closed p o.in_range n s in (m, subst (λ B. cost_in least B ≡ Some m) o.head e, le)
+module _ (G : Grammar) (f : ℕ → ℕ) (least : List (Option ℕ)) where
+  pub none_cheaper : ((p : ℕ) → p < length G.productions → IsClosedBy G f p least) → NoneIsCheaper G f (cost_in least)
+  none_cheaper closed p A n o s = let (m, e, le) = closed p o.in_range n s in (m, subst (λ B. cost_in least B ≡ Some m) o.head e, le)
 
-  gives : (p A n : ℕ) → n < bound → IsTight G f (cost_in least) p A n → GivesLeast G f least p
+  pub gives : (p A n : ℕ) → n < bound → IsTight G f (cost_in least) p A n → GivesLeast G f least p
   gives p A n low t = (n, low, subst (λ B. IsTight G f (cost_in least) p B n) (sym (let o = t.is_of in o.head)) t)
 
-  wanted_head : (p A n : ℕ) → IsTight G f (cost_in least) p A n → IsTrue (is_set wanted A) → IsTrue (is_set wanted (head_of G p))
-  wanted_head p A n t w = subst (λ B. IsTrue (is_set wanted B)) (sym (let o = t.is_of in o.head)) w
+  pub wanted_head : (wanted : List Bool) (p A n : ℕ) → IsTight G f (cost_in least) p A n → IsTrue (is_set wanted A) → IsTrue (is_set wanted (head_of G p))
+  wanted_head wanted p A n t w = subst (λ B. IsTrue (is_set wanted B)) (sym (let o = t.is_of in o.head)) w
 
+  -- the set as the theory asks for it
+  pub named_wanted : (wanted : List Bool) → ((p : ℕ) → p < length G.productions → IsHandedOn G f least p wanted) → (p A n : ℕ) → n < bound → IsTrue (is_set wanted A) → IsTight G f (cost_in least) p A n → RulesIn (λ B. IsTrue (is_set wanted B)) (body_of G p)
+  named_wanted wanted handed p A n low w t = let o = t.is_of in rules_in G p wanted (handed p o.in_range (wanted_head wanted p A n t w) (gives p A n low t))
+
+module _ (G : Grammar) (f : ℕ → ℕ) (least : List (Option ℕ)) (wanted : List Bool) (table : List (List (List ℕ))) (h : AreCosts G f least) (closed : (p : ℕ) → p < length G.productions → IsClosedBy G f p least)
+    (law : ListsOfWantedRules) (handed : (p : ℕ) → p < length G.productions → IsHandedOn G f least p wanted) (lists : AreLists G f least table) (all_joined : (p : ℕ) → p < length G.productions → IsJoined G f least wanted p table) where
   closed_over : IsClosedOver G f (cost_in least) bound (is_set wanted) (lists_in table)
   closed_over = record {
-    handed_on = λ p A n low w t. let o = t.is_of in rules_in G p wanted (handed p o.in_range (wanted_head p A n t w) (gives p A n low t));
-    closed = λ p A n v low w t c. let o = t.is_of in subst (λ B. Contains (lists_in table B) v) o.head (all_joined p o.in_range (wanted_head p A n t w) (gives p A n low t) v c);
+    handed_on = named_wanted G f least wanted handed;
+    closed = λ p A n v low w t c. let o = t.is_of in subst (λ B. Contains (lists_in table B) v) o.head (all_joined p o.in_range (wanted_head G f least wanted p A n t w) (gives G f least p A n low t) v c);
   }
 
   module _ (A n : ℕ) (e : cost_in least A ≡ Some n) (low : n < bound) (want : IsTrue (is_set wanted A)) (row : List (List ℕ)) (is : row ≡ get_or table A []) where
@@ -216,7 +222,7 @@ module _ (G : Grammar) (f : ℕ → ℕ) (least : List (Option ℕ)) (wanted : L
         record { has = d; least = λ u x. let y = i.least u x in omega (arith, k, j, s, y) }
 
     all_of : (w : List ℕ) → IsCheapest G f A w → Contains row w
-    all_of w c = subst (λ l. Contains l w) (sym is) (law.all G f (cost_in least) bound (is_set wanted) (lists_in table) none_cheaper closed_over A n w low want e (is_least G f least h closed A n e low) c)
+    all_of w c = subst (λ l. Contains l w) (sym is) (law.all G f (cost_in least) bound (is_set wanted) (lists_in table) (none_cheaper G f least closed) closed_over A n w low want e (is_least G f least h closed A n e low) c)
 
     pub are_cheapest : AllPairs IsBefore row → AreCheapest G f A row
     are_cheapest ordered = record { all = λ w. (cheap w, all_of w); ordered = ordered }

@@ -6,6 +6,7 @@ use Rattle.std.proofs.lemmas.Bool.{cases_eq, cases_lt}
 use Rattle.std.proofs.lemmas.List.{length-map, drop_all}
 use Rattle.std.proofs.lemmas.List.Edits.{length-insert, get_or-insert_below, get_or-insert_at, get_or-insert_above}
 use Rattle.cfg_theory.specs.Cost.{IsBefore}
+use Rattle.cfg_theory.proofs.FirstLists.{before_on}
 use Rattle.cfgrammar.specs.Passes.{Steps}
 use Rattle.std.specs.declared.alloc.Global.{Global}
 use Rattle.std.specs.declared.vec.Vec.{Vec}
@@ -34,20 +35,6 @@ of_before (t ∷ v) (u ∷ w) (inr (e, h)) = subst (λ k. IsBefore (t ∷ v) (k 
 
 pub as_before : (v w : List ℕ) → Before v w ↔ IsBefore v w
 as_before v w = (of_before v w, λ h. to_before h)
-
-chain : (u v w : List ℕ) → Before u v → Before v w → Before u w
-chain [] [] w h k = absurd h
-chain [] (t ∷ v) [] h k = absurd k
-chain [] (t ∷ v) (x ∷ w) h k = tt
-chain (s ∷ u) [] w h k = absurd h
-chain (s ∷ u) (t ∷ v) [] h k = absurd k
-chain (s ∷ u) (t ∷ v) (x ∷ w) (inl a) (inl b) = inl (omega arith)
-chain (s ∷ u) (t ∷ v) (x ∷ w) (inl a) (inr (e, k)) = inl (omega arith)
-chain (s ∷ u) (t ∷ v) (x ∷ w) (inr (e, h)) (inl b) = inl (omega arith)
-chain (s ∷ u) (t ∷ v) (x ∷ w) (inr (e, h)) (inr (f, k)) = inr (e ∙ f, chain u v w h k)
-
-pub before_on : (u v w : List ℕ) → IsBefore u v → IsBefore v w → IsBefore u w
-before_on u v w h k = of_before u w (chain u v w (to_before h) (to_before k))
 
 alike : (u v : List ℕ) → (Before u v → ⊥) → (Before v u → ⊥) → u ≡ v
 alike [] [] n m = refl

@@ -19,6 +19,7 @@ pub mod SettleSteps
 pub mod Dictionary
 pub mod WantedSteps
 pub mod CheapestSteps
+pub mod EarliestSteps
 pub mod MadeNames
 pub mod MadeSymbols
 pub mod MadeLevels

@@ -10,13 +10,13 @@ use Rattle.cfgrammar.specs.CostTable.{bound, cost_in}
 use Rattle.cfgrammar.specs.Sets.{is_set}
 use Rattle.cfgrammar.specs.TokenLists.{joined, spare}
 use Rattle.cfgrammar.specs.declared.yacc.sentences.SentenceError.{SentenceError}
-use Rattle.cfgrammar.specs.declared.yacc.sentences.SentenceError.TheVariants.{NoSentence, CostTooLarge, OutOfMemory}
+use Rattle.cfgrammar.specs.declared.yacc.sentences.SentenceError.TheVariants.{NoSentence, CostTooLarge, Memory}
 
 -- the rule derives no token list; or its least cost is past 65,535; of want of memory nothing is said
 abbrev pub ListsAreRefused : Grammar → (ℕ → ℕ) → ℕ → SentenceError → Type 0
 ListsAreRefused G f A NoSentence = IsProductive G A → ⊥
 ListsAreRefused G f A CostTooLarge = (n : ℕ) × IsLeastCost G f A n × (65535 < n)
-ListsAreRefused G f A OutOfMemory = Unit {0}
+ListsAreRefused G f A (Memory e) = Unit {0}
 
 -- w is the one of the cheapest token lists that is before the others
 pub record IsFirstCheapest (G : Grammar) (f : ℕ → ℕ) (A : ℕ) (w : List ℕ) : Type 0 where

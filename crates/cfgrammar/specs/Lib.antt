@@ -12,5 +12,6 @@ pub mod Sentences
 pub mod Greatest
 pub mod TokenLists
 pub mod CheapestTable
+pub mod EarliestTable
 pub mod Made
 pub mod MadeParts

@@ -7,6 +7,7 @@ use cfgrammar::index::IndexStorage;
 use cfgrammar::yacc::{CostError, SentenceError, SentenceGenerator};
 use cfgrammar::{RIdx, TIdx};
 use std::alloc::{AllocError, Global};
+use std::cell::Cell;
 use std::process::Abort;
 use std::test::*;
 
@@ -59,7 +60,7 @@ fn spell_lists<S: IndexStorage>(
             }
             Ok(())
         }
-        Err(SentenceError::OutOfMemory) => Err(AllocError),
+        Err(SentenceError::Memory(e)) => Err(e),
         Err(e) => out.push_str(format!(in alloc; " ({e})")?.as_str()),
     }
 }
@@ -71,7 +72,7 @@ fn spell_first<S: IndexStorage>(
 ) -> Result<(), AllocError> {
     match list {
         Ok(list) => spell_list(alloc, out, list.as_slice()),
-        Err(SentenceError::OutOfMemory) => Err(AllocError),
+        Err(SentenceError::Memory(e)) => Err(e),
         Err(e) => out.push_str(format!(in alloc; " ({e})")?.as_str()),
     }
 }
@@ -168,6 +169,24 @@ const COSTS_AND_SENTENCES: &[(&str, &str, u8, &str)] = &[
         " 3 6 [ 1 ]; [ 1 ]",
     ),
     ("%token a %% S: O 'b'; O: 'a' | ;", "O", 3, " 0 3 [ ]; [ ]"),
+    (
+        "%start S %token a b %% U: V; S: T T; V: 'a'; T: U | 'b';",
+        "S",
+        1,
+        " 2 2 [ 0 0 ] [ 0 1 ] [ 1 0 ] [ 1 1 ]; [ 0 0 ]",
+    ),
+    (
+        "%token a b %% S: T 'b'; T: 'a' | 'a' 'a';",
+        "S",
+        1,
+        " 2 3 [ 0 1 ]; [ 0 1 ]",
+    ),
+    (
+        "%token a b %% S: T 'b'; T: 'a' | 'a' 'a';",
+        "S",
+        0,
+        " 0 0 [ 0 0 1 ] [ 0 1 ]; [ 0 0 1 ]",
+    ),
 ];
 
 #[test]
@@ -195,5 +214,62 @@ fn greatest_told_costs(rt: HostRuntime) -> Result<(), Fail> {
     assert_eq!(rt; found.as_str(), " 65280 65280");
     let found = costs::<u32>(rt.alloc(), DOUBLED, "R8", 255)?;
     assert_eq!(rt; found.as_str(), " 65280 65280");
+    Ok(())
+}
+
+const CHOICES: &str =
+    "%token a b %% R10: R9 R9; R9: R8 R8; R8: R7 R7; R7: R6 R6; R6: R5 R5; R5: R4 R4; R4: R3 R3; R3: R2 R2; R2: R1 R1; R1: R0 R0; R0: 'b' | 'a';";
+
+/// How many tokens the first cheapest list has, and how many of them are the first token.
+fn first_tokens<S: IndexStorage>(alloc: Global) -> Result<(usize, usize), Fail> {
+    let grm = made::<S>(alloc, TREE, CHOICES)?;
+    let sentences = grm.sentence_generator(alloc, |_token| 1)?;
+    let Some(ridx) = grm.rule_idx("R10") else {
+        return Err("no rule".into());
+    };
+    if !has_rule(&grm, ridx) {
+        return Err("no rule".into());
+    }
+    match sentences.min_sentence(alloc, ridx) {
+        Ok(list) => {
+            let firsts = list.iter().filter(|tidx| tidx.0.to_usize() == 0).count();
+            Ok((list.len(), firsts))
+        }
+        Err(SentenceError::Memory(e)) => Err(e.into()),
+        Err(_) => Err("no list".into()),
+    }
+}
+
+/// There are 2 to the power of 1,024 cheapest lists.
+#[test]
+fn first_of_very_many_lists(rt: HostRuntime) -> Result<(), Fail> {
+    let (tokens, firsts) = first_tokens::<u8>(rt.alloc())?;
+    assert_eq!(rt; tokens, 1024);
+    assert_eq!(rt; firsts, 1024);
+    let (tokens, firsts) = first_tokens::<u32>(rt.alloc())?;
+    assert_eq!(rt; tokens, 1024);
+    assert_eq!(rt; firsts, 1024);
+    Ok(())
+}
+
+/// The tokens that costs were asked of, each as a digit one more than its number.
+fn asked<S: IndexStorage>(alloc: Global, text: &str) -> Result<usize, Fail> {
+    let grm = made::<S>(alloc, TREE, text)?;
+    let digits = Cell::new(0usize);
+    grm.sentence_generator(alloc, |token| {
+        let digit = token.0.to_usize().wrapping_add(1);
+        digits.set(digits.get().wrapping_mul(10).wrapping_add(digit));
+        1
+    })?;
+    Ok(digits.get())
+}
+
+#[test]
+fn costs_are_asked_once_in_order(rt: HostRuntime) -> Result<(), Fail> {
+    let text = "%token a b %% S: 'c' 'b' T; T: 'a' 'b' | ;";
+    let found = asked::<u8>(rt.alloc(), text)?;
+    assert_eq!(rt; found, 1234);
+    let found = asked::<u32>(rt.alloc(), text)?;
+    assert_eq!(rt; found, 1234);
     Ok(())
 }

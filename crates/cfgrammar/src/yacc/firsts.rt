@@ -218,7 +218,7 @@ impl<S: IndexStorage> YaccFirsts<S> {
         ensures sound { AreSound grm.now.grammar self.new }
         ensures steps { Steps room (λ s. IsClosedAt grm.now.grammar s (S.number pidx.0)) self.old self.new result }
     {
-        grm.start_prod();
+        grm.stays_well_formed();
         let nullable = self.front(grm.prod(pidx), begins);
         let rule = grm.prod_to_rule(pidx);
         let grew = self.add_tokens(rule, begins);

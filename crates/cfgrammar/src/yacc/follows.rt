@@ -50,7 +50,7 @@ impl<S: IndexStorage> YaccFollows<S> {
     {
         first_tables_are_exact();
         follow_tables_are_exact();
-        grm.start_prod();
+        grm.stays_well_formed();
         let firsts = YaccFirsts::new(alloc, grm)?;
         let rules = grm.rules_len().0.to_usize();
         let tokens = grm.tokens_len().0.to_usize();
@@ -149,7 +149,7 @@ impl<S: IndexStorage> YaccFollows<S> {
         ensures kept { (t : ℕ) → HasFollow self.old 0 t → HasFollow self.new 0 t }
         ensures steps { Steps room (IsClosedFrom grm.now.grammar firsts.now (S.number pidx.0) 0) self.old self.new result }
     {
-        grm.start_prod();
+        grm.stays_well_formed();
         let symbols = grm.prod(pidx);
         self.copy_set(grm.prod_to_rule(pidx), behind);
         let mut changed = false;

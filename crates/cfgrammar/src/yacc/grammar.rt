@@ -133,6 +133,13 @@ impl<S: IndexStorage> YaccGrammar<S> {
         })
     }
 
+    /// A law: what is called with this grammar may rely on its being well formed.
+    pub(crate) fn stays_well_formed(&self)
+        ensures { WellFormed self.now.grammar }
+    {
+        self.start_prod();
+    }
+
     /// How many productions there are.
     pub fn prods_len(&self) -> PIdx<S>
         ensures { S.number result.0 ≡ length self.now.grammar.productions }
@@ -200,6 +207,7 @@ impl<S: IndexStorage> YaccGrammar<S> {
         ensures value { S.number result.0 ≡ 0 }
         ensures within { 0 < self.now.grammar.rules }
     {
+        // Read, so that the proof may use what is so of each grammar.
         let _rules = &self.rules;
         RIdx(index_of(0))
     }

@@ -59,7 +59,7 @@ fn add_named<S: IndexStorage>(
     ensures sound { AreReached grm.now.grammar (S.number from.0) reached.new.bits }
     ensures steps { Steps missing (IsReachedFrom grm.now.grammar (S.number from.0) (S.number pidx.0)) reached.old.bits reached.new.bits result }
 {
-    grm.start_prod();
+    grm.stays_well_formed();
     let symbols = grm.prod(pidx);
     let mut changed = false;
     'symbols: for place in 0..symbols.len() {
@@ -83,7 +83,7 @@ fn take_prod<S: IndexStorage>(
     ensures steps { Steps missing (IsReachedFrom grm.now.grammar (S.number from.0) (S.number pidx.0)) reached.old.bits reached.new.bits result }
 {
     let rule = grm.prod_to_rule(pidx).0.to_usize();
-    grm.start_prod();
+    grm.stays_well_formed();
     if rule == from.0.to_usize() {
         return add_named(grm, from, pidx, reached);
     }

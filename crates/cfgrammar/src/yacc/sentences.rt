@@ -7,9 +7,10 @@ ghost use Rattle.cfgrammar.specs.Symbols.{sym_of, syms_of};
 ghost use Rattle.cfgrammar.specs.CostTable.{bound, cost_of, cost_in, cost_at, HasCost, AllHaveCosts, AreCapped, IsCost, HasNoCost, AreCosts, IsClosedBy, fall, IsLess};
 ghost use Rattle.cfgrammar.specs.Passes.{Steps, Anything};
 ghost use Rattle.cfgrammar.specs.Sentences.{Costed, LeastIsRefused, AreAnswers};
-ghost use Rattle.cfgrammar.specs.declared.yacc.sentences.SentenceError.TheVariants.{OutOfMemory};
+ghost use Rattle.cfgrammar.specs.declared.yacc.sentences.SentenceError.TheVariants.{Memory};
 
 mod cheapest;
+mod earliest;
 mod greatest;
 mod settled;
 mod unbounded;
@@ -47,15 +48,15 @@ pub enum SentenceError {
     #[error("CostTooLarge")]
     CostTooLarge,
     /// The lists don't fit into memory.
-    #[error("OutOfMemory")]
-    OutOfMemory,
+    #[error("Memory")]
+    Memory(AllocError),
 }
 
 impl From<AllocError> for SentenceError {
-    ghost from_gives = { λ e f. f ≡ OutOfMemory };
+    ghost from_gives = { λ e f. f ≡ Memory e };
 
-    fn from(_e: AllocError) -> SentenceError {
-        SentenceError::OutOfMemory
+    fn from(e: AllocError) -> SentenceError {
+        SentenceError::Memory(e)
     }
 }
 
@@ -132,7 +133,7 @@ impl<'a, S: IndexStorage> SentenceGenerator<'a, S> {
         ensures err { IfErr result (λ e. LeastIsRefused self.now.grammar (cost_of self.now.costs) (S.number ridx.0) e) }
     {
         productive_rules_have_least_costs();
-        self.grm.start_prod();
+        self.grm.stays_well_formed();
         match self.least[ridx.0.to_usize()] {
             None => Err(CostError::NoSentence),
             Some(cost) if cost < BOUND => Ok(cost as u16),
@@ -215,7 +216,7 @@ fn take_prod<S: IndexStorage>(
     ensures costs { AreCosts grm.now.grammar (cost_of costs.now) least.new.items }
     ensures steps { Steps fall (IsClosedBy grm.now.grammar (cost_of costs.now) (S.number pidx.0)) least.old.items least.new.items result }
 {
-    grm.start_prod();
+    grm.stays_well_formed();
     let Some(new) = body_cost(grm.prod(pidx), costs, least.as_slice()) else {
         return false;
     };

@@ -39,6 +39,7 @@ impl<S: IndexStorage> YaccGrammar<S> {
         requires { S.number pidx.0 < length self.now.grammar.productions }
         ensures { IfOk result (λ text. string_bytes text ≡ production_text self.now (S.number pidx.0)) }
     {
+        // Read, so that the proof may use what is so of each grammar.
         let _rules = &self.rules;
         let mut text = String::new(alloc);
         text.push_str(self.rule_name_str(self.prod_to_rule(pidx)))?;

@@ -4,15 +4,15 @@
 //! over the productions until no list is new. Only rules that the asked one needs take part, so each list is a
 //! part of one that is answered.
 
-ghost use Rattle.std.specs.Prelude.{◌≡◌, ℕ, ◌<◌, ◌≤◌, ◌↔◌, ◌∷◌, IsTrue, IfOk, IfErr, List, [], length, get_or, replicate, Contains, Some};
+ghost use Rattle.std.specs.Prelude.{◌≡◌, ℕ, ◌<◌, ◌↔◌, ◌∷◌, IsTrue, IfOk, IfErr, List, [], length, get_or, replicate, Contains, Some};
 ghost use Rattle.cfg_theory.specs.Grammar.{Grammar, body_of};
-ghost use Rattle.cfg_theory.specs.Cost.{cost, AreCheapest};
+ghost use Rattle.cfg_theory.specs.Cost.{AreCheapest};
 ghost use Rattle.cfg_theory.specs.CostTables.{Concatenates};
 ghost use Rattle.cfgrammar.specs.Symbols.{sym_of, syms_of};
 ghost use Rattle.cfgrammar.specs.Passes.{Steps, Anything};
 ghost use Rattle.cfgrammar.specs.CostTable.{bound, cost_of, cost_in, AreCosts, IsClosedBy};
-ghost use Rattle.cfgrammar.specs.TokenLists.{tokens_of, lists_of};
-ghost use Rattle.cfgrammar.specs.CheapestTable.{ListsAreRefused, IsFirstCheapest, lists_in, lists_before, AllHaveLists, AreLists, IsJoined, spare_in};
+ghost use Rattle.cfgrammar.specs.TokenLists.{lists_of};
+ghost use Rattle.cfgrammar.specs.CheapestTable.{ListsAreRefused, lists_in, lists_before, AllHaveLists, AreLists, IsJoined, spare_in};
 
 use super::wanted::{gives_least, wanted_rules};
 use super::words::{TokenLists, insert_all, join_all, put_before};
@@ -20,9 +20,7 @@ use super::{BOUND, SentenceError, SentenceGenerator};
 use crate::yacc::grammar::{YaccGrammar, index_of};
 use cfg_base::index::IndexStorage;
 use cfg_base::symbol::{PIdx, RIdx, Symbol, TIdx};
-use cfg_theory::cost::{
-    cheap_lists_are_short, cheapest_lists_of_wanted_rules, productive_rules_have_least_costs,
-};
+use cfg_theory::cost::{cheapest_lists_of_wanted_rules, productive_rules_have_least_costs};
 use std::alloc::{AllocError, Global};
 use vob::Vob;
 
@@ -40,7 +38,7 @@ impl<'a, S: IndexStorage> SentenceGenerator<'a, S> {
         ensures err { IfErr result (λ e. ListsAreRefused self.now.grammar (cost_of self.now.costs) (S.number ridx.0) e) }
     {
         productive_rules_have_least_costs();
-        self.grm.start_prod();
+        self.grm.stays_well_formed();
         match self.least[ridx.0.to_usize()] {
             None => Err(SentenceError::NoSentence),
             Some(cost) if cost < BOUND => {
@@ -55,19 +53,6 @@ impl<'a, S: IndexStorage> SentenceGenerator<'a, S> {
             }
             Some(_) => Err(SentenceError::CostTooLarge),
         }
-    }
-
-    /// The first of the cheapest token lists of the rule.
-    pub fn min_sentence(&self, alloc: Global, ridx: RIdx<S>) -> Result<Vec<TIdx<S>>, SentenceError>
-        requires { S.number ridx.0 < self.now.grammar.rules }
-        ensures ok { IfOk result (λ w. IsFirstCheapest self.now.grammar (cost_of self.now.costs) (S.number ridx.0) (tokens_of S.number w.items)) }
-        ensures short { ((t : ℕ) → t < self.now.grammar.tokens → 1 ≤ cost_of self.now.costs t) → IfOk result (λ w. length w.items ≤ cost (cost_of self.now.costs) (tokens_of S.number w.items)) }
-        ensures err { IfErr result (λ e. ListsAreRefused self.now.grammar (cost_of self.now.costs) (S.number ridx.0) e) }
-    {
-        cheap_lists_are_short();
-        self.grm.start_prod();
-        let mut lists = self.min_sentences(alloc, ridx)?;
-        Ok(lists.swap_remove(0))
     }
 }
 
@@ -153,7 +138,7 @@ fn take_prod<S: IndexStorage>(
     ensures steps { IfOk result (λ b. Steps spare_in (IsJoined grm.now.grammar (cost_of costs.now) least.now wanted.now.bits (S.number pidx.0)) table.old.items table.new.items b) }
 {
     cheapest_lists_of_wanted_rules();
-    grm.start_prod();
+    grm.stays_well_formed();
     let rule = grm.prod_to_rule(pidx).0.to_usize();
     if !wanted.get_unchecked(rule) {
         return Ok(false);

@@ -27,7 +27,7 @@ impl<'a, S: IndexStorage> SentenceGenerator<'a, S> {
     {
         bounded_rules_have_greatest_costs();
         kept_tables_are_exact();
-        self.grm.start_prod();
+        self.grm.stays_well_formed();
         let rule = ridx.0.to_usize();
         if self.unbounded.get_unchecked(rule) {
             return Ok(None);
@@ -91,7 +91,7 @@ fn take_prod<S: IndexStorage>(
     ensures costs { AreRaised grm.now.grammar (cost_of costs.now) top greatest.new.items }
     ensures steps { Steps (rise top) (IsRaisedBy grm.now.grammar (cost_of costs.now) top skipped.now.bits (S.number pidx.0)) greatest.old.items greatest.new.items result }
 {
-    grm.start_prod();
+    grm.stays_well_formed();
     let rule = grm.prod_to_rule(pidx).0.to_usize();
     if skipped.get_unchecked(rule) {
         return false;

@@ -32,7 +32,7 @@ fn leads_out<S: IndexStorage>(
     requires width { length set.now.bits ≡ grm.now.grammar.rules }
     ensures { IsTrue result → LeadsOut grm.now.grammar (cost_of costs.now) costly.now set.now.bits (S.number pidx.0) }
 {
-    grm.start_prod();
+    grm.stays_well_formed();
     let Some(_) = body_cost(grm.prod(pidx), costs, costly) else {
         return true;
     };

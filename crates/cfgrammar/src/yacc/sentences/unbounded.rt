@@ -37,7 +37,7 @@ pub(super) fn names_any<S: IndexStorage>(grm: &YaccGrammar<S>, pidx: PIdx<S>, se
     ensures some { IsTrue result → (d : ℕ) × (R : ℕ) × IsNext grm.now.grammar (S.number pidx.0) d (rule R) × IsTrue (is_set set.now.bits R) }
     ensures none { result ≡ false → (d R : ℕ) → IsNext grm.now.grammar (S.number pidx.0) d (rule R) → is_set set.now.bits R ≡ false }
 {
-    grm.start_prod();
+    grm.stays_well_formed();
     let symbols = grm.prod(pidx);
     'symbols: for place in 0..symbols.len() {
         if is_among(symbols[place], set) {
@@ -89,7 +89,7 @@ fn take_prod<S: IndexStorage>(
     ensures sound { AreGaining grm.now.grammar (cost_of costs.now) old.now.bits new.new.bits }
     ensures steps { Steps missing (IsNarrowedBy grm.now.grammar (cost_of costs.now) costly.now old.now.bits (S.number pidx.0)) new.old.bits new.new.bits result }
 {
-    grm.start_prod();
+    grm.stays_well_formed();
     let Some(cost) = body_cost(grm.prod(pidx), costs, costly) else {
         return false;
     };
@@ -212,7 +212,7 @@ pub(super) fn unbounded_rules<S: IndexStorage>(
     ensures unbounded { IfOk result (λ v. AreUnbounded grm.now.grammar (cost_of costs.now) (is_set v.bits)) }
 {
     unbounded_rules_gain();
-    grm.start_prod();
+    grm.stays_well_formed();
     let mut kept = Vob::from_elem(alloc, true, grm.rules_len().0.to_usize())?;
     'rounds: loop {
         settle(grm, costs, costly, &mut kept);

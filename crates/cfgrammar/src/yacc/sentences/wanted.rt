@@ -27,7 +27,7 @@ pub fn gives_least<S: IndexStorage>(
     requires costs { AreCosts grm.now.grammar (cost_of costs.now) least.now }
     ensures { IsTrue result ↔ GivesLeast grm.now.grammar (cost_of costs.now) least.now (S.number pidx.0) }
 {
-    grm.start_prod();
+    grm.stays_well_formed();
     let Some(cost) = least[grm.prod_to_rule(pidx).0.to_usize()] else {
         return false;
     };
@@ -48,7 +48,7 @@ fn want_named<S: IndexStorage>(grm: &YaccGrammar<S>, pidx: PIdx<S>, wanted: &mut
     ensures kept { AreKept wanted.old.bits wanted.new.bits }
     ensures steps { Steps missing (AreNamedIn grm.now.grammar (S.number pidx.0)) wanted.old.bits wanted.new.bits result }
 {
-    grm.start_prod();
+    grm.stays_well_formed();
     let symbols = grm.prod(pidx);
     let mut changed = false;
     'symbols: for place in 0..symbols.len() {
@@ -73,7 +73,7 @@ fn take_prod<S: IndexStorage>(
     ensures kept { AreKept wanted.old.bits wanted.new.bits }
     ensures steps { Steps missing (IsHandedOn grm.now.grammar (cost_of costs.now) least.now (S.number pidx.0)) wanted.old.bits wanted.new.bits result }
 {
-    grm.start_prod();
+    grm.stays_well_formed();
     if !wanted.get_unchecked(grm.prod_to_rule(pidx).0.to_usize()) {
         return false;
     }

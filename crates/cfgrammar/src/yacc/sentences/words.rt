@@ -118,7 +118,7 @@ fn free_place<S: IndexStorage>(lists: &[Vec<TIdx<S>>], list: &[TIdx<S>]) -> Opti
 }
 
 /// Whether a list is before another in the dictionary order of token numbers.
-fn is_before<S: IndexStorage>(a: &[TIdx<S>], b: &[TIdx<S>]) -> bool
+pub fn is_before<S: IndexStorage>(a: &[TIdx<S>], b: &[TIdx<S>]) -> bool
     ensures { IsTrue result ↔ IsBefore (tokens_of S.number a.now) (tokens_of S.number b.now) }
 {
     'places: for place in 0..a.len() {
@@ -138,7 +138,10 @@ fn is_before<S: IndexStorage>(a: &[TIdx<S>], b: &[TIdx<S>]) -> bool
 }
 
 /// Puts the tokens behind those of a list.
-fn append<S: IndexStorage>(tokens: &[TIdx<S>], list: &mut Vec<TIdx<S>>) -> Result<(), AllocError>
+pub fn append<S: IndexStorage>(
+    tokens: &[TIdx<S>],
+    list: &mut Vec<TIdx<S>>,
+) -> Result<(), AllocError>
     ensures { IfOk result (λ _. list.new.items ≡ list.old.items ++ tokens.now) }
 {
     'tokens: for place in 0..tokens.len() {

@@ -15,7 +15,7 @@ add_symbol-changed-requires g c =
     let xs = c.prod-symbols.result.now in
     let x = c.index-symbols-place.result in
     let at : slice_get (body_of G p) c.symbols.place ≡ Some (sym_of number x) = subst (λ (l : List Sym). slice_get l c.symbols.place ≡ Some (sym_of number x)) c.prod-symbols.ensures (get_some (sym_of number) xs c.symbols.place x x c.symbols-test.true c.index-symbols-place.is) in
-    has_place G c.symbols.reached.bits (sym_of number x) c.symbols.invariant.width (c.start_prod.ensures.well_formed.symbols p c.symbols.place (sym_of number x) (record { at = at }))
+    has_place G c.symbols.reached.bits (sym_of number x) c.symbols.invariant.width (c.stays_well_formed.ensures.symbols p c.symbols.place (sym_of number x) (record { at = at }))
 
 pub symbols-preserved : goal.symbols-preserved
 symbols-preserved g c =
@@ -29,7 +29,7 @@ symbols-preserved g c =
     let d = c.symbols.place in
     let old = c.symbols.reached.bits in
     let at : slice_get (body_of G p) d ≡ Some X = subst (λ (l : List Sym). slice_get l d ≡ Some X) c.prod-symbols.ensures (get_some (sym_of number) xs d x x c.symbols-test.true c.index-symbols-place.is) in
-    let place = has_place G old X c.symbols.invariant.width (c.start_prod.ensures.well_formed.symbols p d X (record { at = at })) in
+    let place = has_place G old X c.symbols.invariant.width (c.stays_well_formed.ensures.symbols p d X (record { at = at })) in
     record {
       width = ap length c.add_symbol-changed.ensures.bits ∙ with_width old X ∙ c.symbols.invariant.width;
       sound = subst (AreReached G A) (sym c.add_symbol-changed.ensures.bits) (with_reached G A p c.requires.production c.args.reached.now.bits c.requires.sound c.requires.reached d X old at place c.symbols.invariant.sound);

@@ -16,13 +16,13 @@ body_cost-requires-clause-within g c =
     let table = c.args.least.now.items in
     let p = g.S.IndexStorage.number c.args.pidx.0 in
     subst (λ (l : List (Option ℕ)). AllHaveCosts costs l (syms_of g.S.IndexStorage.number c.prod.result.now)) (sym c.as_slice.ensures.value)
-    (subst (AllHaveCosts costs table) (sym c.prod.ensures) (body_costs G costs table p c.start_prod.ensures.well_formed c.requires.tokens c.requires.costs.count))
+    (subst (AllHaveCosts costs table) (sym c.prod.ensures) (body_costs G costs table p c.stays_well_formed.ensures c.requires.tokens c.requires.costs.count))
 
 pub index-requires : goal.index-requires
 index-requires g c =
     let G = c.args.grm.now.grammar in
     let p = g.S.IndexStorage.number c.args.pidx.0 in
-    let lt : head_of G p < G.rules = c.start_prod.ensures.well_formed.heads p (head_of G p) (record { in_range = c.requires.production; head = refl }) in
+    let lt : head_of G p < G.rules = c.stays_well_formed.ensures.heads p (head_of G p) (record { in_range = c.requires.production; head = refl }) in
     let e = c.to_usize-rule.ensures.value ∙ c.prod_to_rule.ensures in
     let count = c.requires.costs.count in
     let ok = c.args.least.now.ok.0 in
@@ -32,7 +32,7 @@ pub index_mut-requires : goal.index_mut-requires
 index_mut-requires g c =
     let G = c.args.grm.now.grammar in
     let p = g.S.IndexStorage.number c.args.pidx.0 in
-    let lt : head_of G p < G.rules = c.start_prod.ensures.well_formed.heads p (head_of G p) (record { in_range = c.requires.production; head = refl }) in
+    let lt : head_of G p < G.rules = c.stays_well_formed.ensures.heads p (head_of G p) (record { in_range = c.requires.production; head = refl }) in
     let e = c.to_usize-rule.ensures.value ∙ c.prod_to_rule.ensures in
     let count = c.requires.costs.count in
     let ok = c.args.least.now.ok.0 in
@@ -46,7 +46,7 @@ returns-then-not-is_less-clause-steps g c =
     let p = g.S.IndexStorage.number c.args.pidx.0 in
     let A = c.to_usize-rule.result in
     let e : A ≡ head_of G p = c.to_usize-rule.ensures.value ∙ c.prod_to_rule.ensures in
-    let lt : head_of G p < G.rules = c.start_prod.ensures.well_formed.heads p (head_of G p) (record { in_range = c.requires.production; head = refl }) in
+    let lt : head_of G p < G.rules = c.stays_well_formed.ensures.heads p (head_of G p) (record { in_range = c.requires.production; head = refl }) in
     let count = c.requires.costs.count in
     let within : A < length table = omega (arith, lt, e, count) in
     let o = c.index.result.now in
@@ -64,7 +64,7 @@ returns-clause-costs g c =
     let e : A ≡ head_of G p = c.to_usize-rule.ensures.value ∙ c.prod_to_rule.ensures in
     let o : IsOf G p A = record { in_range = c.requires.production; head = sym e } in
     let cost : IsCost costs table (body_of G p) c.in-Some.new = subst (λ (a : List Sym). IsCost costs table a c.in-Some.new) c.prod.ensures (subst (λ (l : List (Option ℕ)). IsCost costs l (syms_of g.S.IndexStorage.number c.prod.result.now) c.in-Some.new) c.as_slice.ensures.value c.in-Some.ensures) in
-    cheaper G (cost_of costs) table c.requires.costs p A c.in-Some.new o cost.0 cost.1 cost.2 (c.start_prod.ensures.well_formed.heads p A o)
+    cheaper G (cost_of costs) table c.requires.costs p A c.in-Some.new o cost.0 cost.1 cost.2 (c.stays_well_formed.ensures.heads p A o)
 
 pub returns-clause-steps : goal.returns-clause-steps
 returns-clause-steps g c =
@@ -74,7 +74,7 @@ returns-clause-steps g c =
     let p = g.S.IndexStorage.number c.args.pidx.0 in
     let A = c.to_usize-rule.result in
     let e : A ≡ head_of G p = c.to_usize-rule.ensures.value ∙ c.prod_to_rule.ensures in
-    let lt : head_of G p < G.rules = c.start_prod.ensures.well_formed.heads p (head_of G p) (record { in_range = c.requires.production; head = refl }) in
+    let lt : head_of G p < G.rules = c.stays_well_formed.ensures.heads p (head_of G p) (record { in_range = c.requires.production; head = refl }) in
     let count = c.requires.costs.count in
     let within : A < length table = omega (arith, lt, e, count) in
     let o = c.index.result.now in

@@ -9,7 +9,7 @@ use Rattle.cfgrammar.proofs.yacc.firsts.YaccFirsts.take_prod.Goals as goal
 
 pub front-nullable-requires-clause-within : goal.front-nullable-requires-clause-within
 front-nullable-requires-clause-within g c =
-    subst (AllWithin c.args.self.now) (sym c.prod.ensures) (body_within c.args.grm.now.grammar c.args.self.now (g.S.IndexStorage.number c.args.pidx.0) c.start_prod.ensures.well_formed c.requires.sizes)
+    subst (AllWithin c.args.self.now) (sym c.prod.ensures) (body_within c.args.grm.now.grammar c.args.self.now (g.S.IndexStorage.number c.args.pidx.0) c.stays_well_formed.ensures c.requires.sizes)
 
 pub returns-clause-sizes : goal.returns-clause-sizes
 returns-clause-sizes g c =
@@ -19,7 +19,7 @@ returns-clause-sizes g c =
     let old = c.args.self.now in
     let o : IsOf G p A = record { in_range = c.requires.production; head = sym c.prod_to_rule-rule.ensures } in
     let nullable = c.front-nullable.result in
-    taken_sizes G old c.add_epsilon-found.new.self A c.front-nullable.new.begins.bits nullable c.requires.sizes (c.start_prod.ensures.well_formed.heads p A o) (c.front-nullable.ensures.width ∙ c.requires.sizes.tokens)
+    taken_sizes G old c.add_epsilon-found.new.self A c.front-nullable.new.begins.bits nullable c.requires.sizes (c.stays_well_formed.ensures.heads p A o) (c.front-nullable.ensures.width ∙ c.requires.sizes.tokens)
     (c.add_epsilon-found.ensures.tokens ∙ c.add_tokens-grew.ensures.tokens) (c.add_epsilon-found.ensures.rows ∙ c.add_tokens-grew.ensures.rows)
     (c.add_epsilon-found.ensures.epsilons ∙ ap (λ (l : List Bool). if nullable then set l A true else l) c.add_tokens-grew.ensures.epsilons)
 
@@ -30,7 +30,7 @@ returns-clause-sound g c =
     let H = head_of G p in
     let old = c.args.self.now in
     let o : IsOf G p H = record { in_range = c.requires.production; head = refl } in
-    let lt = c.start_prod.ensures.well_formed.heads p H o in
+    let lt = c.stays_well_formed.ensures.heads p H o in
     let sizes = c.requires.sizes in
     let nullable = c.front-nullable.result in
     let ys = c.front-nullable.new.begins.bits in

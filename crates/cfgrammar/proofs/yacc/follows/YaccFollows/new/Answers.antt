@@ -37,5 +37,5 @@ pub returns-then-not-sweep : goal.returns-then-not-sweep
 returns-then-not-sweep g c =
     let G = c.args.grm.now.grammar in
     let f = c.in_ok-firsts.firsts in
-    exact_follows G f c.sweep.new.self c.first_tables_are_exact.ensures c.follow_tables_are_exact.ensures c.start_prod.ensures.well_formed c.in_ok-firsts.ensures c.sweep.ensures.sizes c.sweep.ensures.sound (λ t e. c.sweep.ensures.kept t (c.passes.invariant.end t e))
+    exact_follows G f c.sweep.new.self c.first_tables_are_exact.ensures c.follow_tables_are_exact.ensures c.stays_well_formed.ensures c.in_ok-firsts.ensures c.sweep.ensures.sizes c.sweep.ensures.sound (λ t e. c.sweep.ensures.kept t (c.passes.invariant.end t e))
     (done room (λ (s : FollowSets). (p : ℕ) → p < length G.productions → IsClosedFrom G f p 0 s) c.passes.follows c.sweep.new.self c.sweep.result c.if-not-sweep.true c.sweep.ensures.steps)

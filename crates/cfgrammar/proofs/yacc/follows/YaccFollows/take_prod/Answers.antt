@@ -32,7 +32,7 @@ add_behind-changed-requires-clause-within g c =
     let lt = c.back-test.true in
     let at = length xs - 1 - c.back.place in
     let e : at + 1 + c.back.place ≡ length xs = omega (arith, lt) in
-    has_set c.args.grm.now.grammar c.start_prod.ensures.well_formed c.args.firsts.now c.requires.firsts (g.S.IndexStorage.number c.args.pidx.0) c.requires.production (sym_of g.S.IndexStorage.number) xs c.prod-symbols.ensures c.back.place at c.index-symbols-symbols.result e c.index-symbols-symbols.is c.back.self c.back.invariant.sizes
+    has_set c.args.grm.now.grammar c.stays_well_formed.ensures c.args.firsts.now c.requires.firsts (g.S.IndexStorage.number c.args.pidx.0) c.requires.production (sym_of g.S.IndexStorage.number) xs c.prod-symbols.ensures c.back.place at c.index-symbols-symbols.result e c.index-symbols-symbols.is c.back.self c.back.invariant.sizes
 
 pub put_before-requires-clause-within : goal.put_before-requires-clause-within
 put_before-requires-clause-within g c =
@@ -40,13 +40,13 @@ put_before-requires-clause-within g c =
     let lt = c.back-test.true in
     let at = length xs - 1 - c.back.place in
     let e : at + 1 + c.back.place ≡ length xs = omega (arith, lt) in
-    is_within c.args.grm.now.grammar c.start_prod.ensures.well_formed c.args.firsts.now c.requires.firsts (g.S.IndexStorage.number c.args.pidx.0) c.requires.production (sym_of g.S.IndexStorage.number) xs c.prod-symbols.ensures c.back.place at c.index-symbols-symbols.result e c.index-symbols-symbols.is
+    is_within c.args.grm.now.grammar c.stays_well_formed.ensures c.args.firsts.now c.requires.firsts (g.S.IndexStorage.number c.args.pidx.0) c.requires.production (sym_of g.S.IndexStorage.number) xs c.prod-symbols.ensures c.back.place at c.index-symbols-symbols.result e c.index-symbols-symbols.is
 
 pub back-preserved : goal.back-preserved
 back-preserved g c =
     let number = g.S.IndexStorage.number in
     let G = c.args.grm.now.grammar in
-    let good = c.start_prod.ensures.well_formed in
+    let good = c.stays_well_formed.ensures in
     let f = c.args.firsts.now in
     let k = c.requires.firsts in
     let p = number c.args.pidx.0 in

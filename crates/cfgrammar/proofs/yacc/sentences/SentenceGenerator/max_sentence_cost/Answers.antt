@@ -19,4 +19,4 @@ returns-in-Some-clause-ok g c =
 pub returns-in-Some-2-clause-err : goal.returns-in-Some-2-clause-err
 returns-in-Some-2-clause-err g c =
     let s = c.self.inside in
-    answers_large s.grm.now.grammar s.costs.items s.unbounded.bits s.greatest.items c.self.invariant.2 c.args.self.now c.self.view_is c.to_usize-rule.result (g.S.IndexStorage.number c.args.ridx.0) c.to_usize-rule.ensures.value c.get_unchecked.result c.get_unchecked.ensures c.requires c.if-get_unchecked.false c.index.result.now c.index.ensures c.start_prod.ensures.well_formed c.bounded_rules_have_greatest_costs.ensures c.in-Some.cost c.in-Some.is c.if-cost-lt-BOUND.false
+    answers_large s.grm.now.grammar s.costs.items s.unbounded.bits s.greatest.items c.self.invariant.2 c.args.self.now c.self.view_is c.to_usize-rule.result (g.S.IndexStorage.number c.args.ridx.0) c.to_usize-rule.ensures.value c.get_unchecked.result c.get_unchecked.ensures c.requires c.if-get_unchecked.false c.index.result.now c.index.ensures c.stays_well_formed.ensures c.bounded_rules_have_greatest_costs.ensures c.in-Some.cost c.in-Some.is c.if-cost-lt-BOUND.false

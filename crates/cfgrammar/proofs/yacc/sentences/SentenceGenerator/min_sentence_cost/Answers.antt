@@ -14,4 +14,4 @@ returns-in-Some-clause-ok g c =
 pub returns-in-Some-2-clause-err : goal.returns-in-Some-2-clause-err
 returns-in-Some-2-clause-err g c =
     let s = c.self.inside in
-    answers_large s.grm.now.grammar s.costs.items s.least.items c.self.invariant.0 c.self.invariant.1 c.args.self.now c.self.view_is c.to_usize.result (g.S.IndexStorage.number c.args.ridx.0) c.to_usize.ensures.value c.requires c.index.result.now c.index.ensures c.in-Some.cost c.start_prod.ensures.well_formed c.productive_rules_have_least_costs.ensures c.in-Some.is c.if-cost-lt-BOUND.false
+    answers_large s.grm.now.grammar s.costs.items s.least.items c.self.invariant.0 c.self.invariant.1 c.args.self.now c.self.view_is c.to_usize.result (g.S.IndexStorage.number c.args.ridx.0) c.to_usize.ensures.value c.requires c.index.result.now c.index.ensures c.in-Some.cost c.stays_well_formed.ensures c.productive_rules_have_least_costs.ensures c.in-Some.is c.if-cost-lt-BOUND.false

@@ -12,7 +12,7 @@ pub get_unchecked-requires : goal.get_unchecked-requires
 get_unchecked-requires g c =
     let G = c.args.grm.now.grammar in
     let p = g.S.IndexStorage.number c.args.pidx.0 in
-    let lt : head_of G p < G.rules = c.start_prod.ensures.well_formed.heads p (head_of G p) (record { in_range = c.requires.production; head = refl }) in
+    let lt : head_of G p < G.rules = c.stays_well_formed.ensures.heads p (head_of G p) (record { in_range = c.requires.production; head = refl }) in
     let e = c.to_usize-rule.ensures.value ∙ c.prod_to_rule.ensures in
     let width = c.requires.width in
     omega (arith, lt, e, width)
@@ -31,13 +31,13 @@ put_together-requires g c =
     let p = g.S.IndexStorage.number c.args.pidx.0 in
     let table = c.args.table.now.items in
     subst (λ (l : List (List (List ℕ))). AllHaveLists l (syms_of g.S.IndexStorage.number c.prod.result.now)) (sym c.as_slice.ensures.value)
-    (subst (AllHaveLists table) (sym c.prod.ensures) (body_has G table p c.start_prod.ensures.well_formed c.requires.lists.count))
+    (subst (AllHaveLists table) (sym c.prod.ensures) (body_has G table p c.stays_well_formed.ensures c.requires.lists.count))
 
 pub index_mut-own-requires : goal.index_mut-own-requires
 index_mut-own-requires g c =
     let G = c.args.grm.now.grammar in
     let p = g.S.IndexStorage.number c.args.pidx.0 in
-    let lt : head_of G p < G.rules = c.start_prod.ensures.well_formed.heads p (head_of G p) (record { in_range = c.requires.production; head = refl }) in
+    let lt : head_of G p < G.rules = c.stays_well_formed.ensures.heads p (head_of G p) (record { in_range = c.requires.production; head = refl }) in
     let e = c.to_usize-rule.ensures.value ∙ c.prod_to_rule.ensures in
     let count = c.requires.lists.count in
     omega (arith, lt, e, count)
@@ -52,7 +52,7 @@ returns-clause-lists g c =
     let table = c.args.table.now.items in
     let A = c.to_usize-rule.result in
     let e : A ≡ head_of G p = c.to_usize-rule.ensures.value ∙ c.prod_to_rule.ensures in
-    let lt : head_of G p < G.rules = c.start_prod.ensures.well_formed.heads p (head_of G p) (record { in_range = c.requires.production; head = refl }) in
+    let lt : head_of G p < G.rules = c.stays_well_formed.ensures.heads p (head_of G p) (record { in_range = c.requires.production; head = refl }) in
     let count = c.requires.lists.count in
     let within : A < length table = omega (arith, lt, e, count) in
     let made = made_of number table c.as_slice.result.now (syms_of number c.prod.result.now) (body_of G p) c.as_slice-2.result.now c.in_ok-lists.lists.items c.as_slice-2.ensures.value c.as_slice.ensures.value c.prod.ensures c.in_ok-lists.ensures in
@@ -69,7 +69,7 @@ returns-clause-steps g c =
     let table = c.args.table.now.items in
     let A = c.to_usize-rule.result in
     let e : A ≡ head_of G p = c.to_usize-rule.ensures.value ∙ c.prod_to_rule.ensures in
-    let lt : head_of G p < G.rules = c.start_prod.ensures.well_formed.heads p (head_of G p) (record { in_range = c.requires.production; head = refl }) in
+    let lt : head_of G p < G.rules = c.stays_well_formed.ensures.heads p (head_of G p) (record { in_range = c.requires.production; head = refl }) in
     let count = c.requires.lists.count in
     let within : A < length table = omega (arith, lt, e, count) in
     let made = made_of number table c.as_slice.result.now (syms_of number c.prod.result.now) (body_of G p) c.as_slice-2.result.now c.in_ok-lists.lists.items c.as_slice-2.ensures.value c.as_slice.ensures.value c.prod.ensures c.in_ok-lists.ensures in

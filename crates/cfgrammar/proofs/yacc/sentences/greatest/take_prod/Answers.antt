@@ -15,7 +15,7 @@ pub get_unchecked-requires : goal.get_unchecked-requires
 get_unchecked-requires g c =
     let G = c.args.grm.now.grammar in
     let p = g.S.IndexStorage.number c.args.pidx.0 in
-    let lt : head_of G p < G.rules = c.start_prod.ensures.well_formed.heads p (head_of G p) (record { in_range = c.requires.production; head = refl }) in
+    let lt : head_of G p < G.rules = c.stays_well_formed.ensures.heads p (head_of G p) (record { in_range = c.requires.production; head = refl }) in
     let e = c.to_usize-rule.ensures.value ∙ c.prod_to_rule.ensures in
     let width = c.requires.rules in
     omega (arith, lt, e, width)
@@ -27,7 +27,7 @@ body_cost-requires-clause-within g c =
     let table = c.args.greatest.now.items in
     let p = g.S.IndexStorage.number c.args.pidx.0 in
     subst (λ (l : List (Option ℕ)). AllHaveCosts costs l (syms_of g.S.IndexStorage.number c.prod.result.now)) (sym c.as_slice.ensures.value)
-    (subst (AllHaveCosts costs table) (sym c.prod.ensures) (body_costs G costs table p c.start_prod.ensures.well_formed c.requires.tokens c.requires.costs.count))
+    (subst (AllHaveCosts costs table) (sym c.prod.ensures) (body_costs G costs table p c.stays_well_formed.ensures c.requires.tokens c.requires.costs.count))
 
 pub body_cost-requires-clause-capped : goal.body_cost-requires-clause-capped
 body_cost-requires-clause-capped g c =
@@ -39,7 +39,7 @@ pub index-requires : goal.index-requires
 index-requires g c =
     let G = c.args.grm.now.grammar in
     let p = g.S.IndexStorage.number c.args.pidx.0 in
-    let lt : head_of G p < G.rules = c.start_prod.ensures.well_formed.heads p (head_of G p) (record { in_range = c.requires.production; head = refl }) in
+    let lt : head_of G p < G.rules = c.stays_well_formed.ensures.heads p (head_of G p) (record { in_range = c.requires.production; head = refl }) in
     let e = c.to_usize-rule.ensures.value ∙ c.prod_to_rule.ensures in
     let count = c.requires.costs.count in
     let ok = c.args.greatest.now.ok.0 in
@@ -49,7 +49,7 @@ pub index_mut-requires : goal.index_mut-requires
 index_mut-requires g c =
     let G = c.args.grm.now.grammar in
     let p = g.S.IndexStorage.number c.args.pidx.0 in
-    let lt : head_of G p < G.rules = c.start_prod.ensures.well_formed.heads p (head_of G p) (record { in_range = c.requires.production; head = refl }) in
+    let lt : head_of G p < G.rules = c.stays_well_formed.ensures.heads p (head_of G p) (record { in_range = c.requires.production; head = refl }) in
     let e = c.to_usize-rule.ensures.value ∙ c.prod_to_rule.ensures in
     let count = c.requires.costs.count in
     let ok = c.args.greatest.now.ok.0 in
@@ -80,7 +80,7 @@ returns-then-not-is_more-clause-steps g c =
     let p = g.S.IndexStorage.number c.args.pidx.0 in
     let A = c.to_usize-rule.result in
     let e : A ≡ head_of G p = c.to_usize-rule.ensures.value ∙ c.prod_to_rule.ensures in
-    let lt : head_of G p < G.rules = c.start_prod.ensures.well_formed.heads p (head_of G p) (record { in_range = c.requires.production; head = refl }) in
+    let lt : head_of G p < G.rules = c.stays_well_formed.ensures.heads p (head_of G p) (record { in_range = c.requires.production; head = refl }) in
     let count = c.requires.costs.count in
     let within : A < length table = omega (arith, lt, e, count) in
     let o = c.index.result.now in
@@ -104,7 +104,7 @@ returns-clause-costs g c =
     let k = c.at_most-new.ensures in
     let m = cost.2 in
     let low = c.requires.top in
-    dearer G (cost_of costs) c.args.top table c.requires.costs p A c.at_most-new.result o cost.0 cost.1 (omega (arith, k, m, low)) (c.start_prod.ensures.well_formed.heads p A o)
+    dearer G (cost_of costs) c.args.top table c.requires.costs p A c.at_most-new.result o cost.0 cost.1 (omega (arith, k, m, low)) (c.stays_well_formed.ensures.heads p A o)
 
 pub returns-clause-steps : goal.returns-clause-steps
 returns-clause-steps g c =
@@ -114,7 +114,7 @@ returns-clause-steps g c =
     let p = g.S.IndexStorage.number c.args.pidx.0 in
     let A = c.to_usize-rule.result in
     let e : A ≡ head_of G p = c.to_usize-rule.ensures.value ∙ c.prod_to_rule.ensures in
-    let lt : head_of G p < G.rules = c.start_prod.ensures.well_formed.heads p (head_of G p) (record { in_range = c.requires.production; head = refl }) in
+    let lt : head_of G p < G.rules = c.stays_well_formed.ensures.heads p (head_of G p) (record { in_range = c.requires.production; head = refl }) in
     let count = c.requires.costs.count in
     let within : A < length table = omega (arith, lt, e, count) in
     let o = c.index.result.now in

@@ -13,7 +13,7 @@ body_cost-requires-clause-within g c =
     let G = c.args.grm.now.grammar in
     let costs = c.args.costs.now in
     let p = g.S.IndexStorage.number c.args.pidx.0 in
-    subst (AllHaveCosts costs c.args.costly.now) (sym c.prod.ensures) (body_costs G costs c.args.costly.now p c.start_prod.ensures.well_formed c.requires.tokens c.requires.count)
+    subst (AllHaveCosts costs c.args.costly.now) (sym c.prod.ensures) (body_costs G costs c.args.costly.now p c.stays_well_formed.ensures c.requires.tokens c.requires.count)
 
 pub body_cost-requires-clause-capped : goal.body_cost-requires-clause-capped
 body_cost-requires-clause-capped g c = λ A n e. let le = c.requires.table.within A n e in omega (arith, le)

@@ -18,7 +18,7 @@ is_among-requires g c =
     let xs = c.prod-symbols.result.now in
     let x = c.index-symbols-place.result in
     let at : slice_get (body_of G p) c.symbols.place ≡ Some (sym_of number x) = subst (λ (l : List Sym). slice_get l c.symbols.place ≡ Some (sym_of number x)) c.prod-symbols.ensures (get_some (sym_of number) xs c.symbols.place x x c.symbols-test.true c.index-symbols-place.is) in
-    has_place G c.args.set.now.bits (sym_of number x) c.requires.width (c.start_prod.ensures.well_formed.symbols p c.symbols.place (sym_of number x) (record { at = at }))
+    has_place G c.args.set.now.bits (sym_of number x) c.requires.width (c.stays_well_formed.ensures.symbols p c.symbols.place (sym_of number x) (record { at = at }))
 
 pub symbols-init : goal.symbols-init
 symbols-init g c = none_yet c.args.grm.now.grammar (g.S.IndexStorage.number c.args.pidx.0) c.args.set.now.bits

@@ -11,7 +11,7 @@ body_cost-requires-clause-within g c =
     let G = c.args.grm.now.grammar in
     let costs = c.args.costs.now in
     let p = g.S.IndexStorage.number c.args.pidx.0 in
-    subst (AllHaveCosts costs c.args.costly.now) (sym c.prod.ensures) (body_costs G costs c.args.costly.now p c.start_prod.ensures.well_formed c.requires.tokens c.requires.count)
+    subst (AllHaveCosts costs c.args.costly.now) (sym c.prod.ensures) (body_costs G costs c.args.costly.now p c.stays_well_formed.ensures c.requires.tokens c.requires.count)
 
 pub body_cost-requires-clause-capped : goal.body_cost-requires-clause-capped
 body_cost-requires-clause-capped g c = λ A n e. let le = c.requires.table.within A n e in omega (arith, le)
@@ -39,7 +39,7 @@ pub set-requires : goal.set-requires
 set-requires g c =
     let G = c.args.grm.now.grammar in
     let p = g.S.IndexStorage.number c.args.pidx.0 in
-    let lt : head_of G p < G.rules = c.start_prod.ensures.well_formed.heads p (head_of G p) (record { in_range = c.requires.production; head = refl }) in
+    let lt : head_of G p < G.rules = c.stays_well_formed.ensures.heads p (head_of G p) (record { in_range = c.requires.production; head = refl }) in
     let e = c.to_usize.ensures.value ∙ c.prod_to_rule.ensures in
     let width = c.requires.width in
     omega (arith, lt, e, width)
@@ -57,7 +57,7 @@ returns-clause-sound g c =
     let A = c.to_usize.result in
     let e : A ≡ head_of G p = c.to_usize.ensures.value ∙ c.prod_to_rule.ensures in
     let o : IsOf G p A = record { in_range = c.requires.production; head = sym e } in
-    let lt = c.start_prod.ensures.well_formed.heads p A o in
+    let lt = c.stays_well_formed.ensures.heads p A o in
     let width = c.requires.width in
     let cost : IsCost costs costly (body_of G p) c.in-Some.cost = subst (λ (a : List Sym). IsCost costs costly a c.in-Some.cost) c.prod.ensures c.in-Some.ensures in
     let h = c.names_kept.ensures in
@@ -74,6 +74,6 @@ returns-clause-steps g c =
     let p = g.S.IndexStorage.number c.args.pidx.0 in
     let A = c.to_usize.result in
     let e : A ≡ head_of G p = c.to_usize.ensures.value ∙ c.prod_to_rule.ensures in
-    let lt = c.start_prod.ensures.well_formed.heads p A (record { in_range = c.requires.production; head = sym e }) in
+    let lt = c.stays_well_formed.ensures.heads p A (record { in_range = c.requires.production; head = sym e }) in
     let width = c.requires.width in
     into G (cost_of costs) costly old p bits c.set.new.self.bits A c.set.result c.set.ensures.bits (sym e) (omega (arith, lt, width)) c.set.ensures.changed

@@ -13,7 +13,7 @@ rounds-init g c =
     let e = c.to_usize.ensures.value ∙ c.rules_len.ensures in
     record {
       width = ap length c.in_ok-kept.ensures.bits ∙ length-replicate c.to_usize.result true ∙ e;
-      bounded = all_bounded G (cost_of c.args.costs.now) c.start_prod.ensures.well_formed c.in_ok-kept.kept.bits (c.in_ok-kept.ensures.bits ∙ ap (λ n. replicate n true) e);
+      bounded = all_bounded G (cost_of c.args.costs.now) c.stays_well_formed.ensures c.in_ok-kept.kept.bits (c.in_ok-kept.ensures.bits ∙ ap (λ n. replicate n true) e);
     }
 
 pub rounds-preserved : goal.rounds-preserved

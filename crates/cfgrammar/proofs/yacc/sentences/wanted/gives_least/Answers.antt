@@ -11,7 +11,7 @@ body_cost-requires-clause-within g c =
     let costs = c.args.costs.now in
     let table = c.args.least.now in
     let p = g.S.IndexStorage.number c.args.pidx.0 in
-    subst (AllHaveCosts costs table) (sym c.prod.ensures) (body_costs G costs table p c.start_prod.ensures.well_formed c.requires.tokens c.requires.costs.count)
+    subst (AllHaveCosts costs table) (sym c.prod.ensures) (body_costs G costs table p c.stays_well_formed.ensures c.requires.tokens c.requires.costs.count)
 
 pub returns-in_default : goal.returns-in_default
 returns-in_default g c =

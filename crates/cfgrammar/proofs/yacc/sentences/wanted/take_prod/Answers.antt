@@ -9,7 +9,7 @@ pub get_unchecked-requires : goal.get_unchecked-requires
 get_unchecked-requires g c =
     let G = c.args.grm.now.grammar in
     let p = g.S.IndexStorage.number c.args.pidx.0 in
-    let lt : head_of G p < G.rules = c.start_prod.ensures.well_formed.heads p (head_of G p) (record { in_range = c.requires.production; head = refl }) in
+    let lt : head_of G p < G.rules = c.stays_well_formed.ensures.heads p (head_of G p) (record { in_range = c.requires.production; head = refl }) in
     let e = c.to_usize.ensures.value ∙ c.prod_to_rule.ensures in
     let width = c.requires.width in
     omega (arith, lt, e, width)

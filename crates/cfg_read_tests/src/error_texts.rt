@@ -69,7 +69,10 @@ fn faults_of_reading(rt: HostRuntime) -> Result<(), Fail> {
 
 fn failure(alloc: Global, text: &str) -> Result<String, AllocError> {
     match ASTWithValidityInfo::from_str(alloc, text) {
-        Ok(_) => String::from_str(alloc, "kept"),
+        Ok(kept) => {
+            drop(kept);
+            String::from_str(alloc, "kept")
+        }
         Err(YaccGrammarFailure::Memory(e)) => Err(e),
         Err(e) => shown(alloc, &e),
     }
@@ -104,13 +107,25 @@ fn values_without_a_kind(rt: HostRuntime) -> Result<(), Fail> {
     Ok(())
 }
 
-fn change(alloc: Global, name: &str) -> Result<String, AllocError> {
-    let checked = ASTWithValidityInfo::new(alloc, TREE, "%% S: 'a';")?;
-    match checked.clone_and_change_start_rule(alloc, name) {
-        Ok(_) => String::from_str(alloc, "changed"),
+fn told_change(
+    alloc: Global,
+    changed: Result<ASTWithValidityInfo, ASTModificationError>,
+) -> Result<String, AllocError> {
+    match changed {
+        Ok(kept) => {
+            drop(kept);
+            String::from_str(alloc, "changed")
+        }
         Err(ASTModificationError::Memory(e)) => Err(e),
         Err(e) => shown(alloc, &e),
     }
+}
+
+fn change(alloc: Global, name: &str) -> Result<String, AllocError> {
+    let checked = ASTWithValidityInfo::new(alloc, TREE, "%% S: 'a';")?;
+    let changed = checked.clone_and_change_start_rule(alloc, name);
+    drop(checked);
+    told_change(alloc, changed)
 }
 
 const CHANGES: &[(&str, &str)] = &[

@@ -1,8 +1,6 @@
 //! Whole texts: what is kept of them, and what is wrong with them.
 
-use cfg_base::span::{Span, Spanned, SpansKind};
-use cfg_read::yacc::ast::{GrammarAST, Symbol};
-use cfg_read::yacc::validity::YaccGrammarError;
+use crate::spell::{spell_errors, spell_tree};
 use cfg_read::yacc::{
     ASTModificationError, ASTWithValidityInfo, YaccGrammarFailure, YaccKind, YaccOriginalActionKind,
 };
@@ -12,64 +10,72 @@ use std::test::*;
 
 const TREE: YaccKind = YaccKind::Original(YaccOriginalActionKind::GenericParseTree);
 
-fn spell_span(alloc: Global, out: &mut String, span: &Span) -> Result<(), AllocError> {
-    let start = span.start();
-    let end = span.end();
-    out.push_str(format!(in alloc; " {start}-{end}")?.as_str())
-}
-
-/// Errors as their texts and places, behind which `twice` stands where they are duplicates.
-fn spell_errors(
-    alloc: Global,
-    out: &mut String,
-    errors: &[YaccGrammarError],
-) -> Result<(), AllocError> {
-    for error in errors {
-        out.push_str(format!(in alloc; "{error}")?.as_str())?;
-        for span in error.spans() {
-            spell_span(alloc, out, span)?;
-        }
-        match error.spanskind() {
-            SpansKind::DuplicationError => out.push_str(" twice; ")?,
-            SpansKind::Error => out.push_str("; ")?,
-        }
-    }
-    Ok(())
-}
-
 /// `valid`, or `invalid` and the errors.
 fn spell(alloc: Global, out: &mut String, checked: &ASTWithValidityInfo) -> Result<(), AllocError> {
-    if checked.is_valid() {
-        out.push_str("valid ")?;
+    let word = if checked.is_valid() {
+        "valid "
     } else {
-        out.push_str("invalid ")?;
-    }
+        "invalid "
+    };
+    out.push_str(word)?;
     spell_errors(alloc, out, checked.errors())
 }
 
-fn by_new(alloc: Global, kind: YaccKind, text: &str) -> Result<String, AllocError> {
+/// What is wrong with a text, and whether its tree has a kind.
+fn judgement(
+    alloc: Global,
+    kind: YaccKind,
+    checked: &ASTWithValidityInfo,
+) -> Result<String, AllocError> {
     let mut out = String::new(alloc);
-    let checked = ASTWithValidityInfo::new(alloc, kind, text)?;
-    spell(alloc, &mut out, &checked)?;
+    spell(alloc, &mut out, checked)?;
     if checked.yacc_kind() != kind {
         out.push_str("of another kind")?;
     }
     Ok(out)
 }
 
+fn by_new(alloc: Global, kind: YaccKind, text: &str) -> Result<String, AllocError> {
+    let checked = ASTWithValidityInfo::new(alloc, kind, text)?;
+    let found = judgement(alloc, kind, &checked);
+    drop(checked);
+    found
+}
+
+/// The kind, and what is wrong with the text.
+fn kind_and_judgement(alloc: Global, checked: &ASTWithValidityInfo) -> Result<String, AllocError> {
+    let kind = checked.yacc_kind();
+    let mut out = format!(in alloc; "{kind:?} ")?;
+    spell(alloc, &mut out, checked)?;
+    Ok(out)
+}
+
+/// The errors of a text without a kind.
+fn failure(alloc: Global, failure: &YaccGrammarFailure) -> Result<String, AllocError> {
+    match failure {
+        YaccGrammarFailure::Memory(_) => Err(AllocError),
+        YaccGrammarFailure::Invalid(errors) => {
+            let mut out = String::new(alloc);
+            spell_errors(alloc, &mut out, errors)?;
+            Ok(out)
+        }
+    }
+}
+
 /// The kind and the rest, or the errors alone.
 fn by_text(alloc: Global, text: &str) -> Result<String, AllocError> {
-    let mut out = String::new(alloc);
     match ASTWithValidityInfo::from_str(alloc, text) {
         Ok(checked) => {
-            let kind = checked.yacc_kind();
-            out.push_str(format!(in alloc; "{kind:?} ")?.as_str())?;
-            spell(alloc, &mut out, &checked)?;
+            let found = kind_and_judgement(alloc, &checked);
+            drop(checked);
+            found
         }
-        Err(YaccGrammarFailure::Memory(e)) => return Err(e),
-        Err(YaccGrammarFailure::Invalid(errors)) => spell_errors(alloc, &mut out, &errors)?,
+        Err(e) => {
+            let found = failure(alloc, &e);
+            drop(e);
+            found
+        }
     }
-    Ok(out)
 }
 
 fn compare_new(
@@ -259,113 +265,98 @@ fn kinds_by_text(rt: HostRuntime) -> Result<(), Fail> {
     compare_texts(&rt, KINDS_BY_TEXT)
 }
 
-/// The start rule with its place, the rules with their productions' numbers, the tokens, and the
-/// productions with their symbols and actions.
-fn spell_tree(alloc: Global, ast: &GrammarAST) -> Result<String, AllocError> {
+fn tree_of(alloc: Global, checked: &ASTWithValidityInfo) -> Result<String, AllocError> {
     let mut out = String::new(alloc);
-    if let Some((name, span)) = ast.start() {
-        out.push_str(name.as_str())?;
-        spell_span(alloc, &mut out, span)?;
-    }
-    out.push_str(" |")?;
-    for (name, rule) in ast.rules() {
-        out.push_str(format!(in alloc; " {name}")?.as_str())?;
-        spell_span(alloc, &mut out, &rule.name.1)?;
-        for number in &rule.pidxs {
-            out.push_str(format!(in alloc; " {number}")?.as_str())?;
-        }
-    }
-    out.push_str(" |")?;
-    for (name, span) in ast.tokens() {
-        out.push_str(format!(in alloc; " {name}")?.as_str())?;
-        spell_span(alloc, &mut out, span)?;
-    }
-    spell_productions(alloc, &mut out, ast)?;
+    spell_tree(alloc, &mut out, checked.ast())?;
     Ok(out)
 }
 
-fn spell_productions(alloc: Global, out: &mut String, ast: &GrammarAST) -> Result<(), AllocError> {
-    for made in ast.prods() {
-        out.push_str(" |")?;
-        spell_span(alloc, out, &made.prod_span)?;
-        for symbol in &made.symbols {
-            let letter = match symbol {
-                Symbol::Rule(_, _) => "r",
-                Symbol::Token(_, _) => "t",
-            };
-            out.push_str(format!(in alloc; " {letter}({symbol})")?.as_str())?;
-        }
-        if let Some(action) = &made.action {
-            out.push_str(format!(in alloc; " ={action}")?.as_str())?;
-        }
-    }
-    Ok(())
+fn tree_of_text(alloc: Global, text: &str) -> Result<String, AllocError> {
+    let checked = ASTWithValidityInfo::new(alloc, TREE, text)?;
+    let found = tree_of(alloc, &checked);
+    drop(checked);
+    found
 }
 
 const TREES_OF_TEXTS: &[(&str, &str)] = &[
     (
         "%start E %% E: T '+' E | T; T: 'ID';",
-        "E 7-8 | E 12-13 0 1 T 28-29 2 | + 18-19 ID 32-34 | 15-22 r(T) t(+) r(E) | 25-26 r(T) | 31-35 t(ID)",
+        "E 7-8 | E 12-13 0 1; T 28-29 2; | + 18-19; ID 32-34; | 15-22: r(T)15-16 t(+)18-19 r(E)21-22; 25-26: r(T)25-26; 31-35: t(ID)32-34; ",
     ),
     (
         "%token 'a' %% S: a;",
-        "S 14-15 | S 14-15 0 | a 8-9 | 17-18 t(a)",
+        "S 14-15 | S 14-15 0; | a 8-9; | 17-18: t(a)17-18; ",
     ),
-    ("%% S: {a{b}c};", "S 3-4 | S 3-4 0 | | 13-13 =a{b}c"),
+    (
+        "%% S: {a{b}c};",
+        "S 3-4 | S 3-4 0; | | 13-13: =a{b}c 7-12; ",
+    ),
     (
         "%grmtools{yacckind: Foo} %% S: 'a';",
-        "S 28-29 | S 28-29 0 | a 32-33 | 31-34 t(a)",
+        "S 28-29 | S 28-29 0; | a 32-33; | 31-34: t(a)32-33; ",
     ),
-    ("%start S %% S: T;", "S 7-8 | S 12-13 0 | | 15-16 r(T)"),
-    ("%% S: 'a'", " | |"),
-    ("%grmtools{1} %% S: 'a';", " | |"),
-    ("%grmtools{a, A} %% S: 'a';", " | |"),
-    ("", " | |"),
+    (
+        "%start S %% S: T;",
+        "S 7-8 | S 12-13 0; | | 15-16: r(T)15-16; ",
+    ),
+    ("%% S: 'a'", "| | "),
+    ("%grmtools{1} %% S: 'a';", "| | "),
+    ("%grmtools{a, A} %% S: 'a';", "| | "),
+    ("", "| | "),
 ];
 
 #[test]
 fn trees_of_texts(rt: HostRuntime) -> Result<(), Fail> {
     for (text, expected) in TREES_OF_TEXTS {
-        let checked = ASTWithValidityInfo::new(rt.alloc(), TREE, text)?;
-        let found = spell_tree(rt.alloc(), checked.ast())?;
+        let found = tree_of_text(rt.alloc(), text)?;
         assert_eq!(rt; found.as_str(), *expected, "{text}");
     }
     Ok(())
 }
 
 /// A tree, and behind `||` what is wrong with its text.
-fn spell_whole(alloc: Global, checked: &ASTWithValidityInfo) -> Result<String, AllocError> {
-    let mut out = spell_tree(alloc, checked.ast())?;
-    out.push_str(" || ")?;
+fn whole(alloc: Global, checked: &ASTWithValidityInfo) -> Result<String, AllocError> {
+    let mut out = tree_of(alloc, checked)?;
+    out.push_str("|| ")?;
     spell(alloc, &mut out, checked)?;
     Ok(out)
 }
 
 /// The tree with another start rule, or the error.
-fn spell_changed(alloc: Global, text: &str, name: &str) -> Result<String, AllocError> {
-    let checked = ASTWithValidityInfo::new(alloc, TREE, text)?;
+fn changed(alloc: Global, checked: &ASTWithValidityInfo, name: &str) -> Result<String, AllocError> {
     match checked.clone_and_change_start_rule(alloc, name) {
-        Ok(changed) => spell_whole(alloc, &changed),
+        Ok(changed) => {
+            let found = whole(alloc, &changed);
+            drop(changed);
+            found
+        }
         Err(ASTModificationError::Memory(e)) => Err(e),
         Err(e) => format!(in alloc; "{e}"),
     }
+}
+
+fn changed_text(alloc: Global, text: &str, name: &str) -> Result<String, AllocError> {
+    let checked = ASTWithValidityInfo::new(alloc, TREE, text)?;
+    let found = changed(alloc, &checked, name);
+    drop(checked);
+    found
 }
 
 const OTHER_START_RULES: &[(&str, &str, &str)] = &[
     (
         "%start S %% S: T; T: 'a'; S: 'b';",
         "T",
-        "T 18-19 | S 12-13 0 2 T 18-19 1 | a 22-23 b 30-31 | 15-16 r(T) | 21-24 t(a) | 29-32 t(b) || valid ",
+        "T 18-19 | S 12-13 0 2; T 18-19 1; | a 22-23; b 30-31; | 15-16: r(T)15-16; 21-24: t(a)22-23; 29-32: t(b)30-31; || valid ",
     ),
     (
         "%start S %% S: T; T: 'a'; S: 'b';",
         "S",
-        "S 12-13 | S 12-13 0 2 T 18-19 1 | a 22-23 b 30-31 | 15-16 r(T) | 21-24 t(a) | 29-32 t(b) || valid ",
+        "S 12-13 | S 12-13 0 2; T 18-19 1; | a 22-23; b 30-31; | 15-16: r(T)15-16; 21-24: t(a)22-23; 29-32: t(b)30-31; || valid ",
     ),
     (
         "%% S: 'a'; T: U;",
         "T",
-        "T 11-12 | S 3-4 0 T 11-12 1 | a 7-8 | 6-9 t(a) | 14-15 r(U) || invalid Unknown reference to rule 'U' 14-15; ",
+        "T 11-12 | S 3-4 0; T 11-12 1; | a 7-8; | 6-9: t(a)7-8; 14-15: r(U)14-15; || invalid Unknown reference to rule 'U' 14-15; ",
     ),
     ("%% S: 'a';", "a", "Rule does not appear in grammar"),
     ("%% S: 'a';", "", "Rule does not appear in grammar"),
@@ -376,7 +367,7 @@ const OTHER_START_RULES: &[(&str, &str, &str)] = &[
 #[test]
 fn other_start_rules(rt: HostRuntime) -> Result<(), Fail> {
     for (text, name, expected) in OTHER_START_RULES {
-        let found = spell_changed(rt.alloc(), text, name)?;
+        let found = changed_text(rt.alloc(), text, name)?;
         assert_eq!(rt; found.as_str(), *expected, "{text}");
     }
     Ok(())

@@ -1,5 +1,6 @@
 //! Kinds, and the values that stand for them.
 
+use crate::spell::spell_places;
 use cfg_base::header::{
     GrmtoolsSectionParser, HeaderError, HeaderValue, Namespaced, SectionError, Setting, Value,
 };
@@ -12,11 +13,7 @@ use std::test::*;
 /// An error as its text and its places.
 fn spell_error(alloc: Global, error: &HeaderError<Span>) -> Result<String, AllocError> {
     let mut out = format!(in alloc; "{error}")?;
-    for span in error.spans() {
-        let start = span.start();
-        let end = span.end();
-        out.push_str(format!(in alloc; " {start}-{end}")?.as_str())?;
-    }
+    spell_places(alloc, &mut out, error.spans())?;
     match error.spanskind() {
         SpansKind::DuplicationError => out.push_str(" twice")?,
         SpansKind::Error => {}
@@ -95,67 +92,104 @@ fn values_of_kinds(rt: HostRuntime) -> Result<(), Fail> {
     compare(&rt, VALUES_OF_KINDS)
 }
 
-#[test]
-fn words_that_fit_no_kind(rt: HostRuntime) -> Result<(), Fail> {
-    let variant = "Cannot convert to YaccKind: Unknown variant";
-    let namespace = "Cannot convert to YaccKind: Unknown namespace";
-    let cases = [
-        ("Foo", variant, "20-23"),
-        ("Original", variant, "20-28"),
-        ("UserAction", variant, "20-30"),
-        ("Eco1", variant, "20-24"),
-        ("YaccKind::Foo", variant, "30-33"),
-        ("YaccKind::Original", variant, "30-38"),
-        ("Foo::Eco", namespace, "20-23"),
-        ("Foo::Bar", namespace, "20-23"),
-        ("YaccOriginalActionKind::Eco", namespace, "20-42"),
-        ("Eco(UserAction)", variant, "20-23"),
-        ("Grmtools(Grmtools)", variant, "20-28"),
-        ("Foo(UserAction)", variant, "20-23"),
-        ("Foo(Bar::Baz)", variant, "20-23"),
-        ("Foo::Original(Bar)", namespace, "20-23"),
-        ("YaccKind::Foo(Bar)", variant, "30-33"),
-        ("Original(Foo)", variant, "29-32"),
-        ("Original(Eco)", variant, "29-32"),
-        ("Original(Foo::UserAction)", namespace, "29-32"),
-        ("Original(Foo::Bar)", namespace, "29-32"),
-        ("Original(YaccKind::UserAction)", namespace, "29-37"),
-        ("Original(YaccOriginalActionKind::Foo)", variant, "53-56"),
-        (
-            "YaccKind::Original(YaccOriginalActionKind::Foo)",
-            variant,
-            "63-66",
-        ),
-    ];
-    let alloc = rt.alloc();
-    for (value, why, place) in cases {
-        let text = format!(in alloc; "%grmtools{{yacckind: {value}}}")?;
-        let expected = format!(in alloc; "{why} {place}")?;
-        let found = answer(alloc, text.as_str())?;
-        assert_eq!(rt; found.as_str(), expected.as_str(), "{value}");
+const VARIANT: &str = "Cannot convert to YaccKind: Unknown variant";
+
+const NAMESPACE: &str = "Cannot convert to YaccKind: Unknown namespace";
+
+const NO_PATH: &str = "Cannot convert to YaccKind: Cannot convert to YaccKind";
+
+/// Compares the error of a text's `yacckind`: why it is none, and where it stands.
+fn compare_error(
+    rt: &(impl Abort + AllocGlobal),
+    (text, why, place): (&str, &str, &str),
+) -> Result<(), Fail> {
+    let expected = format!(in rt.alloc(); "{why} {place}")?;
+    let found = answer(rt.alloc(), text)?;
+    assert_eq!(rt; found.as_str(), expected.as_str(), "{text}");
+    Ok(())
+}
+
+fn compare_errors(
+    rt: &(impl Abort + AllocGlobal),
+    cases: &[(&str, &str, &str)],
+) -> Result<(), Fail> {
+    for row in cases {
+        compare_error(rt, *row)?;
     }
     Ok(())
 }
 
+const WORDS_THAT_FIT_NO_KIND: &[(&str, &str, &str)] = &[
+    ("%grmtools{yacckind: Foo}", VARIANT, "20-23"),
+    ("%grmtools{yacckind: Original}", VARIANT, "20-28"),
+    ("%grmtools{yacckind: UserAction}", VARIANT, "20-30"),
+    ("%grmtools{yacckind: Eco1}", VARIANT, "20-24"),
+    ("%grmtools{yacckind: YaccKind::Foo}", VARIANT, "30-33"),
+    ("%grmtools{yacckind: YaccKind::Original}", VARIANT, "30-38"),
+    ("%grmtools{yacckind: Foo::Eco}", NAMESPACE, "20-23"),
+    ("%grmtools{yacckind: Foo::Bar}", NAMESPACE, "20-23"),
+    (
+        "%grmtools{yacckind: YaccOriginalActionKind::Eco}",
+        NAMESPACE,
+        "20-42",
+    ),
+    ("%grmtools{yacckind: Eco(UserAction)}", VARIANT, "20-23"),
+    ("%grmtools{yacckind: Grmtools(Grmtools)}", VARIANT, "20-28"),
+    ("%grmtools{yacckind: Foo(UserAction)}", VARIANT, "20-23"),
+    ("%grmtools{yacckind: Foo(Bar::Baz)}", VARIANT, "20-23"),
+    (
+        "%grmtools{yacckind: Foo::Original(Bar)}",
+        NAMESPACE,
+        "20-23",
+    ),
+    ("%grmtools{yacckind: YaccKind::Foo(Bar)}", VARIANT, "30-33"),
+    ("%grmtools{yacckind: Original(Foo)}", VARIANT, "29-32"),
+    ("%grmtools{yacckind: Original(Eco)}", VARIANT, "29-32"),
+    (
+        "%grmtools{yacckind: Original(Foo::UserAction)}",
+        NAMESPACE,
+        "29-32",
+    ),
+    (
+        "%grmtools{yacckind: Original(Foo::Bar)}",
+        NAMESPACE,
+        "29-32",
+    ),
+    (
+        "%grmtools{yacckind: Original(YaccKind::UserAction)}",
+        NAMESPACE,
+        "29-37",
+    ),
+    (
+        "%grmtools{yacckind: Original(YaccOriginalActionKind::Foo)}",
+        VARIANT,
+        "53-56",
+    ),
+    (
+        "%grmtools{yacckind: YaccKind::Original(YaccOriginalActionKind::Foo)}",
+        VARIANT,
+        "63-66",
+    ),
+];
+
+#[test]
+fn words_that_fit_no_kind(rt: HostRuntime) -> Result<(), Fail> {
+    compare_errors(&rt, WORDS_THAT_FIT_NO_KIND)
+}
+
+const SETTINGS_THAT_ARE_NO_PATH: &[(&str, &str, &str)] = &[
+    ("%grmtools{yacckind}", NO_PATH, "10-18"),
+    ("%grmtools{!yacckind}", NO_PATH, "10-19"),
+    ("%grmtools{yacckind: 7}", NO_PATH, "20-21"),
+    ("%grmtools{yacckind: 123}", NO_PATH, "20-23"),
+    ("%grmtools{yacckind: \"Eco\"}", NO_PATH, "20-25"),
+    ("%grmtools{yacckind: [Eco]}", NO_PATH, "20-21"),
+    ("%grmtools{yacckind: []}", NO_PATH, "20-21"),
+];
+
 #[test]
 fn settings_that_are_no_path(rt: HostRuntime) -> Result<(), Fail> {
-    let why = "Cannot convert to YaccKind: Cannot convert to YaccKind";
-    let cases = [
-        ("%grmtools{yacckind}", "10-18"),
-        ("%grmtools{!yacckind}", "10-19"),
-        ("%grmtools{yacckind: 7}", "20-21"),
-        ("%grmtools{yacckind: 123}", "20-23"),
-        ("%grmtools{yacckind: \"Eco\"}", "20-25"),
-        ("%grmtools{yacckind: [Eco]}", "20-21"),
-        ("%grmtools{yacckind: []}", "20-21"),
-    ];
-    let alloc = rt.alloc();
-    for (text, place) in cases {
-        let expected = format!(in alloc; "{why} {place}")?;
-        let found = answer(alloc, text)?;
-        assert_eq!(rt; found.as_str(), expected.as_str(), "{text}");
-    }
-    Ok(())
+    compare_errors(&rt, SETTINGS_THAT_ARE_NO_PATH)
 }
 
 fn spell_word(
@@ -193,36 +227,50 @@ fn spell_value(alloc: Global, value: &Value<Location>) -> Result<String, AllocEr
     Ok(out)
 }
 
+const KINDS_MADE_INTO_VALUES: &[(YaccKind, &str)] = &[
+    (
+        YaccKind::Grmtools,
+        "YaccKind@Other(\"YaccKind\") Grmtools@Other(\"YaccKind\") ",
+    ),
+    (
+        YaccKind::Eco,
+        "YaccKind@Other(\"YaccKind\") Eco@Other(\"YaccKind\") ",
+    ),
+    (
+        YaccKind::Original(YaccOriginalActionKind::UserAction),
+        "YaccKind@Other(\"YaccKind\") Original@Other(\"YaccKind\") of YaccOriginalActionKind@Other(\"YaccKind\") UserAction@Other(\"YaccKind\") ",
+    ),
+    (
+        YaccKind::Original(YaccOriginalActionKind::GenericParseTree),
+        "YaccKind@Other(\"YaccKind\") Original@Other(\"YaccKind\") of YaccOriginalActionKind@Other(\"YaccKind\") GenericParseTree@Other(\"YaccKind\") ",
+    ),
+    (
+        YaccKind::Original(YaccOriginalActionKind::NoAction),
+        "YaccKind@Other(\"YaccKind\") Original@Other(\"YaccKind\") of YaccOriginalActionKind@Other(\"YaccKind\") NoAction@Other(\"YaccKind\") ",
+    ),
+];
+
+/// Compares the value that a kind is made into, and the kind that this stands for.
+fn compare_value(
+    rt: &(impl Abort + AllocGlobal),
+    kind: YaccKind,
+    value: &Value<Location>,
+    expected: &str,
+) -> Result<(), Fail> {
+    let found = spell_value(rt.alloc(), value)?;
+    assert_eq!(rt; found.as_str(), expected);
+    let back = YaccKind::try_from_value(rt.alloc(), value).ok();
+    assert!(rt; back == Some(kind));
+    Ok(())
+}
+
 #[test]
 fn kinds_made_into_values(rt: HostRuntime) -> Result<(), Fail> {
-    let cases = [
-        (
-            YaccKind::Grmtools,
-            "YaccKind@Other(\"YaccKind\") Grmtools@Other(\"YaccKind\") ",
-        ),
-        (
-            YaccKind::Eco,
-            "YaccKind@Other(\"YaccKind\") Eco@Other(\"YaccKind\") ",
-        ),
-        (
-            YaccKind::Original(YaccOriginalActionKind::UserAction),
-            "YaccKind@Other(\"YaccKind\") Original@Other(\"YaccKind\") of YaccOriginalActionKind@Other(\"YaccKind\") UserAction@Other(\"YaccKind\") ",
-        ),
-        (
-            YaccKind::Original(YaccOriginalActionKind::GenericParseTree),
-            "YaccKind@Other(\"YaccKind\") Original@Other(\"YaccKind\") of YaccOriginalActionKind@Other(\"YaccKind\") GenericParseTree@Other(\"YaccKind\") ",
-        ),
-        (
-            YaccKind::Original(YaccOriginalActionKind::NoAction),
-            "YaccKind@Other(\"YaccKind\") Original@Other(\"YaccKind\") of YaccOriginalActionKind@Other(\"YaccKind\") NoAction@Other(\"YaccKind\") ",
-        ),
-    ];
-    for (kind, expected) in cases {
+    for (kind, expected) in KINDS_MADE_INTO_VALUES {
         let value = kind.try_to_value(rt.alloc())?;
-        let found = spell_value(rt.alloc(), &value)?;
-        assert_eq!(rt; found.as_str(), expected);
-        let back = YaccKind::try_from_value(rt.alloc(), &value).ok();
-        assert!(rt; back == Some(kind));
+        let compared = compare_value(&rt, *kind, &value, expected);
+        drop(value);
+        compared?;
     }
     Ok(())
 }

@@ -2,8 +2,9 @@
 
 ghost use Rattle.std.specs.Prelude.{◌<◌};
 
+use crate::spell::{spell_names, spell_placed, spell_places, spell_productions, spell_symbols};
 use cfg_base::span::Span;
-use cfg_read::yacc::ast::{GrammarAST, Production, Rule, Symbol};
+use cfg_read::yacc::ast::{GrammarAST, Production};
 use cfg_read::yacc::{ASTWithValidityInfo, YaccKind, YaccOriginalActionKind};
 use std::alloc::{AllocError, Global};
 use std::process::Abort;
@@ -11,75 +12,91 @@ use std::test::*;
 
 const TREE: YaccKind = YaccKind::Original(YaccOriginalActionKind::GenericParseTree);
 
-fn spell_symbol(alloc: Global, out: &mut String, symbol: &Symbol) -> Result<(), AllocError> {
-    let (letter, span) = match symbol {
-        Symbol::Rule(_, span) => ("r", *span),
-        Symbol::Token(_, span) => ("t", *span),
-    };
-    let start = span.start();
-    let end = span.end();
-    out.push_str(format!(in alloc; " {letter}({symbol}){start}-{end}")?.as_str())
-}
-
-/// A production as its places, symbols, `^` and precedence, `=` and action with its places.
-fn spell_production(alloc: Global, out: &mut String, made: &Production) -> Result<(), AllocError> {
-    let start = made.prod_span.start();
-    let end = made.prod_span.end();
-    out.push_str(format!(in alloc; "{start}-{end}:")?.as_str())?;
-    for symbol in &made.symbols {
-        spell_symbol(alloc, out, symbol)?;
-    }
-    if let Some(precedence) = &made.precedence {
-        out.push_str(format!(in alloc; " ^{precedence}")?.as_str())?;
-    }
-    if let Some(action) = &made.action {
-        out.push_str(format!(in alloc; " ={action}")?.as_str())?;
-    }
-    if let Some(span) = made.action_span {
+/// Names with their precedences and places.
+fn spell_precs(alloc: Global, out: &mut String, ast: &GrammarAST) -> Result<(), AllocError> {
+    for (name, (precedence, span)) in ast.precs() {
+        let level = precedence.level;
+        let kind = precedence.kind;
         let start = span.start();
         let end = span.end();
-        out.push_str(format!(in alloc; " {start}-{end}")?.as_str())?;
+        out.push_str(format!(in alloc; "{name} {kind:?} {level} {start}-{end}; ")?.as_str())?;
     }
-    out.push_str("; ")
+    Ok(())
 }
 
-fn spell_productions(alloc: Global, ast: &GrammarAST) -> Result<String, AllocError> {
-    let mut out = String::new(alloc);
-    for made in ast.prods() {
-        spell_production(alloc, &mut out, made)?;
+/// Names with their places and printed texts.
+fn spell_epps(alloc: Global, out: &mut String, ast: &GrammarAST) -> Result<(), AllocError> {
+    for (name, found) in ast.epp() {
+        let start = found.0.start();
+        let end = found.0.end();
+        let text = &found.1.0;
+        out.push_str(format!(in alloc; "epp {name} {start}-{end} {text}; ")?.as_str())?;
     }
+    Ok(())
+}
+
+fn names_of(alloc: Global, ast: &GrammarAST) -> Result<String, AllocError> {
+    let mut out = String::new(alloc);
+    spell_names(alloc, &mut out, ast)?;
+    Ok(out)
+}
+
+fn productions_of(alloc: Global, ast: &GrammarAST) -> Result<String, AllocError> {
+    let mut out = String::new(alloc);
+    spell_productions(alloc, &mut out, ast)?;
     Ok(out)
 }
 
 /// The tokens with their first places, precedences and printed texts.
-fn spell_tables(alloc: Global, ast: &GrammarAST) -> Result<String, AllocError> {
+fn tables_of(alloc: Global, ast: &GrammarAST) -> Result<String, AllocError> {
     let mut out = String::new(alloc);
-    for (name, span) in ast.tokens() {
-        let start = span.start();
-        let end = span.end();
-        out.push_str(format!(in alloc; "{name} {start}-{end}; ")?.as_str())?;
-    }
-    for (name, found) in ast.precs() {
-        let level = found.0.level;
-        let kind = found.0.kind;
-        let start = found.1.start();
-        out.push_str(format!(in alloc; "{name} {kind:?} {level} {start}; ")?.as_str())?;
-    }
-    for (name, found) in ast.epp() {
-        let start = found.0.start();
-        let text = &found.1.0;
-        out.push_str(format!(in alloc; "{name} {start} shows {text}; ")?.as_str())?;
-    }
+    spell_placed(alloc, &mut out, "", ast.tokens())?;
+    spell_precs(alloc, &mut out, ast)?;
+    spell_epps(alloc, &mut out, ast)?;
     Ok(out)
 }
 
+fn compare_productions(
+    rt: &(impl Abort + AllocGlobal),
+    ast: &GrammarAST,
+    text: &str,
+    wanted: &str,
+) -> Result<(), Fail> {
+    let found = productions_of(rt.alloc(), ast)?;
+    assert_eq!(rt; found.as_str(), wanted, "{text}");
+    Ok(())
+}
+
+fn compare_tables(
+    rt: &(impl Abort + AllocGlobal),
+    ast: &GrammarAST,
+    text: &str,
+    wanted: &str,
+) -> Result<(), Fail> {
+    let found = tables_of(rt.alloc(), ast)?;
+    assert_eq!(rt; found.as_str(), wanted, "{text}");
+    Ok(())
+}
+
+fn compare_parts(
+    rt: &(impl Abort + AllocGlobal),
+    ast: &GrammarAST,
+    (text, productions, tables): (&str, &str, &str),
+) -> Result<(), Fail> {
+    compare_productions(rt, ast, text, productions)?;
+    compare_tables(rt, ast, text, tables)
+}
+
+fn compare_row(rt: &(impl Abort + AllocGlobal), row: (&str, &str, &str)) -> Result<(), Fail> {
+    let checked = ASTWithValidityInfo::new(rt.alloc(), TREE, row.0)?;
+    let compared = compare_parts(rt, checked.ast(), row);
+    drop(checked);
+    compared
+}
+
 fn compare(rt: &(impl Abort + AllocGlobal), cases: &[(&str, &str, &str)]) -> Result<(), Fail> {
-    for (text, productions, tables) in cases {
-        let checked = ASTWithValidityInfo::new(rt.alloc(), TREE, text)?;
-        let found = spell_productions(rt.alloc(), checked.ast())?;
-        assert_eq!(rt; found.as_str(), *productions, "{text}");
-        let found = spell_tables(rt.alloc(), checked.ast())?;
-        assert_eq!(rt; found.as_str(), *tables, "{text}");
+    for row in cases {
+        compare_row(rt, *row)?;
     }
     Ok(())
 }
@@ -93,7 +110,7 @@ const PARTS_OF_TREES: &[(&str, &str, &str)] = &[
     (
         "%left p\n%% S: %empty%prec p;",
         "14-27: ^p; ",
-        "p Left 0 6; ",
+        "p Left 0 6-7; ",
     ),
     (
         "%% S: 'a' | %empty | ;",
@@ -108,12 +125,12 @@ const PARTS_OF_TREES: &[(&str, &str, &str)] = &[
     (
         "%left 'a' /* c */ 'b'\n%right 'c' 'a'\n%% S: 'a' 'b';",
         "43-50: t(a)44-45 t(b)48-49; ",
-        "a 44-45; b 48-49; a Left 0 7; b Left 0 19; c Right 1 30; ",
+        "a 44-45; b 48-49; a Left 0 7-8; b Left 0 19-20; c Right 1 30-31; ",
     ),
     (
         "%epp a 'it\\'s' %epp a 'x' %% S: 'a';",
         "32-35: t(a)33-34; ",
-        "a 33-34; a 5 shows it's; ",
+        "a 33-34; epp a 5-6 it's; ",
     ),
 ];
 
@@ -122,101 +139,14 @@ fn parts_of_trees(rt: HostRuntime) -> Result<(), Fail> {
     compare(&rt, PARTS_OF_TREES)
 }
 
-/// The numbers of a rule's productions, behind its name and place.
-fn spell_rule(alloc: Global, out: &mut String, rule: &Rule) -> Result<(), AllocError> {
-    let name = &rule.name.0;
-    let start = rule.name.1.start();
-    out.push_str(format!(in alloc; "{name} {start}")?.as_str())?;
-    for number in &rule.pidxs {
-        out.push_str(format!(in alloc; " {number}")?.as_str())?;
-    }
-    if let Some(text) = &rule.actiont {
-        out.push_str(format!(in alloc; " ->{text}")?.as_str())?;
-    }
-    out.push_str("; ")
-}
-
-fn spell_start(alloc: Global, out: &mut String, ast: &GrammarAST) -> Result<(), AllocError> {
-    if let Some((name, span)) = ast.start() {
-        let start = span.start();
-        out.push_str(format!(in alloc; "{name} {start} | ")?.as_str())?;
-    }
-    Ok(())
-}
-
-fn spell_rules(alloc: Global, out: &mut String, ast: &GrammarAST) -> Result<(), AllocError> {
-    for (_name, rule) in ast.rules() {
-        spell_rule(alloc, out, rule)?;
-    }
-    Ok(())
-}
-
-fn spell_tokens(alloc: Global, out: &mut String, ast: &GrammarAST) -> Result<(), AllocError> {
-    for (name, span) in ast.tokens() {
-        let start = span.start();
-        out.push_str(format!(in alloc; "{name} {start}; ")?.as_str())?;
-    }
-    Ok(())
-}
-
-/// The start rule, the rules, and the tokens with their first places.
-fn spell_names(alloc: Global, ast: &GrammarAST) -> Result<String, AllocError> {
-    let mut out = String::new(alloc);
-    spell_start(alloc, &mut out, ast)?;
-    spell_rules(alloc, &mut out, ast)?;
-    out.push_str("| ")?;
-    spell_tokens(alloc, &mut out, ast)?;
-    Ok(out)
-}
-
-fn spell_precs(alloc: Global, out: &mut String, ast: &GrammarAST) -> Result<(), AllocError> {
-    for (name, found) in ast.precs() {
-        let level = found.0.level;
-        let kind = found.0.kind;
-        out.push_str(format!(in alloc; "{name} {kind:?} {level}; ")?.as_str())?;
-    }
-    Ok(())
-}
-
-fn spell_avoided(alloc: Global, out: &mut String, ast: &GrammarAST) -> Result<(), AllocError> {
-    for (name, span) in ast.avoid_insert() {
-        let start = span.start();
-        out.push_str(format!(in alloc; "avoid {name} {start}; ")?.as_str())?;
-    }
-    Ok(())
-}
-
-fn spell_implicit(alloc: Global, out: &mut String, ast: &GrammarAST) -> Result<(), AllocError> {
-    for (name, span) in ast.implicit_tokens() {
-        let start = span.start();
-        out.push_str(format!(in alloc; "implicit {name} {start}; ")?.as_str())?;
-    }
-    Ok(())
-}
-
-fn spell_epps(alloc: Global, out: &mut String, ast: &GrammarAST) -> Result<(), AllocError> {
-    for (name, found) in ast.epp() {
-        let text = &found.1.0;
-        out.push_str(format!(in alloc; "epp {name} {text}; ")?.as_str())?;
-    }
-    Ok(())
-}
-
-fn spell_unused(alloc: Global, out: &mut String, ast: &GrammarAST) -> Result<(), AllocError> {
-    for symbol in ast.expect_unused() {
-        spell_symbol(alloc, out, symbol)?;
-    }
-    Ok(())
-}
-
 /// What the declarations say, apart from `%token` and `%start`.
-fn spell_declarations(alloc: Global, ast: &GrammarAST) -> Result<String, AllocError> {
+fn declarations_of(alloc: Global, ast: &GrammarAST) -> Result<String, AllocError> {
     let mut out = String::new(alloc);
     spell_precs(alloc, &mut out, ast)?;
-    spell_avoided(alloc, &mut out, ast)?;
-    spell_implicit(alloc, &mut out, ast)?;
+    spell_placed(alloc, &mut out, "avoid ", ast.avoid_insert())?;
+    spell_placed(alloc, &mut out, "implicit ", ast.implicit_tokens())?;
     spell_epps(alloc, &mut out, ast)?;
-    spell_unused(alloc, &mut out, ast)?;
+    spell_symbols(alloc, &mut out, ast.expect_unused())?;
     Ok(out)
 }
 
@@ -228,7 +158,8 @@ fn spell_number(
 ) -> Result<(), AllocError> {
     if let Some((number, span)) = number {
         let start = span.start();
-        out.push_str(format!(in alloc; "{label} {number} {start}; ")?.as_str())?;
+        let end = span.end();
+        out.push_str(format!(in alloc; "{label} {number} {start}-{end}; ")?.as_str())?;
     }
     Ok(())
 }
@@ -253,7 +184,7 @@ fn spell_param(alloc: Global, out: &mut String, ast: &GrammarAST) -> Result<(), 
 }
 
 /// The texts and numbers that stand once.
-fn spell_single(alloc: Global, ast: &GrammarAST) -> Result<String, AllocError> {
+fn single_of(alloc: Global, ast: &GrammarAST) -> Result<String, AllocError> {
     let mut out = String::new(alloc);
     spell_number(alloc, &mut out, "expect", ast.expect())?;
     spell_number(alloc, &mut out, "expectrr", ast.expectrr())?;
@@ -263,29 +194,71 @@ fn spell_single(alloc: Global, ast: &GrammarAST) -> Result<String, AllocError> {
     Ok(out)
 }
 
+fn compare_names(
+    rt: &(impl Abort + AllocGlobal),
+    ast: &GrammarAST,
+    text: &str,
+    wanted: &str,
+) -> Result<(), Fail> {
+    let found = names_of(rt.alloc(), ast)?;
+    assert_eq!(rt; found.as_str(), wanted, "{text}");
+    Ok(())
+}
+
+fn compare_declarations(
+    rt: &(impl Abort + AllocGlobal),
+    ast: &GrammarAST,
+    text: &str,
+    wanted: &str,
+) -> Result<(), Fail> {
+    let found = declarations_of(rt.alloc(), ast)?;
+    assert_eq!(rt; found.as_str(), wanted, "{text}");
+    Ok(())
+}
+
+fn compare_single(
+    rt: &(impl Abort + AllocGlobal),
+    ast: &GrammarAST,
+    text: &str,
+    wanted: &str,
+) -> Result<(), Fail> {
+    let found = single_of(rt.alloc(), ast)?;
+    assert_eq!(rt; found.as_str(), wanted, "{text}");
+    Ok(())
+}
+
 fn compare_tree(
     rt: &(impl Abort + AllocGlobal),
     ast: &GrammarAST,
+    text: &str,
     (names, declarations, single): (&str, &str, &str),
 ) -> Result<(), Fail> {
-    let found = spell_names(rt.alloc(), ast)?;
-    assert_eq!(rt; found.as_str(), names);
-    let found = spell_declarations(rt.alloc(), ast)?;
-    assert_eq!(rt; found.as_str(), declarations);
-    let found = spell_single(rt.alloc(), ast)?;
-    assert_eq!(rt; found.as_str(), single);
-    Ok(())
+    compare_names(rt, ast, text, names)?;
+    compare_declarations(rt, ast, text, declarations)?;
+    compare_single(rt, ast, text, single)
+}
+
+fn compare_copy(
+    rt: &(impl Abort + AllocGlobal),
+    ast: &GrammarAST,
+    text: &str,
+    wanted: (&str, &str, &str),
+) -> Result<(), Fail> {
+    let copy = ast.clone()?;
+    let compared = compare_tree(rt, &copy, text, wanted);
+    drop(copy);
+    compared
 }
 
 /// A tree and a copy of it, which say the same.
 fn compare_copies(
     rt: &(impl Abort + AllocGlobal),
     ast: &GrammarAST,
+    text: &str,
     wanted: (&str, &str, &str),
 ) -> Result<(), Fail> {
-    compare_tree(rt, ast, wanted)?;
-    let copy = ast.clone()?;
-    compare_tree(rt, &copy, wanted)
+    compare_tree(rt, ast, text, wanted)?;
+    compare_copy(rt, ast, text, wanted)
 }
 
 fn compare_text(
@@ -295,7 +268,9 @@ fn compare_text(
     wanted: (&str, &str, &str),
 ) -> Result<(), Fail> {
     let checked = ASTWithValidityInfo::new(rt.alloc(), kind, text)?;
-    compare_copies(rt, checked.ast(), wanted)
+    let compared = compare_copies(rt, checked.ast(), text, wanted);
+    drop(checked);
+    compared
 }
 
 fn compare_trees(
@@ -312,23 +287,27 @@ const TREES: &[(YaccKind, &str, (&str, &str, &str))] = &[
     (
         TREE,
         "%start T %% S: 'a' T | ; T: 'b'; S: 'a' 'c';",
-        ("T 7 | S 12 0 1 3; T 25 2; | a 16; b 29; c 41; ", "", ""),
+        (
+            "T 7-8 | S 12-13 0 1 3; T 25-26 2; | a 16-17; b 29-30; c 41-42; ",
+            "",
+            "",
+        ),
     ),
     (
         TREE,
         "%token c a\n%left 'a'\n%right b\n%avoid_insert a\n%expect 3 %expect-rr 4 %expect-unused S 'a'\n%% S: 'b' a;",
         (
-            "S 93 | S 93 0; | c 7; a 9; b 97; ",
-            "a Left 0; b Right 1; avoid a 44;  r(S)84-85 t(a)87-88",
-            "expect 3 54; expectrr 4 67; ",
+            "S 93-94 | S 93-94 0; | c 7-8; a 9-10; b 97-98; ",
+            "a Left 0 18-19; b Right 1 28-29; avoid a 44-45;  r(S)84-85 t(a)87-88",
+            "expect 3 54-55; expectrr 4 67-68; ",
         ),
     ),
     (
         YaccKind::Eco,
         "%implicit_tokens ws nl\n%epp a 'A' %% S: 'a'; T: ; %% fn f() {}",
         (
-            "S 37 | S 37 0; T 45 1; | ws 17; nl 20; a 41; ",
-            "implicit ws 17; implicit nl 20; epp a A; ",
+            "S 37-38 | S 37-38 0; T 45-46 1; | ws 17-19; nl 20-22; a 41-42; ",
+            "implicit ws 17-19; implicit nl 20-22; epp a 28-29 A; ",
             "programs fn f() {}; ",
         ),
     ),
@@ -336,7 +315,7 @@ const TREES: &[(YaccKind, &str, (&str, &str, &str))] = &[
         YaccKind::Grmtools,
         "%parse-param p: &str\n%parse-generics 'a\n%% S -> u64: 'a' { 1 }; S -> u32: ;",
         (
-            "S 43 | S 43 0 1 ->u64; | a 54; ",
+            "S 43-44 | S 43-44 0 1 ->u64; | a 54-55; ",
             "",
             "param p:&str; generics 'a; ",
         ),
@@ -362,7 +341,9 @@ fn named(alloc: Global, name: &str, start: usize) -> Result<(String, Span), Allo
 
 fn empty_tree(alloc: Global) -> Result<GrammarAST, AllocError> {
     let checked = ASTWithValidityInfo::new(alloc, TREE, "")?;
-    checked.ast().clone()
+    let copy: Result<GrammarAST, AllocError> = checked.ast().clone();
+    drop(checked);
+    copy
 }
 
 /// Adds a production without symbols, where the rule is there.
@@ -400,67 +381,43 @@ fn set_texts(alloc: Global, ast: &mut GrammarAST) -> Result<(), AllocError> {
     Ok(())
 }
 
-fn compare_names(
-    rt: &(impl Abort + AllocGlobal),
-    ast: &GrammarAST,
-    wanted: &str,
-) -> Result<(), Fail> {
-    let found = spell_names(rt.alloc(), ast)?;
-    assert_eq!(rt; found.as_str(), wanted);
-    Ok(())
-}
-
 fn compare_changes(rt: &(impl Abort + AllocGlobal), ast: &mut GrammarAST) -> Result<(), Fail> {
     add_rules(rt.alloc(), ast)?;
-    compare_names(rt, ast, "S 0 0 2; T 2 1; | ")?;
+    compare_names(rt, ast, "added rules", "S 0-1 0 2; T 2-3 1; | ")?;
     replace_rule(rt.alloc(), ast)?;
-    compare_names(rt, ast, "S 7 ->u8; T 2 1; | ")?;
+    compare_names(rt, ast, "replaced rule", "S 7-8 ->u8; T 2-3 1; | ")?;
     set_texts(rt.alloc(), ast)?;
-    compare_single(rt, ast, "programs q; ")?;
+    compare_single(rt, ast, "set programs", "programs q; ")?;
     assert_eq!(rt; ast.prods().len(), 3);
     assert!(rt; ast.get_rule("U").is_none() && !ast.has_token("a"));
-    Ok(())
-}
-
-fn compare_single(
-    rt: &(impl Abort + AllocGlobal),
-    ast: &GrammarAST,
-    wanted: &str,
-) -> Result<(), Fail> {
-    let found = spell_single(rt.alloc(), ast)?;
-    assert_eq!(rt; found.as_str(), wanted);
     Ok(())
 }
 
 #[test]
 fn changed_trees(rt: HostRuntime) -> Result<(), Fail> {
     let mut ast = empty_tree(rt.alloc())?;
-    compare_changes(&rt, &mut ast)
-}
-
-fn spell_spans(alloc: Global, ast: &GrammarAST) -> Result<String, AllocError> {
-    let mut out = String::new(alloc);
-    for span in ast.spans() {
-        let start = span.start();
-        let end = span.end();
-        out.push_str(format!(in alloc; "{start}-{end} ")?.as_str())?;
-    }
-    Ok(out)
+    let compared = compare_changes(&rt, &mut ast);
+    drop(ast);
+    compared
 }
 
 /// The places of the tokens.
-fn compare_spans(
-    rt: &(impl Abort + AllocGlobal),
-    ast: &GrammarAST,
-    wanted: &str,
-) -> Result<(), Fail> {
-    let found = spell_spans(rt.alloc(), ast)?;
-    assert_eq!(rt; found.as_str(), wanted);
-    Ok(())
+fn places_of(alloc: Global, ast: &GrammarAST) -> Result<String, AllocError> {
+    let mut out = String::new(alloc);
+    spell_places(alloc, &mut out, ast.spans())?;
+    Ok(out)
+}
+
+fn places_of_text(alloc: Global, text: &str) -> Result<String, AllocError> {
+    let checked = ASTWithValidityInfo::new(alloc, TREE, text)?;
+    let found = places_of(alloc, checked.ast());
+    drop(checked);
+    found
 }
 
 #[test]
 fn places_of_tokens(rt: HostRuntime) -> Result<(), Fail> {
-    let checked = ASTWithValidityInfo::new(rt.alloc(), TREE, "%token b\n%% S: 'a' b;")?;
-    compare_spans(&rt, checked.ast(), "7-8 16-17 ")
+    let found = places_of_text(rt.alloc(), "%token b\n%% S: 'a' b;")?;
+    assert_eq!(rt; found.as_str(), " 7-8 16-17");
+    Ok(())
 }

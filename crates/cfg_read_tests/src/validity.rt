@@ -1,10 +1,10 @@
 //! Texts that read, and what is wrong with them.
 
-use cfg_base::span::{Spanned, SpansKind};
+use crate::spell::spell_errors;
 use cfg_read::yacc::parser::error::{ReadError, YaccGrammarErrorKind};
 use cfg_read::yacc::parser::read_syntax;
 use cfg_read::yacc::parser::syntax::Syntax;
-use cfg_read::yacc::validity::{YaccGrammarError, failures};
+use cfg_read::yacc::validity::failures;
 use cfg_read::yacc::{YaccKind, YaccOriginalActionKind};
 use std::alloc::{AllocError, Global};
 use std::process::Abort;
@@ -12,36 +12,23 @@ use std::test::*;
 
 const TREE: YaccKind = YaccKind::Original(YaccOriginalActionKind::GenericParseTree);
 
-/// An error as its text and its places, behind which `twice` stands where they are duplicates.
-fn spell_error(
-    alloc: Global,
-    out: &mut String,
-    error: &YaccGrammarError,
-) -> Result<(), AllocError> {
-    out.push_str(format!(in alloc; "{error}")?.as_str())?;
-    for span in error.spans() {
-        let start = span.start();
-        let end = span.end();
-        out.push_str(format!(in alloc; " {start}-{end}")?.as_str())?;
-    }
-    match error.spanskind() {
-        SpansKind::DuplicationError => out.push_str(" twice; "),
-        SpansKind::Error => out.push_str("; "),
-    }
-}
-
-fn spell_errors(alloc: Global, x: &Syntax) -> Result<String, AllocError> {
+fn errors_of(alloc: Global, x: &Syntax) -> Result<String, AllocError> {
     let mut out = String::new(alloc);
-    for error in &failures(alloc, x)? {
-        spell_error(alloc, &mut out, error)?;
-    }
+    let errors = failures(alloc, x)?;
+    let spelled = spell_errors(alloc, &mut out, &errors);
+    drop(errors);
+    spelled?;
     Ok(out)
 }
 
 /// All errors of a text that reads, else its fault.
 fn answer(alloc: Global, kind: YaccKind, text: &str) -> Result<String, AllocError> {
     match read_syntax(alloc, kind, text, 0) {
-        Ok(x) => spell_errors(alloc, &x),
+        Ok(x) => {
+            let found = errors_of(alloc, &x);
+            drop(x);
+            found
+        }
         Err(ReadError::Memory) => Err(AllocError),
         Err(ReadError::Fault(fault, place)) => format!(in alloc; "{fault} {place}"),
     }
@@ -207,53 +194,92 @@ fn repetitions(rt: HostRuntime) -> Result<(), Fail> {
     compare(&rt, REPETITIONS)
 }
 
+/// Compares what a kind without a name prints.
+fn shows(
+    rt: &(impl Abort + AllocGlobal),
+    kind: YaccGrammarErrorKind,
+    expected: &str,
+) -> Result<(), Fail> {
+    let text = format!(in rt.alloc(); "{kind}");
+    drop(kind);
+    assert_eq!(rt; text?.as_str(), expected);
+    Ok(())
+}
+
 #[test]
-fn kinds_without_a_name(rt: HostRuntime) -> Result<(), Fail> {
-    let cases = [
-        (YaccGrammarErrorKind::IllegalInteger, "Illegal integer"),
-        (YaccGrammarErrorKind::IllegalName, "Illegal name"),
-        (YaccGrammarErrorKind::IllegalString, "Illegal string"),
-        (YaccGrammarErrorKind::InvalidString, "Invalid string"),
-        (YaccGrammarErrorKind::IncompleteRule, "Incomplete rule"),
-        (
-            YaccGrammarErrorKind::IncompleteComment,
-            "Incomplete comment",
-        ),
-        (YaccGrammarErrorKind::IncompleteAction, "Incomplete action"),
-        (YaccGrammarErrorKind::MissingColon, "Missing ':'"),
-        (YaccGrammarErrorKind::MissingRightArrow, "Missing '->'"),
-        (
-            YaccGrammarErrorKind::NonEmptyProduction,
-            "%empty used in non-empty production",
-        ),
-        (YaccGrammarErrorKind::PrematureEnd, "File ends prematurely"),
-        (
-            YaccGrammarErrorKind::ProductionNotTerminated,
-            "Production not terminated correctly",
-        ),
-        (
-            YaccGrammarErrorKind::UnknownDeclaration,
-            "Unknown declaration",
-        ),
-        (
-            YaccGrammarErrorKind::PrecNotFollowedByToken,
-            "%prec not followed by token name",
-        ),
-        (
-            YaccGrammarErrorKind::ReachedEOL,
-            "Reached end of line without finding expected content",
-        ),
-        (YaccGrammarErrorKind::InvalidYaccKind, "Invalid yacc kind"),
-        (YaccGrammarErrorKind::MismatchedBrace, "MismatchedBrace"),
-        (
-            YaccGrammarErrorKind::ProgramsNotSupported,
-            "ProgramsNotSupported",
-        ),
-        (YaccGrammarErrorKind::ExpectedInput, "ExpectedInput"),
-    ];
-    for (kind, expected) in &cases {
-        let text = format!(in rt.alloc(); "{kind}")?;
-        assert_eq!(rt; text.as_str(), *expected);
-    }
+fn kinds_of_faults_in_declarations(rt: HostRuntime) -> Result<(), Fail> {
+    shows(&rt, YaccGrammarErrorKind::IllegalInteger, "Illegal integer")?;
+    shows(&rt, YaccGrammarErrorKind::IllegalName, "Illegal name")?;
+    shows(&rt, YaccGrammarErrorKind::IllegalString, "Illegal string")?;
+    shows(&rt, YaccGrammarErrorKind::InvalidString, "Invalid string")?;
+    shows(
+        &rt,
+        YaccGrammarErrorKind::UnknownDeclaration,
+        "Unknown declaration",
+    )?;
+    shows(
+        &rt,
+        YaccGrammarErrorKind::ReachedEOL,
+        "Reached end of line without finding expected content",
+    )?;
+    shows(
+        &rt,
+        YaccGrammarErrorKind::InvalidYaccKind,
+        "Invalid yacc kind",
+    )?;
+    Ok(())
+}
+
+#[test]
+fn kinds_of_faults_in_rules(rt: HostRuntime) -> Result<(), Fail> {
+    shows(&rt, YaccGrammarErrorKind::IncompleteRule, "Incomplete rule")?;
+    shows(
+        &rt,
+        YaccGrammarErrorKind::IncompleteAction,
+        "Incomplete action",
+    )?;
+    shows(&rt, YaccGrammarErrorKind::MissingColon, "Missing ':'")?;
+    shows(&rt, YaccGrammarErrorKind::MissingRightArrow, "Missing '->'")?;
+    shows(
+        &rt,
+        YaccGrammarErrorKind::NonEmptyProduction,
+        "%empty used in non-empty production",
+    )?;
+    shows(
+        &rt,
+        YaccGrammarErrorKind::ProductionNotTerminated,
+        "Production not terminated correctly",
+    )?;
+    shows(
+        &rt,
+        YaccGrammarErrorKind::PrecNotFollowedByToken,
+        "%prec not followed by token name",
+    )?;
+    Ok(())
+}
+
+#[test]
+fn kinds_of_other_faults(rt: HostRuntime) -> Result<(), Fail> {
+    shows(
+        &rt,
+        YaccGrammarErrorKind::IncompleteComment,
+        "Incomplete comment",
+    )?;
+    shows(
+        &rt,
+        YaccGrammarErrorKind::PrematureEnd,
+        "File ends prematurely",
+    )?;
+    shows(
+        &rt,
+        YaccGrammarErrorKind::MismatchedBrace,
+        "MismatchedBrace",
+    )?;
+    shows(
+        &rt,
+        YaccGrammarErrorKind::ProgramsNotSupported,
+        "ProgramsNotSupported",
+    )?;
+    shows(&rt, YaccGrammarErrorKind::ExpectedInput, "ExpectedInput")?;
     Ok(())
 }

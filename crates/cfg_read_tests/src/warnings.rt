@@ -1,6 +1,8 @@
 //! Warnings of hand-written texts.
 
+use crate::spell::spell_places;
 use cfg_base::span::Spanned;
+use cfg_read::yacc::ast::GrammarAST;
 use cfg_read::yacc::ast::warnings::YaccGrammarWarning;
 use cfg_read::yacc::{ASTWithValidityInfo, YaccKind, YaccOriginalActionKind};
 use std::alloc::{AllocError, Global};
@@ -9,23 +11,42 @@ use std::test::*;
 
 const TREE: YaccKind = YaccKind::Original(YaccOriginalActionKind::GenericParseTree);
 
-fn spell(alloc: Global, warnings: &[YaccGrammarWarning]) -> Result<String, AllocError> {
+/// A warning as its text and its places.
+fn spell_warning(
+    alloc: Global,
+    out: &mut String,
+    warning: &YaccGrammarWarning,
+) -> Result<(), AllocError> {
+    out.push_str(format!(in alloc; "{warning}")?.as_str())?;
+    spell_places(alloc, out, warning.spans())?;
+    out.push_str("; ")
+}
+
+fn spell_warnings(alloc: Global, warnings: &[YaccGrammarWarning]) -> Result<String, AllocError> {
     let mut out = String::new(alloc);
     for warning in warnings {
-        out.push_str(format!(in alloc; "{warning}")?.as_str())?;
-        for span in warning.spans() {
-            let start = span.start();
-            let end = span.end();
-            out.push_str(format!(in alloc; " {start}-{end}; ")?.as_str())?;
-        }
+        spell_warning(alloc, &mut out, warning)?;
     }
     Ok(out)
 }
 
+fn warnings_of(alloc: Global, ast: &GrammarAST) -> Result<String, AllocError> {
+    let warnings = ast.warnings(alloc)?;
+    let found = spell_warnings(alloc, &warnings);
+    drop(warnings);
+    found
+}
+
+fn answer(alloc: Global, kind: YaccKind, text: &str) -> Result<String, AllocError> {
+    let checked = ASTWithValidityInfo::new(alloc, kind, text)?;
+    let found = warnings_of(alloc, checked.ast());
+    drop(checked);
+    found
+}
+
 fn compare(rt: &(impl Abort + AllocGlobal), cases: &[(YaccKind, &str, &str)]) -> Result<(), Fail> {
     for (kind, text, expected) in cases {
-        let checked = ASTWithValidityInfo::new(rt.alloc(), *kind, text)?;
-        let found = spell(rt.alloc(), &checked.ast().warnings(rt.alloc())?)?;
+        let found = answer(rt.alloc(), *kind, text)?;
         assert_eq!(rt; found.as_str(), *expected, "{text}");
     }
     Ok(())

@@ -1,5 +1,5 @@
 -- A small grammar on which each definition is met: ^: S; S: 'a' S | B; B: 'b' | ;
-use Rattle.std.specs.Prelude.{◌≡◌, ℕ, zero, suc, Bool, true, false, IsTrue, List, [], ◌∷◌, Option, Some, None}
+use Rattle.std.specs.Prelude.{◌≡◌, ℕ, zero, suc, ◌+◌, ◌*◌, Bool, true, false, IsTrue, List, [], ◌∷◌, ◌++◌, Option, Some, None}
 use Rattle.cfg_theory.specs.Grammar.{Sym, rule, token, Production, Grammar, WellFormed, start_symbol}
 use Rattle.cfg_theory.specs.Derivation.{Nullable, IsFirst, IsFirstBefore, IsFollow, HasPath, AllProductive, IsSentence, BeginsSentence}
 use Rattle.cfg_theory.specs.Tree.{Tree, leaf, node, none, before, IsDerivation}
@@ -43,6 +43,29 @@ numbers p r s (v ∷ vs) = p ∷ v
 
 abbrev pub one_number : ℕ → List ℕ
 one_number x = x ∷ []
+
+-- the rule that a function is told, and the span
+abbrev pub rule_and_span : ℕ → ℕ → Span → List ℕ → ℕ
+rule_and_span p r s vs = r * 100 + s.from * 10 + s.to
+
+-- `b` as a B of an S
+abbrev pub lone_b : Tree ℕ
+lone_b = node 1 (before (node 2 (before (leaf 1) none)) none)
+
+-- the lexemes 1 and 5 with an empty B between them
+abbrev pub gapped : Tree ℕ
+gapped = node 0 (before (leaf 1) (before (node 3 none) (before (leaf 5) none)))
+
+-- the spans of the nodes, each before those of its children
+abbrev pub joined : List (List Span) → List Span
+joined [] = []
+joined (v ∷ vs) = v ++ joined vs
+
+abbrev pub spans : ℕ → ℕ → Span → List (List Span) → List Span
+spans p r s vs = s ∷ joined vs
+
+abbrev pub no_spans : ℕ → List Span
+no_spans x = []
 
 -- the three rules
 abbrev pub each_rule : ℕ → Bool
@@ -117,6 +140,11 @@ pub record ExampleIsMet : Type 0 where
   pub span : span_of place no_span tree ≡ record { from = 0; to = 2 }
   pub value : fold example one_number numbers place no_span tree ≡ 0 ∷ 0 ∷ []
   pub folds : Folds example (by_functions one_number numbers) place no_span tree (0 ∷ 0 ∷ [])
+  -- a function is told the rule of the production, and the node's span
+  pub told : fold example as_is rule_and_span place no_span lone_b ≡ 112
+  -- a node without children has the span of the entry to the left, also between two others
+  pub empty_span : span_of place (place 3) (node 3 none) ≡ place 3
+  pub middle_span : fold example no_spans spans place no_span gapped ≡ record { from = 1; to = 6 } ∷ record { from = 1; to = 2 } ∷ []
   pub nullable : Nullable example (rule 1 ∷ [])
   pub first_token : IsFirst example (rule 1 ∷ []) 1
   pub first_before : IsFirstBefore example (rule 2 ∷ []) 2 2

@@ -45,7 +45,7 @@ entry_is a b bits p d e = by (entry_or (record { production = 4; dot = 1; lookah
     by (inr h) = last (entry_or (record { production = 5; dot = 1; lookaheads = b }) [] p d bits h)
 
 -- an item of it is one of two
-each_item : (a b : List Bool) (P : ℕ → ℕ → Type 0) → P 4 1 → P 5 1 → (p d : ℕ) → HasItem (completed a b) p d → P p d
+pub each_item : (a b : List Bool) (P : ℕ → ℕ → Type 0) → P 4 1 → P 5 1 → (p d : ℕ) → HasItem (completed a b) p d → P p d
 each_item a b P x y p d h = by (entry_is a b h.lookaheads p d h.at)
   where
     by : ((p ≡ 4) × (d ≡ 1) × (a ≡ h.lookaheads)) ⊎ ((p ≡ 5) × (d ≡ 1) × (b ≡ h.lookaheads)) → P p d
@@ -60,19 +60,19 @@ each_look a b P x y p d t h = by (entry_is a b h.lookaheads p d h.at)
     by (inl (i, j, e)) = subst (λ p. P p d t) (sym i) (subst (λ d. P 4 d t) (sym j) (x t (ap (λ l. slice_get l t) e ∙ h.set)))
     by (inr (i, j, e)) = subst (λ p. P p d t) (sym i) (subst (λ d. P 5 d t) (sym j) (y t (ap (λ l. slice_get l t) e ∙ h.set)))
 
-item4 : (a b : List Bool) → HasItem (completed a b) 4 1
+pub item4 : (a b : List Bool) → HasItem (completed a b) 4 1
 item4 a b = record { lookaheads = a; at = at4 a b }
 
-item5 : (a b : List Bool) → HasItem (completed a b) 5 1
+pub item5 : (a b : List Bool) → HasItem (completed a b) 5 1
 item5 a b = record { lookaheads = b; at = at5 a b }
 
-look4 : (a b : List Bool) (t : ℕ) → slice_get a t ≡ Some true → HasLook (completed a b) 4 1 t
+pub look4 : (a b : List Bool) (t : ℕ) → slice_get a t ≡ Some true → HasLook (completed a b) 4 1 t
 look4 a b t e = record { lookaheads = a; at = at4 a b; set = e }
 
-look5 : (a b : List Bool) (t : ℕ) → slice_get b t ≡ Some true → HasLook (completed a b) 5 1 t
+pub look5 : (a b : List Bool) (t : ℕ) → slice_get b t ≡ Some true → HasLook (completed a b) 5 1 t
 look5 a b t e = record { lookaheads = b; at = at5 a b; set = e }
 
-same_items : (a b a' b' : List Bool) (p d : ℕ) → HasItem (completed a b) p d → HasItem (completed a' b') p d
+pub same_items : (a b a' b' : List Bool) (p d : ℕ) → HasItem (completed a b) p d → HasItem (completed a' b') p d
 same_items a b a' b' p d = each_item a b (λ p d. HasItem (completed a' b') p d) (item4 a' b') (item5 a' b') p d
 
 -- d and e
@@ -244,7 +244,14 @@ module _ (a b : List Bool) (x y : ℕ) (differ : x ≡ y → ⊥) (a_is : (t : �
   no_meeting : Meet (HasLook (completed a b)) 4 1 5 1 → ⊥
   no_meeting (t, h, k) = differ (sym (look4_is 4 1 t h refl) ∙ look5_is 5 1 t k refl)
 
-other_way : Incompatible (HasItem after_a) (HasLook after_a) (HasLook after_b)
+-- the two sets by themselves
+pub apart_after_a : Meet (HasLook after_a) 4 1 5 1 → ⊥
+apart_after_a = no_meeting d_alone e_alone 3 4 (λ e. absurd (omega (arith, e))) d_is e_is
+
+pub apart_after_b : Meet (HasLook after_b) 4 1 5 1 → ⊥
+apart_after_b = no_meeting e_alone d_alone 4 3 (λ e. absurd (omega (arith, e))) e_is d_is
+
+pub other_way : Incompatible (HasItem after_a) (HasLook after_a) (HasLook after_b)
 other_way = record {
   production = 4;
   dot = 1;
@@ -254,11 +261,11 @@ other_way = record {
   other_item = item5 d_alone e_alone;
   differ = λ e f. absurd (omega (arith, e));
   cross = (3, look4 d_alone e_alone 3 refl, look5 e_alone d_alone 3 refl);
-  apart = no_meeting d_alone e_alone 3 4 (λ e. absurd (omega (arith, e))) d_is e_is;
-  other_apart = no_meeting e_alone d_alone 4 3 (λ e. absurd (omega (arith, e))) e_is d_is;
+  apart = apart_after_a;
+  other_apart = apart_after_b;
 }
 
-not_compatible : WeaklyCompatible (HasItem after_a) (HasLook after_a) (HasLook after_b) → ⊥
+pub not_compatible : WeaklyCompatible (HasItem after_a) (HasLook after_a) (HasLook after_b) → ⊥
 unfolding other_way
 not_compatible c = by (c 4 1 5 1 other_way.item other_way.other_item other_way.differ)
   where

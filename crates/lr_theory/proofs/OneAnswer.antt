@@ -9,7 +9,7 @@ use Rattle.lr_theory.specs.Machine.{Config, failed, run}
 use Rattle.lr_theory.specs.Stack.{stack_yield}
 use Rattle.lr_theory.specs.Repair.{Edit, apply, with_rest, Takes, IsFirstTaken, Parses, accepts, gives_up, repairs, RepairedParsesAreUnique}
 use Rattle.lr_theory.proofs.Complete.{one_answer}
-use Rattle.lr_theory.proofs.Errors.{failed_more, not_both}
+use Rattle.lr_theory.proofs.ErrorPlaces.{failed_more, not_both}
 
 module _ (L : Type 0) (G : Grammar) (a : Automaton) (tok : L → ℕ) where
   -- a run fails in one way

@@ -10,7 +10,7 @@ use Rattle.lr_theory.specs.Building.{with_edge}
 use Rattle.lr_theory.specs.Automaton.{shift, reduce, accept, closed_of, ClosedItem, ClosedLook}
 use Rattle.lr_theory.specs.Table.{ClosesCores, CellsFit, IsAutomatonOf, InCell, FillsCells}
 use Rattle.lr_theory.specs.TableLaws.{IsUncontested}
-use Rattle.lr_theory.specs.Places.{IsReady}
+use Rattle.lr_theory.specs.ErrorPlaces.{IsReady}
 use Rattle.lr_theory.specs.Chains.{push_goto, reduction, Reductions}
 use Rattle.lr_theory.specs.SmallGrammars.{single, single_graph, single_action, single_machine, MeetsLaws}
 use Rattle.lr_theory.proofs.Literal.{none_some, each_item, each_look}

@@ -15,10 +15,10 @@ use Rattle.lr_theory.specs.Machine.{Config, accepted, run, start_config}
 use Rattle.lr_theory.specs.Chains.{ChainsWithin}
 use Rattle.lr_theory.specs.Table.{IsAutomatonOf, FillsCells}
 use Rattle.lr_theory.specs.TableLaws.{IsUncontested}
-use Rattle.lr_theory.specs.Prefix.{HasPresent}
-use Rattle.lr_theory.specs.Places.{IsReady}
+use Rattle.lr_theory.specs.ViablePrefix.{HasPresent}
+use Rattle.lr_theory.specs.ErrorPlaces.{IsReady}
 use Rattle.lr_theory.specs.Repair.{Edit, insert, Takes, Parses, Advances}
-use Rattle.lr_theory.specs.Values.{StackFolds}
+use Rattle.lr_theory.specs.StackValues.{StackFolds}
 
 -- `S: A x y | B x z; A: a; B: a;`: after a, x leaves two reductions.
 -- x, y, z, a and the end are the tokens 0 to 4; ^, S, A, B the rules 0 to 3.

@@ -1,4 +1,5 @@
 ghost use Rattle.lr_theory.specs.SmallGrammars.{ClashIsContested, TinyIsReady, CrossingStaysApart, StateGrows, MissingLexemeIsInserted};
+ghost use Rattle.lr_theory.specs.SmallCases.{EditsAreApplied, SymbolsAreInOrder, StatesAreInOrder, SharedTokensJoin, FirstFitIsJoined, LeastChainIsTold};
 
 /// `S: A x y | B x z; A: a; B: a;`: canonical LR(1) leaves x two reductions after a.
 #[tactic(auto, using(crate::proofs::ContestExample::clash_is_contested))]
@@ -30,4 +31,43 @@ pub fn a_state_grows()
 #[tactic(auto, using(crate::proofs::RepairExample::missing_lexeme_is_inserted))]
 pub fn a_missing_lexeme_is_inserted()
     ensures { MissingLexemeIsInserted }
+{}
+
+/// What is inserted stands before the next lexeme, a deleted lexeme is gone and a kept one stays.
+#[tactic(auto, using(crate::proofs::CaseExample::edits_are_applied))]
+pub fn edits_change_lexemes()
+    ensures { EditsAreApplied }
+{}
+
+/// The symbols of a grammar are in order: rules before tokens, each kind ascending.
+#[tactic(auto, using(crate::proofs::CaseExample::symbols_are_in_order))]
+pub fn symbols_have_their_order()
+    ensures { SymbolsAreInOrder }
+{}
+
+/// The graph of `^: S; S: a c | b d;`: states are numbered as they are made, and the least that is to be taken is taken
+/// first.
+#[tactic(auto, using(crate::proofs::OrderExample::states_are_in_order))]
+pub fn states_have_their_order()
+    ensures { StatesAreInOrder }
+{}
+
+/// Two sets of one core whose items cross join where the items share a token in the newer set alone, and where they
+/// share it in the older one alone.
+#[tactic(auto, using(crate::proofs::CaseExample::shared_tokens_join))]
+pub fn sets_with_shared_tokens_join()
+    ensures { SharedTokensJoin }
+{}
+
+/// Of two states that a set fits it joins the first.
+#[tactic(auto, using(crate::proofs::CaseExample::first_fit_is_joined))]
+pub fn a_set_joins_the_first_that_fits()
+    ensures { FirstFitIsJoined }
+{}
+
+/// Of the chains of reductions that pass a cap the least is told: by state, then without a rule before rules, then by
+/// token.
+#[tactic(auto, using(crate::proofs::CaseExample::least_chain_is_told))]
+pub fn the_least_chain_is_told()
+    ensures { LeastChainIsTold }
 {}

@@ -9,7 +9,8 @@ use Rattle.lr_theory.specs.Automaton.{Action, closed_of}
 use Rattle.lr_theory.specs.SmallGrammars.{tiny}
 use Rattle.lr_theory.proofs.GraphExample.{is_graph}
 use Rattle.lr_theory.proofs.MachineExample.{tiny_action, tiny_lr, tiny_closes}
-use Rattle.table_theory.specs.Cells.{ItemBefore, cell_of}
+use Rattle.lr_theory.specs.Itemset.{ItemBefore}
+use Rattle.table_theory.specs.Cells.{cell_of}
 use Rattle.table_theory.specs.TableCells.{candidates_of, HasCells}
 use Rattle.table_theory.specs.SmallTables.{no_precedences, endless, MeetingIsSettled, EndlessIsRefused, TinyHasTable}
 
@@ -24,6 +25,14 @@ meeting_is_settled = record {
   equal = refl;
   higher = refl;
   settled = (refl, tt);
+  least = refl;
+  token_alone = refl;
+  lists_token_alone = refl;
+  is_token_alone = (refl, tt);
+  production_alone = refl;
+  lists_production_alone = refl;
+  is_production_alone = (refl, tt);
+  lists_none = refl;
 }
 
 start_next : IsNext endless 2 0 (rule 1)

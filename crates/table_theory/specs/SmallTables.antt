@@ -15,6 +15,13 @@ no_precedences = record { of_token = λ t. None; of_production = λ p. None }
 abbrev pub left_against : ℕ → Precedences
 left_against level = record { of_token = λ t. Some (record { level = 1; kind = Left }); of_production = λ p. Some (record { level = level; kind = Left }) }
 
+-- the tokens alone have a precedence, and the productions alone
+abbrev pub token_level : Precedences
+token_level = record { of_token = λ t. Some (record { level = 1; kind = Left }); of_production = λ p. None }
+
+abbrev pub production_level : Precedences
+production_level = record { of_token = λ t. None; of_production = λ p. Some (record { level = 1; kind = Left }) }
+
 -- reductions by 3 and by 5, and a shift to the state 7
 abbrev pub meeting : Candidates
 meeting = record { reductions = 3 ∷ 5 ∷ []; edge = Some 7; accepts = false }
@@ -31,6 +38,17 @@ pub record MeetingIsSettled : Type 0 where
   pub equal : cell_of (left_against 1) 0 meeting ≡ Action.reduce 3
   pub higher : cell_of (left_against 2) 0 meeting ≡ Action.reduce 3
   pub settled : SettlesShiftOf (left_against 1) 0 meeting 3
+  -- without a shift, the least reduction
+  pub least : cell_of no_precedences 0 (record { reductions = 3 ∷ 5 ∷ []; edge = None; accepts = false }) ≡ Action.reduce 3
+  -- where the token alone has a precedence, or the production alone, the cell shifts and the conflict is listed
+  pub token_alone : cell_of token_level 0 meeting ≡ Action.shift 7
+  pub lists_token_alone : shifts_at 2 0 meeting.reductions meeting.edge (token_level.of_token 0) token_level.of_production ≡ (0, 3, 2) ∷ []
+  pub is_token_alone : ListsShiftOf token_level 0 meeting 3
+  pub production_alone : cell_of production_level 0 meeting ≡ Action.shift 7
+  pub lists_production_alone : shifts_at 2 0 meeting.reductions meeting.edge (production_level.of_token 0) production_level.of_production ≡ (0, 3, 2) ∷ []
+  pub is_production_alone : ListsShiftOf production_level 0 meeting 3
+  -- and where both have one, it isn't
+  pub lists_none : shifts_at 2 0 meeting.reductions meeting.edge ((left_against 1).of_token 0) (left_against 1).of_production ≡ []
 
 -- `S: S | x;`: behind S the end token leaves accept and the reduction by the production 0
 abbrev pub endless : Grammar

@@ -7,7 +7,7 @@ use Rattle.cfg_theory.specs.Tree.{Tree}
 use Rattle.lr_theory.specs.Automaton.{Automaton}
 use Rattle.lr_theory.specs.Machine.{Config}
 use Rattle.lr_theory.specs.Repair.{Edit, Takes, Parses, accepts, gives_up, repairs}
-use Rattle.lr_theory.specs.Offered.{Filtered, HasRepair, RepairsAreOffered, ValuesComeByRepairs}
+use Rattle.lr_theory.specs.OfferedRepairs.{Filtered, HasRepair, RepairsAreOffered, ValuesComeByRepairs}
 use Rattle.lr_theory.proofs.OneAnswer.{not_refused}
 
 module _ {X : Type 0} (P : X → Type 0) where

@@ -8,11 +8,11 @@ use Rattle.cfg_theory.specs.Derivation.{AllProductive}
 use Rattle.lr_theory.specs.Automaton.{Automaton}
 use Rattle.lr_theory.specs.Machine.{Config, Outcome, going, accepted, failed, stuck, step, then_run, run, start_config}
 use Rattle.lr_theory.specs.Stack.{IsPath, stack_yield, Stands, IsGood}
-use Rattle.lr_theory.specs.Prefix.{HasPresent}
-use Rattle.lr_theory.specs.Places.{IsReady}
+use Rattle.lr_theory.specs.ViablePrefix.{HasPresent}
+use Rattle.lr_theory.specs.ErrorPlaces.{IsReady}
 use Rattle.lr_theory.specs.Repair.{Edit, with_rest, GetsPast, Takes}
-use Rattle.lr_theory.specs.Repaired.{IsFirstWith, RepairsAreFresh}
-use Rattle.lr_theory.proofs.Ends.{going_same}
+use Rattle.lr_theory.specs.StackAfterRepair.{IsFirstWith, RepairsAreFresh}
+use Rattle.lr_theory.proofs.RunTermination.{going_same}
 use Rattle.lr_theory.proofs.Fresh.{fresh_for}
 use Rattle.lr_theory.proofs.Repair.{stands_on}
 use Rattle.lr_theory.proofs.Sound.{run_is_good}

@@ -6,8 +6,8 @@ use Rattle.cfg_theory.specs.Derivation.{AllProductive}
 use Rattle.lr_theory.specs.Automaton.{Automaton}
 use Rattle.lr_theory.specs.Machine.{Config, going, run, start_config}
 use Rattle.lr_theory.specs.Stack.{stack_yield, Stands}
-use Rattle.lr_theory.specs.Prefix.{HasPresent}
-use Rattle.lr_theory.specs.Places.{IsReady}
+use Rattle.lr_theory.specs.ViablePrefix.{HasPresent}
+use Rattle.lr_theory.specs.ErrorPlaces.{IsReady}
 use Rattle.lr_theory.specs.Repair.{Edit, with_rest, Takes}
 
 -- from c the machine comes to d, and here first are no more than these lexemes left

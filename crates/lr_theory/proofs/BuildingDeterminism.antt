@@ -4,7 +4,7 @@ use Rattle.cfg_theory.specs.Grammar.{Sym, Grammar, WellFormed}
 use Rattle.lr_theory.specs.Itemset.{Items, Lookaheads, ItemSet}
 use Rattle.lr_theory.specs.Graph.{IsState, core_of}
 use Rattle.lr_theory.specs.Building.{Building, Place, Handled, symbols, IsTodo, taken, Step, Reached, Underway, Built}
-use Rattle.lr_theory.specs.Moments.{SameBuilding, steps_made, MomentsAreUnique}
+use Rattle.lr_theory.specs.BuildingDeterminism.{SameBuilding, steps_made, MomentsAreUnique}
 use Rattle.lr_theory.proofs.Building.{reached_sound, within}
 use Rattle.lr_theory.proofs.Unique.{Same, step_same, handled_alike}
 use Rattle.lr_theory.proofs.UniqueGraph.{Steps, from_start, begins_same}

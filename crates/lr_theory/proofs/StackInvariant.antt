@@ -7,7 +7,7 @@ use Rattle.lr_theory.specs.Automaton.{Automaton, Safe}
 use Rattle.lr_theory.specs.Machine.{Config, failed, run}
 use Rattle.lr_theory.specs.Stack.{stack_yield, Stands, IsGood}
 use Rattle.lr_theory.specs.Repair.{Edit, Parses, accepts, gives_up, repairs}
-use Rattle.lr_theory.specs.Standing.{StacksStand}
+use Rattle.lr_theory.specs.StackInvariant.{StacksStand}
 use Rattle.lr_theory.proofs.Sound.{run_is_good, start_stands}
 use Rattle.lr_theory.proofs.Repair.{stands_on}
 

@@ -272,7 +272,7 @@ digits-injective k m n p q h =
 
 -- ---- one bit
 
--- where there is no zero below the lowest bit set, counted from place p on, that bit is set
+-- where there is no zero below the lowest bit set, counted from the index p on, that bit is set
 pub first_is_set : (z k p : ℕ) (xs ys : List Bool) → length xs ≡ k → p < k → 0 < k → ((i : ℕ) → i < z → get_or (drop p xs ++ ys) i false ≡ false) → (z < k → get_or (drop p xs ++ ys) z false ≡ true) → eqb z 0 ≡ get_or xs p false
 first_is_set zero k p xs ys e h pos before found =
     let n : 0 < length (drop p xs) = omega (arith, length-drop p xs) in

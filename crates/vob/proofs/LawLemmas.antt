@@ -10,7 +10,7 @@ use Rattle.std.specs.Cmp.Lexicographic.{pointwise, pointwise_decides}
 use mathlib.Core.Bool.{beq, true≢false}
 use Rattle.vob.specs.Bits.{bitwise, differs, count_true, Joins}
 use Rattle.vob.specs.Packed.{blocks_for}
-use Rattle.vob.specs.Walk.{has_item, places_of}
+use Rattle.vob.specs.Walk.{has_item, indices_of}
 
 pub turned_twice : (xs : List Bool) → map not (map not xs) ≡ xs
 turned_twice [] = refl
@@ -52,7 +52,7 @@ none_counted : (xs : List Bool) (n a : ℕ) → n ≡ 0 → length (filter (has_
 none_counted xs zero a h = omega arith
 none_counted xs (suc n) a h = cc
 
-pub counts_sum : (xs : List Bool) (from to : ℕ) → to ≤ length xs → length (places_of true xs from to) + length (places_of false xs from to) ≡ to - from
+pub counts_sum : (xs : List Bool) (from to : ℕ) → to ≤ length xs → length (indices_of true xs from to) + length (indices_of false xs from to) ≡ to - from
 counts_sum xs from to h = by_order (to - from) refl
   where
     by_order : (n : ℕ) → n ≡ to - from → length (filter (has_item true xs) (range_with_len from (to - from))) + length (filter (has_item false xs) (range_with_len from (to - from))) ≡ to - from
@@ -139,7 +139,7 @@ stored_same w a b all more h k = (
       ∙ (ap (take (length b)) k ∙ take_at b (replicate (blocks_for w (length b) * w - length b) false) (length b) refl),
 )
 
--- ---- places
+-- ---- indices
 
 here_or_later : (b : Bool) (x z : ℕ) (xs : List ℕ) → Contains (cond b (x ∷ xs) xs) z → ((b ≡ true) × (x ≡ z)) ⊎ Contains xs z
 here_or_later true x z xs (zero, l, e) = inl (refl, e)
@@ -154,11 +154,11 @@ at_head : (b : Bool) (x z : ℕ) (xs : List ℕ) → x ≡ z → b ≡ true → 
 at_head true x z xs e h = (0, omega arith, e)
 at_head false x z xs e h = cc
 
-placed : (p : ℕ → Bool) (n a z : ℕ) → Contains (filter p (range_with_len a n)) z → (a ≤ z) × (z < a + n) × (p z ≡ true)
-placed p zero a z (k, l, e) = absurd (omega arith)
-placed p (suc n) a z c =
+filtered : (p : ℕ → Bool) (n a z : ℕ) → Contains (filter p (range_with_len a n)) z → (a ≤ z) × (z < a + n) × (p z ≡ true)
+filtered p zero a z (k, l, e) = absurd (omega arith)
+filtered p (suc n) a z c =
     ⊎_elim (λ h. let e = h.1 in (omega arith, omega arith, subst (λ y. p y ≡ true) h.1 h.0))
-    (λ c. let r = placed p n (a + 1) z c in let low = r.0 in let high = r.1 in (omega arith, omega arith, r.2))
+    (λ c. let r = filtered p n (a + 1) z c in let low = r.0 in let high = r.1 in (omega arith, omega arith, r.2))
     (here_or_later (p a) a z (filter p (range_with_len (a + 1) n)) c)
 
 kept : (p : ℕ → Bool) (n a z : ℕ) → a ≤ z → z < a + n → p z ≡ true → Contains (filter p (range_with_len a n)) z
@@ -178,9 +178,9 @@ has_value true xs z h = (λ e. e, λ e. e)
 has_value false xs z h =
     (λ e. sym (get_or_default xs z true false h) ∙ not_true (get_or xs z true) e, λ e. ap not (get_or_default xs z true false h ∙ e))
 
-pub walk_exactly : (v : Bool) (xs : List Bool) (from to z : ℕ) → to ≤ length xs → Contains (places_of v xs from to) z ↔ ((from ≤ z) × (z < to) × (get_or xs z false ≡ v))
+pub walk_exactly : (v : Bool) (xs : List Bool) (from to z : ℕ) → to ≤ length xs → Contains (indices_of v xs from to) z ↔ ((from ≤ z) × (z < to) × (get_or xs z false ≡ v))
 walk_exactly v xs from to z h = (
-  λ c. let r = placed (has_item v xs) (to - from) from z c in
+  λ c. let r = filtered (has_item v xs) (to - from) from z c in
       let low = r.0 in
       let high = r.1 in
       (low, omega arith, (has_value v xs z (omega arith)).0 r.2),

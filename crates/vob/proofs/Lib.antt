@@ -2,9 +2,10 @@ pub mod Digit
 pub mod Spell
 pub mod Pack
 pub mod Setwise
-pub mod Shift
+pub mod Shifted
 pub mod Refused
 pub mod Walks
 pub mod Alike
 pub mod Tested
 pub mod LawLemmas
+pub mod Meeting

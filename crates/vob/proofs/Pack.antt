@@ -19,13 +19,13 @@ use Rattle.vob.proofs.Spell as spell
 pub width_of : {T : Type 0} (bits : T → List Bool) (w : ℕ) (of : T → ℕ) → ((x : T) → bits x ≡ digits w (of x)) → (x : T) → length (bits x) ≡ w
 width_of bits w of law x = ap length (law x) ∙ digit.length-digits w (of x)
 
--- the block of a place
+-- the block of an index
 pub block_below : {T : Type 0} (bits : T → List Bool) (w : ℕ) → ((x : T) → length (bits x) ≡ w) → (xs : List T) (i b : ℕ) → 0 < w → b ≡ w → i < length (flat_map bits xs) → i / b < length xs
 block_below bits w each xs i b p e h =
     let n : i < length xs * w = omega (arith, spell.length-spelled bits w each xs) in
     rw e (div_below i w (length xs) p n)
 
--- what stands at a place
+-- what stands at an index
 pub bit_there : {T : Type 0} (bits : T → List Bool) (w : ℕ) → ((x : T) → length (bits x) ≡ w) → (xs : List T) (i b : ℕ) (x : T) → 0 < w → b ≡ w → i < length (flat_map bits xs) → x ≡ get_or xs (i / b) x → get_or (bits x) (i % b) false ≡ get_or (flat_map bits xs) i false
 bit_there bits w each xs i b x p e h is =
     let n : i / w < length xs = subst (λ v. i / v < length xs) e (block_below bits w each xs i b p e h) in
@@ -63,7 +63,7 @@ rounded q (suc r) w h =
     let e : eqb (suc r) 0 ≡ false = ne_eqb (suc r) 0 (λ z. absurd (omega arith)) in
     rw e (omega arith, omega arith)
 
--- the blocks have place for n items, and one block less has not
+-- the blocks have room for n items, and one block less has not
 pub blocks_for_is : (w n : ℕ) → 0 < w → (n ≤ blocks_for w n * w) × (blocks_for w n * w < n + w)
 blocks_for_is w n h =
     let p = rounded (n / w) (n % w) w (mod_below n w h) in
@@ -201,7 +201,7 @@ module _ {T : Type 0} (bits : T → List Bool) (w : ℕ) (each : (x : T) → len
       let a : suc k * w ≡ length (bits x) + k * w = omega (arith, each x) in
       rw (a, drop-append-add) (block_is xs k d (omega arith))
 
-  -- the block of the place n keeps what lies below it, and has one value from it on
+  -- the block of the index n keeps what lies below it, and has one value from it on
   pub refilled : (xs : List T) (n : ℕ) (x y : T) (v : Bool) → 0 < w → (n % w ≡ 0 → ⊥) → blocks_for w n * w ≤ length (flat_map bits xs) → x ≡ get_or xs (n / w) x → bits y ≡ take (n % w) (bits x) ++ replicate (w - n % w) v → flat_map bits (set xs (n / w) y) ≡ take n (flat_map bits xs) ++ (replicate (blocks_for w n * w - n) v ++ drop (blocks_for w n * w) (flat_map bits xs))
   refilled xs n x y v pos part room is new =
       let all = flat_map bits xs in
@@ -275,7 +275,7 @@ or_above (x ∷ xs) zs zero u p q = cc
 or_above (true ∷ xs) zs (suc r) u p q = ap (λ (ys : List Bool). true ∷ ys) (or_above xs zs r u (omega arith) q)
 or_above (false ∷ xs) zs (suc r) u p q = ap (λ (ys : List Bool). false ∷ ys) (or_above xs zs r u (omega arith) q)
 
--- a block whose bits from place r on have one value
+-- a block whose bits from the index r on have one value
 pub joined : (w r : ℕ) (xs : List Bool) (v : Bool) → length xs ≡ w → r ≤ w → bitwise (λ x y. x || y) (take r xs ++ replicate (w - r) false) (replicate r false ++ take (w - r) (replicate w v)) ≡ take r xs ++ replicate (w - r) v
 joined w r xs v l h =
     let e = take-replicate (w - r) w v (omega arith) in

@@ -156,7 +156,7 @@ module _ {T : Type 0} (bits : T → List Bool) (w : ℕ) (each : (x : T) → len
   equal_block xs ys k x y l h e p q =
       ap bits p ∙ pack.block_is bits w each xs k x h ∙ ap (λ all. take w (drop (k * w) all)) e ∙ sym (pack.block_is bits w each ys k y (omega arith)) ∙ ap bits (sym q)
 
--- the same from place k on, with one value below it
+-- the same from the index k on, with one value below it
 pub filled_more : {T : Type 0} (xs : List T) (k : ℕ) (y : T) → k < length xs → take k xs ≡ replicate k y → take (k + 1) (set xs k y) ≡ replicate (k + 1) y
 filled_more xs k y h e = take_more_set xs k y h ∙ ap (λ ys. ys ++ y ∷ []) e ∙ replicate_more k y
 

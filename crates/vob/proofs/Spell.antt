@@ -48,7 +48,7 @@ module _ {X : Type 0} (f : X → List Bool) (w : ℕ) (each : (x : X) → length
       let n : length (flat_map f (take k xs)) ≡ k * w = length-spelled (take k xs) ∙ ap (λ m. m * w) (length-take k xs ∙ (omega arith)) in
       ap (drop (k * w)) e ∙ drop_at (flat_map f (take k xs)) (flat_map f (drop k xs)) (k * w) n
 
-  -- at a place i
+  -- at an index i
   pub get_or-spelled_at : (xs : List X) (i : ℕ) (d : X) → 0 < w → i / w < length xs → get_or (flat_map f xs) i false ≡ get_or (f (get_or xs (i / w) d)) (i % w) false
   get_or-spelled_at xs i d p h =
       ap (λ n. get_or (flat_map f xs) n false) (sym (div-add-mod' i w)) ∙ get_or-spelled xs (i / w) (i % w) d h (omega arith)

@@ -1,4 +1,4 @@
--- Walks over the places of a list.
+-- Iterators over the indices of a list's items.
 use Rattle.std.proofs.Common.{◌≡◌, ℕ, suc, zero, ◌+◌, ◌-◌, ◌*◌, ◌/◌, ◌%◌, ◌<◌, ◌≤◌, min, Bool, true, false, not, cond, List, [], ◌∷◌, ◌++◌, length, get_or, take, drop, replicate, map, refl, sym, ap, ap₂, ◌∙◌, arith, inl, inr}
 use Rattle.std.specs.List.{flat_map, filter, range_with_len}
 use Rattle.std.proofs.lemmas.List.{get_or_default, get_or_append_left, get_or-append_right, get_or-drop, get_or-take, length-drop, length-take, length-map, length-replicate, get_or-map, drop-append-le, drop-take}
@@ -8,7 +8,7 @@ use Rattle.std.proofs.Math.Nat.{div-add-mod'}
 use Rattle.vob.proofs.Spell as spell
 use Rattle.vob.proofs.Pack as pack
 use Rattle.vob.specs.Bits.{count_true}
-use Rattle.vob.specs.Walk.{has_item, places_of}
+use Rattle.vob.specs.Walk.{has_item, indices_of}
 
 has_is : (v : Bool) (bits : List Bool) (i : ℕ) → i < length bits → get_or bits i false ≡ v → has_item v bits i ≡ true
 has_is true bits i h e = e
@@ -44,39 +44,39 @@ filter-append : (p : ℕ → Bool) (xs ys : List ℕ) → filter p (xs ++ ys) �
 filter-append p [] ys = refl
 filter-append p (x ∷ xs) ys = filter_cons (p x) x (filter p (xs ++ ys)) (filter p xs) (filter p ys) (filter-append p xs ys)
 
-pub places_split : (v : Bool) (bits : List Bool) (from mid to : ℕ) → from ≤ mid → mid ≤ to → places_of v bits from to ≡ places_of v bits from mid ++ places_of v bits mid to
-places_split v bits from mid to p q =
+pub indices_split : (v : Bool) (bits : List Bool) (from mid to : ℕ) → from ≤ mid → mid ≤ to → indices_of v bits from to ≡ indices_of v bits from mid ++ indices_of v bits mid to
+indices_split v bits from mid to p q =
     let e : to - from ≡ (mid - from) + (to - mid) = omega arith in
     let d : from + (mid - from) ≡ mid = omega arith in
     ap (λ n. filter (has_item v bits) (range_with_len from n)) e
     ∙ ap (filter (has_item v bits)) (range_split (mid - from) (to - mid) from ∙ ap (λ a. range_with_len from (mid - from) ++ range_with_len a (to - mid)) d)
     ∙ filter-append (has_item v bits) (range_with_len from (mid - from)) (range_with_len mid (to - mid))
 
-pub no_place : (v : Bool) (bits : List Bool) (from to : ℕ) → to ≤ length bits → ((i : ℕ) → from ≤ i → i < to → get_or bits i false ≡ not v) → places_of v bits from to ≡ []
-no_place v bits from to within h =
+pub no_index : (v : Bool) (bits : List Bool) (from to : ℕ) → to ≤ length bits → ((i : ℕ) → from ≤ i → i < to → get_or bits i false ≡ not v) → indices_of v bits from to ≡ []
+no_index v bits from to within h =
     none_pass (has_item v bits) (to - from) from (λ i low high. has_not v bits i (omega arith) (h i low (omega arith)))
 
-pub empty_run : (v : Bool) (bits : List Bool) (from to : ℕ) → to ≤ from → places_of v bits from to ≡ []
+pub empty_run : (v : Bool) (bits : List Bool) (from to : ℕ) → to ≤ from → indices_of v bits from to ≡ []
 empty_run v bits from to h =
     let e : to - from ≡ 0 = omega arith in
     ap (λ n. filter (has_item v bits) (range_with_len from n)) e
 
-one_place : (v : Bool) (bits : List Bool) (p : ℕ) → p < length bits → get_or bits p false ≡ v → places_of v bits p (p + 1) ≡ p ∷ []
-one_place v bits p h e =
+one_index : (v : Bool) (bits : List Bool) (p : ℕ) → p < length bits → get_or bits p false ≡ v → indices_of v bits p (p + 1) ≡ p ∷ []
+one_index v bits p h e =
     let n : p + 1 - p ≡ 1 = omega arith in
     let here = has_is v bits p h e in
     ap (λ k. filter (has_item v bits) (range_with_len p k)) n ∙ ap (λ b. cond b (p ∷ []) []) here
 
-pub first_is : (v : Bool) (bits : List Bool) (from to p : ℕ) → to ≤ length bits → from ≤ p → p < to → get_or bits p false ≡ v → ((i : ℕ) → from ≤ i → i < p → get_or bits i false ≡ not v) → places_of v bits from to ≡ p ∷ places_of v bits (p + 1) to
+pub first_is : (v : Bool) (bits : List Bool) (from to p : ℕ) → to ≤ length bits → from ≤ p → p < to → get_or bits p false ≡ v → ((i : ℕ) → from ≤ i → i < p → get_or bits i false ≡ not v) → indices_of v bits from to ≡ p ∷ indices_of v bits (p + 1) to
 first_is v bits from to p within low high here before =
-    places_split v bits from p to low (omega arith)
-    ∙ ap₂ (λ (xs : List ℕ) (ys : List ℕ). xs ++ ys) (no_place v bits from p (omega arith) before) (places_split v bits p (p + 1) to (omega arith) (omega arith) ∙ ap (λ (xs : List ℕ). xs ++ places_of v bits (p + 1) to) (one_place v bits p (omega arith) here))
+    indices_split v bits from p to low (omega arith)
+    ∙ ap₂ (λ (xs : List ℕ) (ys : List ℕ). xs ++ ys) (no_index v bits from p (omega arith) before) (indices_split v bits p (p + 1) to (omega arith) (omega arith) ∙ ap (λ (xs : List ℕ). xs ++ indices_of v bits (p + 1) to) (one_index v bits p (omega arith) here))
 
-pub last_is : (v : Bool) (bits : List Bool) (from to p : ℕ) → to ≤ length bits → from ≤ p → p < to → get_or bits p false ≡ v → ((i : ℕ) → p < i → i < to → get_or bits i false ≡ not v) → places_of v bits from to ≡ places_of v bits from p ++ p ∷ []
+pub last_is : (v : Bool) (bits : List Bool) (from to p : ℕ) → to ≤ length bits → from ≤ p → p < to → get_or bits p false ≡ v → ((i : ℕ) → p < i → i < to → get_or bits i false ≡ not v) → indices_of v bits from to ≡ indices_of v bits from p ++ p ∷ []
 last_is v bits from to p within low high here after =
-    places_split v bits from p to low (omega arith)
-    ∙ ap (λ (ys : List ℕ). places_of v bits from p ++ ys) (places_split v bits p (p + 1) to (omega arith) (omega arith)
-    ∙ ap₂ (λ (xs : List ℕ) (ys : List ℕ). xs ++ ys) (one_place v bits p (omega arith) here) (no_place v bits (p + 1) to within (λ i a b. after i (omega arith) b)))
+    indices_split v bits from p to low (omega arith)
+    ∙ ap (λ (ys : List ℕ). indices_of v bits from p ++ ys) (indices_split v bits p (p + 1) to (omega arith) (omega arith)
+    ∙ ap₂ (λ (xs : List ℕ) (ys : List ℕ). xs ++ ys) (one_index v bits p (omega arith) here) (no_index v bits (p + 1) to within (λ i a b. after i (omega arith) b)))
 
 -- ---- in one block
 
@@ -98,45 +98,45 @@ length_matching : (v : Bool) (xs : List Bool) → length (cond v xs (map not xs)
 length_matching true xs = refl
 length_matching false xs = length-map xs not
 
-pub above_before : (w place clear : ℕ) (v : Bool) (xs word shifted : List Bool) → length xs ≡ w → place < w → word ≡ cond v xs (map not xs) → shifted ≡ drop place word ++ replicate place false → ((i : ℕ) → i < clear → get_or shifted i false ≡ false) → (i : ℕ) → place ≤ i → i < place + min clear (w - place) → get_or xs i false ≡ not v
-above_before w place clear v xs word shifted l h is moved before i low high =
+pub above_before : (w index clear : ℕ) (v : Bool) (xs word shifted : List Bool) → length xs ≡ w → index < w → word ≡ cond v xs (map not xs) → shifted ≡ drop index word ++ replicate index false → ((i : ℕ) → i < clear → get_or shifted i false ≡ false) → (i : ℕ) → index ≤ i → i < index + min clear (w - index) → get_or xs i false ≡ not v
+above_before w index clear v xs word shifted l h is moved before i low high =
     let n : length word ≡ w = ap length is ∙ length_matching v xs ∙ l in
-    let e : place + (i - place) ≡ i = omega arith in
-    let inside : i - place < length (drop place word) = omega (arith, length-drop place word) in
+    let e : index + (i - index) ≡ i = omega arith in
+    let inside : i - index < length (drop index word) = omega (arith, length-drop index word) in
     let seen : get_or word i false ≡ false =
-    ap (λ k. get_or word k false) (sym e) ∙ sym (get_or-drop place word (i - place) false) ∙ sym (get_or_append_left (drop place word) (replicate place false) false (i - place) inside) ∙ ap (λ ys. get_or ys (i - place) false) (sym moved) ∙ before (i - place) (omega arith) in
+    ap (λ k. get_or word k false) (sym e) ∙ sym (get_or-drop index word (i - index) false) ∙ sym (get_or_append_left (drop index word) (replicate index false) false (i - index) inside) ∙ ap (λ ys. get_or ys (i - index) false) (sym moved) ∙ before (i - index) (omega arith) in
     matched v xs i false (omega arith) (ap (λ ys. get_or ys i false) (sym is) ∙ seen)
 
-pub above_found : (w place clear : ℕ) (v : Bool) (xs word shifted : List Bool) → length xs ≡ w → place < w → word ≡ cond v xs (map not xs) → shifted ≡ drop place word ++ replicate place false → (clear < w → get_or shifted clear false ≡ true) → place + min clear (w - place) < w → get_or xs (place + min clear (w - place)) false ≡ v
-above_found w place clear v xs word shifted l h is moved found some =
+pub above_found : (w index clear : ℕ) (v : Bool) (xs word shifted : List Bool) → length xs ≡ w → index < w → word ≡ cond v xs (map not xs) → shifted ≡ drop index word ++ replicate index false → (clear < w → get_or shifted clear false ≡ true) → index + min clear (w - index) < w → get_or xs (index + min clear (w - index)) false ≡ v
+above_found w index clear v xs word shifted l h is moved found some =
     let n : length word ≡ w = ap length is ∙ length_matching v xs ∙ l in
-    let m : min clear (w - place) ≡ clear = omega arith in
-    let inside : clear < length (drop place word) = omega (arith, length-drop place word) in
-    let seen : get_or word (place + clear) false ≡ true =
-    sym (get_or-drop place word clear false) ∙ sym (get_or_append_left (drop place word) (replicate place false) false clear inside) ∙ ap (λ ys. get_or ys clear false) (sym moved) ∙ found (omega arith) in
-    ap (λ k. get_or xs (place + k) false) m ∙ matched v xs (place + clear) true (omega arith) (ap (λ ys. get_or ys (place + clear) false) (sym is) ∙ seen)
+    let m : min clear (w - index) ≡ clear = omega arith in
+    let inside : clear < length (drop index word) = omega (arith, length-drop index word) in
+    let seen : get_or word (index + clear) false ≡ true =
+    sym (get_or-drop index word clear false) ∙ sym (get_or_append_left (drop index word) (replicate index false) false clear inside) ∙ ap (λ ys. get_or ys clear false) (sym moved) ∙ found (omega arith) in
+    ap (λ k. get_or xs (index + k) false) m ∙ matched v xs (index + clear) true (omega arith) (ap (λ ys. get_or ys (index + clear) false) (sym is) ∙ seen)
 
-moved_up : (w place : ℕ) (word shifted : List Bool) → length word ≡ w → 0 < place → place ≤ w → shifted ≡ replicate (w - place) false ++ take (w - (w - place)) word → (i : ℕ) → i < place → get_or shifted (i + (w - place)) false ≡ get_or word i false
-moved_up w place word shifted n pos h moved i p =
-    let low : w - place ≤ i + (w - place) = omega arith in
-    let e : i + (w - place) - (w - place) ≡ i = omega arith in
-    let inside : i < w - (w - place) = omega arith in
-    ap (λ ys. get_or ys (i + (w - place)) false) moved
-    ∙ get_or-append_right (replicate (w - place) false) (take (w - (w - place)) word) (w - place) (i + (w - place)) false (length-replicate (w - place) false) low
-    ∙ ap (λ k. get_or (take (w - (w - place)) word) k false) e
-    ∙ get_or-take (w - (w - place)) word i false inside
+moved_up : (w index : ℕ) (word shifted : List Bool) → length word ≡ w → 0 < index → index ≤ w → shifted ≡ replicate (w - index) false ++ take (w - (w - index)) word → (i : ℕ) → i < index → get_or shifted (i + (w - index)) false ≡ get_or word i false
+moved_up w index word shifted n pos h moved i p =
+    let low : w - index ≤ i + (w - index) = omega arith in
+    let e : i + (w - index) - (w - index) ≡ i = omega arith in
+    let inside : i < w - (w - index) = omega arith in
+    ap (λ ys. get_or ys (i + (w - index)) false) moved
+    ∙ get_or-append_right (replicate (w - index) false) (take (w - (w - index)) word) (w - index) (i + (w - index)) false (length-replicate (w - index) false) low
+    ∙ ap (λ k. get_or (take (w - (w - index)) word) k false) e
+    ∙ get_or-take (w - (w - index)) word i false inside
 
-pub below_after : (w place clear : ℕ) (v : Bool) (xs word shifted : List Bool) → length xs ≡ w → 0 < place → place ≤ w → word ≡ cond v xs (map not xs) → shifted ≡ replicate (w - place) false ++ take (w - (w - place)) word → ((i : ℕ) → w ≤ i + clear → get_or shifted i false ≡ false) → (i : ℕ) → place ≤ i + min clear place → i < place → get_or xs i false ≡ not v
-below_after w place clear v xs word shifted l pos h is moved after i low high =
+pub below_after : (w index clear : ℕ) (v : Bool) (xs word shifted : List Bool) → length xs ≡ w → 0 < index → index ≤ w → word ≡ cond v xs (map not xs) → shifted ≡ replicate (w - index) false ++ take (w - (w - index)) word → ((i : ℕ) → w ≤ i + clear → get_or shifted i false ≡ false) → (i : ℕ) → index ≤ i + min clear index → i < index → get_or xs i false ≡ not v
+below_after w index clear v xs word shifted l pos h is moved after i low high =
     let n : length word ≡ w = ap length is ∙ length_matching v xs ∙ l in
-    let seen : get_or word i false ≡ false = sym (moved_up w place word shifted n pos h moved i high) ∙ after (i + (w - place)) (omega arith) in
+    let seen : get_or word i false ≡ false = sym (moved_up w index word shifted n pos h moved i high) ∙ after (i + (w - index)) (omega arith) in
     matched v xs i false (omega arith) (ap (λ ys. get_or ys i false) (sym is) ∙ seen)
 
-pub below_found : (w place clear : ℕ) (v : Bool) (xs word shifted : List Bool) → length xs ≡ w → 0 < place → place ≤ w → word ≡ cond v xs (map not xs) → shifted ≡ replicate (w - place) false ++ take (w - (w - place)) word → ((i : ℕ) → i + clear + 1 ≡ w → get_or shifted i false ≡ true) → (i : ℕ) → i + min clear place + 1 ≡ place → get_or xs i false ≡ v
-below_found w place clear v xs word shifted l pos h is moved found i e =
+pub below_found : (w index clear : ℕ) (v : Bool) (xs word shifted : List Bool) → length xs ≡ w → 0 < index → index ≤ w → word ≡ cond v xs (map not xs) → shifted ≡ replicate (w - index) false ++ take (w - (w - index)) word → ((i : ℕ) → i + clear + 1 ≡ w → get_or shifted i false ≡ true) → (i : ℕ) → i + min clear index + 1 ≡ index → get_or xs i false ≡ v
+below_found w index clear v xs word shifted l pos h is moved found i e =
     let n : length word ≡ w = ap length is ∙ length_matching v xs ∙ l in
-    let high : i < place = omega arith in
-    let seen : get_or word i false ≡ true = sym (moved_up w place word shifted n pos h moved i high) ∙ found (i + (w - place)) (omega arith) in
+    let high : i < index = omega arith in
+    let seen : get_or word i false ≡ true = sym (moved_up w index word shifted n pos h moved i high) ∙ found (i + (w - index)) (omega arith) in
     matched v xs i true (omega arith) (ap (λ ys. get_or ys i false) (sym is) ∙ seen)
 
 -- ---- from block to block
@@ -167,7 +167,7 @@ module _ {T : Type 0} (bits : T → List Bool) (w : ℕ) (each : (x : T) → len
       let k : at % b + (at + others - at) ≡ at % b + others = omega arith in
       in_block xs at b (at + others) x pos e h is (omega arith) (omega arith) ∙ ap (λ n. get_or (bits x) n false) k ∙ block
 
-  -- below the place at, whose last one is in the block x
+  -- below the index at, whose last bit is in the block x
   in_block_below : (xs : List T) (last b i : ℕ) (x : T) → 0 < w → b ≡ w → last < length (flat_map bits xs) → x ≡ get_or xs (last / b) x → i ≤ last → last ≤ i + last % b → get_or (flat_map bits xs) i false ≡ get_or (bits x) (last % b - (last - i)) false
   in_block_below xs last b i x pos e h is low high =
       let q : last / b < length xs = pack.block_below bits w each xs last b pos e h in
@@ -221,8 +221,8 @@ has_matching : (v : Bool) (xs all : List Bool) (i k : ℕ) → i < length xs →
 has_matching true xs all i k p q e = sym e
 has_matching false xs all i k p q e = get_or-map not xs i false false p ∙ ap not (sym e ∙ get_or_default all k false true q)
 
-pub length-places : (v : Bool) (bits : List Bool) (from to : ℕ) → length (places_of v bits from to) ≤ to - from
-length-places v bits from to = least (has_item v bits) (to - from) from
+pub length-indices : (v : Bool) (bits : List Bool) (from to : ℕ) → length (indices_of v bits from to) ≤ to - from
+length-indices v bits from to = least (has_item v bits) (to - from) from
   where
     skip : (b : Bool) (x n : ℕ) (xs : List ℕ) → length xs ≤ n → length (cond b (x ∷ xs) xs) ≤ suc n
     skip true x n xs h = omega arith
@@ -234,7 +234,7 @@ length-places v bits from to = least (has_item v bits) (to - from) from
 
 module _ {T : Type 0} (bits : T → List Bool) (w : ℕ) (each : (x : T) → length (bits x) ≡ w) where
   -- the bits of one block from at on that have the value
-  pub counted : (xs : List T) (at b n : ℕ) (x : T) (v : Bool) (word low moved : List Bool) → 0 < w → b ≡ w → at + n ≤ length (flat_map bits xs) → 0 < n → at % b + n ≤ w → x ≡ get_or xs (at / b) x → word ≡ cond v (bits x) (map not (bits x)) → low ≡ take (at % b + n) word ++ replicate (w - (at % b + n)) false → moved ≡ drop (at % b) low ++ replicate (at % b) false → count_true moved ≡ length (places_of v (flat_map bits xs) at (at + n))
+  pub counted : (xs : List T) (at b n : ℕ) (x : T) (v : Bool) (word low moved : List Bool) → 0 < w → b ≡ w → at + n ≤ length (flat_map bits xs) → 0 < n → at % b + n ≤ w → x ≡ get_or xs (at / b) x → word ≡ cond v (bits x) (map not (bits x)) → low ≡ take (at % b + n) word ++ replicate (w - (at % b + n)) false → moved ≡ drop (at % b) low ++ replicate (at % b) false → count_true moved ≡ length (indices_of v (flat_map bits xs) at (at + n))
   counted xs at b n x v word low moved pos e room some within is one two three =
       let r = at % b in
       let all = flat_map bits xs in
@@ -259,11 +259,11 @@ module _ {T : Type 0} (bits : T → List Bool) (w : ℕ) (each : (x : T) → len
 
 -- ---- ranges
 
-pub cut_start : (v : Bool) (bits : List Bool) (from to top : ℕ) → to ≤ top → places_of v bits (min from top) to ≡ places_of v bits from to
+pub cut_start : (v : Bool) (bits : List Bool) (from to top : ℕ) → to ≤ top → indices_of v bits (min from top) to ≡ indices_of v bits from to
 cut_start v bits from to top h =
     elim (cases_lt top from) [
       | inl p ↦ empty_run v bits (min from top) to (omega arith) ∙ sym (empty_run v bits from to (omega arith))
-      | inr p ↦ let e : min from top ≡ from = omega arith in ap (λ a. places_of v bits a to) e
+      | inr p ↦ let e : min from top ≡ from = omega arith in ap (λ a. indices_of v bits a to) e
     ]
 
 same_filter : (p q : ℕ → Bool) (n a : ℕ) → ((i : ℕ) → a ≤ i → i < a + n → p i ≡ q i) → filter p (range_with_len a n) ≡ filter q (range_with_len a n)
@@ -274,7 +274,7 @@ has_kept : (v : Bool) (bits : List Bool) (n i : ℕ) → i < n → has_item v (t
 has_kept true bits n i h = get_or-take n bits i false h
 has_kept false bits n i h = ap not (get_or-take n bits i true h)
 
--- the unused bits have no place
-pub places_kept : (v : Bool) (bits : List Bool) (n from to : ℕ) → to ≤ n → places_of v (take n bits) from to ≡ places_of v bits from to
-places_kept v bits n from to h =
+-- the unused bits give no index
+pub indices_kept : (v : Bool) (bits : List Bool) (n from to : ℕ) → to ≤ n → indices_of v (take n bits) from to ≡ indices_of v bits from to
+indices_kept v bits n from to h =
     same_filter (has_item v (take n bits)) (has_item v bits) (to - from) from (λ i l u. has_kept v bits n i (omega arith))

@@ -1,5 +1,5 @@
 -- Lists of truth values.
-use Rattle.std.specs.Prelude.{◌≡◌, ◌≢◌, ◌↔◌, ℕ, Bool, true, false, not, ◌||◌, List, [], ◌∷◌, suc, zero, length, IsTrue}
+use Rattle.std.specs.Prelude.{◌≡◌, ◌≢◌, ◌↔◌, ℕ, Bool, true, false, not, ◌||◌, List, [], ◌∷◌, suc, zero, length, slice_index_or, IsTrue}
 
 -- the two lists item by item, as far as the shorter one goes
 abbrev pub bitwise : (Bool → Bool → Bool) → List Bool → List Bool → List Bool
@@ -25,3 +25,19 @@ Joins xs [] (flag ∷ flags) = ⊥
 Joins xs (ys ∷ yss) [] = ⊥
 Joins xs (ys ∷ yss) (flag ∷ flags) =
     (length ys ≡ length xs) × (IsTrue flag ↔ (bitwise (λ x y. x || y) xs ys ≢ xs)) × Joins (bitwise (λ x y. x || y) xs ys) yss flags
+
+-- two lists share an index at which both are true
+abbrev pub Meets : List Bool → List Bool → Type 0
+Meets xs ys = (i : ℕ) × IsTrue (slice_index_or xs i false) × IsTrue (slice_index_or ys i false)
+
+-- where one list is true, the other is false
+abbrev pub IsApart : List Bool → List Bool → Type 0
+IsApart xs ys = (i : ℕ) → IsTrue (slice_index_or xs i false) → slice_index_or ys i false ≡ false
+
+-- where the second list is true, the first is true too
+abbrev pub HoldsAll : List Bool → List Bool → Type 0
+HoldsAll xs ys = (i : ℕ) → IsTrue (slice_index_or ys i false) → IsTrue (slice_index_or xs i false)
+
+-- at some index the second list is true, and the first is false
+abbrev pub LacksSome : List Bool → List Bool → Type 0
+LacksSome xs ys = (i : ℕ) × IsTrue (slice_index_or ys i false) × (slice_index_or xs i false ≡ false)

@@ -5,6 +5,6 @@ use Rattle.std.specs.Hash.{HashWrites, usize}
 use Rattle.std.specs.declared.ops.Bound.TheVariants.{Unbounded}
 use Rattle.vob.specs.Walk.{walk}
 
--- the length, and then the places that are set
+-- the length, and then the indices of the items that are set
 abbrev pub fed_list : List Bool → HashWrites
 fed_list bits = usize (length bits) ++ flat_map usize (walk true bits Unbounded Unbounded)

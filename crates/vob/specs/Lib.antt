@@ -6,3 +6,4 @@ pub mod Walk
 pub mod Fed
 pub mod Lends
 pub mod Refusal
+pub mod ErrorText

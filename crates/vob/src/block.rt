@@ -1,5 +1,4 @@
-//! Words of bits.
-#![tactic(auto)]
+//! Words of bits, which are the blocks of a list.
 
 ghost use Rattle.std.specs.Prelude.{◌≡◌, ◌<◌, ◌≤◌, ◌+◌, ◌-◌, ◌^◌, ◌&&◌, ◌||◌, ◌↔◌, ℕ, Bool, true, false, not, List, ◌++◌, map, take, drop, replicate, slice_index_or, slice_set, IsTrue, refl};
 ghost use Rattle.num_traits.specs.Laws.{bit_len};
@@ -12,7 +11,7 @@ use num_traits::PrimInt;
 /// A word of bits, which is one block of the storage. Contracts see it as the list `bits` of its bits,
 /// the least significant first.
 pub trait Block: PrimInt {
-    /// How many bits a block has.
+    /// The number of bits of a block.
     const BITS: usize;
 
     ghost BITS: { ℕ };
@@ -33,7 +32,7 @@ pub trait Block: PrimInt {
 
     ghost most_law: { BITS ≤ 128 };
 
-    /// A block whose bits all are `value`.
+    /// Makes a block whose bits all are `value`.
     final fn filled(value: bool) -> Self
         ensures { bits result ≡ replicate BITS value }
     {
@@ -41,7 +40,7 @@ pub trait Block: PrimInt {
         if value { none.flipped() } else { none }
     }
 
-    /// Each bit is set where both are.
+    /// Sets each bit that is set in both blocks.
     final fn both(self, other: Self) -> Self
         ensures { bits result ≡ bitwise (λ x y. x && y) (bits self) (bits other) }
     {
@@ -50,7 +49,7 @@ pub trait Block: PrimInt {
         self & other
     }
 
-    /// Each bit is set where one is.
+    /// Sets each bit that is set in either block.
     final fn either(self, other: Self) -> Self
         ensures { bits result ≡ bitwise (λ x y. x || y) (bits self) (bits other) }
     {
@@ -59,7 +58,7 @@ pub trait Block: PrimInt {
         self | other
     }
 
-    /// Each bit is set where the two differ.
+    /// Sets each bit in which the blocks differ.
     final fn differing(self, other: Self) -> Self
         ensures { bits result ≡ bitwise differs (bits self) (bits other) }
     {
@@ -68,7 +67,7 @@ pub trait Block: PrimInt {
         self ^ other
     }
 
-    /// Each bit is turned.
+    /// Turns each bit.
     final fn flipped(self) -> Self
         ensures { bits result ≡ map not (bits self) }
     {
@@ -76,7 +75,7 @@ pub trait Block: PrimInt {
         !self
     }
 
-    /// The bits move up by `by` places.
+    /// Moves each bit up to the index that is greater by `by`.
     final fn shifted_up(self, by: usize) -> Self
         requires { by < BITS }
         ensures { bits result ≡ replicate by false ++ take (BITS - by) (bits self) }
@@ -84,7 +83,7 @@ pub trait Block: PrimInt {
         self.unsigned_shl(by as u32)
     }
 
-    /// The bits move down by `by` places.
+    /// Moves each bit down to the index that is less by `by`.
     final fn shifted_down(self, by: usize) -> Self
         requires { by < BITS }
         ensures { bits result ≡ drop by (bits self) ++ replicate by false }
@@ -93,7 +92,7 @@ pub trait Block: PrimInt {
         self.unsigned_shr(by as u32)
     }
 
-    /// How many bits are set.
+    /// Counts the bits that are set.
     final fn ones(self) -> usize
         ensures { result ≡ count_true (bits self) }
     {
@@ -101,7 +100,7 @@ pub trait Block: PrimInt {
         self.count_ones() as usize
     }
 
-    /// How many bits below the lowest one that is set aren't, all where none is.
+    /// Counts the bits below the lowest one that is set: all of them where none is.
     final fn zeros_below(self) -> usize
         ensures within { result ≤ BITS }
         ensures before { (i : ℕ) → i < result → slice_index_or (bits self) i false ≡ false }
@@ -111,7 +110,7 @@ pub trait Block: PrimInt {
         self.trailing_zeros() as usize
     }
 
-    /// How many bits above the highest one that is set aren't, all where none is.
+    /// Counts the bits above the highest one that is set: all of them where none is.
     final fn zeros_above(self) -> usize
         ensures within { result ≤ BITS }
         ensures after { (i : ℕ) → BITS ≤ i + result → slice_index_or (bits self) i false ≡ false }
@@ -121,7 +120,7 @@ pub trait Block: PrimInt {
         self.leading_zeros() as usize
     }
 
-    /// The low `count` bits, and none above them.
+    /// Keeps the low `count` bits, and clears those above them.
     final fn low(self, count: usize) -> Self
         requires { count ≤ BITS }
         ensures { bits result ≡ take count (bits self) ++ replicate (BITS - count) false }
@@ -133,26 +132,26 @@ pub trait Block: PrimInt {
         self.shifted_up(by).shifted_down(by)
     }
 
-    /// Whether the bit at this place is set.
-    final fn bit(self, place: usize) -> bool
-        requires { place < BITS }
-        ensures { result ≡ slice_index_or (bits self) place false }
+    /// Tells whether the bit at `index` is set.
+    final fn bit(self, index: usize) -> bool
+        requires { index < BITS }
+        ensures { result ≡ slice_index_or (bits self) index false }
     {
-        self.shifted_down(place).zeros_below() == 0
+        self.shifted_down(index).zeros_below() == 0
     }
 
-    /// The block with this bit at this place.
-    final fn with_bit(self, place: usize, value: bool) -> Self
-        requires { place < BITS }
-        ensures { bits result ≡ slice_set (bits self) place value }
+    /// Gives the block with the bit at `index` set to `value`.
+    final fn with_bit(self, index: usize, value: bool) -> Self
+        requires { index < BITS }
+        ensures { bits result ≡ slice_set (bits self) index value }
     {
-        if self.bit(place) == value {
+        if self.bit(index) == value {
             return self;
         }
-        self.differing(Self::one().shifted_up(place))
+        self.differing(Self::one().shifted_up(index))
     }
 
-    /// Whether the bits are equal.
+    /// Tells whether the bits are equal.
     final fn same(self, other: Self) -> bool
         ensures { IsTrue result ↔ (bits self ≡ bits other) }
     {

@@ -1,36 +1,52 @@
 //! What a growth answers where it is refused.
-#![tactic(auto)]
 
 ghost use Rattle.std.specs.Prelude.{◌≡◌, alloc_error};
 ghost use Rattle.vob.specs.declared.error.VobError.TheVariants.{Memory};
 
 use std::alloc::{AllocError, AllocFailed};
-use thiserror::Error;
+use std::error::Error;
+use std::fmt;
+use std::fmt::{Display, Formatter, Write};
 
 /// Why a growth is refused. The list is as it was then; `extend` keeps the items that came before.
-#[derive(Debug, Drop, Error)]
+#[derive(Debug, Drop)]
 pub enum VobError {
     /// The length asked for is past `usize::MAX`.
-    #[error("TooLong")]
     TooLong,
     /// There is no memory.
-    #[error("Memory")]
     Memory(AllocError),
 }
 
-// By hand, since a clause has to know which variant a `?` makes.
+/// Prints the variant's name.
+impl Display for VobError {
+    ghost use Rattle.std.specs.Prelude.{Some};
+    ghost use Rattle.vob.specs.ErrorText.{error_text};
+
+    ghost output = { λ e. Some (error_text e) };
+
+    fn fmt<W: Write>(&self, f: &mut Formatter<W>) -> fmt::Result {
+        match self {
+            VobError::TooLong => write!(f, "TooLong"),
+            VobError::Memory(_) => write!(f, "Memory"),
+        }
+    }
+}
+
+impl Error for VobError {}
+
+// Written by hand, since a clause has to know which variant a `?` makes.
 impl From<AllocError> for VobError {
     ghost from_gives = { λ _ r. r ≡ Memory alloc_error };
 
-    fn from(_: AllocError) -> VobError {
-        VobError::Memory(AllocError)
+    fn from(refused: AllocError) -> VobError {
+        VobError::Memory(refused)
     }
 }
 
 impl<T: Drop> From<AllocFailed<T>> for VobError {
     ghost from_gives = { λ _ r. r ≡ Memory alloc_error };
 
-    fn from(_: AllocFailed<T>) -> VobError {
-        VobError::Memory(AllocError)
+    fn from(refused: AllocFailed<T>) -> VobError {
+        VobError::Memory(refused.into())
     }
 }

@@ -1,5 +1,4 @@
-//! Walks over a list from both ends.
-#![tactic(auto)]
+//! Iterators over a list's items, its blocks, and the indices of its set and unset items.
 
 ghost use Rattle.std.specs.Prelude.{◌≡◌, ◌<◌, ◌≤◌, ◌+◌, ◌-◌, ℕ, Bool, true, false, List, ◌++◌, length, take, drop, min, IfSome, Some, None};
 ghost use Rattle.std.specs.List.{flat_map};
@@ -11,13 +10,13 @@ ghost use Rattle.vob.specs.Packed.{blocks_for};
 ghost use Rattle.vob.specs.Walk.{walk};
 
 use crate::block::Block;
-use crate::places::Places;
+use crate::find::Indices;
 use crate::{Vob, packed};
 use std::iter::{DoubleEndedIterator, ExactSizeIterator, FusedIterator};
 use std::marker::Model;
 use std::ops::{Bound, RangeBounds};
 
-/// The items of a list, in order. Contracts see it as those that are left.
+/// An iterator over the items of a list, in order. Contracts see it as those that are left.
 #[derive(Drop)]
 pub struct Iter<'a, T: Block> {
     blocks: &'a [T],
@@ -36,10 +35,10 @@ impl<'a, T: Block> Model for Iter<'a, T> {
     ghost invariant = { λ it. (it.from ≤ it.to) × (it.to ≤ length (flat_map T.bits it.blocks.now)) };
 }
 
-/// The places whose item is set, in order. Contracts see it as those that are left.
+/// An iterator over the indices whose item is set, in order. Contracts see it as those that are left.
 #[derive(Drop)]
 pub struct IterSetBits<'a, T: Block> {
-    set: Places<'a, T>,
+    set: Indices<'a, T>,
 }
 
 impl<'a, T: Block> Model for IterSetBits<'a, T> {
@@ -50,10 +49,10 @@ impl<'a, T: Block> Model for IterSetBits<'a, T> {
     ghost view = { λ it. it.set };
 }
 
-/// The places whose item isn't set, in order. Contracts see it as those that are left.
+/// An iterator over the indices whose item isn't set, in order. Contracts see it as those that are left.
 #[derive(Drop)]
 pub struct IterUnsetBits<'a, T: Block> {
-    unset: Places<'a, T>,
+    unset: Indices<'a, T>,
 }
 
 impl<'a, T: Block> Model for IterUnsetBits<'a, T> {
@@ -64,7 +63,7 @@ impl<'a, T: Block> Model for IterUnsetBits<'a, T> {
     ghost view = { λ it. it.unset };
 }
 
-/// The blocks of a list, in order. Contracts see it as those that are left.
+/// An iterator over the blocks of a list, in order. Contracts see it as those that are left.
 #[derive(Drop)]
 pub struct StorageIter<'a, T: Block> {
     blocks: &'a [T],
@@ -82,7 +81,7 @@ impl<'a, T: Block> Model for StorageIter<'a, T> {
 }
 
 impl<T: Block> Vob<T> {
-    /// Walks over the blocks.
+    /// Iterates over the blocks.
     pub fn iter_storage(&self) -> StorageIter<'_, T>
         ensures { flat_map T.bits result ≡ self.now.bits ++ replicate (blocks_for T.BITS (length self.now.bits) * T.BITS - length self.now.bits) false }
     {
@@ -92,7 +91,7 @@ impl<T: Block> Vob<T> {
         }
     }
 
-    /// Walks over the items.
+    /// Iterates over the items.
     pub fn iter(&self) -> Iter<'_, T>
         ensures { result ≡ self.now.bits }
     {
@@ -103,36 +102,38 @@ impl<T: Block> Vob<T> {
         }
     }
 
-    /// Walks over the places of a range, cut at the length, whose item is set.
+    /// Iterates over the indices of a range, cut at the length, whose item is set.
     pub fn iter_set_bits<R: RangeBounds<usize>>(&self, range: R) -> IterSetBits<'_, T>
         requires { R.has_bounds range }
         ensures { result ≡ walk true self.now.bits (R.start_bound range) (R.end_bound range) }
     {
         IterSetBits {
-            set: self.places(true, range),
+            set: self.indices(true, range),
         }
     }
 
-    /// Walks over the places of a range, cut at the length, whose item isn't set.
+    /// Iterates over the indices of a range, cut at the length, whose item isn't set.
     pub fn iter_unset_bits<R: RangeBounds<usize>>(&self, range: R) -> IterUnsetBits<'_, T>
         requires { R.has_bounds range }
         ensures { result ≡ walk false self.now.bits (R.start_bound range) (R.end_bound range) }
     {
         IterUnsetBits {
-            unset: self.places(false, range),
+            unset: self.indices(false, range),
         }
     }
 
-    fn places<R: RangeBounds<usize>>(&self, value: bool, range: R) -> Places<'_, T>
+    /// Iterates over the indices of a range, cut at the length, whose item has the value.
+    fn indices<R: RangeBounds<usize>>(&self, value: bool, range: R) -> Indices<'_, T>
         requires { R.has_bounds range }
         ensures { result ≡ walk value self.now.bits (R.start_bound range) (R.end_bound range) }
     {
         let from = first_of(range.start_bound());
         let to = end_of(range.end_bound(), self.len);
-        Places::new(self.blocks.as_slice(), value, from, to)
+        Indices::new(self.blocks.as_slice(), value, from, to)
     }
 }
 
+/// Gives the index at which a range begins.
 fn first_of(start: Bound<&usize>) -> usize
     ensures { result ≡ min (start_index (bound_map (λ x. x.now) start.entry)) usize.MAX }
 {
@@ -143,6 +144,7 @@ fn first_of(start: Bound<&usize>) -> usize
     }
 }
 
+/// Gives the index before which a range ends, cut at the length.
 fn end_of(end: Bound<&usize>, len: usize) -> usize
     ensures { result ≡ min (end_index (bound_map (λ x. x.now) end.entry) len) len }
 {
@@ -154,7 +156,7 @@ fn end_of(end: Bound<&usize>, len: usize) -> usize
 }
 
 impl<'a, T: Block> Iter<'a, T> {
-    /// How many items are left.
+    /// Counts the items that are left.
     pub fn count(self) -> usize
         ensures { result ≡ length self.entry }
     {
@@ -210,7 +212,7 @@ impl<'a, T: Block> ExactSizeIterator for Iter<'a, T> {
 }
 
 impl<'a, T: Block> IterSetBits<'a, T> {
-    /// How many places are left.
+    /// Counts the indices that are left.
     pub fn count(self) -> usize
         ensures { result ≡ length self.entry }
     {
@@ -229,7 +231,7 @@ impl<'a, T: Block> Iterator for IterSetBits<'a, T> {
         self.set.first()
     }
 
-    /// Nothing is known of how many places are left before they are walked over.
+    /// Answers that nothing is known of how many indices are left.
     fn size_hint(&self) -> (usize, Option<usize>)
         ensures lower { result.0 ≡ 0 }
         ensures upper { result.1 ≡ None }
@@ -251,7 +253,7 @@ impl<'a, T: Block> DoubleEndedIterator for IterSetBits<'a, T> {
 impl<'a, T: Block> FusedIterator for IterSetBits<'a, T> {}
 
 impl<'a, T: Block> IterUnsetBits<'a, T> {
-    /// How many places are left.
+    /// Counts the indices that are left.
     pub fn count(self) -> usize
         ensures { result ≡ length self.entry }
     {
@@ -270,7 +272,7 @@ impl<'a, T: Block> Iterator for IterUnsetBits<'a, T> {
         self.unset.first()
     }
 
-    /// Nothing is known of how many places are left before they are walked over.
+    /// Answers that nothing is known of how many indices are left.
     fn size_hint(&self) -> (usize, Option<usize>)
         ensures lower { result.0 ≡ 0 }
         ensures upper { result.1 ≡ None }
@@ -304,7 +306,7 @@ impl<'a, T: Block> IntoIterator for &'a Vob<T> {
 }
 
 impl<'a, T: Block> StorageIter<'a, T> {
-    /// How many blocks are left.
+    /// Counts the blocks that are left.
     pub fn count(self) -> usize
         ensures { result ≡ length self.entry }
     {

@@ -1,5 +1,4 @@
 //! Laws of the definitions that the contracts name.
-#![tactic(auto)]
 
 ghost use Rattle.std.specs.Prelude.{◌≡◌, ◌≢◌, ◌⊎◌, ◌<◌, ◌≤◌, ◌+◌, ◌-◌, ◌*◌, ◌&&◌, ◌||◌, ◌↔◌, ℕ, Bool, true, false, not, List, [], ◌∷◌, ◌++◌, length, map, take, drop, replicate, min, slice_index_or, slice_set, option_to_list, IsTrue, IsSome, Option, Some, None, Contains};
 ghost use Rattle.std.specs.Iterator.{YieldsFirst, YieldsLast, Drains};
@@ -56,33 +55,34 @@ pub fn reserved_room_takes_pushes()
 
 /// `set`, which compares the item with the value, answers true exactly if the list changes.
 pub fn set_changes_the_list()
-    ensures { (xs : List Bool) (place : ℕ) (value : Bool) → place < length xs → (slice_index_or xs place false ≡ not value) ↔ (slice_set xs place value ≢ xs) }
+    ensures { (xs : List Bool) (index : ℕ) (value : Bool) → index < length xs → (slice_index_or xs index false ≡ not value) ↔ (slice_set xs index value ≢ xs) }
 {}
 
-/// A walk has exactly those places of the range, cut at the length, whose item has the value.
+/// A walk has exactly those indices of the range, cut at the length, whose item has the value.
 pub fn walks_find_all()
-    ensures { (value : Bool) (xs : List Bool) (start end : Bound ℕ) (place : ℕ) → Contains (walk value xs start end) place ↔ ((start_index start ≤ place) × (place < min (end_index end (length xs)) (length xs)) × (slice_index_or xs place false ≡ value)) }
+    ensures { (value : Bool) (xs : List Bool) (start end : Bound ℕ) (index : ℕ) → Contains (walk value xs start end) index ↔ ((start_index start ≤ index) × (index < min (end_index end (length xs)) (length xs)) × (slice_index_or xs index false ≡ value)) }
 {}
 
-/// The set and the unset places of a range are disjoint, and together all of it, cut at the length.
+/// The indices of a range whose items are set and those whose items aren't are disjoint, and together all of it,
+/// cut at the length.
 pub fn set_and_unset_split_the_range()
-    ensures disjoint { (xs : List Bool) (start end : Bound ℕ) (place : ℕ) → Contains (walk true xs start end) place → Contains (walk false xs start end) place → ⊥ }
-    ensures together { (xs : List Bool) (start end : Bound ℕ) (place : ℕ) → start_index start ≤ place → place < min (end_index end (length xs)) (length xs) → Contains (walk true xs start end) place ⊎ Contains (walk false xs start end) place }
+    ensures disjoint { (xs : List Bool) (start end : Bound ℕ) (index : ℕ) → Contains (walk true xs start end) index → Contains (walk false xs start end) index → ⊥ }
+    ensures together { (xs : List Bool) (start end : Bound ℕ) (index : ℕ) → start_index start ≤ index → index < min (end_index end (length xs)) (length xs) → Contains (walk true xs start end) index ⊎ Contains (walk false xs start end) index }
     ensures counts { (xs : List Bool) (start end : Bound ℕ) → length (walk true xs start end) + length (walk false xs start end) ≡ min (end_index end (length xs)) (length xs) - start_index start }
 {}
 
-/// A place within the length is set or unset, and not both.
+/// An item within the length is set or unset, and not both.
 pub fn set_or_unset()
-    ensures { (xs : List Bool) (place : ℕ) → place < length xs → has_item false xs place ≡ not (has_item true xs place) }
+    ensures { (xs : List Bool) (index : ℕ) → index < length xs → has_item false xs index ≡ not (has_item true xs index) }
 {}
 
-/// `count`, the length of what is left of a walk, is how many places it would still give, from either end
-/// and after any places that it gave.
+/// `count`, the length of what is left of a walk, is how many indices it would still give, from either end
+/// and after any indices that it gave.
 pub fn counts_are_what_comes()
     ensures front { (s xs : List ℕ) → Drains (YieldsFirst (λ (l : List ℕ). l)) s xs → length xs ≡ length s }
     ensures back { (s xs : List ℕ) → Drains (YieldsLast (λ (l : List ℕ). l)) s xs → length xs ≡ length s }
-    ensures after_next { (s t : List ℕ) (place : ℕ) → YieldsFirst (λ (l : List ℕ). l) s (Some place) t → length s ≡ length t + 1 }
-    ensures after_next_back { (s t : List ℕ) (place : ℕ) → YieldsLast (λ (l : List ℕ). l) s (Some place) t → length s ≡ length t + 1 }
+    ensures after_next { (s t : List ℕ) (index : ℕ) → YieldsFirst (λ (l : List ℕ). l) s (Some index) t → length s ≡ length t + 1 }
+    ensures after_next_back { (s t : List ℕ) (index : ℕ) → YieldsLast (λ (l : List ℕ). l) s (Some index) t → length s ≡ length t + 1 }
 {}
 
 /// A walk that answered None gives nothing more, from either end.
@@ -104,7 +104,7 @@ pub fn or_changes_seldom()
 /// blocks of two types spell the same items.
 pub fn block_types_agree<T: Block, U: Block>()
     ensures changed { (old new : List Bool) (a b : Bool) → (IsTrue a ↔ (new ≢ old)) → (IsTrue b ↔ (new ≢ old)) → a ≡ b }
-    ensures set { (xs : List Bool) (place : ℕ) (value a b : Bool) → (IsTrue a ↔ (slice_index_or xs place false ≡ not value)) → (IsTrue b ↔ (slice_index_or xs place false ≡ not value)) → a ≡ b }
+    ensures set { (xs : List Bool) (index : ℕ) (value a b : Bool) → (IsTrue a ↔ (slice_index_or xs index false ≡ not value)) → (IsTrue b ↔ (slice_index_or xs index false ≡ not value)) → a ≡ b }
     ensures next { (s t u : List ℕ) (a b : Option ℕ) → YieldsFirst (λ (l : List ℕ). l) s a t → YieldsFirst (λ (l : List ℕ). l) s b u → (a ≡ b) × (t ≡ u) }
     ensures next_back { (s t u : List ℕ) (a b : Option ℕ) → YieldsLast (λ (l : List ℕ). l) s a t → YieldsLast (λ (l : List ℕ). l) s b u → (a ≡ b) × (t ≡ u) }
     ensures item { (s t u : List Bool) (a b : Option Bool) → YieldsFirst (λ (l : List Bool). l) s a t → YieldsFirst (λ (l : List Bool). l) s b u → (a ≡ b) × (t ≡ u) }

@@ -1,9 +1,10 @@
-//! Packed truth values: a list of booleans that takes one bit each.
+//! Bit vectors: lists of booleans that take one bit each.
 //!
 //! A `Vob` is used as a set of small numbers, above all where whole sets are joined and compared. Its blocks
-//! don't show: contracts see the list `bits` of its items and its `capacity`. The ones that callers stand on
-//! most are `or`, `and` and `xor`, which work item by item and answer true exactly if the list changed, and
-//! `iter_set_bits` and `iter_unset_bits`, whose places are a filter of a range that is cut at the length.
+//! don't show: contracts see the list `bits` of its items and its `capacity`. The calls that callers stand on
+//! most are `or`, `and` and `xor`, which work item by item and answer true exactly if the list changed,
+//! `meets` and `holds`, which compare two sets, and `iter_set_bits` and `iter_unset_bits`, which give the
+//! indices of a range, cut at the length, whose item has one value.
 #![tactic(auto)]
 
 ghost use Rattle.std.specs.Prelude.{◌≡◌, ◌<◌, ◌≤◌, ◌+◌, ◌-◌, ◌*◌, ◌^◌, ◌==◌, ◌↔◌, false, [], ◌++◌, length, take, replicate, slice_index_or, slice_get, IsTrue, IsOk, IfOk};
@@ -11,16 +12,16 @@ ghost use Rattle.std.specs.List.{flat_map};
 ghost use Rattle.vob.specs.Packed.{Contents, blocks_for};
 
 pub mod block;
-mod change;
 pub mod error;
+mod extend;
+mod find;
+mod items;
 pub mod iter;
-mod joining;
 pub mod laws;
-mod list;
 mod packed;
-mod places;
 pub mod raw;
 mod sets;
+mod shift;
 mod traits;
 
 use crate::block::Block;
@@ -51,7 +52,7 @@ impl<T: Block> Model for Vob<T> {
 }
 
 impl Vob<usize> {
-    /// With no item and no room.
+    /// Creates an empty `Vob` without room. It takes no memory.
     pub fn new(alloc: Global) -> Self
         ensures bits { result.bits ≡ [] }
         ensures capacity { result.capacity ≡ 0 }
@@ -62,7 +63,7 @@ impl Vob<usize> {
         }
     }
 
-    /// With no item, and room for so many. Room for none takes no memory.
+    /// Creates an empty `Vob` with room for at least `capacity` items. Room for none takes no memory.
     pub fn with_capacity(alloc: Global, capacity: usize) -> Result<Self, AllocError>
         ensures bits { IfOk result (λ v. v.bits ≡ []) }
         ensures capacity { IfOk result (λ v. capacity ≤ v.capacity) }
@@ -71,7 +72,7 @@ impl Vob<usize> {
         Vob::new_with_storage_type(alloc, capacity)
     }
 
-    /// So many items that all are `value`. None take no memory.
+    /// Creates a `Vob` of `len` items that all are `value`. For no item it takes no memory.
     pub fn from_elem(alloc: Global, value: bool, len: usize) -> Result<Self, AllocError>
         ensures bits { IfOk result (λ v. v.bits ≡ replicate len value) }
         ensures empty { len ≡ 0 → IsOk result }
@@ -81,7 +82,7 @@ impl Vob<usize> {
 }
 
 impl<T: Block> Vob<T> {
-    /// With no item, and room for so many. Room for none takes no memory.
+    /// Creates an empty `Vob` with room for at least `capacity` items. Room for none takes no memory.
     pub fn new_with_storage_type(alloc: Global, capacity: usize) -> Result<Self, AllocError>
         ensures bits { IfOk result (λ v. v.bits ≡ []) }
         ensures capacity { IfOk result (λ v. capacity ≤ v.capacity) }
@@ -91,7 +92,7 @@ impl<T: Block> Vob<T> {
         Ok(Vob { len: 0, blocks })
     }
 
-    /// So many items that all are `value`. None take no memory.
+    /// Creates a `Vob` of `len` items that all are `value`. For no item it takes no memory.
     pub fn from_elem_with_storage_type(
         alloc: Global,
         value: bool,
@@ -105,21 +106,21 @@ impl<T: Block> Vob<T> {
         Ok(Vob { len, blocks })
     }
 
-    /// How many items there are.
+    /// Tells how many items there are.
     pub fn len(&self) -> usize
         ensures { result ≡ length self.now.bits }
     {
         self.len
     }
 
-    /// Whether there is no item.
+    /// Tells whether there is no item.
     pub fn is_empty(&self) -> bool
         ensures { IsTrue result ↔ (self.now.bits ≡ []) }
     {
         self.len == 0
     }
 
-    /// How many items there is room for: the blocks that there is room for, times their width, and at
+    /// Tells how many items there is room for: the blocks that there is room for, times their width, and at
     /// most `usize::MAX`.
     pub fn capacity(&self) -> usize
         ensures { result ≡ self.now.capacity }
@@ -127,7 +128,7 @@ impl<T: Block> Vob<T> {
         self.blocks.capacity().saturating_mul(T::BITS)
     }
 
-    /// The item at a place, or None past the end.
+    /// Gives the item at `index`, or None past the end.
     pub fn get(&self, index: usize) -> Option<bool>
         ensures { result ≡ slice_get self.now.bits index }
     {
@@ -137,7 +138,7 @@ impl<T: Block> Vob<T> {
         Some(packed::bit_at(self.blocks.as_slice(), index))
     }
 
-    /// The item at a place.
+    /// Gives the item at `index`, which is below the length.
     pub fn get_unchecked(&self, index: usize) -> bool
         requires { index < length self.now.bits }
         ensures { result ≡ slice_index_or self.now.bits index false }
@@ -145,7 +146,7 @@ impl<T: Block> Vob<T> {
         packed::bit_at(self.blocks.as_slice(), index)
     }
 
-    /// The blocks: bit j of the block k is the item `k * BITS + j`, and bits past the end are false.
+    /// Lends the blocks: bit j of the block k is the item `k * BITS + j`, and bits past the end are false.
     pub fn get_storage(&self) -> &[T]
         ensures { flat_map T.bits result.now ≡ self.now.bits ++ replicate (blocks_for T.BITS (length self.now.bits) * T.BITS - length self.now.bits) false }
     {
@@ -153,7 +154,7 @@ impl<T: Block> Vob<T> {
     }
 }
 
-/// A list of items, as `vob!(alloc; true, false)?`, or so many times one item, as `vob!(alloc; true; 9)?`.
+/// Makes a list of its items, as `vob!(alloc; true, false)?`, or of one item repeated, as `vob!(alloc; true; 9)?`.
 #[macro_export]
 macro_rules! vob {
     ($alloc:expr; $value:expr; $len:expr) => {

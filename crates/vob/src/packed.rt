@@ -1,5 +1,4 @@
 //! Blocks as one list of bits.
-#![tactic(auto)]
 
 ghost use Rattle.std.specs.Prelude.{◌≡◌, ◌<◌, ◌≤◌, ◌+◌, ◌-◌, ◌*◌, ◌↔◌, ℕ, Bool, true, false, not, List, ◌++◌, length, map, take, drop, replicate, slice_index_or, slice_set, IsTrue, IsOk, IfOk, OnOk, OnErr};
 ghost use Rattle.std.specs.List.{flat_map};
@@ -9,7 +8,7 @@ ghost use Rattle.vob.specs.Packed.{Packs, Spells, blocks_for};
 use crate::block::Block;
 use std::alloc::{AllocError, Global};
 
-/// How many blocks so many items take.
+/// Tells how many blocks `len` items take.
 pub fn blocks_for<T: Block>(len: usize) -> usize
     ensures { result ≡ blocks_for T.BITS len }
 {
@@ -17,7 +16,7 @@ pub fn blocks_for<T: Block>(len: usize) -> usize
     if len % T::BITS == 0 { whole } else { whole + 1 }
 }
 
-/// The same blocks at a place of their own. Those of no item take no memory.
+/// Copies the blocks of `len` items. Those of no item take no memory.
 pub fn copied<T: Block>(alloc: Global, blocks: &[T], len: usize) -> Result<Vec<T>, AllocError>
     requires { Packs T.BITS len (flat_map T.bits blocks.now) }
     ensures items { IfOk result (λ v. v.items ≡ blocks.now) }
@@ -28,27 +27,27 @@ pub fn copied<T: Block>(alloc: Global, blocks: &[T], len: usize) -> Result<Vec<T
     Ok(made)
 }
 
-/// The bit at a place.
-pub fn bit_at<T: Block>(blocks: &[T], place: usize) -> bool
-    requires { place < length (flat_map T.bits blocks.now) }
-    ensures { result ≡ slice_index_or (flat_map T.bits blocks.now) place false }
+/// Reads the bit at `index`.
+pub fn bit_at<T: Block>(blocks: &[T], index: usize) -> bool
+    requires { index < length (flat_map T.bits blocks.now) }
+    ensures { result ≡ slice_index_or (flat_map T.bits blocks.now) index false }
 {
     let width = T::BITS;
-    blocks[place / width].bit(place % width)
+    blocks[index / width].bit(index % width)
 }
 
-/// Writes the bit at a place.
-pub fn put_bit<T: Block>(blocks: &mut Vec<T>, place: usize, value: bool)
-    requires { place < length (flat_map T.bits blocks.old.items) }
-    ensures bits { flat_map T.bits blocks.new.items ≡ slice_set (flat_map T.bits blocks.old.items) place value }
+/// Writes the bit at `index`.
+pub fn put_bit<T: Block>(blocks: &mut Vec<T>, index: usize, value: bool)
+    requires { index < length (flat_map T.bits blocks.old.items) }
+    ensures bits { flat_map T.bits blocks.new.items ≡ slice_set (flat_map T.bits blocks.old.items) index value }
     ensures capacity { vec_capacity blocks.new ≡ vec_capacity blocks.old }
 {
     let width = T::BITS;
-    let block = &mut blocks[place / width];
-    *block = block.with_bit(place % width, value);
+    let block = &mut blocks[index / width];
+    *block = block.with_bit(index % width, value);
 }
 
-/// Gives the bits from a place up to the end of its block one value.
+/// Gives the bits from the index `len` up to the end of its block one value.
 pub fn fill_above<T: Block>(blocks: &mut Vec<T>, len: usize, value: bool)
     requires { blocks_for T.BITS len * T.BITS ≤ length (flat_map T.bits blocks.old.items) }
     ensures count { length blocks.new.items ≡ length blocks.old.items }
@@ -64,7 +63,7 @@ pub fn fill_above<T: Block>(blocks: &mut Vec<T>, len: usize, value: bool)
     *block = block.low(used).either(T::filled(value).shifted_up(used));
 }
 
-/// Drops what lies from a place on.
+/// Drops the bits from the index `len` on.
 pub fn cut<T: Block>(blocks: &mut Vec<T>, len: usize)
     requires { len ≤ length (flat_map T.bits blocks.old.items) }
     ensures bits { flat_map T.bits blocks.new.items ≡ take len (flat_map T.bits blocks.old.items) ++ replicate (blocks_for T.BITS len * T.BITS - len) false }
@@ -74,7 +73,7 @@ pub fn cut<T: Block>(blocks: &mut Vec<T>, len: usize)
     fill_above(blocks, len, false);
 }
 
-/// Adds items that all are `value`, and unused bits up to the end of a block.
+/// Adds items that all are `value` up to `new_len`, and unused bits up to the end of a block.
 pub fn widen<T: Block>(
     blocks: &mut Vec<T>,
     len: usize,
@@ -117,7 +116,7 @@ pub fn mask<T: Block>(blocks: &mut Vec<T>, len: usize)
     fill_above(blocks, len, false);
 }
 
-/// Whether the blocks spell so many items, with no unused bit set.
+/// Tells whether the blocks spell `len` items, with no unused bit set.
 pub fn spells<T: Block>(blocks: &[T], len: usize) -> bool
     ensures { IsTrue result ↔ Spells T.BITS len (length blocks.now) (flat_map T.bits blocks.now) }
 {

@@ -1,5 +1,4 @@
-//! Raw storage, which is tested on its way back.
-#![tactic(auto)]
+//! Raw storage, which is tested before it is a list again.
 
 ghost use Rattle.std.specs.Prelude.{◌≡◌, ◌<◌, ◌+◌, ◌-◌, ◌*◌, false, ◌++◌, length, take, replicate, IsOk, IfOk, IfErr};
 ghost use Rattle.std.specs.List.{flat_map};
@@ -39,7 +38,7 @@ impl<T: Block> RawVob<T> {
     ghost use Rattle.std.specs.Borrow.{sem};
     ghost use Rattle.vob.specs.Lends.{lends_blocks};
 
-    /// The blocks, to be read and written. The length stays as it is, whatever is written.
+    /// Lends the blocks, to be read and written. The length stays as it is, whatever is written.
     pub fn get_storage_mut(&mut self) -> &mut Vec<T>
         ensures* writes_back { sem 𝓛 (lends_blocks T.row self.entry result) }
         ensures value { result.now ≡ self.old.blocks }
@@ -47,7 +46,7 @@ impl<T: Block> RawVob<T> {
         &mut self.blocks
     }
 
-    /// Says how many items the blocks hold.
+    /// Sets how many items the blocks are to hold.
     pub fn set_len(&mut self, len: usize)
         ensures len { self.new.len ≡ len }
         ensures blocks { self.new.blocks ≡ self.old.blocks }
@@ -65,7 +64,7 @@ impl<T: Block> RawVob<T> {
         packed::mask(&mut self.blocks, self.len);
     }
 
-    /// Makes a list again, where there are as many blocks as the length takes and no unused bit is set. Else
+    /// Makes a list again where there are as many blocks as the length takes and no unused bit is set. Else
     /// the parts are handed back.
     pub fn into_vob(self) -> Result<Vob<T>, RawVob<T>>
         ensures ok { IfOk result (λ v. Spells T.BITS self.len (length self.blocks.items) (flat_map T.bits self.blocks.items) × (v.bits ≡ take self.len (flat_map T.bits self.blocks.items))) }
@@ -80,7 +79,7 @@ impl<T: Block> RawVob<T> {
 }
 
 impl Vob<usize> {
-    /// The list as plain data. One without items takes no memory.
+    /// Copies the list into plain data. One without items takes no memory.
     pub fn to_record(&self) -> Result<VobRecord, AllocError>
         ensures len { IfOk result (λ r. r.len ≡ length self.now.bits) }
         ensures blocks { IfOk result (λ r. flat_map ⟦<usize as Block>⟧.bits r.vec.items ≡ self.now.bits ++ replicate (blocks_for 64 (length self.now.bits) * 64 - length self.now.bits) false) }
@@ -90,7 +89,7 @@ impl Vob<usize> {
         Ok(VobRecord { len: self.len, vec })
     }
 
-    /// The list of a record, where it has as many blocks as its length takes and no unused bit is set. Else
+    /// Makes the list of a record where it has as many blocks as its length takes and no unused bit is set. Else
     /// the record is handed back.
     pub fn from_record(stored: VobRecord) -> Result<Self, VobRecord>
         ensures ok { IfOk result (λ v. Spells 64 stored.len (length stored.vec.items) (flat_map ⟦<usize as Block>⟧.bits stored.vec.items) × (v.bits ≡ take stored.len (flat_map ⟦<usize as Block>⟧.bits stored.vec.items))) }

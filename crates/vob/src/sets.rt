@@ -1,13 +1,13 @@
-//! Lists as sets of places: operations on two lists, a block at a time.
-#![tactic(auto)]
+//! Lists as sets of indices: operations on two lists, a block at a time.
 
-ghost use Rattle.std.specs.Prelude.{◌≡◌, ◌≢◌, ◌<◌, ◌-◌, ◌↔◌, ◌&&◌, ◌||◌, true, false, not, length, map, replicate, IsTrue};
+ghost use Rattle.std.specs.Prelude.{◌≡◌, ◌≢◌, ◌<◌, ◌-◌, ◌↔◌, ◌&&◌, ◌||◌, true, false, not, length, map, replicate, IsTrue, if◌then◌else◌};
 ghost use Rattle.std.specs.List.{flat_map};
 ghost use Rattle.std.specs.Vec.{vec_capacity};
-ghost use Rattle.vob.specs.Bits.{bitwise, differs};
+ghost use Rattle.vob.specs.Bits.{bitwise, differs, Meets, IsApart, HoldsAll, LacksSome};
 ghost use Rattle.vob.specs.Pointwise.{item_of};
 
 use crate::block::Block;
+use crate::find::matching;
 use crate::{Vob, packed};
 
 /// An operation on two lists of one length, item by item.
@@ -19,7 +19,7 @@ enum Pointwise {
 }
 
 impl<T: Block> Vob<T> {
-    /// Keeps an item set where it is set in both lists, and says whether that changed the list.
+    /// Keeps an item set where it is set in both lists, and tells whether that changed the list.
     pub fn and(&mut self, other: &Vob<T>) -> bool
         requires { length self.old.bits ≡ length other.now.bits }
         ensures bits { self.new.bits ≡ bitwise (λ x y. x && y) self.old.bits other.now.bits }
@@ -29,7 +29,7 @@ impl<T: Block> Vob<T> {
         self.combine(Pointwise::And, other)
     }
 
-    /// Sets an item where it is set in either list, and says whether that changed the list.
+    /// Sets an item where it is set in either list, and tells whether that changed the list.
     pub fn or(&mut self, other: &Vob<T>) -> bool
         requires { length self.old.bits ≡ length other.now.bits }
         ensures bits { self.new.bits ≡ bitwise (λ x y. x || y) self.old.bits other.now.bits }
@@ -39,7 +39,7 @@ impl<T: Block> Vob<T> {
         self.combine(Pointwise::Or, other)
     }
 
-    /// Sets an item where the lists differ, and says whether that changed the list.
+    /// Sets an item where the lists differ, and tells whether that changed the list.
     pub fn xor(&mut self, other: &Vob<T>) -> bool
         requires { length self.old.bits ≡ length other.now.bits }
         ensures bits { self.new.bits ≡ bitwise differs self.old.bits other.now.bits }
@@ -49,6 +49,7 @@ impl<T: Block> Vob<T> {
         self.combine(Pointwise::Xor, other)
     }
 
+    /// Combines each item with the other list's, and tells whether that changed the list.
     fn combine(&mut self, how: Pointwise, other: &Vob<T>) -> bool
         requires { length self.old.bits ≡ length other.now.bits }
         ensures bits { self.new.bits ≡ bitwise (item_of how) self.old.bits other.now.bits }
@@ -56,6 +57,24 @@ impl<T: Block> Vob<T> {
         ensures capacity { self.new.capacity ≡ self.old.capacity }
     {
         combine_blocks(how, &mut self.blocks, other.blocks.as_slice())
+    }
+
+    /// Tells whether some item is set in both lists.
+    pub fn meets(&self, other: &Vob<T>) -> bool
+        requires { length self.now.bits ≡ length other.now.bits }
+        ensures meets { IsTrue result ↔ Meets self.now.bits other.now.bits }
+        ensures apart { result ≡ false → IsApart self.now.bits other.now.bits }
+    {
+        blocks_meet(self.get_storage(), other.get_storage(), true)
+    }
+
+    /// Tells whether each item that is set in the other list is set in this one.
+    pub fn holds(&self, other: &Vob<T>) -> bool
+        requires { length self.now.bits ≡ length other.now.bits }
+        ensures holds { IsTrue result ↔ HoldsAll self.now.bits other.now.bits }
+        ensures lacks { result ≡ false → LacksSome self.now.bits other.now.bits }
+    {
+        !blocks_meet(other.get_storage(), self.get_storage(), false)
     }
 
     /// Turns every item.
@@ -78,6 +97,7 @@ impl<T: Block> Vob<T> {
 }
 
 impl Pointwise {
+    /// Does the operation on each bit of two blocks.
     fn of<T: Block>(self, a: T, b: T) -> T
         ensures { T.bits result ≡ bitwise (item_of self) (T.bits a) (T.bits b) }
     {
@@ -89,6 +109,7 @@ impl Pointwise {
     }
 }
 
+/// Combines each block with the other list's, and tells whether that changed a bit.
 fn combine_blocks<T: Block>(how: Pointwise, to: &mut Vec<T>, from: &[T]) -> bool
     requires { length to.old.items ≡ length from.now }
     ensures bits { flat_map T.bits to.new.items ≡ bitwise (item_of how) (flat_map T.bits to.old.items) (flat_map T.bits from.now) }
@@ -105,6 +126,7 @@ fn combine_blocks<T: Block>(how: Pointwise, to: &mut Vec<T>, from: &[T]) -> bool
     changed
 }
 
+/// Turns each bit.
 fn flip_blocks<T: Block>(blocks: &mut Vec<T>)
     ensures bits { flat_map T.bits blocks.new.items ≡ map not (flat_map T.bits blocks.old.items) }
     ensures capacity { vec_capacity blocks.new ≡ vec_capacity blocks.old }
@@ -114,6 +136,7 @@ fn flip_blocks<T: Block>(blocks: &mut Vec<T>)
     }
 }
 
+/// Gives each block one value.
 fn fill_blocks<T: Block>(blocks: &mut Vec<T>, with: T)
     ensures items { blocks.new.items ≡ replicate (length blocks.old.items) with }
     ensures capacity { vec_capacity blocks.new ≡ vec_capacity blocks.old }
@@ -123,7 +146,7 @@ fn fill_blocks<T: Block>(blocks: &mut Vec<T>, with: T)
     }
 }
 
-/// Whether as many blocks have the same bits.
+/// Tells whether as many blocks have the same bits.
 pub fn same_blocks<T: Block>(a: &[T], b: &[T]) -> bool
     requires { length a.now ≡ length b.now }
     ensures { IsTrue result ↔ (flat_map T.bits a.now ≡ flat_map T.bits b.now) }
@@ -134,4 +157,19 @@ pub fn same_blocks<T: Block>(a: &[T], b: &[T]) -> bool
         }
     }
     true
+}
+
+/// Tells whether at some index a bit is set in one list of blocks and has a value in another. It ends at the first such
+/// block.
+fn blocks_meet<T: Block>(blocks: &[T], others: &[T], value: bool) -> bool
+    requires { length blocks.now ≡ length others.now }
+    ensures { IsTrue result ↔ Meets (flat_map T.bits blocks.now) (if value then flat_map T.bits others.now else map not (flat_map T.bits others.now)) }
+{
+    'each: for k in 0..blocks.len() {
+        let common = blocks[k].both(matching(others[k], value));
+        if common.zeros_below() < T::BITS {
+            return true;
+        }
+    }
+    false
 }

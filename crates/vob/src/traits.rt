@@ -1,5 +1,4 @@
-//! Traits of the standard library.
-#![tactic(auto)]
+//! The traits of the standard library that a list has.
 
 ghost use Rattle.std.specs.Prelude.{◌≡◌, ◌<◌, ◌↔◌, ◌&&◌, ◌||◌, length, slice_index_or, IsTrue, IsOk, IfOk, false};
 ghost use Rattle.std.proofs.Common.{ap, rules};
@@ -20,7 +19,7 @@ use std::ops::{BitAnd, BitAndAssign, BitOr, BitOrAssign, BitXor, BitXorAssign, I
 impl<T: Block> Clone for Vob<T> {
     ghost is_clone = { λ v w. w.bits ≡ v.bits };
 
-    // A list without items is cloned without memory.
+    // Cloning a list without items takes no memory.
     ghost is_infallible = { λ v. length v.bits ≡ 0 };
 
     fn clone(&self) -> Result<Self, AllocError> {
@@ -59,9 +58,9 @@ impl<T: Block> Hash for Vob<T> {
 
     fn hash<H: Hasher>(&self, state: &mut H) {
         state.write_usize(self.len());
-        let mut places = self.iter_set_bits(..);
-        'each: while let Some(place) = places.next() {
-            state.write_usize(place);
+        let mut indices = self.iter_set_bits(..);
+        'each: while let Some(index) = indices.next() {
+            state.write_usize(index);
         }
     }
 }
@@ -82,7 +81,7 @@ impl<T: Block> Index<usize> for Vob<T> {
     }
 }
 
-/// As `Vob[101]`.
+/// Prints the items as `Vob[101]`.
 impl<T: Block> fmt::Debug for Vob<T> {
     fn fmt<W: fmt::Write>(&self, f: &mut fmt::Formatter<W>) -> fmt::Result {
         f.write_str("Vob[")?;

@@ -1,9 +1,19 @@
-//! Tests of `vob`. They stand apart from it since a crate with tests is checked twice.
+//! Tests of `vob`, a file for each of its modules. They stand apart from it since a crate with tests is checked twice.
 #![tactic(auto)]
 
 #[cfg(test)]
-mod calls;
+mod common;
 #[cfg(test)]
-mod lists;
+mod error;
 #[cfg(test)]
-mod operators;
+mod extend;
+#[cfg(test)]
+mod items;
+#[cfg(test)]
+mod iter;
+#[cfg(test)]
+mod raw;
+#[cfg(test)]
+mod sets;
+#[cfg(test)]
+mod traits;

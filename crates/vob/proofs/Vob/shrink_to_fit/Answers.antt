@@ -2,7 +2,7 @@ use Rattle.std.proofs.Common.{◌≡◌, ◌*◌, length, sym, ap, ◌∙◌, ar
 use Rattle.std.specs.List.{flat_map}
 use Rattle.std.specs.Vec.{vec_capacity}
 use Rattle.vob.proofs.Pack as pack
-use Rattle.vob.proofs.Shift as shift
+use Rattle.vob.proofs.Shifted as shift
 use Rattle.vob.proofs.Vob.shrink_to_fit.Goals as goal
 
 pub returns-clause-frees : goal.returns-clause-frees

@@ -7,7 +7,7 @@ use Rattle.vob.proofs.laws.block_types_agree.Goals as goal
 pub returns : goal.returns
 returns g c = record {
   changed = λ old new a b h k. one_answer a b h k;
-  set = λ xs place value a b h k. one_answer a b h k;
+  set = λ xs index value a b h k. one_answer a b h k;
   next = law.next_same;
   next_back = law.next_back_same;
   item = law.next_same;

@@ -6,18 +6,18 @@ use Rattle.vob.proofs.laws.set_and_unset_split_the_range.Goals as goal
 
 pub returns : goal.returns
 returns c = record {
-  disjoint = λ xs start end place a b.
+  disjoint = λ xs start end index a b.
       let from = start_index start in
       let to = min (end_index end (length xs)) (length xs) in
       let within : to ≤ length xs = omega arith in
-      let p = (law.walk_exactly true xs from to place within).0 a in
-      let q = (law.walk_exactly false xs from to place within).0 b in
+      let p = (law.walk_exactly true xs from to index within).0 a in
+      let q = (law.walk_exactly false xs from to index within).0 b in
       true≢false (sym p.2 ∙ q.2);
-  together = λ xs start end place low high.
+  together = λ xs start end index low high.
       let from = start_index start in
       let to = min (end_index end (length xs)) (length xs) in
       let within : to ≤ length xs = omega arith in
-      ⊎_elim (λ e. inl ((law.walk_exactly true xs from to place within).1 (low, high, e))) (λ e. inr ((law.walk_exactly false xs from to place within).1 (low, high, e)))
-      (law.set_or_not (get_or xs place false));
+      ⊎_elim (λ e. inl ((law.walk_exactly true xs from to index within).1 (low, high, e))) (λ e. inr ((law.walk_exactly false xs from to index within).1 (low, high, e)))
+      (law.set_or_not (get_or xs index false));
   counts = λ xs start end. law.counts_sum xs (start_index start) (min (end_index end (length xs)) (length xs)) (omega arith);
 }

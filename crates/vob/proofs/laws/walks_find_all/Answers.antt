@@ -4,4 +4,4 @@ use Rattle.vob.proofs.LawLemmas as law
 use Rattle.vob.proofs.laws.walks_find_all.Goals as goal
 
 pub returns : goal.returns
-returns c = λ v xs start end place. law.walk_exactly v xs (start_index start) (min (end_index end (length xs)) (length xs)) place (omega arith)
+returns c = λ v xs start end index. law.walk_exactly v xs (start_index start) (min (end_index end (length xs)) (length xs)) index (omega arith)

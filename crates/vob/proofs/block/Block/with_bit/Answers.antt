@@ -13,4 +13,4 @@ returns g c =
     let n : length xs ≡ k = ap length (law c.args.self) ∙ digit.length-digits k (g.Self.FixedWidth.bits_of c.args.self) in
     let number = g.met.Self.FixedWidth.bits_of_natural_law c.one.result 1 (ap g.Self.Number.value c.one.ensures ∙ g.met.Self.One.one_law g.met.Self.Integral.exact_law) in
     let one = law c.one.result ∙ ap (digits k) number ∙ digit.digits-one k some in
-    c.differing.ensures ∙ ap (bitwise differs xs) c.shifted_up.ensures ∙ digit.flipped_to k c.args.place xs (g.Self.Block.bits c.one.result) c.args.value n (omega arith) one (λ h. digit.beq-false c.bit.result c.args.value c.if-bit-value.false (c.bit.ensures ∙ h))
+    c.differing.ensures ∙ ap (bitwise differs xs) c.shifted_up.ensures ∙ digit.flipped_to k c.args.index xs (g.Self.Block.bits c.one.result) c.args.value n (omega arith) one (λ h. digit.beq-false c.bit.result c.args.value c.if-bit-value.false (c.bit.ensures ∙ h))

@@ -8,8 +8,8 @@ use Rattle.vob.proofs.traits.VobHash.hash.Given as goal
 
 abbrev pub invariant-each : goal.invariant-each
 invariant-each g l =
-    fold g.H.Hasher.write l.state (flat_map fed.usize l.places)
+    fold g.H.Hasher.write l.state (flat_map fed.usize l.indices)
     ≡ fold g.H.Hasher.write l.fn.state (fed.usize (length l.self.bits) ++ flat_map fed.usize (walk true l.self.bits Unbounded Unbounded))
 
 abbrev pub decreases-each : goal.decreases-each
-decreases-each g l = length l.places
+decreases-each g l = length l.indices

@@ -3,7 +3,7 @@ use Rattle.std.proofs.Common.{◌≡◌, ℕ, zero, ◌+◌, refl, ◌∙◌}
 use Rattle.cfg_theory.specs.Grammar.{Grammar}
 use Rattle.lr_theory.specs.Automaton.{Automaton}
 use Rattle.lr_theory.specs.Machine.{Config, Outcome, going, accepted, failed, stuck, step, then_run, run}
-use Rattle.lr_theory.proofs.Ends.{run_append}
+use Rattle.lr_theory.proofs.RunTermination.{run_append}
 
 module _ {L : Type 0} (G : Grammar) (a : Automaton) (tok : L → ℕ) where
   then_none : (o : Outcome L) → then_run o (run G a tok zero) ≡ o

@@ -27,13 +27,13 @@ pub join_stops : {text : List ℕ} {s t : State} {place : ℕ} → Steps text s 
 join_stops r f = record { last = f.last; steps = join r f.steps; stops = f.stops; unread = f.unread; at = f.at }
 
 pub join_fails : (text : List ℕ) (s t : State) (e : ReadFault) → Steps text s t → FailsFrom text t e → FailsFrom text s e
-join_fails text s t faults.Memory r f = tt
+join_fails text s t (faults.Memory e) r f = tt
 join_fails text s t (faults.NotYet None) r f = tt
 join_fails text s t (faults.NotYet (Some place)) r f = join_stops r f
 
 -- where a test fails, reading is stuck
 pub fails_at : (text : List ℕ) (s t : State) (fits : Bool) (a : ℕ) (e : ReadFault) → Steps text s t → place_of t ≡ a → (fits ≡ false → IsStuck text t) → IsFaultAt fits a e → FailsFrom text s e
-fails_at text s t fits a faults.Memory r at stuck f = tt
+fails_at text s t fits a (faults.Memory e) r at stuck f = tt
 fails_at text s t fits a (faults.NotYet None) r at stuck f = tt
 fails_at text s t fits a (faults.NotYet (Some place)) r at stuck f = subst (StopsFrom text s) (at ∙ sym f.1) (and_stops r (stuck f.0))
 

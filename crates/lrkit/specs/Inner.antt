@@ -18,6 +18,6 @@ pub record IsInner (rules tokens : ℕ) (p : Production) : Type 0 where
 
 -- no place of the text is named
 abbrev pub HasNoPlace : ReadFault → Type 0
-HasNoPlace faults.Memory = Unit {0}
+HasNoPlace (faults.Memory e) = Unit {0}
 HasNoPlace (faults.NotYet None) = Unit {0}
 HasNoPlace (faults.NotYet (Some place)) = ⊥

@@ -119,7 +119,7 @@ Stops text place = StopsFrom text beginning place
 
 -- an error of the code: where it has a place, the constructs from s on lead to it
 abbrev pub FailsFrom : List ℕ → State → ReadFault → Type 0
-FailsFrom text s faults.Memory = Unit {0}
+FailsFrom text s (faults.Memory e) = Unit {0}
 FailsFrom text s (faults.NotYet None) = Unit {0}
 FailsFrom text s (faults.NotYet (Some place)) = StopsFrom text s place
 
@@ -165,6 +165,6 @@ semicolon_or_bar false = marks.Bar
 
 -- an error of the code: where it has a place, that is a, and a test failed there
 abbrev pub IsFaultAt : Bool → ℕ → ReadFault → Type 0
-IsFaultAt fits a faults.Memory = Unit {0}
+IsFaultAt fits a (faults.Memory e) = Unit {0}
 IsFaultAt fits a (faults.NotYet None) = Unit {0}
 IsFaultAt fits a (faults.NotYet (Some place)) = (fits ≡ false) × (place ≡ a)

@@ -53,6 +53,6 @@ fn push_parsed(
             push_parsing_error(alloc, line, lexeme_place(lexemes, count), text)?;
             Ok(true)
         }
-        Err(ParseFault::Memory) => Err(AllocError),
+        Err(ParseFault::Memory(e)) => Err(e),
     }
 }

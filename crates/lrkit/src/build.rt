@@ -1,7 +1,7 @@
 //! The building of tables from canonical LR(1) item sets, as D. E. Knuth gave them in "On the translation of languages
 //! from left to right" (1965): no two sets are merged.
 
-ghost use Rattle.std.specs.Prelude.{◌≡◌, IfOk};
+ghost use Rattle.std.specs.Prelude.{◌≡◌, IfOk, alloc_error};
 ghost use Rattle.cfg_theory.specs.Grammar.{WellFormed};
 ghost use Rattle.lr_theory.specs.Automaton.{Safe};
 ghost use Rattle.lrkit.specs.Plain.{grammar_of};
@@ -19,28 +19,28 @@ use crate::tables::{Cell, Item, State, Tables};
 use std::alloc::{AllocError, AllocFailed, Global};
 use std::collections::BTreeMap;
 
-/// Want of memory, more states than 4,294,967,295, or two actions on one token in one state (or what `build` counts as
+/// Out of memory, more states than 4,294,967,295, or two actions on one token in one state (or what `build` counts as
 /// that).
 #[derive(Clone, Copy, Debug, PartialEq, Eq)]
 pub enum BuildFault {
-    Memory,
+    Memory(AllocError),
     TooManyStates,
     Contest,
 }
 
 impl From<AllocError> for BuildFault {
-    ghost from_gives = { λ _ e. e ≡ faults.Memory };
+    ghost from_gives = { λ x e. e ≡ faults.Memory x };
 
-    fn from(_e: AllocError) -> BuildFault {
-        BuildFault::Memory
+    fn from(e: AllocError) -> BuildFault {
+        BuildFault::Memory(e)
     }
 }
 
 impl<T: Drop> From<AllocFailed<T>> for BuildFault {
-    ghost from_gives = { λ _ e. e ≡ faults.Memory };
+    ghost from_gives = { λ _ e. e ≡ faults.Memory alloc_error };
 
-    fn from(_e: AllocFailed<T>) -> BuildFault {
-        BuildFault::Memory
+    fn from(e: AllocFailed<T>) -> BuildFault {
+        BuildFault::Memory(AllocError::from(e))
     }
 }
 

@@ -9,7 +9,7 @@ use crate::grammar::PlainGrammar;
 use crate::read_grammar::read_grammar;
 use crate::syntax::ReadFault;
 use crate::tables::Tables;
-use std::alloc::{AllocError, Global};
+use std::alloc::Global;
 
 // One more than the greatest number of a state.
 const TOO_MANY_STATES: usize = 4_294_967_296;
@@ -29,12 +29,12 @@ pub fn make_kit(alloc: Global, text: &str) -> Result<Kit, KitError>
     let grammar = match read_grammar(alloc, text) {
         Ok(grammar) => grammar,
         Err(ReadFault::NotYet(place)) => return Err(KitError::NotYet(place)),
-        Err(ReadFault::Memory) => return Err(KitError::Memory(AllocError)),
+        Err(ReadFault::Memory(e)) => return Err(KitError::Memory(e)),
     };
     match build(alloc, &grammar) {
         Ok(tables) => Ok(Kit { grammar, tables }),
         Err(BuildFault::Contest) => Err(KitError::NotYet(None)),
         Err(BuildFault::TooManyStates) => Err(KitError::TooManyStates(TOO_MANY_STATES)),
-        Err(BuildFault::Memory) => Err(KitError::Memory(AllocError)),
+        Err(BuildFault::Memory(e)) => Err(KitError::Memory(e)),
     }
 }

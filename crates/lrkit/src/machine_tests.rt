@@ -84,7 +84,7 @@ fn come_to(alloc: Global, grammar: &PlainGrammar, tokens: &[usize]) -> Result<St
     }
     let tables = match build(alloc, grammar) {
         Ok(tables) => tables,
-        Err(BuildFault::Memory) => return Err(AllocError),
+        Err(BuildFault::Memory(e)) => return Err(e),
         Err(BuildFault::Contest) => return String::from_str(alloc, "contest"),
         Err(BuildFault::TooManyStates) => return String::from_str(alloc, "too many states"),
     };
@@ -99,7 +99,7 @@ fn come_to(alloc: Global, grammar: &PlainGrammar, tokens: &[usize]) -> Result<St
             Ok(text)
         }
         Ok(ParseAnswer::Error(place)) => format!(in alloc; "error {place}"),
-        Err(ParseFault::Memory) => Err(AllocError),
+        Err(ParseFault::Memory(e)) => Err(e),
     }
 }
 

@@ -1,6 +1,6 @@
 //! The run of a parser: shifts and reductions over a list of lexemes.
 
-ghost use Rattle.std.specs.Prelude.{◌≡◌, ◌≢◌, ◌≤◌, ◌<◌, ◌∷◌, [], length, drop, slice_index, vec_len, IfOk, OnOk};
+ghost use Rattle.std.specs.Prelude.{◌≡◌, ◌≢◌, ◌≤◌, ◌<◌, ◌∷◌, [], length, drop, slice_index, vec_len, IfOk, OnOk, alloc_error};
 ghost use Rattle.std.specs.List.{AllByRecursion};
 ghost use Rattle.cfg_theory.specs.Grammar.{WellFormed, end_token};
 ghost use Rattle.lr_theory.specs.Automaton.{Safe, shift, reduce, accept};
@@ -28,25 +28,25 @@ pub enum ParseAnswer {
     Error(usize),
 }
 
-/// Want of memory.
+/// Out of memory: the refused request's error.
 #[derive(Clone, Copy, Debug, PartialEq, Eq)]
 pub enum ParseFault {
-    Memory,
+    Memory(AllocError),
 }
 
 impl From<AllocError> for ParseFault {
-    ghost from_gives = { λ _ e. e ≡ faults.Memory };
+    ghost from_gives = { λ x e. e ≡ faults.Memory x };
 
-    fn from(_e: AllocError) -> ParseFault {
-        ParseFault::Memory
+    fn from(e: AllocError) -> ParseFault {
+        ParseFault::Memory(e)
     }
 }
 
 impl<T: Drop> From<AllocFailed<T>> for ParseFault {
-    ghost from_gives = { λ _ e. e ≡ faults.Memory };
+    ghost from_gives = { λ _ e. e ≡ faults.Memory alloc_error };
 
-    fn from(_e: AllocFailed<T>) -> ParseFault {
-        ParseFault::Memory
+    fn from(e: AllocFailed<T>) -> ParseFault {
+        ParseFault::Memory(AllocError::from(e))
     }
 }
 

@@ -1,6 +1,6 @@
 //! Reads the declarations of a text, construct by construct.
 
-ghost use Rattle.std.specs.Prelude.{◌≡◌, ◌+◌, ◌≤◌, ◌<◌, length, IfOk, IfErr, MatchOption, slice_range};
+ghost use Rattle.std.specs.Prelude.{◌≡◌, ◌+◌, ◌≤◌, ◌<◌, length, IfOk, IfErr, MatchOption, slice_range, alloc_error};
 ghost use Rattle.std.specs.Str.{IsCharBoundary};
 ghost use Rattle.std.specs.String.{string_bytes};
 ghost use Rattle.lrkit.specs.declared.scan.Mark.TheVariants as marks;
@@ -37,7 +37,7 @@ impl<'a> Scanner<'a> {
         requires start { IsCharBoundary self.now.text.now start }
         requires end { IsCharBoundary self.now.text.now end }
         ensures ok { IfOk result (λ w. string_bytes w ≡ slice_range self.now.text.now start end) }
-        ensures err { IfErr result (λ e. e ≡ faults.Memory) }
+        ensures err { IfErr result (λ e. e ≡ faults.Memory alloc_error) }
     {
         Ok(String::from_str(alloc, &self.text[start..end])?)
     }

@@ -1,6 +1,6 @@
 //! What a grammar text says, and why it could not be read.
 
-ghost use Rattle.std.specs.Prelude.{◌≡◌};
+ghost use Rattle.std.specs.Prelude.{◌≡◌, alloc_error};
 ghost use Rattle.lrkit.specs.declared.syntax.ReadFault.TheVariants.{Memory};
 
 use std::alloc::{AllocError, AllocFailed};
@@ -8,25 +8,25 @@ use std::alloc::{AllocError, AllocFailed};
 /// Why there is no grammar.
 #[derive(Clone, Copy, Debug, PartialEq, Eq)]
 pub enum ReadFault {
-    Memory,
+    Memory(AllocError),
     /// With a place, the first byte at which nothing of the file grammar goes on.
     /// With none, the text reads, and says something that isn't accepted.
     NotYet(Option<usize>),
 }
 
 impl From<AllocError> for ReadFault {
-    ghost from_gives = { λ _ e. e ≡ Memory };
+    ghost from_gives = { λ x e. e ≡ Memory x };
 
-    fn from(_e: AllocError) -> ReadFault {
-        ReadFault::Memory
+    fn from(e: AllocError) -> ReadFault {
+        ReadFault::Memory(e)
     }
 }
 
 impl<T: Drop> From<AllocFailed<T>> for ReadFault {
-    ghost from_gives = { λ _ e. e ≡ Memory };
+    ghost from_gives = { λ _ e. e ≡ Memory alloc_error };
 
-    fn from(_e: AllocFailed<T>) -> ReadFault {
-        ReadFault::Memory
+    fn from(e: AllocFailed<T>) -> ReadFault {
+        ReadFault::Memory(AllocError::from(e))
     }
 }
 

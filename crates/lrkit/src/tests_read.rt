@@ -223,6 +223,6 @@ fn memory(rt: HostRuntime) {
             assert_eq!(rt; grammar.productions.len(), 5);
             assert_eq!(rt; grammar.start, 4);
         }
-        Err(fault) => assert_eq!(rt; fault, ReadFault::Memory),
+        Err(fault) => assert!(rt; matches!(fault, ReadFault::Memory(_))),
     }
 }

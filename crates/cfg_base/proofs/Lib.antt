@@ -1,15 +1,15 @@
 pub mod Columns
-pub mod HeaderMarks
 pub mod HeaderRuns
+pub mod HeaderTokens
 pub mod Lines
 pub mod LocatedHeaders
 pub mod LocatedTexts
 pub mod MarkMapEntries
+pub mod MarkMapIterators
 pub mod MarkMapMerges
 pub mod MarkMapRoom
-pub mod MarkMapWalks
+pub mod NewlineOffsets
 pub mod Pieces
-pub mod Places
 pub mod RepeatLists
 pub mod SectionChains
 pub mod SectionNext
@@ -17,3 +17,4 @@ pub mod SectionRefusals
 pub mod SectionTotal
 pub mod SettingReads
 pub mod SettingTexts
+pub mod TextRuns

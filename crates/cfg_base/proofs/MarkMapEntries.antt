@@ -15,7 +15,7 @@ use Rattle.cfg_base.specs.declared.markmap.Slot.{Slot}
 use Rattle.cfg_base.specs.declared.markmap.Marks.{Marks}
 use Rattle.cfg_base.specs.declared.markmap.MergeBehavior.{MergeBehavior}
 use Rattle.cfg_base.specs.MarkMaps.{Marked, blank, map_with, marks_at, slot_in}
-use Rattle.cfg_base.specs.Lends.{with_value_at}
+use Rattle.cfg_base.specs.LentValues.{with_value_at}
 
 lookup_alike : {K X : Type 0} (f h : K → Bool) → ((x : K) → f x ≡ h x) → (es : List (K × X)) → lookup f es ≡ lookup h es
 lookup_alike f h same [] = refl

@@ -4,7 +4,7 @@ use Rattle.std.specs.Borrow.{Bor}
 use Rattle.std.proofs.lemmas.Grind.{flat_map-append}
 use Rattle.cfg_base.specs.Newlines.{Newlines, joined, newlines_of}
 use Rattle.cfg_base.specs.Pieces.{text_of}
-use Rattle.cfg_base.proofs.Places.{joined_is_append}
+use Rattle.cfg_base.proofs.NewlineOffsets.{joined_is_append}
 
 pub text_of-push : (pieces : List (Bor (List ℕ))) (piece : Bor (List ℕ)) → text_of (pieces ++ piece ∷ []) ≡ text_of pieces ++ piece.now
 text_of-push pieces piece = flat_map-append (λ (p : Bor (List ℕ)). p.now) pieces (piece ∷ []) ∙ ap (λ (xs : List ℕ). text_of pieces ++ xs) (append-nil piece.now)

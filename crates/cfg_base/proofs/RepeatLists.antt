@@ -8,23 +8,23 @@ use Rattle.std.specs.declared.string.String.{String}
 use Rattle.std.specs.BTreeMap.{is_at}
 use Rattle.std.proofs.lemmas.List.{map_more, map_push, map-append, at_drop_more}
 use Rattle.std.proofs.lemmas.Map.Text.{is_eq-slice_cmp}
-use Rattle.cfg_base.specs.Place.{Places}
+use Rattle.cfg_base.specs.SpanModel.{SpanModel}
 use Rattle.cfg_base.specs.MarkMaps.{Marked, SetsValue, value_at}
-use Rattle.cfg_base.specs.declared.header.read.Pair.{Pair}
+use Rattle.cfg_base.specs.declared.header.settings.Pair.{Pair}
 use Rattle.cfg_base.specs.declared.header.value.HeaderValue.{HeaderValue}
 use Rattle.cfg_base.specs.HeaderTexts.{ValueText}
 use Rattle.cfg_base.specs.Sections.{PairText}
-use Rattle.cfg_base.specs.SectionFaults.{pair_text, ErrorText, repeat_text}
-use Rattle.cfg_base.specs.SectionRepeats.{places_of, is_named, several, repeats_behind, said_by, said_of, entry_text, Holds}
+use Rattle.cfg_base.specs.SectionResults.{pair_text, ErrorText, repeat_text}
+use Rattle.cfg_base.specs.SectionRepeats.{spans_of, is_named, several, repeats_behind, said_by, said_of, entry_text, Holds}
 
-places_step : (q : List ℕ) (p : Pair) (ps : List Pair) (t : Bool) → bytes_eq q (string_bytes p.key) ≡ t → places_of q (map pair_text ps) ≡ map (λ p. p.span) (filter (λ p. bytes_eq q (string_bytes p.key)) ps) →
-    places_of q (map pair_text (p ∷ ps)) ≡ map (λ p. p.span) (filter (λ p. bytes_eq q (string_bytes p.key)) (p ∷ ps))
+places_step : (q : List ℕ) (p : Pair) (ps : List Pair) (t : Bool) → bytes_eq q (string_bytes p.key) ≡ t → spans_of q (map pair_text ps) ≡ map (λ p. p.span) (filter (λ p. bytes_eq q (string_bytes p.key)) ps) →
+    spans_of q (map pair_text (p ∷ ps)) ≡ map (λ p. p.span) (filter (λ p. bytes_eq q (string_bytes p.key)) (p ∷ ps))
 places_step q p ps true e h = rw e (ap (λ r. p.span ∷ r) h)
 places_step q p ps false e h = rw e h
 
-pub places_text : (q : List ℕ) (pairs : List Pair) → places_of q (map pair_text pairs) ≡ map (λ p. p.span) (filter (λ p. bytes_eq q (string_bytes p.key)) pairs)
-places_text q [] = refl
-places_text q (p ∷ ps) = places_step q p ps (bytes_eq q (string_bytes p.key)) refl (places_text q ps)
+pub spans_text : (q : List ℕ) (pairs : List Pair) → spans_of q (map pair_text pairs) ≡ map (λ p. p.span) (filter (λ p. bytes_eq q (string_bytes p.key)) pairs)
+spans_text q [] = refl
+spans_text q (p ∷ ps) = places_step q p ps (bytes_eq q (string_bytes p.key)) refl (spans_text q ps)
 
 named_step : (q : List ℕ) (p : PairText) (named : Bool) (earlier : List PairText) (x : PairText) → is_named q (earlier ++ p ∷ []) ≡ (is_named q earlier || bytes_eq q p.key) → (t : Bool) → bytes_eq q x.key ≡ t → is_named q ((x ∷ earlier) ++ p ∷ []) ≡ (is_named q (x ∷ earlier) || bytes_eq q p.key)
 named_step q p named earlier x h true e = rw e refl
@@ -38,25 +38,25 @@ named_more : (q : List ℕ) (earlier : List PairText) (p : PairText) → is_name
 named_more q [] p = named_last (bytes_eq q p.key)
 named_more q (x ∷ earlier) p = named_step q p true earlier x (named_more q earlier p) (bytes_eq q x.key) refl
 
-left_cases : (t n : Bool) (old places : List Places) → old ≡ (if n then [] else places) → (if t then [] else old) ≡ (if (n || t) then [] else places)
-left_cases true true old places e = refl
-left_cases true false old places e = refl
-left_cases false true old places e = e
-left_cases false false old places e = e
+left_cases : (t n : Bool) (old spans : List SpanModel) → old ≡ (if n then [] else spans) → (if t then [] else old) ≡ (if (n || t) then [] else spans)
+left_cases true true old spans e = refl
+left_cases true false old spans e = refl
+left_cases false true old spans e = e
+left_cases false false old spans e = e
 
--- places that are left after the next pair's are taken out
-pub left_more : (q : List ℕ) (earlier : List PairText) (p : PairText) (old new places : List Places) → new ≡ (if bytes_eq q p.key then [] else old) → old ≡ (if is_named q earlier then [] else places) → new ≡ (if is_named q (earlier ++ p ∷ []) then [] else places)
-left_more q earlier p old new places h e = rw (named_more q earlier p) (h ∙ left_cases (bytes_eq q p.key) (is_named q earlier) old places e)
+-- spans that are left after the next pair's are taken out
+pub left_more : (q : List ℕ) (earlier : List PairText) (p : PairText) (old new spans : List SpanModel) → new ≡ (if bytes_eq q p.key then [] else old) → old ≡ (if is_named q earlier then [] else spans) → new ≡ (if is_named q (earlier ++ p ∷ []) then [] else spans)
+left_more q earlier p old new spans h e = rw (named_more q earlier p) (h ∙ left_cases (bytes_eq q p.key) (is_named q earlier) old spans e)
 
-told_cases : (named : Bool) (places g : List Places) → g ≡ (if named then [] else places) → several g ≡ (if named then [] else several places)
-told_cases true places g e = rw e refl
-told_cases false places g e = rw e refl
+told_cases : (named : Bool) (spans g : List SpanModel) → g ≡ (if named then [] else spans) → several g ≡ (if named then [] else several spans)
+told_cases true spans g e = rw e refl
+told_cases false spans g e = rw e refl
 
-pub told_more : (whole earlier later : List PairText) (p : PairText) (out out' total : List ErrorText) (g : List Places) → g ≡ (if is_named p.key earlier then [] else places_of p.key whole) → out' ≡ out ++ map repeat_text (several g) →
+pub told_more : (whole earlier later : List PairText) (p : PairText) (out out' total : List ErrorText) (g : List SpanModel) → g ≡ (if is_named p.key earlier then [] else spans_of p.key whole) → out' ≡ out ++ map repeat_text (several g) →
     out ++ map repeat_text (repeats_behind whole earlier (p ∷ later)) ≡ total → out' ++ map repeat_text (repeats_behind whole (earlier ++ p ∷ []) later) ≡ total
 told_more whole earlier later p out out' total g same more h =
     let rest = repeats_behind whole (earlier ++ p ∷ []) later in
-    rw more (append_assoc out (map repeat_text (several g)) (map repeat_text rest) ∙ ap (λ t. out ++ t) (sym (map-append repeat_text (several g) rest) ∙ ap (λ s. map repeat_text (s ++ rest)) (told_cases (is_named p.key earlier) (places_of p.key whole) g same)) ∙ h)
+    rw more (append_assoc out (map repeat_text (several g)) (map repeat_text rest) ∙ ap (λ t. out ++ t) (sym (map-append repeat_text (several g) rest) ∙ ap (λ s. map repeat_text (s ++ rest)) (told_cases (is_named p.key earlier) (spans_of p.key whole) g same)) ∙ h)
 
 pub earlier_more : (pairs : List Pair) (i : ℕ) (p : Pair) → i < length pairs → p ≡ get_or pairs i p → map pair_text (take (i + 1) pairs) ≡ map pair_text (take i pairs) ++ pair_text p ∷ []
 earlier_more pairs i p below is = map_more pair_text pairs i p below ∙ ap (λ x. map pair_text (take i pairs) ++ pair_text x ∷ []) (sym is)
@@ -76,12 +76,12 @@ said_push : (pairs : List PairText) (p : PairText) (q : List ℕ) → said_of (p
 said_push [] p q = or_none (said_by p q)
 said_push (x ∷ pairs) p q = ap (λ o. option_or o (said_by x q)) (said_push pairs p q) ∙ or_assoc (said_by p q) (said_of pairs q) (said_by x q)
 
-value_cases : (t : Bool) (old : Option (HeaderValue Places)) (v : HeaderValue Places) (said : Option (Places × ValueText Places)) → option_map entry_text old ≡ said → option_map entry_text (if t then Some v else old) ≡ option_or (if t then Some (entry_text v) else None) said
+value_cases : (t : Bool) (old : Option (HeaderValue SpanModel)) (v : HeaderValue SpanModel) (said : Option (SpanModel × ValueText SpanModel)) → option_map entry_text old ≡ said → option_map entry_text (if t then Some v else old) ≡ option_or (if t then Some (entry_text v) else None) said
 value_cases true old v said h = refl
 value_cases false old v said h = h
 
 -- a header after one more pair
-pub holds_more : (pairs : List Pair) (p : Pair) (key : String Global) (v : HeaderValue Places) (old new : Marked (String Global) (HeaderValue Places)) → string_bytes key ≡ string_bytes p.key → entry_text v ≡ ((pair_text p).at, (pair_text p).value) → SetsValue string_cmp old new key (Some v) → Holds old (map pair_text pairs) →
+pub holds_more : (pairs : List Pair) (p : Pair) (key : String Global) (v : HeaderValue SpanModel) (old new : Marked (String Global) (HeaderValue SpanModel)) → string_bytes key ≡ string_bytes p.key → entry_text v ≡ ((pair_text p).at, (pair_text p).value) → SetsValue string_cmp old new key (Some v) → Holds old (map pair_text pairs) →
     Holds new (map pair_text (pairs ++ p ∷ []))
 holds_more pairs p key v old new same is sets h = rw (map_push pair_text pairs p)
     (record {

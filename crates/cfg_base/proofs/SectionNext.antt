@@ -3,14 +3,14 @@ use Rattle.std.proofs.Common.{◌≡◌, ℕ, ◌+◌, ◌<◌, ◌≤◌, ◌^�
 use Rattle.std.specs.Prelude.{slice_range, nat_lt}
 use Rattle.std.proofs.lemmas.Bool.Decides.{nat_tests}
 use lib.Chars.{codes}
-use Rattle.cfg_base.specs.Place.{Places}
-use Rattle.cfg_base.specs.declared.header.scan.Mark.{Mark}
-use Rattle.cfg_base.specs.declared.header.scan.Mark.TheVariants as marks
-use Rattle.cfg_base.specs.declared.header.scan.PathMark.{PathMark}
-use Rattle.cfg_base.specs.declared.header.scan.PathMark.TheVariants as paths
+use Rattle.cfg_base.specs.SpanModel.{SpanModel}
+use Rattle.cfg_base.specs.declared.header.scan.TokenKind.{TokenKind}
+use Rattle.cfg_base.specs.declared.header.scan.TokenKind.TheVariants as tokens
+use Rattle.cfg_base.specs.declared.header.scan.PathShape.{PathShape}
+use Rattle.cfg_base.specs.declared.header.scan.PathShape.TheVariants as paths
 use Rattle.cfg_base.specs.HeaderErrors.{KindText, missing_section, illegal_name, expected_token, invalid_entry}
 use Rattle.cfg_base.specs.HeaderTexts.{PathText, SettingText, unitary, construct, num, quoted, array, ItemsText, none, more, flag, setting}
-use Rattle.cfg_base.specs.HeaderWords.{gap_part, mark_at, path_at, begins_word}
+use Rattle.cfg_base.specs.HeaderWords.{gap_part, token_at, path_at, begins_word}
 use Rattle.cfg_base.specs.Sections.{span, PairText, Open, top, inside, depth, most_depth, Key, Wanted, Section, Brace, Pairs, Pair, Colon, PairEnd, Value, Paren, Argument, CloseParen, Items, Behind, Nothing, State, Spaced, At, key_of, pair_of, word_of, IsPath, alone, within, key_end, number_end, number_at, text_end, is_section_at, is_colon, is_open_paren, is_close_paren, is_open_brace, is_close_brace, is_close_bracket, begins_key, begins_pair, ends_pair, ends_item, begins_setting, Step, gap_more, gap_end, section, no_section, open_brace, close_brace, next_pair, key, negated_key, colon, no_colon, comma, no_comma, number, quote, path, open_bracket, open_paren, no_paren, argument, close_paren, close_bracket, item, item_comma, no_item_comma, whole, IsNoPath, no_word, no_member, Stops, missing, no_brace, no_end_brace, no_end_bracket, no_end_paren, no_pair, no_key, no_setting, no_path, no_argument, no_end_quote, large_number, deep_array, Steps, here, then, Reads, Faults}
 
 -- what comes after a state
@@ -28,20 +28,20 @@ no_section_next true x a = Fails missing_section 0
 no_section_next false x a = Goes (At Nothing x 0)
 
 abbrev negated_next : List ℕ → List PairText → ℕ → Next
-negated_next bytes x a = cond (begins_key (mark_at bytes (a + 1))) (Goes (Spaced (PairEnd (pair_of (key_of bytes (a + 1) (key_end bytes (a + 1))) (flag false (span a (key_end bytes (a + 1)))))) x (key_end bytes (a + 1)))) (Fails illegal_name (a + 1))
+negated_next bytes x a = cond (begins_key (token_at bytes (a + 1))) (Goes (Spaced (PairEnd (pair_of (key_of bytes (a + 1) (key_end bytes (a + 1))) (flag false (span a (key_end bytes (a + 1)))))) x (key_end bytes (a + 1)))) (Fails illegal_name (a + 1))
 
-abbrev pair_next : List ℕ → List PairText → ℕ → Mark → Next
-pair_next bytes x a marks.Letter = Goes (Spaced (Colon (key_of bytes a (key_end bytes a))) x (key_end bytes a))
-pair_next bytes x a marks.Exclamation = negated_next bytes x a
+abbrev pair_next : List ℕ → List PairText → ℕ → TokenKind → Next
+pair_next bytes x a tokens.Letter = Goes (Spaced (Colon (key_of bytes a (key_end bytes a))) x (key_end bytes a))
+pair_next bytes x a tokens.Exclamation = negated_next bytes x a
 pair_next bytes x a _ = Fails illegal_name a
 
-abbrev pair_end_next : PairText → List PairText → ℕ → Mark → Next
-pair_end_next p x a marks.Comma = Goes (Spaced Pairs (x ++ p ∷ []) (a + 1))
-pair_end_next p x a marks.CloseBrace = Goes (At Pairs (x ++ p ∷ []) a)
+abbrev pair_end_next : PairText → List PairText → ℕ → TokenKind → Next
+pair_end_next p x a tokens.Comma = Goes (Spaced Pairs (x ++ p ∷ []) (a + 1))
+pair_end_next p x a tokens.CloseBrace = Goes (At Pairs (x ++ p ∷ []) a)
 pair_end_next p x a _ = Fails (expected_token 125) a
 
 -- f is told the path that stands at a
-abbrev by_path : List ℕ → ℕ → (PathText Places → ℕ → State) → PathMark → Next
+abbrev by_path : List ℕ → ℕ → (PathText SpanModel → ℕ → State) → PathShape → Next
 by_path bytes a f (paths.Alone b) = Goes (f (record { namespace = None; member = word_of bytes a b }) b)
 by_path bytes a f (paths.Within b c) = Goes (f (record { namespace = Some (word_of bytes a b); member = word_of bytes (b + 2) c }) c)
 by_path bytes a f (paths.Unfinished b) = Fails illegal_name (b + 2)
@@ -56,35 +56,35 @@ quote_next bytes k o x a = cond (nat_lt (text_end bytes a) (length bytes)) (Goes
 abbrev bracket_next : Key → Open → List PairText → ℕ → Next
 bracket_next k o x a = cond (nat_lt (depth o) most_depth) (Goes (Spaced (Items k o none (span a (a + 1))) x (a + 1))) (Fails (invalid_entry (codes "array")) a)
 
-abbrev other_next : List ℕ → Key → Open → List PairText → ℕ → Mark → Next
-other_next bytes k o x a marks.Digit = number_next bytes k o x a
-other_next bytes k o x a marks.Quote = quote_next bytes k o x a
-other_next bytes k o x a marks.OpenBracket = bracket_next k o x a
+abbrev other_next : List ℕ → Key → Open → List PairText → ℕ → TokenKind → Next
+other_next bytes k o x a tokens.Digit = number_next bytes k o x a
+other_next bytes k o x a tokens.Quote = quote_next bytes k o x a
+other_next bytes k o x a tokens.OpenBracket = bracket_next k o x a
 other_next bytes k o x a _ = Fails illegal_name a
 
-abbrev value_next : List ℕ → Key → Open → List PairText → ℕ → Mark → Next
+abbrev value_next : List ℕ → Key → Open → List PairText → ℕ → TokenKind → Next
 value_next bytes k o x a m = cond (begins_word m) (by_path bytes a (λ p b. Spaced (Paren k o p) x b) (path_at bytes a)) (other_next bytes k o x a m)
 
-abbrev behind_next : Key → Open → SettingText Places → List PairText → ℕ → Mark → Next
+abbrev behind_next : Key → Open → SettingText SpanModel → List PairText → ℕ → TokenKind → Next
 behind_next k top s x a m = Goes (At (PairEnd (pair_of k (setting s))) x a)
-behind_next k (inside o items start) s x a marks.Comma = Goes (Spaced (Items k o (more items s) start) x (a + 1))
-behind_next k (inside o items start) s x a marks.CloseBracket = Goes (At (Items k o (more items s) start) x a)
+behind_next k (inside o items start) s x a tokens.Comma = Goes (Spaced (Items k o (more items s) start) x (a + 1))
+behind_next k (inside o items start) s x a tokens.CloseBracket = Goes (At (Items k o (more items s) start) x a)
 behind_next k (inside o items start) s x a _ = Fails (expected_token 93) a
 
 next : List ℕ → State → Next
 next bytes (Spaced w x a) = gap_next w x a (gap_part bytes a)
 next bytes (At (Section r) x a) = cond (is_section_at bytes a) (Goes (Spaced Brace x (a + 9))) (no_section_next r x a)
-next bytes (At Brace x a) = cond (is_open_brace (mark_at bytes a)) (Goes (Spaced Pairs x (a + 1))) (Fails (expected_token 123) a)
-next bytes (At Pairs x a) = cond (is_close_brace (mark_at bytes a)) (Goes (At Nothing x (a + 1))) (Goes (At Pair x a))
-next bytes (At Pair x a) = pair_next bytes x a (mark_at bytes a)
-next bytes (At (Colon k) x a) = cond (is_colon (mark_at bytes a)) (Goes (Spaced (Value k top) x (a + 1))) (Goes (At (PairEnd (pair_of k (flag true k.at))) x a))
-next bytes (At (PairEnd p) x a) = pair_end_next p x a (mark_at bytes a)
-next bytes (At (Value k o) x a) = value_next bytes k o x a (mark_at bytes a)
-next bytes (At (Paren k o p) x a) = cond (is_open_paren (mark_at bytes a)) (Goes (Spaced (Argument k o p) x (a + 1))) (Goes (At (Behind k o (unitary p)) x a))
+next bytes (At Brace x a) = cond (is_open_brace (token_at bytes a)) (Goes (Spaced Pairs x (a + 1))) (Fails (expected_token 123) a)
+next bytes (At Pairs x a) = cond (is_close_brace (token_at bytes a)) (Goes (At Nothing x (a + 1))) (Goes (At Pair x a))
+next bytes (At Pair x a) = pair_next bytes x a (token_at bytes a)
+next bytes (At (Colon k) x a) = cond (is_colon (token_at bytes a)) (Goes (Spaced (Value k top) x (a + 1))) (Goes (At (PairEnd (pair_of k (flag true k.at))) x a))
+next bytes (At (PairEnd p) x a) = pair_end_next p x a (token_at bytes a)
+next bytes (At (Value k o) x a) = value_next bytes k o x a (token_at bytes a)
+next bytes (At (Paren k o p) x a) = cond (is_open_paren (token_at bytes a)) (Goes (Spaced (Argument k o p) x (a + 1))) (Goes (At (Behind k o (unitary p)) x a))
 next bytes (At (Argument k o p) x a) = by_path bytes a (λ q b. Spaced (CloseParen k o p q) x b) (path_at bytes a)
-next bytes (At (CloseParen k o p q) x a) = cond (is_close_paren (mark_at bytes a)) (Goes (Spaced (Behind k o (construct p q)) x (a + 1))) (Fails (expected_token 41) a)
-next bytes (At (Items k o items start) x a) = cond (is_close_bracket (mark_at bytes a)) (Goes (Spaced (Behind k o (array items start (span a (a + 1)))) x (a + 1))) (Goes (At (Value k (inside o items start)) x a))
-next bytes (At (Behind k o s) x a) = behind_next k o s x a (mark_at bytes a)
+next bytes (At (CloseParen k o p q) x a) = cond (is_close_paren (token_at bytes a)) (Goes (Spaced (Behind k o (construct p q)) x (a + 1))) (Fails (expected_token 41) a)
+next bytes (At (Items k o items start) x a) = cond (is_close_bracket (token_at bytes a)) (Goes (Spaced (Behind k o (array items start (span a (a + 1)))) x (a + 1))) (Goes (At (Value k (inside o items start)) x a))
+next bytes (At (Behind k o s) x a) = behind_next k o s x a (token_at bytes a)
 next bytes (At Nothing x a) = Ends
 
 is_below : (a b : ℕ) → a < b → nat_lt a b ≡ true
@@ -93,11 +93,11 @@ is_below a b h = grind (arith, nat_tests)
 is_not_below : (a b : ℕ) → b ≤ a → nat_lt a b ≡ false
 is_not_below a b h = grind (arith, nat_tests)
 
-path_goes : {bytes : List ℕ} {a b : ℕ} {p : PathText Places} (f : PathText Places → ℕ → State) → IsPath bytes a p b → by_path bytes a f (path_at bytes a) ≡ Goes (f p b)
+path_goes : {bytes : List ℕ} {a b : ℕ} {p : PathText SpanModel} (f : PathText SpanModel → ℕ → State) → IsPath bytes a p b → by_path bytes a f (path_at bytes a) ≡ Goes (f p b)
 path_goes f (alone e) = rw e refl
 path_goes f (within e) = rw e refl
 
-path_stops : {bytes : List ℕ} {a b : ℕ} {e : KindText} (f : PathText Places → ℕ → State) → IsNoPath bytes a e b → by_path bytes a f (path_at bytes a) ≡ Fails e b
+path_stops : {bytes : List ℕ} {a b : ℕ} {e : KindText} (f : PathText SpanModel → ℕ → State) → IsNoPath bytes a e b → by_path bytes a f (path_at bytes a) ≡ Fails e b
 path_stops f (no_word e) = rw e refl
 path_stops f (no_member e) = rw e refl
 
@@ -130,71 +130,71 @@ follows (item_comma e) = rw e refl
 follows (no_item_comma e) = rw e refl
 follows whole = refl
 
-no_pair_next : (bytes : List ℕ) (x : List PairText) (a : ℕ) (m : Mark) → begins_pair m ≡ false → pair_next bytes x a m ≡ Fails illegal_name a
-no_pair_next bytes x a marks.Letter e = absurd cc
-no_pair_next bytes x a marks.Underscore e = refl
-no_pair_next bytes x a marks.Digit e = refl
-no_pair_next bytes x a marks.Quote e = refl
-no_pair_next bytes x a marks.Exclamation e = absurd cc
-no_pair_next bytes x a marks.OpenBrace e = refl
-no_pair_next bytes x a marks.CloseBrace e = refl
-no_pair_next bytes x a marks.OpenBracket e = refl
-no_pair_next bytes x a marks.CloseBracket e = refl
-no_pair_next bytes x a marks.OpenParen e = refl
-no_pair_next bytes x a marks.CloseParen e = refl
-no_pair_next bytes x a marks.Comma e = refl
-no_pair_next bytes x a marks.Colon e = refl
-no_pair_next bytes x a marks.Other e = refl
+no_pair_next : (bytes : List ℕ) (x : List PairText) (a : ℕ) (m : TokenKind) → begins_pair m ≡ false → pair_next bytes x a m ≡ Fails illegal_name a
+no_pair_next bytes x a tokens.Letter e = absurd cc
+no_pair_next bytes x a tokens.Underscore e = refl
+no_pair_next bytes x a tokens.Digit e = refl
+no_pair_next bytes x a tokens.Quote e = refl
+no_pair_next bytes x a tokens.Exclamation e = absurd cc
+no_pair_next bytes x a tokens.OpenBrace e = refl
+no_pair_next bytes x a tokens.CloseBrace e = refl
+no_pair_next bytes x a tokens.OpenBracket e = refl
+no_pair_next bytes x a tokens.CloseBracket e = refl
+no_pair_next bytes x a tokens.OpenParen e = refl
+no_pair_next bytes x a tokens.CloseParen e = refl
+no_pair_next bytes x a tokens.Comma e = refl
+no_pair_next bytes x a tokens.Colon e = refl
+no_pair_next bytes x a tokens.Other e = refl
 
-no_pair_end_next : (p : PairText) (x : List PairText) (a : ℕ) (m : Mark) → ends_pair m ≡ false → pair_end_next p x a m ≡ Fails (expected_token 125) a
-no_pair_end_next p x a marks.Letter e = refl
-no_pair_end_next p x a marks.Underscore e = refl
-no_pair_end_next p x a marks.Digit e = refl
-no_pair_end_next p x a marks.Quote e = refl
-no_pair_end_next p x a marks.Exclamation e = refl
-no_pair_end_next p x a marks.OpenBrace e = refl
-no_pair_end_next p x a marks.CloseBrace e = absurd cc
-no_pair_end_next p x a marks.OpenBracket e = refl
-no_pair_end_next p x a marks.CloseBracket e = refl
-no_pair_end_next p x a marks.OpenParen e = refl
-no_pair_end_next p x a marks.CloseParen e = refl
-no_pair_end_next p x a marks.Comma e = absurd cc
-no_pair_end_next p x a marks.Colon e = refl
-no_pair_end_next p x a marks.Other e = refl
+no_pair_end_next : (p : PairText) (x : List PairText) (a : ℕ) (m : TokenKind) → ends_pair m ≡ false → pair_end_next p x a m ≡ Fails (expected_token 125) a
+no_pair_end_next p x a tokens.Letter e = refl
+no_pair_end_next p x a tokens.Underscore e = refl
+no_pair_end_next p x a tokens.Digit e = refl
+no_pair_end_next p x a tokens.Quote e = refl
+no_pair_end_next p x a tokens.Exclamation e = refl
+no_pair_end_next p x a tokens.OpenBrace e = refl
+no_pair_end_next p x a tokens.CloseBrace e = absurd cc
+no_pair_end_next p x a tokens.OpenBracket e = refl
+no_pair_end_next p x a tokens.CloseBracket e = refl
+no_pair_end_next p x a tokens.OpenParen e = refl
+no_pair_end_next p x a tokens.CloseParen e = refl
+no_pair_end_next p x a tokens.Comma e = absurd cc
+no_pair_end_next p x a tokens.Colon e = refl
+no_pair_end_next p x a tokens.Other e = refl
 
-no_value_next : (bytes : List ℕ) (k : Key) (o : Open) (x : List PairText) (a : ℕ) (m : Mark) → begins_setting m ≡ false → value_next bytes k o x a m ≡ Fails illegal_name a
-no_value_next bytes k o x a marks.Letter e = absurd cc
-no_value_next bytes k o x a marks.Underscore e = absurd cc
-no_value_next bytes k o x a marks.Digit e = absurd cc
-no_value_next bytes k o x a marks.Quote e = absurd cc
-no_value_next bytes k o x a marks.Exclamation e = refl
-no_value_next bytes k o x a marks.OpenBrace e = refl
-no_value_next bytes k o x a marks.CloseBrace e = refl
-no_value_next bytes k o x a marks.OpenBracket e = absurd cc
-no_value_next bytes k o x a marks.CloseBracket e = refl
-no_value_next bytes k o x a marks.OpenParen e = refl
-no_value_next bytes k o x a marks.CloseParen e = refl
-no_value_next bytes k o x a marks.Comma e = refl
-no_value_next bytes k o x a marks.Colon e = refl
-no_value_next bytes k o x a marks.Other e = refl
+no_value_next : (bytes : List ℕ) (k : Key) (o : Open) (x : List PairText) (a : ℕ) (m : TokenKind) → begins_setting m ≡ false → value_next bytes k o x a m ≡ Fails illegal_name a
+no_value_next bytes k o x a tokens.Letter e = absurd cc
+no_value_next bytes k o x a tokens.Underscore e = absurd cc
+no_value_next bytes k o x a tokens.Digit e = absurd cc
+no_value_next bytes k o x a tokens.Quote e = absurd cc
+no_value_next bytes k o x a tokens.Exclamation e = refl
+no_value_next bytes k o x a tokens.OpenBrace e = refl
+no_value_next bytes k o x a tokens.CloseBrace e = refl
+no_value_next bytes k o x a tokens.OpenBracket e = absurd cc
+no_value_next bytes k o x a tokens.CloseBracket e = refl
+no_value_next bytes k o x a tokens.OpenParen e = refl
+no_value_next bytes k o x a tokens.CloseParen e = refl
+no_value_next bytes k o x a tokens.Comma e = refl
+no_value_next bytes k o x a tokens.Colon e = refl
+no_value_next bytes k o x a tokens.Other e = refl
 
-no_behind_next : (k : Key) (o : Open) (items : ItemsText Places) (start : Places) (s : SettingText Places) (x : List PairText) (a : ℕ) (m : Mark) → ends_item m ≡ false → behind_next k (inside o items start) s x a m ≡ Fails (expected_token 93) a
-no_behind_next k o items start s x a marks.Letter e = refl
-no_behind_next k o items start s x a marks.Underscore e = refl
-no_behind_next k o items start s x a marks.Digit e = refl
-no_behind_next k o items start s x a marks.Quote e = refl
-no_behind_next k o items start s x a marks.Exclamation e = refl
-no_behind_next k o items start s x a marks.OpenBrace e = refl
-no_behind_next k o items start s x a marks.CloseBrace e = refl
-no_behind_next k o items start s x a marks.OpenBracket e = refl
-no_behind_next k o items start s x a marks.CloseBracket e = absurd cc
-no_behind_next k o items start s x a marks.OpenParen e = refl
-no_behind_next k o items start s x a marks.CloseParen e = refl
-no_behind_next k o items start s x a marks.Comma e = absurd cc
-no_behind_next k o items start s x a marks.Colon e = refl
-no_behind_next k o items start s x a marks.Other e = refl
+no_behind_next : (k : Key) (o : Open) (items : ItemsText SpanModel) (start : SpanModel) (s : SettingText SpanModel) (x : List PairText) (a : ℕ) (m : TokenKind) → ends_item m ≡ false → behind_next k (inside o items start) s x a m ≡ Fails (expected_token 93) a
+no_behind_next k o items start s x a tokens.Letter e = refl
+no_behind_next k o items start s x a tokens.Underscore e = refl
+no_behind_next k o items start s x a tokens.Digit e = refl
+no_behind_next k o items start s x a tokens.Quote e = refl
+no_behind_next k o items start s x a tokens.Exclamation e = refl
+no_behind_next k o items start s x a tokens.OpenBrace e = refl
+no_behind_next k o items start s x a tokens.CloseBrace e = refl
+no_behind_next k o items start s x a tokens.OpenBracket e = refl
+no_behind_next k o items start s x a tokens.CloseBracket e = absurd cc
+no_behind_next k o items start s x a tokens.OpenParen e = refl
+no_behind_next k o items start s x a tokens.CloseParen e = refl
+no_behind_next k o items start s x a tokens.Comma e = absurd cc
+no_behind_next k o items start s x a tokens.Colon e = refl
+no_behind_next k o items start s x a tokens.Other e = refl
 
-fails : {bytes : List ℕ} {s : State} {kind : KindText} {place : ℕ} → Stops bytes s kind place → next bytes s ≡ Fails kind place
+fails : {bytes : List ℕ} {s : State} {kind : KindText} {offset : ℕ} → Stops bytes s kind offset → next bytes s ≡ Fails kind offset
 unfolding next
 fails (missing e) = rw e refl
 fails (no_brace e) = rw e refl
@@ -229,7 +229,7 @@ one_end f g (then p r) (then q k) = one_end f g r (moved (same_step q p) k)
 done : (bytes : List ℕ) (x : List PairText) (a : ℕ) → IsLast bytes (At Nothing x a)
 done bytes x a t p = elim p [ ]
 
-stopped : {bytes : List ℕ} {s : State} {kind : KindText} {place : ℕ} → Stops bytes s kind place → IsLast bytes s
+stopped : {bytes : List ℕ} {s : State} {kind : KindText} {offset : ℕ} → Stops bytes s kind offset → IsLast bytes s
 stopped h t p = let e = sym (follows p) ∙ fails h in absurd cc
 
 pub one_reading : (required : Bool) (bytes : List ℕ) (x y : List PairText) (a b : ℕ) → Reads required bytes x a → Reads required bytes y b → (x ≡ y) × (a ≡ b)

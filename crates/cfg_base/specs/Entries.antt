@@ -1,4 +1,4 @@
--- The place of a key in a map with marks.
+-- The entry of a key in a map with marks.
 use Rattle.std.specs.Prelude.{◌≡◌, Bool, true, false, Result}
 use Rattle.std.specs.Borrow.{LendsSoOk, RestsIfErr, Fml, RattleType, MutBor}
 use Rattle.std.specs.declared.cmp.Ord as ord
@@ -39,12 +39,12 @@ module _ {K V : Type 0} {g : ord.Ghosts K} {g' : eq.Ghosts K} {g'' : partial.Gho
   is_occupied (Occupied e) = true
   is_occupied (Vacant e) = false
 
-  -- the same key of the same map
-  pub record IsSamePlace (old new : OccupiedEntry K V g g' g'') : Type 0 where
+  -- an entry of the same key of the same map
+  pub record IsSameEntry (old new : OccupiedEntry K V g g' g'') : Type 0 where
     pub map : new.map.ghost_name ≡ old.map.ghost_name
     pub key : new.key ≡ old.key
 
-  pub record IsSameGap (old new : VacantEntry K V g g' g'') : Type 0 where
+  pub record IsSameVacant (old new : VacantEntry K V g g' g'') : Type 0 where
     pub map : new.map.ghost_name ≡ old.map.ghost_name
     pub key : new.key ≡ old.key
 

@@ -24,7 +24,7 @@ kind_text kinds.DuplicateEntry = duplicate_entry
 kind_text (kinds.InvalidEntry what) = invalid_entry what.now
 kind_text (kinds.ConversionError to why) = no_conversion to.now why.now
 
--- repeated keys are located at all of them, other faults at one place
+-- repeated keys are located at all of them, other faults at one location
 abbrev pub spanskind_of : KindText → SpansKind
 spanskind_of duplicate_entry = spans.DuplicationError
 spanskind_of _ = spans.Error

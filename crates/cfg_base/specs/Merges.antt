@@ -1,5 +1,5 @@
 -- Two maps with marks merged.
-use Rattle.std.specs.Prelude.{◌≡◌, Bool, true, false, ◌&&◌, ◌||◌, List, ◌∷◌, [], filter, Option, Some, None, is_some, unwrap_or}
+use Rattle.std.specs.Prelude.{◌≡◌, ℕ, codes, Bool, true, false, ◌&&◌, ◌||◌, List, ◌∷◌, [], filter, Option, Some, None, is_some, unwrap_or}
 use Rattle.std.specs.declared.cmp.Ordering.{Ordering}
 use Rattle.std.specs.declared.cmp.Ordering.TheVariants.{Equal}
 use Rattle.std.specs.Borrow.{Bor}
@@ -70,7 +70,12 @@ abbrev pub IsExclusivityAt : {K V : Type 0} → (K → K → Ordering) → Marke
 IsExclusivityAt cmp other k (Exclusivity key value) = (cmp k key ≡ Equal) × (value_at cmp other k ≡ Some value)
 IsExclusivityAt cmp other k (Memory e) = ⊥
 
--- the least key that refuses the merge is told, with the other map's value; or memory was wanting
+-- the least key that refuses the merge is told, with the other map's value; or memory was refused
 abbrev pub IsMergeRefusal : {K V : Type 0} → (K → K → Ordering) → Marked K V → Marked K V → MergeError K V → Type 0
 IsMergeRefusal {K} cmp ours theirs (Exclusivity key value) = (first : K) × (rest : List K) × (conflicts_of cmp ours theirs ≡ first ∷ rest) × (cmp first key ≡ Equal) × (value_at cmp theirs first ≡ Some value)
 IsMergeRefusal cmp ours theirs (Memory e) = conflicts_of cmp ours theirs ≡ []
+
+-- a refusal as it is printed
+abbrev pub merge_error_text : {K V : Type 0} → MergeError K V → List ℕ
+merge_error_text (Exclusivity key value) = codes "Value on both sides"
+merge_error_text (Memory e) = codes "Memory"

@@ -3,11 +3,11 @@
 mod convert;
 mod error;
 pub mod laws;
-mod pairs;
-mod read;
 mod repeats;
 mod scan;
 mod section;
+mod section_body;
+mod settings;
 mod value;
 
 pub use convert::try_from_header;

@@ -1,12 +1,13 @@
-//! What every part of a Yacc toolkit shares: index types and symbols, places in a text, and maps with
-//! marks.
+//! What every part of a Yacc toolkit shares: index types and symbols, spans, lines and bytes of a text, and
+//! maps with marks.
 //!
 //! An index is seen by contracts as its number and a symbol as its kind and number, so that a theory of
 //! grammars over numbers speaks of them whatever type they are stored in. A span is a pair of byte
-//! places; lines count LFs and columns count characters. The contracts that matter most are those of
+//! offsets; lines count LFs and columns count characters. What all readers of texts share, classes of bytes,
+//! runs and gaps, stands in `text`. The contracts that matter most are those of
 //! `index::IndexStorage` (`from_usize` answers exactly the numbers up to `MAX`) with the laws
 //! `index::each_number_is_of_one_value`, `symbol::symbol_is_its_kind_and_number` and
-//! `span::span_is_its_places`; of `newlinecache::NewlineCache`, whose answers are those of the fed text
+//! `span::span_is_its_offsets`; of `newlinecache::NewlineCache`, whose answers are those of the fed text
 //! (`newlinecache::pieces_make_the_whole`); and of `markmap::MarkMap::merge_from`.
 #![tactic(auto)]
 
@@ -16,3 +17,4 @@ pub mod markmap;
 pub mod newlinecache;
 pub mod span;
 pub mod symbol;
+pub mod text;

@@ -1,10 +1,13 @@
 //! A map with marks on its keys, which can be merged with another.
 
-ghost use Rattle.std.specs.Prelude.{◌≡◌, unwrap_or, ◌++◌, ◌∷◌, if◌then◌else◌, IfOk, OnOk, OnErr, IsOk, Some, None, true, is_some, is_none, not, ◌&&◌, [], map};
+ghost use Rattle.std.specs.Prelude.{◌≡◌, ◌↔◌, unwrap_or, ◌++◌, ◌∷◌, if◌then◌else◌, IfOk, OnOk, OnErr, IsOk, Some, None, true, is_some, is_none, not, ◌&&◌, [], map};
 ghost use Rattle.std.specs.Option.{option_copied, option_copied_mut};
 ghost use Rattle.std.specs.Borrow.{sem};
 ghost use Rattle.std.specs.BTreeMap.{get, insert_entry, is_at, keys};
 ghost use Rattle.std.specs.Map.{remove_entry};
+ghost use Rattle.std.specs.List.Sorted.{IsStrictlySortedBy};
+ghost use Rattle.std.specs.Ordering.{eq_by_cmp};
+ghost use Rattle.std.specs.Set.{is_member};
 ghost use Rattle.std.specs.declared.cmp.Ordering.TheVariants.{Equal};
 ghost use Rattle.cfg_base.specs.declared.markmap.MergeBehavior.TheVariants.{MutuallyExclusive as Exclusive};
 ghost use Rattle.cfg_base.specs.MarkMaps.{ClonesAreEqual, blank, unmarked, SetsValue, SetsMarks, Forgets, behavior_at, is_stored, slot_in, stored_keys, value_at, marks_at, keys_of, unused_of, missing_of};
@@ -15,12 +18,12 @@ use std::marker::Model;
 use std::mem::replace;
 
 mod entries;
+mod iterators;
 mod merge;
-mod walks;
 
 pub use entries::{Entry, OccupiedEntry, VacantEntry};
+pub use iterators::{Keys, MarkMapIterRef};
 pub use merge::MergeError;
-pub use walks::{Keys, MarkMapIterRef};
 
 /// What a merge does with a key that has a value on both sides.
 #[derive(Clone, Copy, Debug, PartialEq, Eq)]
@@ -65,6 +68,7 @@ impl<K: Ord, V> Model for MarkMap<K, V> {
     ghost view = { λ m. record { entries = m.slots.entries; default = m.default } };
 }
 
+// Answers marks that say nothing.
 fn no_marks() -> Marks
     ensures { result ≡ unmarked }
 {
@@ -76,12 +80,14 @@ fn no_marks() -> Marks
 }
 
 impl<V> Slot<V> {
+    // Tells whether there is a value that isn't marked as used.
     fn is_unused(&self) -> bool
         ensures { result ≡ (is_some self.now.value && not self.now.marks.used) }
     {
         self.value.is_some() && !self.marks.used
     }
 
+    // Puts another value in, and answers the one that was there.
     fn replace_value(&mut self, value: V) -> V
         requires { is_some self.old.value ≡ true }
         ensures old { self.old.value ≡ Some result }
@@ -90,6 +96,7 @@ impl<V> Slot<V> {
         replace(&mut self.value, Some(value)).unwrap()
     }
 
+    // Tells whether a value is required and not there.
     fn is_missing(&self) -> bool
         ensures { result ≡ (self.now.marks.required && is_none self.now.value) }
     {
@@ -97,6 +104,7 @@ impl<V> Slot<V> {
     }
 }
 
+// Makes a slot with neither a value nor a mark.
 fn blank_slot<V>() -> Slot<V>
     ensures { result ≡ blank }
 {
@@ -106,7 +114,7 @@ fn blank_slot<V>() -> Slot<V>
     }
 }
 
-// The value of a slot that was taken out.
+// Answers the value of a slot that was taken out.
 fn value_of<V>(slot: Option<Slot<V>>) -> Option<V>
     ensures { result ≡ (unwrap_or slot blank).value }
 {
@@ -117,7 +125,8 @@ fn value_of<V>(slot: Option<Slot<V>>) -> Option<V>
 }
 
 impl<K: Ord, V> MarkMap<K, V> {
-    /// Without a key. A merge with values on both sides of a key is refused, until another default is set.
+    /// Makes a map without a key. A merge with values on both sides of a key is refused, until another
+    /// default is set.
     pub fn new(alloc: Global) -> MarkMap<K, V>
         ensures empty { result.entries ≡ [] }
         ensures default { result.default ≡ Exclusive }
@@ -152,7 +161,7 @@ impl<K: Ord, V> MarkMap<K, V> {
         Ok(value_of(old))
     }
 
-    /// The value of a key.
+    /// Answers the value of a key, if it has one.
     pub fn get(&self, key: &K) -> Option<&V>
         ensures { option_copied result ≡ value_at K.cmp self.now key.now }
     {
@@ -162,7 +171,7 @@ impl<K: Ord, V> MarkMap<K, V> {
         }
     }
 
-    /// Whether a key has a value.
+    /// Tells whether a key has a value.
     pub fn contains_key(&self, key: &K) -> bool
         ensures { result ≡ is_some (value_at K.cmp self.now key.now) }
     {
@@ -180,9 +189,12 @@ impl<K: Ord, V> MarkMap<K, V> {
         value_of(self.slots.remove(key))
     }
 
-    /// The keys that have a value and aren't marked as used, in order.
+    /// Lists the keys that have a value and aren't marked as used, in order.
     pub fn unused(&self, alloc: Global) -> Result<Vec<&K>, AllocError>
-        ensures { IfOk result (λ found. map (λ k. k.now) found.items ≡ unused_of self.now) }
+        ensures keys { IfOk result (λ found. map (λ k. k.now) found.items ≡ unused_of self.now) }
+        ensures ordered { IfOk result (λ found. IsStrictlySortedBy K.cmp (map (λ k. k.now) found.items)) }
+        ensures each { IfOk result (λ found. (q : K) → is_member (eq_by_cmp K.cmp) (map (λ k. k.now) found.items) q ≡
+            (is_some (value_at K.cmp self.now q) && not (marks_at K.cmp self.now q).used)) }
     {
         let mut found = Vec::new(alloc);
         'keys: for (key, slot) in self.slots.iter() {
@@ -191,9 +203,12 @@ impl<K: Ord, V> MarkMap<K, V> {
         Ok(found)
     }
 
-    /// The keys that are marked as required and have no value, in order.
+    /// Lists the keys that are marked as required and have no value, in order.
     pub fn missing(&self, alloc: Global) -> Result<Vec<&K>, AllocError>
-        ensures { IfOk result (λ found. map (λ k. k.now) found.items ≡ missing_of self.now) }
+        ensures keys { IfOk result (λ found. map (λ k. k.now) found.items ≡ missing_of self.now) }
+        ensures ordered { IfOk result (λ found. IsStrictlySortedBy K.cmp (map (λ k. k.now) found.items)) }
+        ensures each { IfOk result (λ found. (q : K) → is_member (eq_by_cmp K.cmp) (map (λ k. k.now) found.items) q ≡
+            ((marks_at K.cmp self.now q).required && is_none (value_at K.cmp self.now q))) }
     {
         let mut found = Vec::new(alloc);
         'keys: for (key, slot) in self.slots.iter() {
@@ -202,6 +217,7 @@ impl<K: Ord, V> MarkMap<K, V> {
         Ok(found)
     }
 
+    // Answers the marks of a key.
     fn marks_of(&self, key: &K) -> Marks
         ensures { result ≡ marks_at K.cmp self.now key.now }
     {
@@ -211,27 +227,28 @@ impl<K: Ord, V> MarkMap<K, V> {
         }
     }
 
-    // What a merge does with a key.
+    // Answers what a merge does with a key.
     fn behavior_of(&self, key: &K) -> MergeBehavior
         ensures { result ≡ behavior_at K.cmp self.now key.now }
     {
         self.marks_of(key).behavior.unwrap_or(self.default)
     }
 
-    /// Whether a key is marked as used.
+    /// Tells whether a key is marked as used.
     pub fn is_used(&self, key: &K) -> bool
         ensures { result ≡ (marks_at K.cmp self.now key.now).used }
     {
         self.marks_of(key).used
     }
 
-    /// Whether a key is marked as required.
+    /// Tells whether a key is marked as required.
     pub fn is_required(&self, key: &K) -> bool
         ensures { result ≡ (marks_at K.cmp self.now key.now).required }
     {
         self.marks_of(key).required
     }
 
+    // Gives a key marks, and makes it, without a value, where it is absent.
     fn put_marks(&mut self, key: &K, marks: Marks) -> Result<(), AllocError>
     where
         K: Clone,
@@ -251,9 +268,9 @@ impl<K: Ord, V> MarkMap<K, V> {
         Ok(())
     }
 
-    ghost use Rattle.cfg_base.specs.Lends.{lends_value};
+    ghost use Rattle.cfg_base.specs.LentValues.{lends_value};
 
-    // The value of a key that has one, for writing.
+    // Lends the value of a key that has one, for writing.
     fn value_mut(&mut self, key: &K) -> Option<&mut V>
         requires { is_some (value_at K.cmp self.old key.now) ≡ true }
         ensures* writes_back { sem 𝓛 (lends_value K.row V.row K.Ord self.entry key.now result) }
@@ -382,7 +399,7 @@ impl<K: Ord, V> MarkMap<K, V> {
         )
     }
 
-    /// What a merge does with keys that have no behaviour of their own.
+    /// Sets what a merge does with keys that have no behaviour of their own.
     pub fn set_default_merge_behavior(&mut self, behavior: MergeBehavior)
         ensures default { self.new.default ≡ behavior }
         ensures entries { self.new.entries ≡ self.old.entries }
@@ -390,6 +407,11 @@ impl<K: Ord, V> MarkMap<K, V> {
         self.default = behavior;
     }
 }
+
+/// A law: two behaviours are equal exactly where they are one value.
+pub fn merge_behavior_is_its_value()
+    ensures { (a b : MergeBehavior) → (⟦<MergeBehavior as PartialEq>⟧.eq a b ≡ true) ↔ (a ≡ b) }
+{}
 
 // Gives a key that has a value another one.
 fn replace_value_at<K: Ord, V>(slots: &mut BTreeMap<K, Slot<V>>, key: &K, value: V) -> V

@@ -6,14 +6,15 @@ ghost use Rattle.std.specs.Iterator.{Drains, HoldsAlong, IsFinite};
 ghost use Rattle.std.specs.Str.{chars};
 ghost use Rattle.std.specs.List.Sorted.{IsNonDecreasing, IsPartitionPoint};
 ghost use Rattle.cfg_base.specs.Pieces.{PiecesFit, text_of};
-ghost use Rattle.cfg_base.specs.Newlines.{chars_ended, column_of, is_newline, joined, line_end, line_of, line_start, newline_places, newlines_of};
+ghost use Rattle.cfg_base.specs.Text.{is_line_feed, line_end};
+ghost use Rattle.cfg_base.specs.Newlines.{chars_ended, column_of, joined, line_of, line_start, newline_offsets, newlines_of};
 
 use crate::span::Span;
 use std::alloc::{AllocError, Global};
 use std::marker::Model;
 
 /// Where the lines of a text begin and end. The text is fed once, whole or in pieces, and isn't kept.
-/// Lines and columns count from one; places are byte places.
+/// Lines and columns count from one; offsets are byte offsets.
 #[derive(Drop)]
 pub struct NewlineCache {
     newlines: Vec<usize>,
@@ -26,13 +27,13 @@ impl Model for NewlineCache {
 
     ghost Value = { Newlines };
 
-    ghost view = { λ c. record { places = c.newlines.items; bytes = c.bytes } };
+    ghost view = { λ c. record { offsets = c.newlines.items; bytes = c.bytes } };
 
-    ghost invariant = { λ c. (text : List ℕ) × (newlines_of text ≡ record { places = c.newlines.items; bytes = c.bytes }) };
+    ghost invariant = { λ c. (text : List ℕ) × (newlines_of text ≡ record { offsets = c.newlines.items; bytes = c.bytes }) };
 }
 
 impl NewlineCache {
-    /// Of the empty text.
+    /// Makes the cache of the empty text.
     pub fn new(alloc: Global) -> NewlineCache
         ensures { result ≡ newlines_of [] }
     {
@@ -42,7 +43,7 @@ impl NewlineCache {
         }
     }
 
-    /// Of a whole text.
+    /// Makes the cache of a whole text.
     pub fn from_str(alloc: Global, text: &str) -> Result<NewlineCache, AllocError>
         ensures { IfOk result (λ cache. cache ≡ newlines_of text.now) }
     {
@@ -51,7 +52,7 @@ impl NewlineCache {
         Ok(cache)
     }
 
-    /// Of a text in pieces.
+    /// Makes the cache of a text in pieces.
     pub fn from_iter<'a, U: IntoIterator<Item = &'a str>>(
         alloc: Global,
         pieces: U,
@@ -69,7 +70,7 @@ impl NewlineCache {
         Ok(cache)
     }
 
-    /// Takes the next piece of the text.
+    /// Takes the next piece of the text. A piece that is refused leaves the cache as it was.
     pub fn feed(&mut self, piece: &str) -> Result<(), AllocError>
         requires { self.old.bytes + length piece.now < 2 ^ 64 }
         ensures ok { OnOk result (self.new ≡ joined self.old (newlines_of piece.now)) }
@@ -83,7 +84,7 @@ impl NewlineCache {
         Ok(())
     }
 
-    /// The line of a byte; `None` past the end of the text.
+    /// Answers the line of a byte; `None` past the end of the text.
     pub fn byte_to_line_num(&self, byte: usize) -> Option<usize>
         ensures { (text : List ℕ) → self.now ≡ newlines_of text →
             result ≡ (if nat_le byte (length text) then Some (line_of text byte) else None) }
@@ -94,7 +95,7 @@ impl NewlineCache {
         Some(count_before(&self.newlines, byte) + 1)
     }
 
-    /// The first byte of the line of a byte; `None` past the end of the text.
+    /// Answers the offset of the first byte of the line of a byte; `None` past the end of the text.
     pub fn byte_to_line_byte(&self, byte: usize) -> Option<usize>
         ensures { (text : List ℕ) → self.now ≡ newlines_of text →
             result ≡ (if nat_le byte (length text) then Some (line_start text byte) else None) }
@@ -105,8 +106,8 @@ impl NewlineCache {
         Some(start_after(&self.newlines, count_before(&self.newlines, byte)))
     }
 
-    /// The line and the column of a byte of `src`, the text that was fed; `None` past its end, or where
-    /// `src` hasn't the fed length. A column counts characters.
+    /// Answers the line and the column of a byte of `src`, the text that was fed; `None` past its end, or
+    /// where `src` hasn't the fed length. A column counts characters.
     pub fn byte_to_line_num_and_col_num(&self, src: &str, byte: usize) -> Option<(usize, usize)>
         ensures { (text : List ℕ) → self.now ≡ newlines_of text →
             result ≡ (
@@ -123,8 +124,8 @@ impl NewlineCache {
         Some((count + 1, chars_between(src, start, byte) + 1))
     }
 
-    /// The first byte of the line of the span's start, and the place of the newline that ends the line
-    /// of its end, or of the text's end.
+    /// Answers the offset of the first byte of the line of the span's start, and that of the newline that
+    /// ends the line of its end, or of the text's end.
     pub fn span_line_bytes(&self, span: Span) -> (usize, usize)
         requires { span.end ≤ self.now.bytes }
         ensures start { (text : List ℕ) → self.now ≡ newlines_of text → result.0 ≡ line_start text span.start }
@@ -158,56 +159,60 @@ pub fn pieces_make_the_whole()
     ensures { (a b : List ℕ) → joined (newlines_of a) (newlines_of b) ≡ newlines_of (a ++ b) }
 {}
 
-// How many of the bytes are LF.
+// Counts the LFs.
 fn count_newlines(bytes: &[u8]) -> usize
-    ensures { result ≡ count_by is_newline bytes.now }
+    ensures { result ≡ count_by is_line_feed bytes.now }
 {
     bytes.iter().filter(|byte| **byte == b'\n').count()
 }
 
-// Adds the places of the LFs of `bytes`, which begin at place `from`.
+// Adds the offsets of the LFs of `bytes`, which begin at offset `from`.
 fn push_newlines(newlines: &mut Vec<usize>, from: usize, bytes: &[u8])
     requires fits { from + length bytes.now < 2 ^ 64 }
-    requires room { vec_len newlines.old + count_by is_newline bytes.now ≤ vec_capacity newlines.old }
-    ensures { newlines.new.items ≡ newlines.old.items ++ newline_places from bytes.now }
+    requires room { vec_len newlines.old + count_by is_line_feed bytes.now ≤ vec_capacity newlines.old }
+    ensures { newlines.new.items ≡ newlines.old.items ++ newline_offsets from bytes.now }
 {
-    for (place, byte) in bytes.iter().enumerate() {
+    for (offset, byte) in bytes.iter().enumerate() {
         if *byte == b'\n' {
-            newlines.push(from + place).unwrap();
+            newlines.push(from + offset).unwrap();
         }
     }
 }
 
-// How many of the places come before `byte`, by halving.
-fn count_before(places: &[usize], byte: usize) -> usize
-    requires { IsNonDecreasing places.now }
-    ensures bound { result ≤ length places.now }
-    ensures point { IsPartitionPoint (λ p. nat_lt p byte ≡ true) (λ p. nat_lt p byte ≡ false) places.now result }
+// Counts the offsets that come before `byte`, by halving.
+fn count_before(offsets: &[usize], byte: usize) -> usize
+    requires { IsNonDecreasing offsets.now }
+    ensures bound { result ≤ length offsets.now }
+    ensures point { IsPartitionPoint (λ p. nat_lt p byte ≡ true) (λ p. nat_lt p byte ≡ false) offsets.now result }
 {
-    places.partition_point(|place| *place < byte)
+    offsets.partition_point(|offset| *offset < byte)
 }
 
-// The first byte of the line that `count` newlines come before.
-fn start_after(places: &[usize], count: usize) -> usize
-    requires bound { count ≤ length places.now }
-    requires fit { (k : ℕ) → k < count → slice_index places.now k < 2 ^ 64 - 1 }
-    ensures { result ≡ (if nat_eq count 0 then 0 else slice_index places.now (count - 1) + 1) }
+// Answers the offset of the first byte of the line that `count` newlines come before.
+fn start_after(offsets: &[usize], count: usize) -> usize
+    requires bound { count ≤ length offsets.now }
+    requires fit { (k : ℕ) → k < count → slice_index offsets.now k < 2 ^ 64 - 1 }
+    ensures { result ≡ (if nat_eq count 0 then 0 else slice_index offsets.now (count - 1) + 1) }
 {
-    if count == 0 { 0 } else { places[count - 1] + 1 }
+    if count == 0 {
+        0
+    } else {
+        offsets[count - 1] + 1
+    }
 }
 
-// The end of the line that `count` newlines come before, in a text of `bytes` bytes.
-fn end_after(places: &[usize], count: usize, bytes: usize) -> usize
-    ensures { result ≡ (if nat_lt count (length places.now) then slice_index places.now count else bytes) }
+// Answers the end of the line that `count` newlines come before, in a text of `bytes` bytes.
+fn end_after(offsets: &[usize], count: usize, bytes: usize) -> usize
+    ensures { result ≡ (if nat_lt count (length offsets.now) then slice_index offsets.now count else bytes) }
 {
-    if count < places.len() {
-        places[count]
+    if count < offsets.len() {
+        offsets[count]
     } else {
         bytes
     }
 }
 
-// How many characters end after byte `from` and at or before byte `to`.
+// Counts the characters that end after byte `from` and at or before byte `to`.
 fn chars_between(src: &str, from: usize, to: usize) -> usize
     requires order { from ≤ to }
     requires inside { to ≤ length src.now }
@@ -219,6 +224,7 @@ fn chars_between(src: &str, from: usize, to: usize) -> usize
     char_count(&src[first..last])
 }
 
+// Counts the characters of a text.
 fn char_count(text: &str) -> usize
     ensures value { result ≡ length (chars text.now) }
     ensures small { result ≤ length text.now }

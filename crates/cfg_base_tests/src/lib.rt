@@ -1,13 +1,19 @@
-//! Tests of `cfg_base`. They stand apart from it since a crate with tests is checked twice.
+//! Tests of `cfg_base`, one file a module. They stand apart from it since a crate with tests is checked twice.
 #![tactic(auto)]
 
 #[cfg(test)]
-mod conversions;
+mod header;
 #[cfg(test)]
-mod indices;
+mod header_convert;
 #[cfg(test)]
-mod maps;
+mod index;
 #[cfg(test)]
-mod places;
+mod markmap;
 #[cfg(test)]
-mod sections;
+mod newlinecache;
+#[cfg(test)]
+mod span;
+#[cfg(test)]
+mod symbol;
+#[cfg(test)]
+mod text;

@@ -1,5 +1,4 @@
-//! Settings, values and header values at spans, with locations in place of the spans. What is converted
-//! stays.
+//! Copies settings, values and header values, with locations for their spans.
 
 ghost use Rattle.std.specs.Prelude.{◌≡◌, IfOk, OnOk, option_map};
 ghost use Rattle.cfg_base.specs.declared.span.Location.TheVariants.{Span as InText};
@@ -12,6 +11,7 @@ use crate::markmap::MarkMap;
 use crate::span::{Location, Span};
 use std::alloc::{AllocError, Global};
 
+/// Copies a word, with its span as a location.
 fn located(alloc: Global, word: &(String, Span)) -> Result<(String, Location), AllocError>
     ensures { IfOk result (λ w. word_text w ≡ map_word InText (word_text word.now)) }
 {
@@ -19,6 +19,7 @@ fn located(alloc: Global, word: &(String, Span)) -> Result<(String, Location), A
     Ok((text, Location::Span(word.1)))
 }
 
+/// Copies a word, if there is one, with its span as a location.
 fn namespace(
     alloc: Global,
     word: &Option<(String, Span)>,
@@ -32,7 +33,7 @@ fn namespace(
 }
 
 impl Namespaced<Location> {
-    /// The same path, with its spans as locations.
+    /// Copies a path, with its spans as locations.
     pub fn try_from_namespaced(
         alloc: Global,
         path: &Namespaced<Span>,
@@ -46,7 +47,7 @@ impl Namespaced<Location> {
 }
 
 impl Setting<Location> {
-    /// The same setting, with its spans as locations.
+    /// Copies a setting, with its spans as locations.
     pub fn try_from_setting(
         alloc: Global,
         setting: &Setting<Span>,
@@ -81,7 +82,7 @@ impl Setting<Location> {
 }
 
 impl Value<Location> {
-    /// The same value, with its spans as locations.
+    /// Copies a value, with its spans as locations.
     pub fn try_from_value(alloc: Global, value: &Value<Span>) -> Result<Value<Location>, AllocError>
         ensures { IfOk result (λ v. value_text v ≡ map_value InText (value_text value.now)) }
     {
@@ -96,7 +97,7 @@ impl Value<Location> {
 }
 
 impl HeaderValue<Location> {
-    /// The same value at the same key, with its spans as locations.
+    /// Copies the value of a key, with its spans as locations.
     pub fn try_from_header_value(
         alloc: Global,
         value: &HeaderValue<Span>,
@@ -125,7 +126,7 @@ fn put_located(
     Ok(())
 }
 
-/// The values of all keys, with their spans as locations. Marks are not taken over.
+/// Copies the values of all keys, with their spans as locations, but no marks.
 pub fn try_from_header(alloc: Global, header: &Header<Span>) -> Result<Header<Location>, AllocError>
     ensures { IfOk result (λ h. MapsHeader InText header.now h) }
 {

@@ -43,7 +43,7 @@ impl Display for HeaderErrorKind {
 
 impl Error for HeaderErrorKind {}
 
-/// What is wrong, and where: for a repeated key all its places, the first one first.
+/// What is wrong, and where: for a repeated key all its spans, the first one first.
 #[derive(Debug, PartialEq, Eq, Drop)]
 pub struct HeaderError<T> {
     pub kind: HeaderErrorKind,
@@ -51,7 +51,7 @@ pub struct HeaderError<T> {
 }
 
 impl<T> HeaderError<T> {
-    /// Whether the locations are those of a repeated key, or the one place of another fault.
+    /// Tells whether the locations are those of a repeated key, or the one location of another fault.
     pub fn spanskind(&self) -> SpansKind
         ensures { result ≡ spanskind_of (kind_text self.now.kind) }
     {

@@ -3,7 +3,7 @@
 ghost use Rattle.std.specs.Prelude.{◌≡◌, ℕ, Bool, List};
 ghost use Rattle.cfg_base.specs.HeaderErrors.{KindText};
 ghost use Rattle.cfg_base.specs.Sections.{PairText, Reads, Faults};
-ghost use Rattle.cfg_base.specs.SectionOutcomes.{IsAnswered};
+ghost use Rattle.cfg_base.specs.SectionResults.{IsAnswered};
 
 /// Each text has a reading without repeated keys, a reading with such, or a fault.
 pub fn each_is_answered()

@@ -1,48 +1,79 @@
-//! The section of a grammar text, as a header.
+//! Reads the section of a grammar text, as a header.
 
 ghost use Rattle.std.specs.Prelude.{◌≡◌, ◌≤◌, ◌∷◌, [], List, length, map, IfOk, IfErr, OnOk, Some, string_bytes};
 ghost use Rattle.std.specs.String.{string_cmp};
 ghost use Rattle.cfg_base.specs.MarkMaps.{SetsValue};
 ghost use Rattle.cfg_base.specs.HeaderErrors.{kind_text};
 ghost use Rattle.cfg_base.specs.Sections.{span, Reads};
-ghost use Rattle.cfg_base.specs.SectionFaults.{pair_text, error_text};
+ghost use Rattle.cfg_base.specs.SectionResults.{pair_text, error_text, ReadsHeader, IsSectionError, ReadsKeyValue, IsKeyValueError, TellsFault, TellsRepeats, TellsPairFault};
 ghost use Rattle.cfg_base.specs.SectionRepeats.{Holds, repeats_of};
-ghost use Rattle.cfg_base.specs.SectionAnswers.{ReadsHeader, IsSectionError, ReadsKeyValue, IsKeyValueError, TellsFault, TellsRepeats, TellsPairFault};
 
 use crate::header::error::{HeaderError, HeaderErrorKind};
-use crate::header::read::{Fault, Pair};
 use crate::header::repeats::repeats;
 use crate::header::scan::Scanner;
+use crate::header::settings::{Fault, Pair};
 use crate::header::value::{HeaderValue, Value};
 use crate::markmap::MarkMap;
 use crate::span::Span;
 use std::alloc::{AllocError, Global};
+use std::error::Error;
+use std::fmt;
+use std::fmt::{Display, Formatter, Write};
 use std::marker::Model;
-use thiserror::Error;
 
 /// The keys of a section, in lower case, with what it says of each.
 pub type Header<T> = MarkMap<String, HeaderValue<T>>;
 
 /// Why there is no header.
-#[derive(Debug, Error, Drop)]
+#[derive(Debug, Drop)]
 pub enum SectionError {
-    #[error("Memory")]
+    /// The request for memory that was refused.
     Memory(AllocError),
-    /// The one place where the section can't be read; or, where it reads, each repeated key at all its
-    /// places, in order of the keys' first places.
-    #[error("Invalid")]
+    /// The one fault of the section, at its offset; or, where the section reads, each repeated key at all
+    /// its spans, in order of the keys' first spans.
     Invalid(Vec<HeaderError<Span>>),
 }
 
+impl Display for SectionError {
+    ghost use Rattle.std.specs.Prelude.{Some};
+    ghost use Rattle.cfg_base.specs.SectionResults.{section_error_text};
+
+    ghost output = { λ e. Some (section_error_text e) };
+
+    fn fmt<W: Write>(&self, f: &mut Formatter<W>) -> fmt::Result {
+        match self {
+            SectionError::Memory(_) => write!(f, "Memory"),
+            SectionError::Invalid(_) => write!(f, "Invalid"),
+        }
+    }
+}
+
+impl Error for SectionError {}
+
 /// Why there is no pair.
-#[derive(Debug, Error, Drop)]
+#[derive(Debug, Drop)]
 pub enum KeyValueError {
-    #[error("Memory")]
+    /// The request for memory that was refused.
     Memory(AllocError),
-    /// The place where the pair can't be read.
-    #[error("Invalid")]
+    /// The one fault of the pair, at its offset.
     Invalid(HeaderError<Span>),
 }
+
+impl Display for KeyValueError {
+    ghost use Rattle.std.specs.Prelude.{Some};
+    ghost use Rattle.cfg_base.specs.SectionResults.{pair_error_text};
+
+    ghost output = { λ e. Some (pair_error_text e) };
+
+    fn fmt<W: Write>(&self, f: &mut Formatter<W>) -> fmt::Result {
+        match self {
+            KeyValueError::Memory(_) => write!(f, "Memory"),
+            KeyValueError::Invalid(_) => write!(f, "Invalid"),
+        }
+    }
+}
+
+impl Error for KeyValueError {}
 
 /// Reads the section `%grmtools{..}` at the front of a text.
 #[derive(Drop)]
@@ -59,19 +90,20 @@ impl<'input> Model for GrmtoolsSectionParser<'input> {
     ghost view = { λ p. record { text = p.src.now; required = p.required } };
 }
 
-/// An error at one place.
+/// Makes an error at one offset.
 fn error_at(
     alloc: Global,
     kind: HeaderErrorKind,
-    place: usize,
+    offset: usize,
 ) -> Result<HeaderError<Span>, AllocError>
-    ensures { IfOk result (λ e. error_text e ≡ (kind_text kind, span place place ∷ [])) }
+    ensures { IfOk result (λ e. error_text e ≡ (kind_text kind, span offset offset ∷ [])) }
 {
     let mut locations = Vec::new(alloc);
-    locations.push(Span::new(place, place))?;
+    locations.push(Span::new(offset, offset))?;
     Ok(HeaderError { kind, locations })
 }
 
+/// Gives a key its value.
 fn put(header: &mut Header<Span>, key: String, value: HeaderValue<Span>) -> Result<(), AllocError>
     ensures { OnOk result (SetsValue string_cmp header.old header.new key (Some value)) }
 {
@@ -79,7 +111,7 @@ fn put(header: &mut Header<Span>, key: String, value: HeaderValue<Span>) -> Resu
     Ok(())
 }
 
-/// What pairs say.
+/// Makes the header of pairs; of a repeated key the last pair counts.
 fn header_of(alloc: Global, pairs: Vec<Pair>) -> Result<Header<Span>, AllocError>
     ensures { IfOk result (λ h. Holds h (map pair_text pairs.items)) }
 {
@@ -91,33 +123,33 @@ fn header_of(alloc: Global, pairs: Vec<Pair>) -> Result<Header<Span>, AllocError
     Ok(header)
 }
 
-/// The errors of a fault.
+/// Makes the error of a fault; a refused request for memory is handed on.
 fn section_error(alloc: Global, fault: Fault) -> SectionError
     ensures { TellsFault fault result }
 {
     match fault {
-        Fault::Memory => SectionError::Memory(AllocError),
-        Fault::At(kind, place) => match one_error(alloc, kind, place) {
+        Fault::Memory(e) => SectionError::Memory(e),
+        Fault::At(kind, offset) => match one_error(alloc, kind, offset) {
             Ok(errors) => SectionError::Invalid(errors),
             Err(e) => SectionError::Memory(e),
         },
     }
 }
 
-/// A list of one error at one place.
+/// Makes a list of one error at one offset.
 fn one_error(
     alloc: Global,
     kind: HeaderErrorKind,
-    place: usize,
+    offset: usize,
 ) -> Result<Vec<HeaderError<Span>>, AllocError>
-    ensures { IfOk result (λ v. map error_text v.items ≡ (kind_text kind, span place place ∷ []) ∷ []) }
+    ensures { IfOk result (λ v. map error_text v.items ≡ (kind_text kind, span offset offset ∷ []) ∷ []) }
 {
     let mut errors = Vec::new(alloc);
-    errors.push(error_at(alloc, kind, place)?)?;
+    errors.push(error_at(alloc, kind, offset)?)?;
     Ok(errors)
 }
 
-/// The header of these pairs, or the errors of the keys that are repeated.
+/// Makes the header of pairs, or the errors of the keys that are repeated.
 fn distinct_header(alloc: Global, pairs: Vec<Pair>) -> Result<Header<Span>, SectionError>
     ensures ok { IfOk result (λ h. (repeats_of (map pair_text pairs.items) ≡ []) × Holds h (map pair_text pairs.items)) }
     ensures err { IfErr result (λ e. TellsRepeats (map pair_text pairs.items) e) }
@@ -136,7 +168,7 @@ fn distinct_header(alloc: Global, pairs: Vec<Pair>) -> Result<Header<Span>, Sect
 }
 
 impl<'input> GrmtoolsSectionParser<'input> {
-    /// Of a text, which must have a section at its front, or may do without.
+    /// Makes a parser of a text, which must have a section at its front (`required`), or may do without.
     pub fn new(src: &'input str, required: bool) -> GrmtoolsSectionParser<'input>
         ensures text { result.text ≡ src.now }
         ensures required { result.required ≡ required }
@@ -144,48 +176,48 @@ impl<'input> GrmtoolsSectionParser<'input> {
         GrmtoolsSectionParser { src, required }
     }
 
-    fn section(&self, alloc: Global) -> Result<(Vec<Pair>, usize), SectionError>
+    /// Reads the pairs of the section, and the offset behind it.
+    fn parse_section(&self, alloc: Global) -> Result<(Vec<Pair>, usize), SectionError>
         ensures ok { IfOk result (λ r. Reads self.now.required self.now.text (map pair_text r.0.items) r.1) }
         ensures within { IfOk result (λ r. r.1 ≤ length self.now.text) }
         ensures err { IfErr result (λ e. IsSectionError self.now e) }
     {
         let scanner = Scanner { text: self.src };
-        match scanner.section(alloc, self.required) {
+        match scanner.parse_section(alloc, self.required) {
             Ok(read) => Ok(read),
             Err(fault) => Err(section_error(alloc, fault)),
         }
     }
 
-    /// The header of the section at the front, and the place behind the section; an empty header and 0
-    /// where there is none and none is required. A section stands behind white and closed comments.
-    /// Keys are in lower case. Errors are the one fault of reading, at one place; or, where all reads,
-    /// one `DuplicateEntry` for each repeated key, at all its places, the keys in order of their first
-    /// places.
+    /// Reads the header of the section at the front, and the offset behind the section; an empty header
+    /// and 0 where there is none and none is required. A section stands behind white and closed comments.
+    /// Keys are in lower case. Errors are the one fault of reading, at one offset; or, where all reads,
+    /// one `DuplicateEntry` for each repeated key, at all its spans, the keys in order of their first
+    /// spans.
     pub fn parse(&self, alloc: Global) -> Result<(Header<Span>, usize), SectionError>
         ensures ok { IfOk result (λ r. ReadsHeader self.now r.0 r.1) }
         ensures within { IfOk result (λ r. r.1 ≤ length self.now.text) }
         ensures err { IfErr result (λ e. IsSectionError self.now e) }
     {
-        let (pairs, end) = self.section(alloc)?;
+        let (pairs, end) = self.parse_section(alloc)?;
         let header = distinct_header(alloc, pairs)?;
         Ok((header, end))
     }
 
     /// Reads one pair of a section, whose key or `!` stands at `i`: the key in lower case, where it
-    /// stands, without the `!`, its value, and the place behind the pair and the gap after it. An error
-    /// is the one fault of reading, at one place.
+    /// stands, without the `!`, its value, and the offset behind the pair and the gap after it. An error
+    /// is the one fault of reading, at one offset.
     pub fn parse_key_value(
         &self,
         alloc: Global,
         i: usize,
     ) -> Result<(String, Span, Value<Span>, usize), KeyValueError>
-        requires { i ≤ length self.now.text }
         ensures ok { IfOk result (λ r. ReadsKeyValue self.now i r) }
         ensures within { IfOk result (λ r. r.3 ≤ length self.now.text) }
         ensures err { IfErr result (λ e. IsKeyValueError self.now i e) }
     {
         let scanner = Scanner { text: self.src };
-        match scanner.pair(alloc, i) {
+        match scanner.parse_pair(alloc, i) {
             Ok((pair, end)) => {
                 let Pair { key, span, value } = pair;
                 Ok((key, span, value, end))
@@ -195,13 +227,13 @@ impl<'input> GrmtoolsSectionParser<'input> {
     }
 }
 
-/// The error of a fault.
+/// Makes the error of a fault of a pair; a refused request for memory is handed on.
 fn key_value_error(alloc: Global, fault: Fault) -> KeyValueError
     ensures { TellsPairFault fault result }
 {
     match fault {
-        Fault::Memory => KeyValueError::Memory(AllocError),
-        Fault::At(kind, place) => match error_at(alloc, kind, place) {
+        Fault::Memory(e) => KeyValueError::Memory(e),
+        Fault::At(kind, offset) => match error_at(alloc, kind, offset) {
             Ok(error) => KeyValueError::Invalid(error),
             Err(e) => KeyValueError::Memory(e),
         },

@@ -37,7 +37,7 @@ pub enum Value<T> {
 pub struct HeaderValue<T>(pub T, pub Value<T>);
 
 impl<T> Setting<T> {
-    /// Where a message about this setting points: at its number, text or first bracket, or at the
+    /// Answers where a message about this setting points: at its number, text or first bracket, or at the
     /// outer member of a path.
     fn primary_location(&self) -> &T
         ensures { result.now ≡ setting_primary (setting_text self.now) }
@@ -53,7 +53,7 @@ impl<T> Setting<T> {
 }
 
 impl<T> Value<T> {
-    /// Where a message about this value points: at the flag, number, text or first bracket, or at the
+    /// Answers where a message about this value points: at the flag, number, text or first bracket, or at the
     /// outer member of a path.
     pub fn primary_location(&self) -> &T
         ensures { result.now ≡ primary_of (value_text self.now) }

@@ -1,4 +1,4 @@
-// The place of a key, for several steps.
+//! Entries of keys, for several steps at one key.
 
 ghost use Rattle.std.specs.Prelude.{◌≡◌, IfOk, OnErr, OnOk, IsOk, None, Some, is_some, true, false};
 ghost use Rattle.std.specs.Borrow.{sem};
@@ -7,14 +7,14 @@ ghost use Rattle.cfg_base.specs.MarkMaps.{ClonesAreEqual, SetsMarks, SetsValue, 
 use super::{MarkMap, Marks, MergeBehavior};
 use std::alloc::AllocError;
 
-/// The place of a key, which has a value or none.
+/// The entry of a key, which has a value or none.
 #[derive(Drop)]
 pub enum Entry<'a, K: Ord, V> {
     Occupied(OccupiedEntry<'a, K, V>),
     Vacant(VacantEntry<'a, K, V>),
 }
 
-/// The place of a key that has a value.
+/// The entry of a key that has a value.
 #[derive(Drop)]
 pub struct OccupiedEntry<'a, K: Ord, V> {
     map: &'a mut MarkMap<K, V>,
@@ -22,7 +22,7 @@ pub struct OccupiedEntry<'a, K: Ord, V> {
     ghost has: { is_some (value_at K.cmp map.now key) ≡ true },
 }
 
-/// The place of a key that has no value. It may have marks.
+/// The entry of a key that has no value. It may have marks.
 #[derive(Drop)]
 pub struct VacantEntry<'a, K: Ord, V> {
     map: &'a mut MarkMap<K, V>,
@@ -33,7 +33,7 @@ pub struct VacantEntry<'a, K: Ord, V> {
 impl<K: Ord, V> MarkMap<K, V> {
     ghost use Rattle.cfg_base.specs.Entries.{entry_key, entry_map_ref, is_occupied};
 
-    /// The place of a key: `Occupied` exactly where it has a value.
+    /// Answers the entry of a key: `Occupied` exactly where it has a value.
     pub fn entry(&mut self, key: K) -> Entry<'_, K, V>
         ensures same_map { (entry_map_ref result).ghost_name ≡ self.entry.ghost_name }
         ensures unchanged { (entry_map_ref result).now ≡ self.old }
@@ -48,9 +48,9 @@ impl<K: Ord, V> MarkMap<K, V> {
 }
 
 impl<'a, K: Ord, V> OccupiedEntry<'a, K, V> {
-    ghost use Rattle.cfg_base.specs.Entries.{IsSamePlace, occupied_key, occupied_map};
+    ghost use Rattle.cfg_base.specs.Entries.{IsSameEntry, occupied_key, occupied_map};
 
-    /// The value.
+    /// Answers the value.
     pub fn get(&self) -> &V
         ensures { value_at K.cmp (occupied_map self.now) (occupied_key self.now) ≡ Some result.now }
     {
@@ -59,7 +59,7 @@ impl<'a, K: Ord, V> OccupiedEntry<'a, K, V> {
 
     /// Gives the key another value, and answers the one that it had. Its marks stay.
     pub fn insert(&mut self, value: V) -> V
-        ensures place { IsSamePlace self.old self.new }
+        ensures entry { IsSameEntry self.old self.new }
         ensures old { value_at K.cmp (occupied_map self.old) (occupied_key self.old) ≡ Some result }
         ensures value { SetsValue K.cmp (occupied_map self.old) (occupied_map self.new) (occupied_key self.old) (Some value) }
         ensures stored { stored_keys (occupied_map self.new) ≡ stored_keys (occupied_map self.old) }
@@ -67,7 +67,7 @@ impl<'a, K: Ord, V> OccupiedEntry<'a, K, V> {
         self.map.replace_value(&self.key, value)
     }
 
-    /// The marks of the key.
+    /// Answers the marks of the key.
     pub fn get_mark(&self) -> Marks
         ensures { result ≡ marks_at K.cmp (occupied_map self.now) (occupied_key self.now) }
     {
@@ -76,7 +76,7 @@ impl<'a, K: Ord, V> OccupiedEntry<'a, K, V> {
 
     /// Marks the key as used.
     pub fn mark_used(&mut self)
-        ensures place { IsSamePlace self.old self.new }
+        ensures entry { IsSameEntry self.old self.new }
         ensures marks { let marks = marks_at K.cmp (occupied_map self.old) (occupied_key self.old) in
             SetsMarks K.cmp (occupied_map self.old) (occupied_map self.new) (occupied_key self.old) (record marks { used = true }) }
         ensures stored { stored_keys (occupied_map self.new) ≡ stored_keys (occupied_map self.old) }
@@ -89,7 +89,7 @@ impl<'a, K: Ord, V> OccupiedEntry<'a, K, V> {
         self.map.replace_marks(&self.key, marks);
     }
 
-    /// Whether the key is marked as used.
+    /// Tells whether the key is marked as used.
     pub fn is_used(&self) -> bool
         ensures { result ≡ (marks_at K.cmp (occupied_map self.now) (occupied_key self.now)).used }
     {
@@ -98,7 +98,7 @@ impl<'a, K: Ord, V> OccupiedEntry<'a, K, V> {
 
     /// Marks the key as required.
     pub fn mark_required(&mut self)
-        ensures place { IsSamePlace self.old self.new }
+        ensures entry { IsSameEntry self.old self.new }
         ensures marks { let marks = marks_at K.cmp (occupied_map self.old) (occupied_key self.old) in
             SetsMarks K.cmp (occupied_map self.old) (occupied_map self.new) (occupied_key self.old) (record marks { required = true }) }
         ensures stored { stored_keys (occupied_map self.new) ≡ stored_keys (occupied_map self.old) }
@@ -111,7 +111,7 @@ impl<'a, K: Ord, V> OccupiedEntry<'a, K, V> {
         self.map.replace_marks(&self.key, marks);
     }
 
-    /// Whether the key is marked as required.
+    /// Tells whether the key is marked as required.
     pub fn is_required(&self) -> bool
         ensures { result ≡ (marks_at K.cmp (occupied_map self.now) (occupied_key self.now)).required }
     {
@@ -120,7 +120,7 @@ impl<'a, K: Ord, V> OccupiedEntry<'a, K, V> {
 
     /// Sets what a merge does with the key.
     pub fn set_merge_behavior(&mut self, behavior: MergeBehavior)
-        ensures place { IsSamePlace self.old self.new }
+        ensures entry { IsSameEntry self.old self.new }
         ensures marks { let marks = marks_at K.cmp (occupied_map self.old) (occupied_key self.old) in
             SetsMarks K.cmp (occupied_map self.old) (occupied_map self.new) (occupied_key self.old) (record marks { behavior = Some behavior }) }
         ensures stored { stored_keys (occupied_map self.new) ≡ stored_keys (occupied_map self.old) }
@@ -135,16 +135,16 @@ impl<'a, K: Ord, V> OccupiedEntry<'a, K, V> {
 }
 
 impl<'a, K: Ord, V> VacantEntry<'a, K, V> {
-    ghost use Rattle.cfg_base.specs.Entries.{Fills, IsSameGap, lends_filled, rests_if_refused, vacant_key, vacant_map};
+    ghost use Rattle.cfg_base.specs.Entries.{Fills, IsSameVacant, lends_filled, rests_if_refused, vacant_key, vacant_map};
 
-    /// The key, as it was asked for.
+    /// Answers the key, as it was asked for.
     pub fn key(&self) -> &K
         ensures { result.now ≡ vacant_key self.now }
     {
         &self.key
     }
 
-    /// Gives the key a value, and answers its place. A stored key stays, and so do its marks, and no memory is
+    /// Gives the key a value, and lends it. A stored key stays, and so do its marks, and no memory is
     /// taken for it. Clones of keys equal them.
     pub fn insert(self, value: V) -> Result<&'a mut V, AllocError>
     where
@@ -186,7 +186,7 @@ impl<'a, K: Ord, V> VacantEntry<'a, K, V> {
         K: Clone,
         V: Drop,
         requires { ClonesAreEqual K.is_clone K.cmp }
-        ensures gap { IsSameGap self.old self.new }
+        ensures entry { IsSameVacant self.old self.new }
         ensures ok { let marks = marks_at K.cmp (vacant_map self.old) (vacant_key self.old) in
             OnOk result (SetsMarks K.cmp (vacant_map self.old) (vacant_map self.new) (vacant_key self.old) (record marks { required = true })) }
         ensures in_place { is_stored K.cmp (vacant_map self.old) (vacant_key self.old) ≡ true → IsOk result }
@@ -202,7 +202,7 @@ impl<'a, K: Ord, V> VacantEntry<'a, K, V> {
         K: Clone,
         V: Drop,
         requires { ClonesAreEqual K.is_clone K.cmp }
-        ensures gap { IsSameGap self.old self.new }
+        ensures entry { IsSameVacant self.old self.new }
         ensures ok { let marks = marks_at K.cmp (vacant_map self.old) (vacant_key self.old) in
             OnOk result (SetsMarks K.cmp (vacant_map self.old) (vacant_map self.new) (vacant_key self.old) (record marks { behavior = Some behavior })) }
         ensures in_place { is_stored K.cmp (vacant_map self.old) (vacant_key self.old) ≡ true → IsOk result }

@@ -1,4 +1,4 @@
-// One map with marks taken into another.
+//! Takes one map with marks into another.
 
 ghost use Rattle.std.specs.Prelude.{◌≡◌, [], true, is_some, IfErr, IfNone, IfSome, OnErr, OnOk, Some, map, if◌then◌else◌};
 ghost use Rattle.std.specs.BTreeMap.{ContainsKey, get, is_at};
@@ -9,18 +9,34 @@ ghost use Rattle.cfg_base.specs.Merges.{HasRoom, IsExclusivityAt, IsFirstOf, IsM
 use super::{MarkMap, Marks, MergeBehavior, Slot, blank_slot};
 use std::alloc::{AllocError, Global};
 use std::collections::BTreeMap;
-use std::fmt::Debug;
-use thiserror::Error;
+use std::error::Error;
+use std::fmt;
+use std::fmt::{Debug, Display, Formatter, Write};
 
-/// Why a map was not merged.
-#[derive(Debug, Drop, Error)]
+/// Tells why a map was not merged.
+#[derive(Debug, Drop)]
 pub enum MergeError<K, V> {
     /// This key has values on both sides, and may not. The value is the other map's.
-    #[error("Value on both sides")]
     Exclusivity(K, V),
-    #[error("Memory")]
+    /// The request for memory that was refused.
     Memory(AllocError),
 }
+
+impl<K, V> Display for MergeError<K, V> {
+    ghost use Rattle.std.specs.Prelude.{Some};
+    ghost use Rattle.cfg_base.specs.Merges.{merge_error_text};
+
+    ghost output = { λ e. Some (merge_error_text e) };
+
+    fn fmt<W: Write>(&self, f: &mut Formatter<W>) -> fmt::Result {
+        match self {
+            MergeError::Exclusivity(_, _) => write!(f, "Value on both sides"),
+            MergeError::Memory(_) => write!(f, "Memory"),
+        }
+    }
+}
+
+impl<K: Debug + Drop, V: Debug + Drop> Error for MergeError<K, V> {}
 
 impl<K, V> From<AllocError> for MergeError<K, V> {
     ghost from_gives = { λ e refused. refused ≡ NoMemory e };
@@ -53,21 +69,21 @@ impl<K: Ord, V> MarkMap<K, V> {
         Ok(())
     }
 
-    // Whether a key with values on both sides refuses a merge.
+    // Tells whether a key with values on both sides refuses a merge.
     fn is_exclusive(&self, key: &K) -> bool
         ensures { result ≡ is_exclusive K.cmp self.now key.now }
     {
         matches!(self.behavior_of(key), MergeBehavior::MutuallyExclusive)
     }
 
-    // Whether a key with a value here has one there too, and may not.
+    // Tells whether a key with a value here has one there too, and may not.
     fn conflicts_at(&self, other: &MarkMap<K, V>, key: &K) -> bool
         ensures { result ≡ conflicts_at K.cmp self.now other.now key.now }
     {
         other.contains_key(key) && self.is_exclusive(key)
     }
 
-    // The least key that refuses a merge.
+    // Answers the least key that refuses a merge.
     fn conflict(&self, other: &MarkMap<K, V>) -> Option<&K>
         ensures none { IfNone result (conflicts_of K.cmp self.now other.now ≡ []) }
         ensures least { IfSome result (IsFirstOf (conflicts_of K.cmp self.now other.now)) }
@@ -81,7 +97,7 @@ impl<K: Ord, V> MarkMap<K, V> {
     }
 }
 
-// The refusal at a key that has a value on the other side.
+// Makes the refusal at a key that has a value on the other side.
 fn refusal<K: Ord + Drop, V: Drop>(key: &K, mut other: MarkMap<K, V>) -> MergeError<K, V>
     requires { is_some (value_at K.cmp other key.now) ≡ true }
     ensures { IsExclusivityAt K.cmp other key.now result }

@@ -1,4 +1,4 @@
-use Rattle.cfg_base.proofs.Places.{joined_is_append}
+use Rattle.cfg_base.proofs.NewlineOffsets.{joined_is_append}
 use Rattle.cfg_base.proofs.newlinecache.pieces_make_the_whole.Goals as goal
 
 pub returns : goal.returns

@@ -1,5 +1,5 @@
 use Rattle.std.specs.Prelude.{map}
-use Rattle.cfg_base.specs.SectionFaults.{pair_text}
+use Rattle.cfg_base.specs.SectionResults.{pair_text}
 use Rattle.cfg_base.specs.SectionRepeats.{Holds}
 use Rattle.cfg_base.proofs.header.section.header_of.Given as goal
 

@@ -1,4 +1,4 @@
-use Rattle.cfg_base.proofs.MarkMapWalks.{conflicts_step}
+use Rattle.cfg_base.proofs.MarkMapIterators.{conflicts_step}
 use Rattle.cfg_base.proofs.markmap.MarkMap.conflict.Goals as goal
 
 pub keys-preserved : goal.keys-preserved

@@ -1,4 +1,4 @@
-use Rattle.cfg_base.proofs.MarkMapWalks.{each_key, sorted_among}
+use Rattle.cfg_base.proofs.MarkMapIterators.{each_key, sorted_among}
 use Rattle.cfg_base.proofs.markmap.MarkMap.keys.Goals as goal
 
 pub returns-clause-ordered : goal.returns-clause-ordered

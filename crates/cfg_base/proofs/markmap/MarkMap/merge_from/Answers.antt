@@ -2,7 +2,7 @@ use Rattle.std.proofs.Common.{is_some}
 use Rattle.std.proofs.lemmas.Bool.{and_parts}
 use Rattle.cfg_base.specs.MarkMaps.{keys_of, value_at}
 use Rattle.cfg_base.specs.Merges.{conflicts_at, is_exclusive}
-use Rattle.cfg_base.proofs.MarkMapWalks.{first_passes}
+use Rattle.cfg_base.proofs.MarkMapIterators.{first_passes}
 use Rattle.cfg_base.proofs.markmap.MarkMap.merge_from.Goals as goal
 
 pub refusal-requires : goal.refusal-requires

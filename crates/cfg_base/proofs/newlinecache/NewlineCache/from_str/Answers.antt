@@ -1,6 +1,6 @@
 use Rattle.std.proofs.Common.{[], ◌∙◌, ap}
 use Rattle.cfg_base.specs.Newlines.{Newlines, joined, newlines_of}
-use Rattle.cfg_base.proofs.Places.{joined_is_append}
+use Rattle.cfg_base.proofs.NewlineOffsets.{joined_is_append}
 use Rattle.cfg_base.proofs.newlinecache.NewlineCache.from_str.Goals as goal
 
 pub returns : goal.returns

@@ -1,6 +1,6 @@
 use Rattle.std.proofs.Common.{subst}
 use Rattle.cfg_base.specs.SectionSource.{SectionSource}
-use Rattle.cfg_base.specs.SectionAnswers.{IsKeyValueError}
+use Rattle.cfg_base.specs.SectionResults.{IsKeyValueError}
 use Rattle.cfg_base.proofs.SectionRefusals.{pair_refused}
 use Rattle.cfg_base.proofs.header.section.GrmtoolsSectionParser.parse_key_value.Goals as goal
 

@@ -1,0 +1,50 @@
+//! Tests of indices and symbols.
+
+use cfg_base::symbol::{PIdx, RIdx, SIdx, Symbol, TIdx};
+use std::collections::BTreeMap;
+use std::test::Fail;
+
+#[test]
+fn indices_give_their_numbers(rt: HostRuntime) {
+    assert_eq!(rt; RIdx(7u8).as_storaget(), 7);
+    assert_eq!(rt; PIdx(8u16).as_storaget(), 8);
+    assert_eq!(rt; SIdx(9u32).as_storaget(), 9);
+    assert_eq!(rt; TIdx(10u8).as_storaget(), 10);
+}
+
+#[test]
+fn indices_are_numbers_of_any_size(rt: HostRuntime) {
+    assert_eq!(rt; usize::from(RIdx(255u8)), 255);
+    assert_eq!(rt; usize::from(PIdx(65_535u16)), 65_535);
+    assert_eq!(rt; usize::from(SIdx(4_294_967_295u32)), 4_294_967_295);
+    assert_eq!(rt; usize::from(TIdx(1u16)), 1);
+}
+
+#[test]
+fn indices_are_wide_numbers(rt: HostRuntime) {
+    assert_eq!(rt; u32::from(RIdx(4_294_967_295u32)), 4_294_967_295);
+    assert_eq!(rt; u32::from(PIdx(2u8)), 2);
+    assert_eq!(rt; u32::from(SIdx(3u16)), 3);
+    assert_eq!(rt; u32::from(TIdx(4u32)), 4);
+}
+
+#[test]
+fn symbols_are_keys(rt: HostRuntime) -> Result<(), Fail> {
+    let symbols = [
+        Symbol::Token(TIdx(0u8)),
+        Symbol::Rule(RIdx(9)),
+        Symbol::Token(TIdx(3)),
+        Symbol::Rule(RIdx(2)),
+    ];
+    let mut numbers: BTreeMap<Symbol<u8>, usize> = BTreeMap::new(rt.alloc());
+    for (number, symbol) in symbols.iter().enumerate() {
+        numbers.insert(*symbol, number)?;
+    }
+    let in_order: Vec<usize> = numbers.values().copied().collect(rt.alloc())?;
+    assert_eq!(rt; in_order.as_slice(), [3, 1, 0, 2].as_slice());
+    assert!(rt; Symbol::Rule(RIdx(9u8)) < Symbol::Token(TIdx(0)));
+    assert!(rt; Symbol::Rule(RIdx(3u8)) != Symbol::Token(TIdx(3)));
+    let text = format!(in rt.alloc(); "{:?}", Symbol::Rule(RIdx(3u8)))?;
+    assert_eq!(rt; text.as_str(), "Rule(RIdx(3))");
+    Ok(())
+}

@@ -10,10 +10,10 @@ use Rattle.std.specs.String.{string_bytes, string_eq}
 use Rattle.std.specs.declared.alloc.Global.{Global}
 use Rattle.std.specs.declared.string.String.{String}
 use Rattle.indexmap.specs.IndexMap.{insert_entry}
-use Rattle.cfg_base.specs.Place.{Places}
+use Rattle.cfg_base.specs.SpanModel.{SpanModel}
 use Rattle.cfg_read.specs.SyntaxTexts.{WordText, LevelText}
 use Rattle.cfg_read.specs.Names.{is_among, with_distinct}
-use Rattle.cfg_read.specs.AstViews.{named_place}
+use Rattle.cfg_read.specs.AstModels.{named_span}
 use Rattle.cfg_read.proofs.Grouping.{or_left, or_right}
 
 module _ {X Y : Type 0} (f : String Global × X → Y) (name : Y → List ℕ) (named : (e : String Global × X) → name (f e) ≡ string_bytes e.0) where
@@ -37,14 +37,14 @@ module _ {X Y : Type 0} (f : String Global × X → Y) (name : Y → List ℕ) (
       ap (λ (b : Bool). map f (if b then (e.0, v) ∷ es else e ∷ insert_entry string_eq es k v)) apart
       ∙ ap (λ (l : List Y). f e ∷ l) rest
 
-pub found_among : (es : List (String Global × Places)) (q : List ℕ) → is_some (lookup (λ (k : String Global). bytes_eq q (string_bytes k)) es) ≡ is_among (map named_place es) q
-found_among es q = found_by named_place (λ (w : WordText). w.text) (λ e. refl) es q
+pub found_among : (es : List (String Global × SpanModel)) (q : List ℕ) → is_some (lookup (λ (k : String Global). bytes_eq q (string_bytes k)) es) ≡ is_among (map named_span es) q
+found_among es q = found_by named_span (λ (w : WordText). w.text) (λ e. refl) es q
 
-pub insert_new : (es : List (String Global × Places)) (k : String Global) (w : WordText) → string_bytes k ≡ w.text → is_among (map named_place es) w.text ≡ false
-    → map named_place (insert_entry string_eq es k w.span) ≡ map named_place es ++ w ∷ []
+pub insert_new : (es : List (String Global × SpanModel)) (k : String Global) (w : WordText) → string_bytes k ≡ w.text → is_among (map named_span es) w.text ≡ false
+    → map named_span (insert_entry string_eq es k w.span) ≡ map named_span es ++ w ∷ []
 insert_new es k w same h =
-    insert_by named_place (λ (v : WordText). v.text) (λ e. refl) es k w.span w.text same h
-    ∙ ap (λ (t : List ℕ). map named_place es ++ (let v : WordText = record { text = t; span = w.span } in v) ∷ []) same
+    insert_by named_span (λ (v : WordText). v.text) (λ e. refl) es k w.span w.text same h
+    ∙ ap (λ (t : List ℕ). map named_span es ++ (let v : WordText = record { text = t; span = w.span } in v) ∷ []) same
 
 -- a name that wasn't there, and one that was
 pub distinct_new : (vs : List WordText) (w : WordText) → is_among vs w.text ≡ false → vs ++ w ∷ [] ≡ with_distinct vs w

@@ -7,7 +7,7 @@ use Rattle.std.proofs.lemmas.List.{get_or-drop, length-drop}
 use Rattle.std.proofs.lemmas.List.Sums.{count_by_more_yes, count_by_more_no}
 use Rattle.cfg_read.specs.Words.{count_between, is_action_end}
 use Rattle.cfg_read.specs.Scanning.{depth_behind}
-use Rattle.cfg_read.proofs.Runs.{read_at}
+use Rattle.cfg_base.proofs.TextRuns.{read_at}
 
 pub count_none : (b : ℕ) (text : List ℕ) (a : ℕ) → count_between b text a a ≡ 0
 unfolding count_between

@@ -8,11 +8,11 @@ use Rattle.std.specs.declared.string.String.{String}
 use Rattle.std.proofs.lemmas.Slice.Eq.{bytes_eq-Decides}
 use Rattle.indexmap.specs.IndexMap.{set_value_at, insert_entry}
 use Rattle.cfg_read.specs.declared.yacc.ast.Rule.{Rule}
-use Rattle.cfg_base.specs.Place.{Places}
+use Rattle.cfg_base.specs.SpanModel.{SpanModel}
 use Rattle.cfg_read.specs.SyntaxTexts.{WordText}
 use Rattle.cfg_read.specs.Asts.{Ast, PrecedenceAst}
 use Rattle.cfg_read.specs.AstChanges.{put_rule, rule_named}
-use Rattle.cfg_read.specs.AstViews.{named_place, named_rule, rule_entry_of}
+use Rattle.cfg_read.specs.AstModels.{named_span, named_rule, rule_entry_of}
 use Rattle.cfg_read.proofs.RuleLemmas.{with_text}
 
 abbrev pub own : String Global × Rule → List ℕ
@@ -73,9 +73,9 @@ on_err (Ok x) P p = tt
 on_err (Err e) P p = p
 
 -- the values of a map from names to places
-pub places_are : (es : List (String Global × Places)) → values_of es ≡ map (λ (w : WordText). w.span) (map named_place es)
+pub places_are : (es : List (String Global × SpanModel)) → values_of es ≡ map (λ (w : WordText). w.span) (map named_span es)
 places_are [] = refl
-places_are (e ∷ es) = ap (λ (l : List Places). e.1 ∷ l) (places_are es)
+places_are (e ∷ es) = ap (λ (l : List SpanModel). e.1 ∷ l) (places_are es)
 
 -- equal parts make equal trees
 pub tokens_put : (ast : Ast) {ts us : List WordText} {ps qs : List PrecedenceAst} {vs ws : List WordText} {is js : List WordText} → ts ≡ us → ps ≡ qs → vs ≡ ws → is ≡ js

@@ -2,13 +2,13 @@
 use Rattle.std.proofs.Common.{◌≡◌, ◌≢◌, ℕ, ◌<◌, ◌≤◌, Bool, true, false, not, ◌&&◌, List, [], ◌∷◌, length, Option, Some, None, refl, arith}
 use Rattle.std.specs.Prelude.{map, option_map}
 use Rattle.std.specs.Option.{is_some, is_none}
-use Rattle.cfg_base.specs.Place.{Places}
-use Rattle.cfg_read.specs.declared.yacc.parser.scan.Mark.{Mark}
-use Rattle.cfg_read.specs.declared.yacc.parser.scan.Mark.TheVariants as marks
+use Rattle.cfg_base.specs.SpanModel.{SpanModel}
+use Rattle.cfg_read.specs.declared.yacc.parser.scan.TokenKind.{TokenKind}
+use Rattle.cfg_read.specs.declared.yacc.parser.scan.TokenKind.TheVariants as tokens
 use Rattle.cfg_read.specs.declared.yacc.parser.error.YaccGrammarErrorKind.{YaccGrammarErrorKind}
 use Rattle.cfg_read.specs.declared.yacc.parser.error.YaccGrammarErrorKind.TheVariants as faults
-use Rattle.cfg_read.specs.Stopping.{name_fault, token_fault}
-use Rattle.cfg_read.specs.Scanning.{StartsBy, begins_token, is_name}
+use Rattle.cfg_read.specs.SyntaxErrors.{name_fault, token_fault}
+use Rattle.cfg_read.specs.Scanning.{StartsBy, begins_token, begins_name}
 
 pub map_is_none : {A B : Type 0} (f : A → B) (o : Option A) → is_none (option_map f o) ≡ is_none o
 map_is_none f None = refl
@@ -22,7 +22,7 @@ pub map_cons : {A B : Type 0} (f : A → B) (xs : List A) → 0 < length xs → 
 map_cons f [] h e = absurd (omega arith)
 map_cons f (x ∷ xs) h e = absurd cc
 
-pub starts_later : (o : Option Places) (a b : ℕ) → a ≤ b → StartsBy o a → StartsBy o b
+pub starts_later : (o : Option SpanModel) (a b : ℕ) → a ≤ b → StartsBy o a → StartsBy o b
 starts_later None a b le h = tt
 starts_later (Some s) a b le h = omega arith
 
@@ -39,20 +39,20 @@ both_hold true o h = absurd cc
 both_hold false true h = (refl, refl)
 both_hold false false h = absurd cc
 
-pub no_token : (m : Mark) → begins_token m ≡ false → (e : YaccGrammarErrorKind) × (token_fault m ≡ Some e)
-no_token (marks.Name b) h = absurd cc
-no_token (marks.Quoted b) h = absurd cc
-no_token marks.OpenQuote h = (faults.IllegalString, refl)
+pub no_token : (m : TokenKind) → begins_token m ≡ false → (e : YaccGrammarErrorKind) × (token_fault m ≡ Some e)
+no_token (tokens.Name b) h = absurd cc
+no_token (tokens.Quoted b) h = absurd cc
+no_token tokens.OpenQuote h = (faults.IllegalString, refl)
 no_token _ h = (faults.IllegalName, refl)
 
-pub token_begins : (m : Mark) → begins_token m ≡ true → token_fault m ≡ None
-token_begins (marks.Name b) h = refl
-token_begins (marks.Quoted b) h = refl
+pub token_begins : (m : TokenKind) → begins_token m ≡ true → token_fault m ≡ None
+token_begins (tokens.Name b) h = refl
+token_begins (tokens.Quoted b) h = refl
 token_begins _ h = absurd cc
 
 pub nothing_wrong : (k : YaccGrammarErrorKind) → None ≡ Some k → ⊥
 nothing_wrong k h = absurd cc
 
-pub named : (m : Mark) (k : YaccGrammarErrorKind) → is_name m ≡ true → name_fault m ≡ Some k → ⊥
-named (marks.Name b) k h e = absurd cc
+pub named : (m : TokenKind) (k : YaccGrammarErrorKind) → begins_name m ≡ true → name_fault m ≡ Some k → ⊥
+named (tokens.Name b) k h e = absurd cc
 named _ k h e = absurd cc

@@ -7,11 +7,11 @@ use Rattle.std.proofs.lemmas.List.{map-append}
 use Rattle.std.proofs.lemmas.List.Folds.{list_any-append}
 use Rattle.std.proofs.lemmas.List.Sums.{fold_push}
 use Rattle.std.proofs.lemmas.Slice.Eq.{bytes_eq-Decides}
-use Rattle.cfg_base.specs.Place.{Places}
+use Rattle.cfg_base.specs.SpanModel.{SpanModel}
 use Rattle.cfg_read.specs.SyntaxTexts.{WordText}
 use Rattle.cfg_read.specs.Names.{is_named, is_among, with_distinct, distinct, texts}
-use Rattle.cfg_read.specs.Validity.{groups_of, places_of}
-use Rattle.cfg_read.specs.Showing.{place_lists, with_place}
+use Rattle.cfg_read.specs.Validity.{groups_of, word_spans}
+use Rattle.cfg_read.specs.ErrorModels.{span_lists, with_span}
 use Rattle.cfg_read.proofs.NameLemmas.{or_false, among_distinct}
 
 -- no name stands twice
@@ -55,8 +55,8 @@ pub Apart-distinct : (ws : List WordText) → Apart (distinct ws)
 Apart-distinct ws = Apart-all [] ws none
 
 -- where a name stands
-abbrev places : List WordText → WordText → List Places
-places ws v = places_of (filter (is_named v.text) ws)
+abbrev places : List WordText → WordText → List SpanModel
+places ws v = word_spans (filter (is_named v.text) ws)
 
 filter_push : (p : WordText → Bool) (ws : List WordText) (w : WordText) → filter p (ws ++ w ∷ []) ≡ filter p ws ++ (if p w then w ∷ [] else [])
 filter_push p [] w = refl
@@ -73,12 +73,12 @@ append-nil (x ∷ xs) = ap (λ l. x ∷ l) (append-nil xs)
 
 places_same : (ws : List WordText) (v w : WordText) → bytes_eq v.text w.text ≡ true → places (ws ++ w ∷ []) v ≡ places ws v ++ w.span ∷ []
 places_same ws v w h =
-    ap places_of (filter_push (is_named v.text) ws w ∙ ap (λ (b : Bool). filter (is_named v.text) ws ++ (if b then w ∷ [] else [])) h)
+    ap word_spans (filter_push (is_named v.text) ws w ∙ ap (λ (b : Bool). filter (is_named v.text) ws ++ (if b then w ∷ [] else [])) h)
     ∙ map-append (λ (u : WordText). u.span) (filter (is_named v.text) ws) (w ∷ [])
 
 places_other : (ws : List WordText) (v w : WordText) → bytes_eq v.text w.text ≡ false → places (ws ++ w ∷ []) v ≡ places ws v
 places_other ws v w h =
-    ap places_of (filter_push (is_named v.text) ws w ∙ ap (λ (b : Bool). filter (is_named v.text) ws ++ (if b then w ∷ [] else [])) h ∙ append-nil (filter (is_named v.text) ws))
+    ap word_spans (filter_push (is_named v.text) ws w ∙ ap (λ (b : Bool). filter (is_named v.text) ws ++ (if b then w ∷ [] else [])) h ∙ append-nil (filter (is_named v.text) ws))
 
 -- those of other names stay
 others_stay : (ws vs : List WordText) (w : WordText) → is_among vs w.text ≡ false → map (places (ws ++ w ∷ [])) vs ≡ map (places ws) vs
@@ -89,13 +89,13 @@ others_stay ws (v ∷ vs) w h =
     ap (λ l. l ∷ map (places (ws ++ w ∷ [])) vs) here ∙ ap (λ l. places ws v ∷ l) there
 
 -- a name that stands there
-known_step : (ws vs : List WordText) (w : WordText) → Apart vs → is_among vs w.text ≡ true → map (places (ws ++ w ∷ [])) vs ≡ with_place (map (places ws) vs) (position_or_len (bytes_eq w.text) (texts vs)) w.span
+known_step : (ws vs : List WordText) (w : WordText) → Apart vs → is_among vs w.text ≡ true → map (places (ws ++ w ∷ [])) vs ≡ with_span (map (places ws) vs) (position_or_len (bytes_eq w.text) (texts vs)) w.span
 known_step ws [] w none h = absurd (true≢false (sym h))
 known_step ws (v ∷ vs) w (more apart rest) h = by (bytes_eq w.text v.text) refl (λ e. known_step ws vs w rest e)
   where
     by : (b : Bool) → bytes_eq w.text v.text ≡ b
-        → (is_among vs w.text ≡ true → map (places (ws ++ w ∷ [])) vs ≡ with_place (map (places ws) vs) (position_or_len (bytes_eq w.text) (texts vs)) w.span)
-        → map (places (ws ++ w ∷ [])) (v ∷ vs) ≡ with_place (map (places ws) (v ∷ vs)) (cond (not b) (1 + position_or_len (bytes_eq w.text) (texts vs)) 0) w.span
+        → (is_among vs w.text ≡ true → map (places (ws ++ w ∷ [])) vs ≡ with_span (map (places ws) vs) (position_or_len (bytes_eq w.text) (texts vs)) w.span)
+        → map (places (ws ++ w ∷ [])) (v ∷ vs) ≡ with_span (map (places ws) (v ∷ vs)) (cond (not b) (1 + position_or_len (bytes_eq w.text) (texts vs)) 0) w.span
     by true e further =
         let same : w.text ≡ v.text = (bytes_eq-Decides w.text v.text).0 e in
         let here : places (ws ++ w ∷ []) v ≡ places ws v ++ w.span ∷ [] = places_same ws v w ((bytes_eq-Decides v.text w.text).1 (sym same)) in
@@ -108,7 +108,7 @@ known_step ws (v ∷ vs) w (more apart rest) h = by (bytes_eq w.text v.text) ref
         let still : is_among vs w.text ≡ true = ap (λ (b : Bool). b || is_among vs w.text) (sym e) ∙ h in
         let there = further still in
         ap (λ l. l ∷ map (places (ws ++ w ∷ [])) vs) here ∙ ap (λ l. places ws v ∷ l) there
-        ∙ ap (λ (n : ℕ). with_place (map (places ws) (v ∷ vs)) n w.span) next
+        ∙ ap (λ (n : ℕ). with_span (map (places ws) (v ∷ vs)) n w.span) next
 
 nothing_there : (ws : List WordText) (q : List ℕ) → is_among ws q ≡ false → filter (is_named q) ws ≡ []
 nothing_there [] q h = refl
@@ -116,9 +116,9 @@ nothing_there (w ∷ ws) q h =
     ap (λ (b : Bool). if b then w ∷ filter (is_named q) ws else filter (is_named q) ws) (or_left (bytes_eq q w.text) (is_among ws q) h)
     ∙ nothing_there ws q (or_right (bytes_eq q w.text) (is_among ws q) h)
 
-with_place_end : (gs : List (List Places)) (n : ℕ) (at : Places) → n ≡ length gs → with_place gs n at ≡ gs ++ (at ∷ []) ∷ []
+with_place_end : (gs : List (List SpanModel)) (n : ℕ) (at : SpanModel) → n ≡ length gs → with_span gs n at ≡ gs ++ (at ∷ []) ∷ []
 with_place_end [] n at e = refl
-with_place_end (g ∷ gs) n at e = ap (λ m. with_place (g ∷ gs) m at) e ∙ ap (λ l. g ∷ l) (with_place_end gs (length gs) at refl)
+with_place_end (g ∷ gs) n at e = ap (λ m. with_span (g ∷ gs) m at) e ∙ ap (λ l. g ∷ l) (with_place_end gs (length gs) at refl)
 
 past_all : (vs : List WordText) (q : List ℕ) → is_among vs q ≡ false → position_or_len (bytes_eq q) (texts vs) ≡ length vs
 past_all [] q h = refl
@@ -132,17 +132,17 @@ length_map f [] = refl
 length_map f (x ∷ xs) = ap suc (length_map f xs)
 
 -- a new name
-new_step : (ws vs : List WordText) (w : WordText) → is_among vs w.text ≡ false → is_among ws w.text ≡ false → map (places (ws ++ w ∷ [])) (vs ++ w ∷ []) ≡ with_place (map (places ws) vs) (position_or_len (bytes_eq w.text) (texts vs)) w.span
+new_step : (ws vs : List WordText) (w : WordText) → is_among vs w.text ≡ false → is_among ws w.text ≡ false → map (places (ws ++ w ∷ [])) (vs ++ w ∷ []) ≡ with_span (map (places ws) vs) (position_or_len (bytes_eq w.text) (texts vs)) w.span
 new_step ws vs w h there =
     map-append (places (ws ++ w ∷ [])) vs (w ∷ [])
     ∙ ap (λ l. l ++ places (ws ++ w ∷ []) w ∷ []) (others_stay ws vs w h)
-    ∙ ap (λ l. map (places ws) vs ++ l ∷ []) (places_same ws w w ((bytes_eq-Decides w.text w.text).1 refl) ∙ ap (λ l. places_of l ++ w.span ∷ []) (nothing_there ws w.text there))
+    ∙ ap (λ l. map (places ws) vs ++ l ∷ []) (places_same ws w w ((bytes_eq-Decides w.text w.text).1 refl) ∙ ap (λ l. word_spans l ++ w.span ∷ []) (nothing_there ws w.text there))
     ∙ sym (with_place_end (map (places ws) vs) (position_or_len (bytes_eq w.text) (texts vs)) w.span (past_all vs w.text h ∙ sym (length_map (places ws) vs)))
 
-pub groups_step : (ws : List WordText) (w : WordText) → groups_of (ws ++ w ∷ []) ≡ with_place (groups_of ws) (position_or_len (bytes_eq w.text) (texts (distinct ws))) w.span
+pub groups_step : (ws : List WordText) (w : WordText) → groups_of (ws ++ w ∷ []) ≡ with_span (groups_of ws) (position_or_len (bytes_eq w.text) (texts (distinct ws))) w.span
 groups_step ws w = ap (map (places (ws ++ w ∷ []))) (fold_push with_distinct [] ws w) ∙ by (is_among (distinct ws) w.text) refl
   where
-    by : (b : Bool) → is_among (distinct ws) w.text ≡ b → map (places (ws ++ w ∷ [])) (if b then distinct ws else distinct ws ++ w ∷ []) ≡ with_place (groups_of ws) (position_or_len (bytes_eq w.text) (texts (distinct ws))) w.span
+    by : (b : Bool) → is_among (distinct ws) w.text ≡ b → map (places (ws ++ w ∷ [])) (if b then distinct ws else distinct ws ++ w ∷ []) ≡ with_span (groups_of ws) (position_or_len (bytes_eq w.text) (texts (distinct ws))) w.span
     by true e = known_step ws (distinct ws) w (Apart-distinct ws) e
     by false e = new_step ws (distinct ws) w e (sym (among_distinct ws w.text) ∙ e)
 
@@ -155,22 +155,22 @@ number_at keys vs q same = by keys ∙ ap (position_or_len (bytes_eq q)) same
     by (k ∷ ks) = ap (λ n. cond (not (bytes_eq q k.now)) (1 + n) 0) (by ks)
 
 -- as many lists of places as names
-pub groups_counted : (keys : List (Bor (List ℕ))) (gs : List (Vec Places Global)) (ws : List WordText) → map (λ (k : Bor (List ℕ)). k.now) keys ≡ texts (distinct ws) → place_lists gs ≡ groups_of ws → length keys ≡ length gs
+pub groups_counted : (keys : List (Bor (List ℕ))) (gs : List (Vec SpanModel Global)) (ws : List WordText) → map (λ (k : Bor (List ℕ)). k.now) keys ≡ texts (distinct ws) → span_lists gs ≡ groups_of ws → length keys ≡ length gs
 groups_counted keys gs ws names groups =
     sym (length_map (λ (k : Bor (List ℕ)). k.now) keys) ∙ ap length names ∙ length_map (λ (w : WordText). w.text) (distinct ws)
-    ∙ sym (length_map (places ws) (distinct ws)) ∙ sym (ap length groups) ∙ length_map (λ (g : Vec Places Global). g.items) gs
+    ∙ sym (length_map (places ws) (distinct ws)) ∙ sym (ap length groups) ∙ length_map (λ (g : Vec SpanModel Global). g.items) gs
 
 -- a place in a list that is there
-pub with_place_set : (gs : List (Vec Places Global)) (n : ℕ) (d g : Vec Places Global) (at : Places) → n < length gs → g.items ≡ (get_or gs n d).items ++ at ∷ [] → place_lists (set gs n g) ≡ with_place (place_lists gs) n at
-with_place_set [] n d g at within h = absurd (omega arith)
-with_place_set (f ∷ gs) zero d g at within h = ap (λ l. l ∷ place_lists gs) h
-with_place_set (f ∷ gs) (suc n) d g at within h = ap (λ l. f.items ∷ l) (with_place_set gs n d g at (omega arith) h)
+pub with_span_set : (gs : List (Vec SpanModel Global)) (n : ℕ) (d g : Vec SpanModel Global) (at : SpanModel) → n < length gs → g.items ≡ (get_or gs n d).items ++ at ∷ [] → span_lists (set gs n g) ≡ with_span (span_lists gs) n at
+with_span_set [] n d g at within h = absurd (omega arith)
+with_span_set (f ∷ gs) zero d g at within h = ap (λ l. l ∷ span_lists gs) h
+with_span_set (f ∷ gs) (suc n) d g at within h = ap (λ l. f.items ∷ l) (with_span_set gs n d g at (omega arith) h)
 
 -- a place in a new list
-pub with_place_push : (gs : List (Vec Places Global)) (n : ℕ) (g : Vec Places Global) (at : Places) → n ≡ length gs → g.items ≡ at ∷ [] → place_lists (gs ++ g ∷ []) ≡ with_place (place_lists gs) n at
-with_place_push gs n g at e h =
-    map-append (λ (f : Vec Places Global). f.items) gs (g ∷ []) ∙ ap (λ l. place_lists gs ++ l ∷ []) h
-    ∙ sym (with_place_end (place_lists gs) n at (e ∙ sym (length_map (λ (f : Vec Places Global). f.items) gs)))
+pub with_span_push : (gs : List (Vec SpanModel Global)) (n : ℕ) (g : Vec SpanModel Global) (at : SpanModel) → n ≡ length gs → g.items ≡ at ∷ [] → span_lists (gs ++ g ∷ []) ≡ with_span (span_lists gs) n at
+with_span_push gs n g at e h =
+    map-append (λ (f : Vec SpanModel Global). f.items) gs (g ∷ []) ∙ ap (λ l. span_lists gs ++ l ∷ []) h
+    ∙ sym (with_place_end (span_lists gs) n at (e ∙ sym (length_map (λ (f : Vec SpanModel Global). f.items) gs)))
 
 pub position_le : {A : Type 0} (p : A → Bool) → (xs : List A) → position_or_len p xs ≤ length xs
 position_le p [] = omega arith

@@ -1,5 +1,4 @@
 pub mod Runs
-pub mod Places
 pub mod Parts
 pub mod Braces
 pub mod Chains
@@ -9,7 +8,7 @@ pub mod Next
 pub mod Progress
 pub mod Measure
 pub mod NameLemmas
-pub mod Placing
+pub mod ByOffset
 pub mod Grouping
 pub mod Joined
 pub mod AstLemmas
@@ -17,12 +16,12 @@ pub mod WholeFiles
 pub mod KindValues
 pub mod FileFailures
 pub mod TextKinds
-pub mod Sound
-pub mod SoundLevels
-pub mod SoundNames
-pub mod SoundNumbers
-pub mod SoundParts
-pub mod SoundTrees
+pub mod WellFormedStart
+pub mod WellFormedLevels
+pub mod WellFormedNames
+pub mod WellFormedNumbers
+pub mod WellFormedParts
+pub mod WellFormedTrees
 pub mod RuleLemmas
 pub mod Clones
 pub mod ChangeLemmas

@@ -6,197 +6,147 @@ use Rattle.cfg_read.specs.declared.yacc.YaccKind.{YaccKind}
 use Rattle.cfg_read.specs.declared.yacc.parser.declaration.Declaration.{Declaration}
 use Rattle.cfg_read.specs.declared.yacc.parser.declaration.Declaration.TheVariants as declarations
 use Rattle.cfg_read.specs.declared.yacc.parser.error.YaccGrammarErrorKind.{YaccGrammarErrorKind}
-use Rattle.cfg_read.specs.declared.yacc.parser.scan.GapMark.{GapMark}
-use Rattle.cfg_read.specs.declared.yacc.parser.scan.GapMark.TheVariants as gaps
-use Rattle.cfg_read.specs.declared.yacc.parser.scan.Mark.{Mark}
-use Rattle.cfg_read.specs.declared.yacc.parser.scan.Mark.TheVariants as marks
-use Rattle.cfg_read.specs.declared.yacc.parser.scan.StringMark.{StringMark}
-use Rattle.cfg_read.specs.declared.yacc.parser.scan.StringMark.TheVariants as strings
-use Rattle.cfg_read.specs.Bytes.{is_white, is_blank, is_digit, is_name_start, is_name_byte, is_quote, is_in_line, is_quoted_by, is_keyword_byte, stands, is_at, passes, run_end, line_end, first_of, first_place, holds_line_feed}
-use Rattle.cfg_read.specs.Words.{mark_at, mark_of, sign_mark, quoted_mark, gap_mark, line_gap_mark, comment_mark, line_comment_mark, comment_end, keyword_end, string_at, string_of, string_stop, stops_string, closes_string}
+use Rattle.cfg_base.specs.declared.text.GapPart.{GapPart}
+use Rattle.cfg_base.specs.declared.text.GapPart.TheVariants as gaps
+use Rattle.cfg_read.specs.declared.yacc.parser.scan.TokenKind.{TokenKind}
+use Rattle.cfg_read.specs.declared.yacc.parser.scan.TokenKind.TheVariants as tokens
+use Rattle.cfg_read.specs.declared.yacc.parser.scan.StringKind.{StringKind}
+use Rattle.cfg_read.specs.declared.yacc.parser.scan.StringKind.TheVariants as strings
+use Rattle.cfg_base.specs.Text.{is_white, is_digit, is_in_line, stands, is_at, passes, run_end, line_end, first_among, first_offset, gap_at, comment_part, comment_end}
+use Rattle.cfg_read.specs.Bytes.{is_blank, is_name_start, is_name_byte, is_quote, is_quoted_by, is_keyword_byte, holds_line_feed}
+use Rattle.cfg_read.specs.Words.{token_kind_at, token_kind_of, sign_kind, quoted_kind, line_gap_at, line_comment_part, keyword_end, string_at, string_of, string_stop, stops_string, closes_string}
 use Rattle.cfg_read.specs.SyntaxTexts.{SymbolText, SyntaxText}
 use Rattle.cfg_read.specs.Reading.{Wanted, Declared, DeclaredToken, LineItem, Rest, RuleName, Nothing, State, Spaced, InLine, At, IsToken, name, quoted, begins, Step, gap_part, gap_end, line_gap_part, line_gap_end, separator, declared, start_name, declared_token, tokens_end, line_item, list_end, number, epp_token, epp_string, action_type, parse_generics, parse_param, rules_end, programs, rule_name, colon, typed_colon, symbol, empty, prec, prec_token, action, bar, semicolon, Steps, here, then, beginning}
-use Rattle.cfg_read.specs.Stopping.{StopsFrom, Outcome, reads, faulty}
+use Rattle.cfg_read.specs.SyntaxErrors.{StopsFrom, Outcome, reads, faulty}
 use Rattle.cfg_read.proofs.Chains.{join_stops, and_stops}
 use Rattle.cfg_read.proofs.Progress.{Progress, goes, fails, ends, progress}
-use Rattle.cfg_read.proofs.Runs.{run_more, name_start_passes}
+use Rattle.cfg_base.proofs.TextRuns.{run_from, run_beyond, first_offset_from, stands_within, GapAdvances, gap_more}
+use Rattle.cfg_read.proofs.Runs.{name_start_passes}
 
-run_from : (p : ℕ → Bool) (text : List ℕ) (a : ℕ) → a ≤ run_end p text a
-unfolding run_end
-run_from p text a = omega arith
-
-run_beyond : (p : ℕ → Bool) (text : List ℕ) (a b : ℕ) → slice_get text a ≡ Some b → p b ≡ true → a < run_end p text a
-unfolding run_end
-run_beyond p text a b h t = let e = run_more p text a b h t in omega (arith, e)
-
-first_of_from : (p : ℕ → Bool) (n a c : ℕ) → first_of p n a ≡ Some c → a ≤ c
-first_of_from p zero a c h = absurd cc
-first_of_from p (suc n) a c h = go (p a) refl h (λ k. first_of_from p n (a + 1) c k)
-  where
-    same : Some a ≡ Some c → a ≡ c
-    same q = cc
-
-    go : (t : Bool) → p a ≡ t → first_of p (suc n) a ≡ Some c → (first_of p n (a + 1) ≡ Some c → a + 1 ≤ c) → a ≤ c
-    go true e k r = let q = same (rw e at k) in omega (arith, q)
-    go false e k r = let q : a + 1 ≤ c = r (rw e at k) in omega (arith, q)
-
-first_place_from : (p : ℕ → Bool) (a b c : ℕ) → first_place p a b ≡ Some c → a ≤ c
-unfolding first_place
-first_place_from p a b c h = first_of_from p (b - a) a c h
-
-stands_within : (text : List ℕ) (a : ℕ) (p : ℕ → Bool) → stands text a p ≡ true → a < length text
-stands_within text a p h = go (slice_get text a) refl h
-  where
-    go : (o : Option ℕ) → slice_get text a ≡ o → passes p o ≡ true → a < length text
-    go None e h = absurd cc
-    go (Some b) e h = slice_get_within text a b e
-
--- a mark that is no end stands within the text, and ends behind its place
-Advances : List ℕ → ℕ → Mark → Type 0
-Advances text a marks.End = Unit {0}
-Advances text a (marks.Name b) = (a < length text) × (a < b)
-Advances text a (marks.Digits b) = (a < length text) × (a < b)
-Advances text a (marks.Quoted b) = (a < length text) × (a < b)
+-- a token kind other than the end stands within the text, and ends behind its offset
+Advances : List ℕ → ℕ → TokenKind → Type 0
+Advances text a tokens.End = Unit {0}
+Advances text a (tokens.Name b) = (a < length text) × (a < b)
+Advances text a (tokens.Digits b) = (a < length text) × (a < b)
+Advances text a (tokens.Quoted b) = (a < length text) × (a < b)
 Advances text a _ = a < length text
 
-abbrev is_sign : Mark → Bool
-is_sign marks.End = false
-is_sign (marks.Name b) = false
-is_sign (marks.Digits b) = false
-is_sign (marks.Quoted b) = false
+abbrev is_sign : TokenKind → Bool
+is_sign tokens.End = false
+is_sign (tokens.Name b) = false
+is_sign (tokens.Digits b) = false
+is_sign (tokens.Quoted b) = false
 is_sign _ = true
 
-sign : (text : List ℕ) (a : ℕ) (m : Mark) → is_sign m ≡ true → a < length text → Advances text a m
+sign : (text : List ℕ) (a : ℕ) (m : TokenKind) → is_sign m ≡ true → a < length text → Advances text a m
 unfolding Advances
-sign text a marks.End e h = absurd cc
-sign text a (marks.Name b) e h = absurd cc
-sign text a (marks.Digits b) e h = absurd cc
-sign text a (marks.Quoted b) e h = absurd cc
+sign text a tokens.End e h = absurd cc
+sign text a (tokens.Name b) e h = absurd cc
+sign text a (tokens.Digits b) e h = absurd cc
+sign text a (tokens.Quoted b) e h = absurd cc
 sign text a _ e h = h
 
-name_leaf : (text : List ℕ) (a b : ℕ) → a < length text → a < b → Advances text a (marks.Name b)
+name_leaf : (text : List ℕ) (a b : ℕ) → a < length text → a < b → Advances text a (tokens.Name b)
 unfolding Advances
 name_leaf text a b h k = (h, k)
 
-digits_leaf : (text : List ℕ) (a b : ℕ) → a < length text → a < b → Advances text a (marks.Digits b)
+digits_leaf : (text : List ℕ) (a b : ℕ) → a < length text → a < b → Advances text a (tokens.Digits b)
 unfolding Advances
 digits_leaf text a b h k = (h, k)
 
-quoted_leaf : (text : List ℕ) (a b : ℕ) → a < length text → a < b → Advances text a (marks.Quoted b)
+quoted_leaf : (text : List ℕ) (a b : ℕ) → a < length text → a < b → Advances text a (tokens.Quoted b)
 unfolding Advances
 quoted_leaf text a b h k = (h, k)
 
-end_leaf : (text : List ℕ) (a : ℕ) → Advances text a marks.End
+end_leaf : (text : List ℕ) (a : ℕ) → Advances text a tokens.End
 unfolding Advances
 end_leaf text a = tt
 
-either : (text : List ℕ) (a : ℕ) (c : Bool) (x y : Mark) → Advances text a x → Advances text a y → Advances text a (cond c x y)
+either : (text : List ℕ) (a : ℕ) (c : Bool) (x y : TokenKind) → Advances text a x → Advances text a y → Advances text a (cond c x y)
 either text a true x y h k = h
 either text a false x y h k = k
 
-sign_advances : (text : List ℕ) (a b : ℕ) → a < length text → Advances text a (sign_mark b text a)
+sign_advances : (text : List ℕ) (a b : ℕ) → a < length text → Advances text a (sign_kind b text a)
 sign_advances text a b h =
-    either text a _ _ _ (either text a _ _ _ (sign text a marks.Separator refl h) (sign text a marks.Percent refl h))
-    (either text a _ _ _ (sign text a marks.Colon refl h)
-    (either text a _ _ _ (sign text a marks.Semicolon refl h)
-    (either text a _ _ _ (sign text a marks.Bar refl h)
-    (either text a _ _ _ (sign text a marks.Brace refl h)
-    (either text a _ _ _ (sign text a marks.Arrow refl h)
-    (either text a _ _ _ (sign text a marks.Break refl h) (sign text a marks.Other refl h)))))))
+    either text a _ _ _ (either text a _ _ _ (sign text a tokens.Separator refl h) (sign text a tokens.Percent refl h))
+    (either text a _ _ _ (sign text a tokens.Colon refl h)
+    (either text a _ _ _ (sign text a tokens.Semicolon refl h)
+    (either text a _ _ _ (sign text a tokens.Bar refl h)
+    (either text a _ _ _ (sign text a tokens.Brace refl h)
+    (either text a _ _ _ (sign text a tokens.Arrow refl h)
+    (either text a _ _ _ (sign text a tokens.Break refl h) (sign text a tokens.Other refl h)))))))
 
-quoted_advances : (text : List ℕ) (a q : ℕ) → a < length text → Advances text a (quoted_mark q text a)
+quoted_advances : (text : List ℕ) (a q : ℕ) → a < length text → Advances text a (quoted_kind q text a)
 quoted_advances text a q h =
     let from = run_from (is_quoted_by q) text (a + 2) in
-    either text a _ _ _ (quoted_leaf text a (run_end (is_quoted_by q) text (a + 2)) h (omega (arith, from))) (sign text a marks.OpenQuote refl h)
+    either text a _ _ _ (quoted_leaf text a (run_end (is_quoted_by q) text (a + 2)) h (omega (arith, from))) (sign text a tokens.OpenQuote refl h)
 
-byte_advances : (text : List ℕ) (a b : ℕ) → slice_get text a ≡ Some b → Advances text a (mark_of (Some b) text a)
+byte_advances : (text : List ℕ) (a b : ℕ) → slice_get text a ≡ Some b → Advances text a (token_kind_of (Some b) text a)
 byte_advances text a b e = go (is_name_start b) refl (is_digit b) refl (is_quote b) refl
   where
     within : a < length text
     within = slice_get_within text a b e
 
-    go : (n : Bool) → is_name_start b ≡ n → (d : Bool) → is_digit b ≡ d → (q : Bool) → is_quote b ≡ q → Advances text a (mark_of (Some b) text a)
+    go : (n : Bool) → is_name_start b ≡ n → (d : Bool) → is_digit b ≡ d → (q : Bool) → is_quote b ≡ q → Advances text a (token_kind_of (Some b) text a)
     go true e₁ d e₂ q e₃ = rw e₁ (name_leaf text a _ within (run_beyond is_name_byte text a b e (name_start_passes b e₁)))
     go false e₁ true e₂ q e₃ = rw (e₁, e₂) (digits_leaf text a _ within (run_beyond is_digit text a b e e₂))
     go false e₁ false e₂ true e₃ = rw (e₁, e₂, e₃) (quoted_advances text a b within)
     go false e₁ false e₂ false e₃ = rw (e₁, e₂, e₃) (sign_advances text a b within)
 
-mark_advances : (text : List ℕ) (a : ℕ) → Advances text a (mark_at text a)
-unfolding mark_at
-mark_advances text a = go (slice_get text a) refl
+kind_advances : (text : List ℕ) (a : ℕ) → Advances text a (token_kind_at text a)
+unfolding token_kind_at
+kind_advances text a = go (slice_get text a) refl
   where
-    go : (o : Option ℕ) → slice_get text a ≡ o → Advances text a (mark_of o text a)
+    go : (o : Option ℕ) → slice_get text a ≡ o → Advances text a (token_kind_of o text a)
     go None e = end_leaf text a
     go (Some b) e = byte_advances text a b e
 
-name_more : (text : List ℕ) (a b : ℕ) → mark_at text a ≡ marks.Name b → (a < length text) × (a < b)
+name_more : (text : List ℕ) (a b : ℕ) → token_kind_at text a ≡ tokens.Name b → (a < length text) × (a < b)
 unfolding Advances
-name_more text a b e = subst (Advances text a) e (mark_advances text a)
+name_more text a b e = subst (Advances text a) e (kind_advances text a)
 
-digits_more : (text : List ℕ) (a b : ℕ) → mark_at text a ≡ marks.Digits b → (a < length text) × (a < b)
+digits_more : (text : List ℕ) (a b : ℕ) → token_kind_at text a ≡ tokens.Digits b → (a < length text) × (a < b)
 unfolding Advances
-digits_more text a b e = subst (Advances text a) e (mark_advances text a)
+digits_more text a b e = subst (Advances text a) e (kind_advances text a)
 
-quoted_more : (text : List ℕ) (a b : ℕ) → mark_at text a ≡ marks.Quoted b → (a < length text) × (a < b)
+quoted_more : (text : List ℕ) (a b : ℕ) → token_kind_at text a ≡ tokens.Quoted b → (a < length text) × (a < b)
 unfolding Advances
-quoted_more text a b e = subst (Advances text a) e (mark_advances text a)
+quoted_more text a b e = subst (Advances text a) e (kind_advances text a)
 
-of_sign : (text : List ℕ) (a : ℕ) (m : Mark) → is_sign m ≡ true → Advances text a m → a < length text
+of_sign : (text : List ℕ) (a : ℕ) (m : TokenKind) → is_sign m ≡ true → Advances text a m → a < length text
 unfolding Advances
-of_sign text a marks.End e h = absurd cc
-of_sign text a (marks.Name b) e h = absurd cc
-of_sign text a (marks.Digits b) e h = absurd cc
-of_sign text a (marks.Quoted b) e h = absurd cc
+of_sign text a tokens.End e h = absurd cc
+of_sign text a (tokens.Name b) e h = absurd cc
+of_sign text a (tokens.Digits b) e h = absurd cc
+of_sign text a (tokens.Quoted b) e h = absurd cc
 of_sign text a _ e h = h
 
-sign_more : (text : List ℕ) (a : ℕ) (m : Mark) → is_sign m ≡ true → mark_at text a ≡ m → a < length text
-sign_more text a m s e = of_sign text a m s (subst (Advances text a) e (mark_advances text a))
+sign_more : (text : List ℕ) (a : ℕ) (m : TokenKind) → is_sign m ≡ true → token_kind_at text a ≡ m → a < length text
+sign_more text a m s e = of_sign text a m s (subst (Advances text a) e (kind_advances text a))
 
-abbrev GapAdvances : List ℕ → ℕ → GapMark → Type 0
-GapAdvances text a (gaps.Part b) = (a < length text) × (a < b)
-GapAdvances text a _ = Unit {0}
-
-comment_advances : (text : List ℕ) (a : ℕ) (o : Option ℕ) → a < length text → comment_end text (a + 2) ≡ o → GapAdvances text a (comment_mark o)
-comment_advances text a None h e = tt
-comment_advances text a (Some b) h e = (h, let from = first_place_from _ _ _ b e in omega (arith, from))
-
-gap_advances : (text : List ℕ) (a : ℕ) → GapAdvances text a (gap_mark text a)
-unfolding gap_mark
-gap_advances text a = go (stands text a is_white) refl (is_at text a 47) refl (is_at text (a + 1) 47) refl (is_at text (a + 1) 42) refl
-  where
-    go : (w : Bool) → stands text a is_white ≡ w → (s : Bool) → is_at text a 47 ≡ s → (t : Bool) → is_at text (a + 1) 47 ≡ t → (u : Bool) → is_at text (a + 1) 42 ≡ u → GapAdvances text a (gap_mark text a)
-    go true e₁ s e₂ t e₃ u e₄ = rw e₁ (stands_within text a is_white e₁, omega arith)
-    go false e₁ false e₂ t e₃ u e₄ = rw (e₁, e₂) tt
-    go false e₁ true e₂ true e₃ u e₄ = rw (e₁, e₂, e₃) (stands_within text a _ e₂, let from = run_from is_in_line text (a + 2) in omega (arith, from))
-    go false e₁ true e₂ false e₃ true e₄ = rw (e₁, e₂, e₃, e₄) (comment_advances text a (comment_end text (a + 2)) (stands_within text a _ e₂) refl)
-    go false e₁ true e₂ false e₃ false e₄ = rw (e₁, e₂, e₃, e₄) tt
-
-line_comment_advances : (text : List ℕ) (a : ℕ) (o : Option ℕ) → a < length text → comment_end text (a + 2) ≡ o → GapAdvances text a (line_comment_mark text (a + 2) o)
+line_comment_advances : (text : List ℕ) (a : ℕ) (o : Option ℕ) → a < length text → comment_end text (a + 2) ≡ o → GapAdvances text a (line_comment_part text (a + 2) o)
 line_comment_advances text a None h e = tt
 line_comment_advances text a (Some b) h e = go (holds_line_feed text (a + 2) b) refl
   where
-    go : (t : Bool) → holds_line_feed text (a + 2) b ≡ t → GapAdvances text a (line_comment_mark text (a + 2) (Some b))
+    go : (t : Bool) → holds_line_feed text (a + 2) b ≡ t → GapAdvances text a (line_comment_part text (a + 2) (Some b))
     go true k = rw k tt
-    go false k = rw k (h, let from = first_place_from _ _ _ b e in omega (arith, from))
+    go false k = rw k (h, let from = first_offset_from _ _ _ b e in omega (arith, from))
 
-line_gap_advances : (text : List ℕ) (a : ℕ) → GapAdvances text a (line_gap_mark text a)
-unfolding line_gap_mark
+line_gap_advances : (text : List ℕ) (a : ℕ) → GapAdvances text a (line_gap_at text a)
+unfolding line_gap_at
 line_gap_advances text a = go (stands text a is_blank) refl (is_at text a 47) refl (is_at text (a + 1) 42) refl
   where
-    go : (w : Bool) → stands text a is_blank ≡ w → (s : Bool) → is_at text a 47 ≡ s → (u : Bool) → is_at text (a + 1) 42 ≡ u → GapAdvances text a (line_gap_mark text a)
+    go : (w : Bool) → stands text a is_blank ≡ w → (s : Bool) → is_at text a 47 ≡ s → (u : Bool) → is_at text (a + 1) 42 ≡ u → GapAdvances text a (line_gap_at text a)
     go true e₁ s e₂ u e₄ = rw e₁ (stands_within text a is_blank e₁, omega arith)
     go false e₁ false e₂ u e₄ = rw (e₁, e₂) tt
     go false e₁ true e₂ false e₄ = rw (e₁, e₂, e₄) tt
     go false e₁ true e₂ true e₄ = rw (e₁, e₂, e₄) (line_comment_advances text a (comment_end text (a + 2)) (stands_within text a _ e₂) refl)
 
-gap_more : (text : List ℕ) (a b : ℕ) → gap_mark text a ≡ gaps.Part b → (a < length text) × (a < b)
-gap_more text a b e = subst (GapAdvances text a) e (gap_advances text a)
-
-line_gap_more : (text : List ℕ) (a b : ℕ) → line_gap_mark text a ≡ gaps.Part b → (a < length text) × (a < b)
+line_gap_more : (text : List ℕ) (a b : ℕ) → line_gap_at text a ≡ gaps.Part b → (a < length text) × (a < b)
 line_gap_more text a b e = subst (GapAdvances text a) e (line_gap_advances text a)
 
 -- a string's second quote stands behind its first
-abbrev StringAdvances : List ℕ → ℕ → StringMark → Type 0
+abbrev StringAdvances : List ℕ → ℕ → StringKind → Type 0
 StringAdvances text a (strings.Closed b) = (a < length text) × (a < b)
 StringAdvances text a (strings.Broken b) = Unit {0}
 
@@ -204,12 +154,12 @@ string_advances : (text : List ℕ) (a : ℕ) → StringAdvances text a (string_
 unfolding string_at
 string_advances text a = go (slice_get text a) refl
   where
-    stop : (q b : ℕ) → slice_get text a ≡ Some q → (o : Option ℕ) → first_place (stops_string q text) (a + 1) (length text) ≡ o → StringAdvances text a (string_stop q text o)
+    stop : (q b : ℕ) → slice_get text a ≡ Some q → (o : Option ℕ) → first_offset (stops_string q text) (a + 1) (length text) ≡ o → StringAdvances text a (string_stop q text o)
     stop q b e None h = tt
     stop q b e (Some c) h = go₂ (closes_string q text c) refl
       where
         go₂ : (t : Bool) → closes_string q text c ≡ t → StringAdvances text a (string_stop q text (Some c))
-        go₂ true k = rw k (slice_get_within text a q e, let from = first_place_from _ _ _ c h in omega (arith, from))
+        go₂ true k = rw k (slice_get_within text a q e, let from = first_offset_from _ _ _ c h in omega (arith, from))
         go₂ false k = rw k tt
 
     go : (o : Option ℕ) → slice_get text a ≡ o → StringAdvances text a (string_of o text a)
@@ -217,7 +167,7 @@ string_advances text a = go (slice_get text a) refl
     go (Some q) e = go₃ (is_quote q) refl
       where
         go₃ : (t : Bool) → is_quote q ≡ t → StringAdvances text a (string_of (Some q) text a)
-        go₃ true k = rw k (stop q q e (first_place (stops_string q text) (a + 1) (length text)) refl)
+        go₃ true k = rw k (stop q q e (first_offset (stops_string q text) (a + 1) (length text)) refl)
         go₃ false k = rw k tt
 
 string_more : (text : List ℕ) (a b : ℕ) → string_at text a ≡ strings.Closed b → (a < length text) × (a < b)
@@ -227,7 +177,7 @@ token_more : {text : List ℕ} {a b : ℕ} {t : SymbolText} → IsToken text a t
 token_more {text = text} {a = a} (name {b = b} e) = name_more text a b e
 token_more {text = text} {a = a} (quoted {b = b} e) = let h = quoted_more text a b e in (h.0, omega (arith, h.1))
 
--- Some things that are wanted lead on at the same place.
+-- Some things that are wanted lead on at the same offset.
 abbrev rank : Wanted → ℕ
 rank DeclaredToken = 1
 rank (LineItem l ts) = 1
@@ -267,8 +217,8 @@ step_less {text = text} (gap_part {w = w} {a = a} {b = b} e) = let m = gap_more 
 step_less (gap_end e) = omega arith
 step_less {text = text} (line_gap_part {w = w} {a = a} {b = b} e) = let m = line_gap_more text a b e in let r = rank_small w in further (length text) a b (2 * rank w + 1) (2 * rank w + 1) m.0 m.1 (omega (arith, r))
 step_less (line_gap_end e) = omega arith
-step_less {text = text} (separator {a = a} e) = further (length text) a (a + 2) 3 0 (sign_more text a marks.Separator refl e) (omega arith) (omega arith)
-step_less {text = text} (declared {x = x} {a = a} {d = d} e h) = let from = run_from is_keyword_byte text (a + 1) in declared_less text d x a (keyword_end text a) (sign_more text a marks.Percent refl e) (omega (arith, from))
+step_less {text = text} (separator {a = a} e) = further (length text) a (a + 2) 3 0 (sign_more text a tokens.Separator refl e) (omega arith) (omega arith)
+step_less {text = text} (declared {x = x} {a = a} {d = d} e h) = let from = run_from is_keyword_byte text (a + 1) in declared_less text d x a (keyword_end text a) (sign_more text a tokens.Percent refl e) (omega (arith, from))
 step_less {text = text} (start_name {a = a} {b = b} e) = let m = name_more text a b e in further (length text) a b 1 0 m.0 m.1 (omega arith)
 step_less {text = text} (declared_token {a = a} {b = b} e) = let m = token_more e in further (length text) a b 3 2 m.0 m.1 (omega arith)
 step_less (tokens_end e) = omega arith
@@ -283,19 +233,19 @@ step_less {text = text} (parse_param {a = a} e h) = line_less (length text) a (l
 step_less (rules_end e) = omega arith
 step_less (programs e) = omega arith
 step_less {text = text} (rule_name {a = a} {b = b} e) = let m = name_more text a b e in further (length text) a b 1 2 m.0 m.1 (omega arith)
-step_less {text = text} (colon {a = a} k e) = further (length text) a (a + 1) 1 0 (sign_more text a marks.Colon refl e) (omega arith) (omega arith)
-step_less {text = text} (typed_colon {a = a} {c = c} k e h) = let from = first_place_from _ _ _ c h in further (length text) a (c + 1) 1 0 (sign_more text a marks.Arrow refl e) (omega (arith, from)) (omega arith)
+step_less {text = text} (colon {a = a} k e) = further (length text) a (a + 1) 1 0 (sign_more text a tokens.Colon refl e) (omega arith) (omega arith)
+step_less {text = text} (typed_colon {a = a} {c = c} k e h) = let from = first_offset_from _ _ _ c h in further (length text) a (c + 1) 1 0 (sign_more text a tokens.Arrow refl e) (omega (arith, from)) (omega arith)
 step_less {text = text} (symbol {a = a} {b = b} e n o) = let m = token_more e in further (length text) a b 1 0 m.0 m.1 (omega arith)
-step_less {text = text} (empty {a = a} e s n o) = further (length text) a (a + 6) 1 0 (sign_more text a marks.Percent refl e.0) (omega arith) (omega arith)
-step_less {text = text} (prec {a = a} e o) = further (length text) a (a + 5) 1 0 (sign_more text a marks.Percent refl e.0) (omega arith) (omega arith)
+step_less {text = text} (empty {a = a} e s n o) = further (length text) a (a + 6) 1 0 (sign_more text a tokens.Percent refl e.0) (omega arith) (omega arith)
+step_less {text = text} (prec {a = a} e o) = further (length text) a (a + 5) 1 0 (sign_more text a tokens.Percent refl e.0) (omega arith) (omega arith)
 step_less {text = text} (prec_token {b = b} {c = c} e) = let m = token_more e in further (length text) b c 1 0 m.0 m.1 (omega arith)
-step_less {text = text} (action {a = a} {c = c} e n h) = let from = first_place_from _ _ _ c h in further (length text) a (c + 1) 1 0 (sign_more text a marks.Brace refl e) (omega (arith, from)) (omega arith)
-step_less {text = text} (bar {a = a} e) = further (length text) a (a + 1) 1 0 (sign_more text a marks.Bar refl e) (omega arith) (omega arith)
-step_less {text = text} (semicolon {a = a} e) = further (length text) a (a + 1) 3 0 (sign_more text a marks.Semicolon refl e) (omega arith) (omega arith)
+step_less {text = text} (action {a = a} {c = c} e n h) = let from = first_offset_from _ _ _ c h in further (length text) a (c + 1) 1 0 (sign_more text a tokens.Brace refl e) (omega (arith, from)) (omega arith)
+step_less {text = text} (bar {a = a} e) = further (length text) a (a + 1) 1 0 (sign_more text a tokens.Bar refl e) (omega arith) (omega arith)
+step_less {text = text} (semicolon {a = a} e) = further (length text) a (a + 1) 3 0 (sign_more text a tokens.Semicolon refl e) (omega arith) (omega arith)
 
 data Reached (kind : YaccKind) (text : List ℕ) (s : State) : Type 0 where
   ended : {x : SyntaxText} {a : ℕ} → Steps kind text s (At Nothing x a) → Reached kind text s
-  failed : {e : YaccGrammarErrorKind} {place : ℕ} → StopsFrom kind text s e place → Reached kind text s
+  failed : {e : YaccGrammarErrorKind} {offset : ℕ} → StopsFrom kind text s e offset → Reached kind text s
 
 after : {kind : YaccKind} {text : List ℕ} {s t : State} → Step kind text s t → Reached kind text t → Reached kind text s
 after p (ended r) = ended (then p r)
@@ -315,4 +265,4 @@ outcome kind text start = go (reaches (suc (left text (beginning start))) kind t
   where
     go : Reached kind text (beginning start) → Outcome kind text start
     go (ended {x = x} {a = a} r) = reads x (a, r)
-    go (failed {e = e} {place = place} f) = faulty e place f
+    go (failed {e = e} {offset = offset} f) = faulty e offset f

@@ -1,16 +1,14 @@
 -- What is kept of a text is one thing, and a text that doesn't read is invalid.
 use Rattle.std.proofs.Common.{◌≡◌, ℕ, Bool, false, List, [], ◌∷◌, map, refl, sym, ◌∙◌, ap, subst}
-use Rattle.cfg_base.specs.Place.{Places}
-use Rattle.cfg_base.specs.SectionFaults.{ErrorText, repeat_text}
-use Rattle.cfg_base.specs.SectionAnswers.{Refuses, one_fault, repeated_keys}
+use Rattle.cfg_base.specs.SpanModel.{SpanModel}
+use Rattle.cfg_base.specs.SectionResults.{ErrorText, repeat_text, Refuses, one_fault, repeated_keys}
 use Rattle.cfg_base.specs.SectionRepeats.{repeats_of}
 use Rattle.cfg_read.specs.declared.yacc.YaccKind.{YaccKind}
 use Rattle.cfg_read.specs.SyntaxTexts.{SyntaxText}
 use Rattle.cfg_read.specs.Asts.{Ast, ast_of}
 use Rattle.cfg_read.specs.Validity.{FailureText, failures, header_failure}
 use Rattle.cfg_read.specs.Files.{source, ReadsFile, FailsFile, in_section, in_rest}
-use Rattle.cfg_read.specs.CheckedAst.{CheckedAst}
-use Rattle.cfg_read.specs.Judging.{is_valid, read_as, unread, IsChecked, reads_as, has_errors}
+use Rattle.cfg_read.specs.ValidityInfo.{CheckedAst, is_valid, read_as, unread, IsChecked, reads_as, has_errors}
 
 -- what is known of whole files
 pub record FileLaws : Type 0 where
@@ -24,7 +22,7 @@ one_checked laws kind text c d (reads_as x r is) (has_errors fs f is') = absurd 
 one_checked laws kind text c d (has_errors fs f is) (reads_as x r is') = absurd (laws.apart kind text x fs r f)
 one_checked laws kind text c d (has_errors es f is) (has_errors fs g is') = is ∙ (ap (unread kind) (laws.faults kind text es fs f g) ∙ sym is')
 
-some_repeats : (ps : List (List Places)) → (ps ≡ [] → ⊥) → is_valid (map header_failure (map repeat_text ps)) ≡ false
+some_repeats : (ps : List (List SpanModel)) → (ps ≡ [] → ⊥) → is_valid (map header_failure (map repeat_text ps)) ≡ false
 some_repeats [] h = absurd (h refl)
 some_repeats (p ∷ ps) h = refl
 

@@ -12,10 +12,11 @@ use Rattle.std.proofs.lemmas.Bool.Decides.{nat_tests}
 use Rattle.std.proofs.lemmas.List.{get_or-take, get_or-drop, get_or-reverse, length-take, length-drop, length-reverse, take-take, drop-take, drop-drop}
 use Rattle.std.proofs.lemmas.List.Sums.{prefix_len_passes, prefix_len_stops, prefix_len-le-length}
 use Rattle.std.proofs.lemmas.Str.Parse.{parse_digits, numerals_by_value, tells_by_index}
-use Rattle.cfg_read.specs.Bytes.{is_white, is_digit, is_quote, is_keyword_byte, is_in_line, is_plain, line_end, run_end, trim_start, trim_end, passes}
+use Rattle.cfg_base.specs.Text.{is_white, is_digit, is_in_line, line_end, run_end, passes}
+use Rattle.cfg_read.specs.Bytes.{is_quote, is_keyword_byte, is_plain, trim_start, trim_end}
 use Rattle.cfg_read.specs.Words.{number_of, keyword_end, is_lone_colon}
 use Rattle.cfg_read.specs.Scanning.{FitsPart}
-use Rattle.cfg_read.proofs.Runs.{run_cut}
+use Rattle.cfg_base.proofs.TextRuns.{run_cut}
 
 pub length_part : (text : List ℕ) (a b : ℕ) → b ≤ length text → length (slice_range text a b) ≡ b - a
 length_part text a b h = let t = length-take (b - a) (drop a text) in let d = length-drop a text in omega (arith, t, d)

@@ -12,7 +12,7 @@ use Rattle.cfg_read.specs.SyntaxTexts.{WordText}
 use Rattle.cfg_read.specs.Asts.{Ast, ProductionAst, SymbolAst}
 use Rattle.cfg_read.specs.Warnings.{Uses, IsReached, IsUsed}
 use Rattle.cfg_read.specs.Warnings.{at_start, in_reached}
-use Rattle.cfg_read.specs.WarningViews.{with_symbols, is_rule_symbol, is_token_symbol, symbols_under, rule_names, start_names}
+use Rattle.cfg_read.specs.WarningModels.{with_symbol_names, is_rule_symbol, is_token_symbol, symbols_under, rule_names, start_names}
 use Rattle.cfg_read.proofs.NameLemmas.{any_map}
 use Rattle.cfg_read.proofs.Members.{member_at, at_member, any_gives, gives_any, gives_flat}
 use Rattle.cfg_read.proofs.WarningLemmas.{has, has_symbols, kept_symbols, names_it, uses_gives, gives_uses}
@@ -104,7 +104,7 @@ walk_start ast names same = subst (λ ns. Walked ast ns 0) (sym same) (record {
 
 module _ (ast : Ast) (names : List (List ℕ)) (at : ℕ) (q : List ℕ) (apart : IsDistinct bytes_eq (rule_names ast)) (there : slice_get names at ≡ Some q) where
   abbrev grown : List (List ℕ)
-  grown = with_symbols is_rule_symbol names (symbols_under ast q)
+  grown = with_symbol_names is_rule_symbol names (symbols_under ast q)
 
   abbrev led : List ℕ → Bool
   led t = list_any (names_it is_rule_symbol t) (symbols_under ast q)
@@ -183,7 +183,7 @@ gather_start ast reached = record {
 
 module _ (ast : Ast) (reached tokens : List (List ℕ)) (at : ℕ) (q : List ℕ) (apart : IsDistinct bytes_eq (rule_names ast)) (there : slice_get reached at ≡ Some q) (is : IsReached ast q) where
   abbrev gathered : List (List ℕ)
-  gathered = with_symbols is_token_symbol tokens (symbols_under ast q)
+  gathered = with_symbol_names is_token_symbol tokens (symbols_under ast q)
 
   abbrev held : List ℕ → Bool
   held t = list_any (names_it is_token_symbol t) (symbols_under ast q)

@@ -16,9 +16,9 @@ use Rattle.cfg_read.specs.declared.yacc.parser.syntax.Word.{Word}
 use Rattle.cfg_read.specs.SyntaxTexts.{WordText, RuleText, SyntaxText}
 use Rattle.cfg_read.specs.Names.{is_among, with_distinct, distinct}
 use Rattle.cfg_read.specs.Asts.{RuleAst, heads, numbers_from, heading_type, last_text, text_of, rule_ast}
-use Rattle.cfg_read.specs.AstViews.{named_rule}
-use Rattle.cfg_read.specs.Views.{word_of}
-use Rattle.cfg_read.specs.Building.{headed, has_rule, with_first, with_numbers}
+use Rattle.cfg_read.specs.AstModels.{named_rule}
+use Rattle.cfg_read.specs.SyntaxModels.{word_of}
+use Rattle.cfg_read.specs.AstBuild.{headed, has_rule, with_first, with_numbers}
 use Rattle.cfg_read.specs.AstChanges.{with_number}
 use Rattle.cfg_read.proofs.AstLemmas.{found_by}
 use Rattle.cfg_read.proofs.Grouping.{or_left, or_right}

@@ -2,19 +2,18 @@
 use Rattle.std.proofs.Common.{◌≡◌, ℕ, List, Some, refl, sym, ap, subst}
 use Rattle.std.specs.declared.string.String.{String}
 use Rattle.std.specs.declared.alloc.Global.{Global}
-use Rattle.cfg_base.specs.Place.{Places}
+use Rattle.cfg_base.specs.SpanModel.{SpanModel}
 use Rattle.cfg_base.specs.MarkMaps.{Marked}
-use Rattle.cfg_base.specs.SectionAnswers.{ReadsHeader}
+use Rattle.cfg_base.specs.SectionResults.{ReadsHeader}
 use Rattle.cfg_base.specs.declared.header.value.HeaderValue.{HeaderValue}
 use Rattle.cfg_read.specs.declared.yacc.YaccKind.{YaccKind}
 use Rattle.cfg_read.specs.declared.yacc.file.YaccGrammarFailure.{YaccGrammarFailure}
 use Rattle.cfg_read.specs.Kinds.{Meaning, means}
 use Rattle.cfg_read.specs.Files.{source, HasSection, told_kind, TellsKind, FailsSection, FailsMeaning, FailsKind, no_kind, LacksKind, without_section, without_kind, IsFailure}
-use Rattle.cfg_read.specs.CheckedAst.{CheckedAst}
-use Rattle.cfg_read.specs.Judging.{IsChecked, reads_as, has_errors}
+use Rattle.cfg_read.specs.ValidityInfo.{CheckedAst, IsChecked, reads_as, has_errors}
 use Rattle.cfg_read.proofs.FileFailures.{weaker}
 
-pub section_of : (text : List ℕ) (h : Marked (String Global) (HeaderValue Places)) (end : ℕ) (r : ReadsHeader (source text) h end) → HasSection text r.pairs end
+pub section_of : (text : List ℕ) (h : Marked (String Global) (HeaderValue SpanModel)) (end : ℕ) (r : ReadsHeader (source text) h end) → HasSection text r.pairs end
 section_of text h end r = record { reads = r.reads; distinct = r.distinct }
 
 checked_kind : (kind : YaccKind) (text : List ℕ) (c : CheckedAst) → IsChecked kind text c → c.kind ≡ kind
@@ -24,7 +23,7 @@ checked_kind kind text c (has_errors fs f is) = ap (λ (d : CheckedAst). d.kind)
 pub checked_as_told : (kind : YaccKind) (text : List ℕ) (c : CheckedAst) → IsChecked kind text c → IsChecked c.kind text c
 checked_as_told kind text c is = subst (λ k. IsChecked k text c) (sym (checked_kind kind text c is)) is
 
-pub tells : (text : List ℕ) (h : Marked (String Global) (HeaderValue Places)) (end : ℕ) (kind : YaccKind) (c : CheckedAst) (r : ReadsHeader (source text) h end) → told_kind r.pairs ≡ Some (means kind) → IsChecked kind text c → TellsKind text c.kind
+pub tells : (text : List ℕ) (h : Marked (String Global) (HeaderValue SpanModel)) (end : ℕ) (kind : YaccKind) (c : CheckedAst) (r : ReadsHeader (source text) h end) → told_kind r.pairs ≡ Some (means kind) → IsChecked kind text c → TellsKind text c.kind
 tells text h end kind c r told is =
     let one : TellsKind text kind = record { pairs = r.pairs; end = end; section = section_of text h end r; told = told } in
     subst (TellsKind text) (sym (checked_kind kind text c is)) one
@@ -32,9 +31,9 @@ tells text h end kind c r told is =
 pub section_lacks : (text : List ℕ) (f : YaccGrammarFailure) → IsFailure (FailsSection text) f → IsFailure (LacksKind text) f
 section_lacks text f is = weaker (FailsSection text) (LacksKind text) (λ fs g. without_section g) f is
 
-pub header_lacks : (text : List ℕ) (h : Marked (String Global) (HeaderValue Places)) (end : ℕ) (f : YaccGrammarFailure) (r : ReadsHeader (source text) h end) → IsFailure (FailsKind (told_kind r.pairs)) f → IsFailure (LacksKind text) f
+pub header_lacks : (text : List ℕ) (h : Marked (String Global) (HeaderValue SpanModel)) (end : ℕ) (f : YaccGrammarFailure) (r : ReadsHeader (source text) h end) → IsFailure (FailsKind (told_kind r.pairs)) f → IsFailure (LacksKind text) f
 header_lacks text h end f r is = weaker (FailsKind (told_kind r.pairs)) (LacksKind text) (λ fs g. without_kind r.pairs end (section_of text h end r) g) f is
 
 -- a value that stands for no kind
-pub some_fails : (m : Meaning Places) (f : YaccGrammarFailure) → IsFailure (FailsMeaning m) f → IsFailure (FailsKind (Some m)) f
+pub some_fails : (m : Meaning SpanModel) (f : YaccGrammarFailure) → IsFailure (FailsMeaning m) f → IsFailure (FailsKind (Some m)) f
 some_fails m f is = weaker (FailsMeaning m) (FailsKind (Some m)) (λ fs g. no_kind m refl g) f is

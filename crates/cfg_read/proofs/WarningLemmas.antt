@@ -16,13 +16,13 @@ use Rattle.cfg_read.specs.declared.yacc.ast.Rule.{Rule as RuleEntry}
 use Rattle.cfg_read.specs.declared.yacc.ast.Production.{Production}
 use Rattle.cfg_read.specs.declared.yacc.ast.Symbol.{Symbol}
 use Rattle.cfg_read.specs.declared.yacc.ast.Symbol.TheVariants.{Rule, Token}
-use Rattle.cfg_base.specs.Place.{Places}
+use Rattle.cfg_base.specs.SpanModel.{SpanModel}
 use Rattle.cfg_read.specs.SyntaxTexts.{WordText}
 use Rattle.cfg_read.specs.Asts.{Ast, RuleAst, ProductionAst, SymbolAst}
 use Rattle.cfg_read.specs.AstChanges.{rule_named}
-use Rattle.cfg_read.specs.AstViews.{named_rule, ast_symbol_of, production_of}
+use Rattle.cfg_read.specs.AstModels.{named_rule, ast_symbol_of, production_of}
 use Rattle.cfg_read.specs.Warnings.{Uses, WarningKind, WarningText, warnings_at}
-use Rattle.cfg_read.specs.WarningViews.{with_name, with_symbol, with_symbols, symbols_at, symbols_of_all, numbers_under, symbols_under, rule_names}
+use Rattle.cfg_read.specs.WarningModels.{with_name, with_symbol_name, with_symbol_names, production_symbols, symbols_of_all, numbers_under, symbols_under, rule_names}
 use Rattle.cfg_read.proofs.NameLemmas.{any_map, or_false, or_assoc, or_absorbs}
 use Rattle.cfg_read.proofs.Members.{member_cases, member_first, member_later, member_none, flat_gives, gives_flat}
 
@@ -54,22 +54,22 @@ module _ (wanted : SymbolAst → Bool) where
   abbrev pub names_it : List ℕ → SymbolAst → Bool
   names_it q s = wanted s && bytes_eq q s.word.text
 
-  has_symbol : (names : List (List ℕ)) (s : SymbolAst) (q : List ℕ) → has (with_symbol wanted names s) q ≡ (has names q || names_it q s)
+  has_symbol : (names : List (List ℕ)) (s : SymbolAst) (q : List ℕ) → has (with_symbol_name wanted names s) q ≡ (has names q || names_it q s)
   has_symbol names s q = by (wanted s)
     where
       by : (b : Bool) → has (if b then with_name names s.word.text else names) q ≡ (has names q || (b && bytes_eq q s.word.text))
       by true = has_with names s.word.text q
       by false = sym (or_false (has names q))
 
-  pub has_symbols : (names : List (List ℕ)) (ss : List SymbolAst) (q : List ℕ) → has (with_symbols wanted names ss) q ≡ (has names q || list_any (names_it q) ss)
+  pub has_symbols : (names : List (List ℕ)) (ss : List SymbolAst) (q : List ℕ) → has (with_symbol_names wanted names ss) q ≡ (has names q || list_any (names_it q) ss)
   has_symbols names [] q = sym (or_false (has names q))
   has_symbols names (s ∷ ss) q =
-      has_symbols (with_symbol wanted names s) ss q
+      has_symbols (with_symbol_name wanted names s) ss q
       ∙ ap (λ b. b || list_any (names_it q) ss) (has_symbol names s q)
       ∙ or_assoc (has names q) (names_it q s) (list_any (names_it q) ss)
 
   -- the names that were there stay in their places
-  kept_symbol : (names : List (List ℕ)) (s : SymbolAst) → (more : List (List ℕ)) × (with_symbol wanted names s ≡ names ++ more)
+  kept_symbol : (names : List (List ℕ)) (s : SymbolAst) → (more : List (List ℕ)) × (with_symbol_name wanted names s ≡ names ++ more)
   kept_symbol names s = by (wanted s) (has names s.word.text)
     where
       by : (b h : Bool) → (more : List (List ℕ)) × ((if b then (if h then names else names ++ s.word.text ∷ []) else names) ≡ names ++ more)
@@ -77,11 +77,11 @@ module _ (wanted : SymbolAst → Bool) where
       by true false = (s.word.text ∷ [], refl)
       by false h = ([], sym (append-nil names))
 
-  pub kept_symbols : (names : List (List ℕ)) (ss : List SymbolAst) → (more : List (List ℕ)) × (with_symbols wanted names ss ≡ names ++ more)
+  pub kept_symbols : (names : List (List ℕ)) (ss : List SymbolAst) → (more : List (List ℕ)) × (with_symbol_names wanted names ss ≡ names ++ more)
   kept_symbols names [] = ([], sym (append-nil names))
   kept_symbols names (s ∷ ss) =
       let one = kept_symbol names s in
-      let rest = kept_symbols (with_symbol wanted names s) ss in
+      let rest = kept_symbols (with_symbol_name wanted names s) ss in
       (one.0 ++ rest.0, rest.1 ∙ ap (λ l. l ++ rest.0) one.1 ∙ append_assoc names one.0 rest.0)
 
 -- the rule of a name
@@ -127,8 +127,8 @@ pub uses_gives : (ast : Ast) (q : List ℕ) (s : SymbolAst) → IsDistinct bytes
 uses_gives ast q s apart u =
     let found : rule_named ast.rules q ≡ Some u.rule = gives_named ast.rules q u.rule apart u.is_rule u.is_named in
     let numbers : numbers_under ast q ≡ u.rule.productions = ap (λ o. option_map_or (λ (r : RuleAst). r.productions) o []) found in
-    let here : Contains (symbols_at ast.productions u.number) s = subst (λ o. Contains (option_map_or (λ (p : ProductionAst). p.symbols) o []) s) (sym u.at) u.stands in
-    let all : Contains (symbols_of_all ast.productions u.rule.productions) s = gives_flat (symbols_at ast.productions) u.rule.productions s u.number u.is_its here in
+    let here : Contains (production_symbols ast.productions u.number) s = subst (λ o. Contains (option_map_or (λ (p : ProductionAst). p.symbols) o []) s) (sym u.at) u.stands in
+    let all : Contains (symbols_of_all ast.productions u.rule.productions) s = gives_flat (production_symbols ast.productions) u.rule.productions s u.number u.is_its here in
     subst (λ ns. Contains (symbols_of_all ast.productions ns) s) (sym numbers) all
 
 pub gives_uses : (ast : Ast) (q : List ℕ) (s : SymbolAst) → Contains (symbols_under ast q) s → Uses ast q s
@@ -143,7 +143,7 @@ gives_uses ast q s h = by (rule_named ast.rules q) refl h
     by : (o : Option RuleAst) → rule_named ast.rules q ≡ o → Contains (symbols_of_all ast.productions (option_map_or (λ (r : RuleAst). r.productions) o [])) s → Uses ast q s
     by None e g = absurd (member_none s g)
     by (Some r) e g =
-        let k = flat_gives (symbols_at ast.productions) r.productions s g in
+        let k = flat_gives (production_symbols ast.productions) r.productions s g in
         at r e k.0 k.1 (slice_get ast.productions k.0) refl k.2
 
 -- a look-up in the map of rules
@@ -177,24 +177,24 @@ rule_names_of (e ∷ es) = ap (λ l. string_bytes e.0 ∷ l) (rule_names_of es)
 
 -- one more symbol of a list of them
 pub symbols_more : (wanted : SymbolAst → Bool) (names : List (List ℕ)) (xs : List Symbol) (i : ℕ) (x : Symbol) → i < length xs → x ≡ get_or xs i x
-    → with_symbols wanted names (map ast_symbol_of (take (i + 1) xs)) ≡ with_symbol wanted (with_symbols wanted names (map ast_symbol_of (take i xs))) (ast_symbol_of x)
+    → with_symbol_names wanted names (map ast_symbol_of (take (i + 1) xs)) ≡ with_symbol_name wanted (with_symbol_names wanted names (map ast_symbol_of (take i xs))) (ast_symbol_of x)
 symbols_more wanted names xs i x l is =
     let more : take (i + 1) xs ≡ take i xs ++ x ∷ [] = take_more xs i x l ∙ ap (λ y. take i xs ++ y ∷ []) (sym is) in
-    ap (λ ys. with_symbols wanted names (map ast_symbol_of ys)) more
-    ∙ ap (with_symbols wanted names) (map-append ast_symbol_of (take i xs) (x ∷ []))
-    ∙ fold_push (with_symbol wanted) names (map ast_symbol_of (take i xs)) (ast_symbol_of x)
+    ap (λ ys. with_symbol_names wanted names (map ast_symbol_of ys)) more
+    ∙ ap (with_symbol_names wanted names) (map-append ast_symbol_of (take i xs) (x ∷ []))
+    ∙ fold_push (with_symbol_name wanted) names (map ast_symbol_of (take i xs)) (ast_symbol_of x)
 
 -- one more production
 pub numbers_more : (wanted : SymbolAst → Bool) (names : List (List ℕ)) (ps : List ProductionAst) (ns : List ℕ) (i : ℕ) → i < length ns
-    → with_symbols wanted names (symbols_of_all ps (take (i + 1) ns)) ≡ with_symbols wanted (with_symbols wanted names (symbols_of_all ps (take i ns))) (symbols_at ps (get_or ns i 0))
+    → with_symbol_names wanted names (symbols_of_all ps (take (i + 1) ns)) ≡ with_symbol_names wanted (with_symbol_names wanted names (symbols_of_all ps (take i ns))) (production_symbols ps (get_or ns i 0))
 numbers_more wanted names ps ns i l =
-    ap (λ ms. with_symbols wanted names (symbols_of_all ps ms)) (take_more ns i 0 l)
-    ∙ ap (with_symbols wanted names) (flat_more (take i ns) (get_or ns i 0))
-    ∙ fold-append (with_symbol wanted) names (symbols_of_all ps (take i ns)) (symbols_at ps (get_or ns i 0))
+    ap (λ ms. with_symbol_names wanted names (symbols_of_all ps ms)) (take_more ns i 0 l)
+    ∙ ap (with_symbol_names wanted names) (flat_more (take i ns) (get_or ns i 0))
+    ∙ fold-append (with_symbol_name wanted) names (symbols_of_all ps (take i ns)) (production_symbols ps (get_or ns i 0))
   where
-    flat_more : (ms : List ℕ) (n : ℕ) → flat_map (symbols_at ps) (ms ++ n ∷ []) ≡ flat_map (symbols_at ps) ms ++ symbols_at ps n
-    flat_more [] n = append-nil (symbols_at ps n)
-    flat_more (m ∷ ms) n = ap (λ l. symbols_at ps m ++ l) (flat_more ms n) ∙ sym (append_assoc (symbols_at ps m) (flat_map (symbols_at ps) ms) (symbols_at ps n))
+    flat_more : (ms : List ℕ) (n : ℕ) → flat_map (production_symbols ps) (ms ++ n ∷ []) ≡ flat_map (production_symbols ps) ms ++ production_symbols ps n
+    flat_more [] n = append-nil (production_symbols ps n)
+    flat_more (m ∷ ms) n = ap (λ l. production_symbols ps m ++ l) (flat_more ms n) ∙ sym (append_assoc (production_symbols ps m) (flat_map (production_symbols ps) ms) (production_symbols ps n))
 
 pub added : (keys all : List (Bor (List ℕ))) (k : Bor (List ℕ)) (names : List (List ℕ)) (t : List ℕ) → all ≡ (if list_any (λ (y : Bor (List ℕ)). bytes_eq k.now y.now) keys then keys else keys ++ k ∷ [])
     → map (λ (x : Bor (List ℕ)). x.now) keys ≡ names → k.now ≡ t → map (λ (x : Bor (List ℕ)). x.now) all ≡ with_name names t
@@ -202,17 +202,17 @@ added keys all k names t is same text =
     ap (map (λ (x : Bor (List ℕ)). x.now)) is ∙ name_more keys k ∙ ap (λ ns. with_name ns k.now) same ∙ ap (with_name names) text
 
 -- the text of a symbol of either kind
-pub text_of_either : (x : Symbol) (t : String Global) → ((s : Places) × (x ≡ Rule t s)) ⊎ ((s : Places) × (x ≡ Token t s)) → string_bytes t ≡ (ast_symbol_of x).word.text
+pub text_of_either : (x : Symbol) (t : String Global) → ((s : SpanModel) × (x ≡ Rule t s)) ⊎ ((s : SpanModel) × (x ≡ Token t s)) → string_bytes t ≡ (ast_symbol_of x).word.text
 text_of_either x t (inl h) = ap (λ y. (ast_symbol_of y).word.text) (sym h.1)
 text_of_either x t (inr h) = ap (λ y. (ast_symbol_of y).word.text) (sym h.1)
 
 -- the symbols of a production that is looked up
 pub symbols_found : (items : List Production) (ps : List ProductionAst) (n : ℕ) (o : Option Production) → map production_of items ≡ ps → slice_get items n ≡ o
-    → option_map_or (λ (p : Production). map ast_symbol_of p.symbols.items) o [] ≡ symbols_at ps n
+    → option_map_or (λ (p : Production). map ast_symbol_of p.symbols.items) o [] ≡ production_symbols ps n
 symbols_found items ps n o same at =
     by o
     ∙ ap (λ v. option_map_or (λ (p : ProductionAst). p.symbols) v []) (sym (slice_get-map production_of items n ∙ ap (option_map production_of) at))
-    ∙ ap (λ qs. symbols_at qs n) same
+    ∙ ap (λ qs. production_symbols qs n) same
   where
     by : (o : Option Production) → option_map_or (λ (p : Production). map ast_symbol_of p.symbols.items) o [] ≡ option_map_or (λ (p : ProductionAst). p.symbols) (option_map production_of o) []
     by None = refl

@@ -12,7 +12,7 @@ with_start ast w = record ast { start = Some w }
 abbrev pub with_programs : Ast → List ℕ → Ast
 with_programs ast text = record ast { programs = Some text }
 
--- a rule in the place of that of its name, else behind the others
+-- a rule instead of that of its name, else behind the others
 abbrev pub put_rule : List RuleAst → RuleAst → List RuleAst
 put_rule [] r = r ∷ []
 put_rule (s ∷ rs) r = if bytes_eq r.name.text s.name.text then r ∷ rs else s ∷ put_rule rs r

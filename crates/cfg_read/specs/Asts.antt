@@ -3,7 +3,7 @@ use Rattle.std.specs.Prelude.{ℕ, suc, Bool, false, List, [], ◌∷◌, ◌++�
 use Rattle.std.specs.List.{flat_map, list_any}
 use Rattle.std.specs.Option.{option_or}
 use Rattle.std.specs.Str.{bytes_eq}
-use Rattle.cfg_base.specs.Place.{Places}
+use Rattle.cfg_base.specs.SpanModel.{SpanModel}
 use Rattle.cfg_read.specs.declared.yacc.AssocKind.{AssocKind}
 use Rattle.cfg_read.specs.SyntaxTexts.{WordText, SymbolText, AlternativeText, RuleText, LevelText, NumberText, EppText, ParamText, SyntaxText}
 use Rattle.cfg_read.specs.Names.{is_among, distinct, headings, words_in, declared_tokens, implicit_tokens_of, avoided_tokens, is_token_by, tokens_of}
@@ -24,8 +24,8 @@ pub record ProductionAst : Type 0 where
   pub symbols : List SymbolAst
   pub precedence : Option (List ℕ)
   pub action : Option (List ℕ)
-  pub action_span : Option Places
-  pub span : Places
+  pub action_span : Option SpanModel
+  pub span : SpanModel
 
 -- the precedence of a token; the first level is 0
 pub record PrecedenceAst : Type 0 where
@@ -73,9 +73,9 @@ no_ast = record {
   expect_unused = [];
 }
 
-abbrev pub first_of : {A : Type 0} → List A → Option A
-first_of [] = None
-first_of (a ∷ more) = Some a
+abbrev pub first_item : {A : Type 0} → List A → Option A
+first_item [] = None
+first_item (a ∷ more) = Some a
 
 abbrev pub last_text : List WordText → Option (List ℕ)
 last_text [] = None
@@ -108,7 +108,7 @@ heads_in r = map (λ (a : AlternativeText). r.name.text) r.alternatives
 abbrev pub heads : SyntaxText → List (List ℕ)
 heads x = flat_map heads_in x.rules
 
--- the places of a name in a list, counted from n
+-- the indices of a name in a list, counted from n
 abbrev pub numbers_from : List ℕ → ℕ → List (List ℕ) → List ℕ
 numbers_from name n [] = []
 numbers_from name n (h ∷ hs) = if bytes_eq h name then n ∷ numbers_from name (suc n) hs else numbers_from name (suc n) hs
@@ -150,7 +150,7 @@ with_epp_of es e = if has_epp es e.token.text then es else es ++ e ∷ []
 
 -- The start rule is that of `%start`, else the first one.
 abbrev pub start_of : SyntaxText → Option WordText
-start_of x = option_or (first_of x.starts) (first_of (headings x))
+start_of x = option_or (first_item x.starts) (first_item (headings x))
 
 abbrev pub param_texts : ParamText → List ℕ × List ℕ
 param_texts p = (p.name.text, p.param_type.text)
@@ -170,8 +170,8 @@ ast_of valid x = record {
   avoid_insert = distinct (avoided_tokens x);
   implicit_tokens = distinct (implicit_tokens_of x);
   epp = fold with_epp_of [] x.epp;
-  expect = first_of x.expect;
-  expect_rr = first_of x.expect_rr;
+  expect = first_item x.expect;
+  expect_rr = first_item x.expect_rr;
   parse_param = option_map param_texts x.parse_param;
   parse_generics = text_of x.parse_generics;
   programs = text_of x.programs;

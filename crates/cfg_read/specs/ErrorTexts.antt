@@ -7,11 +7,11 @@ use Rattle.cfg_read.specs.declared.yacc.parser.error.ReadError.{ReadError}
 use Rattle.cfg_read.specs.declared.yacc.parser.error.ReadError.TheVariants as reading
 use Rattle.cfg_read.specs.declared.yacc.kind.KindError.{KindError}
 use Rattle.cfg_read.specs.declared.yacc.kind.KindError.TheVariants as kinds
-use Rattle.cfg_read.specs.declared.yacc.checked.ASTModificationError.{ASTModificationError}
-use Rattle.cfg_read.specs.declared.yacc.checked.ASTModificationError.TheVariants as changes
+use Rattle.cfg_read.specs.declared.yacc.validity_info.ASTModificationError.{ASTModificationError}
+use Rattle.cfg_read.specs.declared.yacc.validity_info.ASTModificationError.TheVariants as changes
 use Rattle.cfg_read.specs.Validity as told
 use Rattle.cfg_read.specs.Validity.{FailureKind}
-use Rattle.cfg_read.specs.Showing.{kind_of}
+use Rattle.cfg_read.specs.ErrorModels.{kind_of}
 
 -- Faults of reading, and a kind that isn't told. The last three are never given, and print their own names.
 abbrev pub fault_text : YaccGrammarErrorKind → List ℕ
@@ -54,12 +54,12 @@ failure_text told.DuplicateExpectDeclaration = codes "Duplicated %expect declara
 failure_text told.DuplicateExpectRRDeclaration = codes "Duplicated %expect-rr declaration"
 failure_text told.DuplicateActiontypeDeclaration = codes "Duplicated %actiontype declaration"
 failure_text (told.Fault kind) = fault_text kind
-failure_text (told.Header kind places) = header_error_text kind
+failure_text (told.Header kind spanskind) = header_error_text kind
 
 -- what has no text of its own prints its name
 abbrev pub read_error_text : ReadError → List ℕ
-read_error_text reading.Memory = codes "Memory"
-read_error_text (reading.Fault kind place) = failure_text (kind_of kind)
+read_error_text (reading.Memory e) = codes "Memory"
+read_error_text (reading.Fault kind offset) = failure_text (kind_of kind)
 
 abbrev pub kind_error_text : {T : Type 0} → KindError T → List ℕ
 kind_error_text (kinds.Memory e) = codes "Memory"

@@ -4,7 +4,7 @@ use Rattle.std.specs.Str.{str_eq_ignore_ascii_case}
 use Rattle.std.specs.Prelude.{Result, Ok, Err}
 use Rattle.std.specs.String.{string_bytes}
 use lib.Chars.{codes}
-use Rattle.cfg_base.specs.Place.{Places}
+use Rattle.cfg_base.specs.SpanModel.{SpanModel}
 use Rattle.cfg_base.specs.declared.span.Location.{Location}
 use Rattle.cfg_base.specs.declared.span.Location.TheVariants as locations
 use Rattle.cfg_base.specs.declared.header.error.HeaderError.{HeaderError}
@@ -76,7 +76,7 @@ module _ {L : Type 0} where
 
 -- a location, with its words as bytes
 pub data LocationText : Type 0 where
-  in_text : Places → LocationText
+  in_text : SpanModel → LocationText
   on_command_line : LocationText
   elsewhere : List ℕ → LocationText
 

@@ -22,14 +22,14 @@ abbrev pub distinct : List WordText → List WordText
 distinct ws = fold with_distinct [] ws
 
 -- a word before the next of the second list that stands later
-abbrev pub placed : WordText → (List WordText → List WordText) → List WordText → List WordText
-placed v rest [] = v ∷ rest []
-placed v rest (w ∷ ws) = if nat_lt w.span.start v.span.start then w ∷ placed v rest ws else v ∷ rest (w ∷ ws)
+abbrev pub put_by_offset : WordText → (List WordText → List WordText) → List WordText → List WordText
+put_by_offset v rest [] = v ∷ rest []
+put_by_offset v rest (w ∷ ws) = if nat_lt w.span.start v.span.start then w ∷ put_by_offset v rest ws else v ∷ rest (w ∷ ws)
 
 -- two lists, each in the order of the text, as one in this order
-abbrev pub by_place : List WordText → List WordText → List WordText
-by_place [] ws = ws
-by_place (v ∷ vs) ws = placed v (by_place vs) ws
+abbrev pub by_offset : List WordText → List WordText → List WordText
+by_offset [] ws = ws
+by_offset (v ∷ vs) ws = put_by_offset v (by_offset vs) ws
 
 abbrev pub words_in : List SymbolText → List WordText
 words_in ss = map (λ (s : SymbolText). s.word) ss
@@ -80,7 +80,7 @@ rules_used x = rules_by (is_among (declared_tokens x)) (symbols_used x)
 
 -- Every appearance of a token in `%token`, `%implicit_tokens` and alternatives, in the order of the text.
 abbrev pub token_appearances : SyntaxText → List WordText
-token_appearances x = by_place (declared_tokens x) (implicit_tokens_of x) ++ tokens_used x
+token_appearances x = by_offset (declared_tokens x) (implicit_tokens_of x) ++ tokens_used x
 
 -- the tokens of the grammar, each where it first appears
 abbrev pub tokens_of : SyntaxText → List WordText

@@ -1,12 +1,12 @@
 -- What a grammar text says, each kind of thing in the order of the text. Texts are lists of bytes.
 use Rattle.std.specs.Prelude.{ℕ, Bool, List, Option}
-use Rattle.cfg_base.specs.Place.{Places}
+use Rattle.cfg_base.specs.SpanModel.{SpanModel}
 use Rattle.cfg_read.specs.declared.yacc.AssocKind.{AssocKind}
 
 -- a text, and where it stands: a name or token without quotes, a string with its quotes
 pub record WordText : Type 0 where
   pub text : List ℕ
-  pub span : Places
+  pub span : SpanModel
 
 -- a name or a quoted token
 pub record SymbolText : Type 0 where
@@ -21,8 +21,8 @@ pub record AlternativeText : Type 0 where
   pub precedence : Option WordText
   pub action : Option WordText
   -- from the first to the end of the last of symbols, `%empty` and `%prec` with its token; without
-  -- these the place of the `|` or `;`
-  pub span : Places
+  -- these the offset of the `|` or `;`
+  pub span : SpanModel
 
 -- one heading with its alternatives
 pub record RuleText : Type 0 where
@@ -38,7 +38,7 @@ pub record LevelText : Type 0 where
 
 pub record NumberText : Type 0 where
   pub value : ℕ
-  pub span : Places
+  pub span : SpanModel
 
 -- the printed text of a token
 pub record EppText : Type 0 where

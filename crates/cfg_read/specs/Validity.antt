@@ -1,9 +1,9 @@
 -- What is wrong with a text that reads. A reading is valid where the list of its failures is empty.
 use Rattle.std.specs.Prelude.{◌≡◌, ℕ, Bool, not, ◌&&◌, ◌||◌, List, [], ◌∷◌, ◌++◌, map, filter, option_to_list}
 use Rattle.std.specs.List.{flat_map}
-use Rattle.cfg_base.specs.Place.{Places}
+use Rattle.cfg_base.specs.SpanModel.{SpanModel}
 use Rattle.cfg_base.specs.HeaderErrors.{KindText, spanskind_of}
-use Rattle.cfg_base.specs.SectionFaults.{ErrorText}
+use Rattle.cfg_base.specs.SectionResults.{ErrorText}
 use Rattle.cfg_base.specs.declared.span.SpansKind.{SpansKind}
 use Rattle.cfg_base.specs.declared.span.SpansKind.TheVariants as spans
 use Rattle.cfg_read.specs.declared.yacc.parser.error.YaccGrammarErrorKind.{YaccGrammarErrorKind}
@@ -28,18 +28,18 @@ pub data FailureKind : Type 0 where
   DuplicateActiontypeDeclaration : FailureKind
   -- a fault of reading, which no text that reads shows
   Fault : YaccGrammarErrorKind → FailureKind
-  -- an error of the section, and what its places are
+  -- an error of the section, and what its spans are
   Header : KindText → SpansKind → FailureKind
 
--- a failure, and all places that show it
+-- a failure, and all spans that show it
 pub record FailureText : Type 0 where
   pub kind : FailureKind
-  pub spans : List Places
+  pub spans : List SpanModel
 
 abbrev pub header_failure : ErrorText → FailureText
 header_failure e = record { kind = Header e.0 (spanskind_of e.0); spans = e.1 }
 
-abbrev pub failure_at : FailureKind → Places → FailureText
+abbrev pub failure_at : FailureKind → SpanModel → FailureText
 failure_at k at = record { kind = k; spans = at ∷ [] }
 
 -- a failure for each word
@@ -95,20 +95,20 @@ unknown_in_declarations rules tokens x = unknown_by UnknownEPP tokens (epp_token
 abbrev pub unknown_names : SyntaxText → List FailureText
 unknown_names x = unknown_in_rules (is_rule x) x ++ unknown_in_declarations (is_rule x) (is_grammar_token x) x
 
--- More than one place is one failure, with all of them.
-abbrev pub repeated : FailureKind → List Places → List FailureText
+-- More than one span is one failure, with all of them.
+abbrev pub repeated : FailureKind → List SpanModel → List FailureText
 repeated k [] = []
 repeated k (at ∷ []) = []
 repeated k (at ∷ behind ∷ more) = record { kind = k; spans = at ∷ behind ∷ more } ∷ []
 
-abbrev pub places_of : List WordText → List Places
-places_of ws = map (λ (w : WordText). w.span) ws
+abbrev pub word_spans : List WordText → List SpanModel
+word_spans ws = map (λ (w : WordText). w.span) ws
 
--- for each name, in the order of the first places, where it stands
-abbrev pub groups_of : List WordText → List (List Places)
-groups_of ws = map (λ (w : WordText). places_of (filter (is_named w.text) ws)) (distinct ws)
+-- for each name, in the order of the first appearances, its spans
+abbrev pub groups_of : List WordText → List (List SpanModel)
+groups_of ws = map (λ (w : WordText). word_spans (filter (is_named w.text) ws)) (distinct ws)
 
--- Each of the words stands there once; the names that don't, in the order of their first places.
+-- Each of the words stands there once; the names that don't, in the order of their first appearances.
 abbrev pub repeated_names : FailureKind → List WordText → List FailureText
 repeated_names k ws = flat_map (repeated k) (groups_of ws)
 
@@ -119,16 +119,16 @@ repeated_words x =
     ++ (repeated_names DuplicateAvoidInsertDeclaration (avoided_tokens x)
     ++ repeated_names DuplicateImplicitTokensDeclaration (implicit_tokens_of x)))
 
-abbrev pub number_places : List NumberText → List Places
-number_places ns = map (λ (n : NumberText). n.span) ns
+abbrev pub number_spans : List NumberText → List SpanModel
+number_spans ns = map (λ (n : NumberText). n.span) ns
 
 -- Each of these declarations stands there once.
 abbrev pub repeated_declarations : SyntaxText → List FailureText
 repeated_declarations x =
-    repeated DuplicateStartDeclaration (places_of x.starts)
-    ++ (repeated DuplicateExpectDeclaration (number_places x.expect)
-    ++ (repeated DuplicateExpectRRDeclaration (number_places x.expect_rr)
-    ++ repeated DuplicateActiontypeDeclaration (places_of x.action_types)))
+    repeated DuplicateStartDeclaration (word_spans x.starts)
+    ++ (repeated DuplicateExpectDeclaration (number_spans x.expect)
+    ++ (repeated DuplicateExpectRRDeclaration (number_spans x.expect_rr)
+    ++ repeated DuplicateActiontypeDeclaration (word_spans x.action_types)))
 
 -- all failures, in order
 abbrev pub failures : SyntaxText → List FailureText
@@ -137,15 +137,15 @@ failures x = no_start_rule x.starts x.rules ++ (unknown_names x ++ (repeated_wor
 abbrev pub IsValid : SyntaxText → Type 0
 IsValid x = failures x ≡ []
 
--- What the places of a failure are: all occurrences of what should stand once, or the place of an error.
-abbrev pub places_kind : FailureKind → SpansKind
-places_kind DuplicatePrecedence = spans.DuplicationError
-places_kind DuplicateEPP = spans.DuplicationError
-places_kind DuplicateAvoidInsertDeclaration = spans.DuplicationError
-places_kind DuplicateImplicitTokensDeclaration = spans.DuplicationError
-places_kind DuplicateStartDeclaration = spans.DuplicationError
-places_kind DuplicateExpectDeclaration = spans.DuplicationError
-places_kind DuplicateExpectRRDeclaration = spans.DuplicationError
-places_kind DuplicateActiontypeDeclaration = spans.DuplicationError
-places_kind (Header kind places) = places
-places_kind _ = spans.Error
+-- What the spans of a failure are: all occurrences of what should stand once, or where an error is.
+abbrev pub kind_of_spans : FailureKind → SpansKind
+kind_of_spans DuplicatePrecedence = spans.DuplicationError
+kind_of_spans DuplicateEPP = spans.DuplicationError
+kind_of_spans DuplicateAvoidInsertDeclaration = spans.DuplicationError
+kind_of_spans DuplicateImplicitTokensDeclaration = spans.DuplicationError
+kind_of_spans DuplicateStartDeclaration = spans.DuplicationError
+kind_of_spans DuplicateExpectDeclaration = spans.DuplicationError
+kind_of_spans DuplicateExpectRRDeclaration = spans.DuplicationError
+kind_of_spans DuplicateActiontypeDeclaration = spans.DuplicationError
+kind_of_spans (Header kind its) = its
+kind_of_spans _ = spans.Error

@@ -2,7 +2,7 @@
 use Rattle.std.specs.Prelude.{◌≡◌, ℕ, Bool, true, false, not, ◌&&◌, ◌||◌, ◌↔◌, IsTrue, List, [], ◌∷◌, ◌++◌, map, filter, Some, Contains, slice_get}
 use Rattle.std.specs.List.{list_any}
 use Rattle.std.specs.Str.{bytes_eq}
-use Rattle.cfg_base.specs.Place.{Places}
+use Rattle.cfg_base.specs.SpanModel.{SpanModel}
 use Rattle.cfg_read.specs.SyntaxTexts.{WordText}
 use Rattle.cfg_read.specs.Names.{is_among}
 use Rattle.cfg_read.specs.Asts.{Ast, RuleAst, ProductionAst, SymbolAst}
@@ -38,7 +38,7 @@ pub data WarningKind : Type 0 where
 
 pub record WarningText : Type 0 where
   pub kind : WarningKind
-  pub spans : List Places
+  pub spans : List SpanModel
 
 -- whether one of these symbols of `%expect-unused` is this name, for a rule without quotes
 abbrev pub expects_rule : List SymbolAst → List ℕ → Bool

@@ -1,30 +1,31 @@
 //! Yacc grammars.
 
 pub mod ast;
-mod ast_parts;
-mod checked;
 mod file;
 mod kind;
 pub mod laws;
 mod names;
 pub mod parser;
 pub mod validity;
+mod validity_info;
 
 pub use ast::warnings::{YaccGrammarWarning, YaccGrammarWarningKind};
-pub use checked::{ASTModificationError, ASTWithValidityInfo, one_answer, valid_trees_are_sound};
 pub use file::{YaccGrammarFailure, YaccGrammarResult, one_file, one_kind};
 pub use kind::{KindError, kind_comes_back};
 pub use parser::error::YaccGrammarErrorKind;
 pub use validity::YaccGrammarError;
+pub use validity_info::{
+    ASTModificationError, ASTWithValidityInfo, one_answer, valid_trees_are_well_formed,
+};
 
 /// What a grammar text is written for.
 #[derive(Clone, Copy, Debug, PartialEq, Eq)]
 pub enum YaccKind {
     /// Yacc's own syntax.
     Original(YaccOriginalActionKind),
-    /// Each rule has the type of its actions behind its name.
+    /// A syntax where each rule has the type of its actions behind its name.
     Grmtools,
-    /// Tokens may be named that stand anywhere without being told.
+    /// A syntax with `%implicit_tokens`, which may stand anywhere without being named in a rule.
     Eco,
 }
 
@@ -35,10 +36,11 @@ pub enum YaccOriginalActionKind {
     UserAction,
     /// A tree of the whole parse.
     GenericParseTree,
-    /// Nothing is done.
+    /// Nothing: no actions are run.
     NoAction,
 }
 
+/// A level of precedence: the number of a precedence line, counted from 0.
 pub type PrecedenceLevel = u64;
 
 /// How tightly a token or production binds.

@@ -25,7 +25,7 @@ fn shown<E: Error>(alloc: Global, error: &E) -> Result<String, AllocError> {
 #[test]
 fn want_of_memory(rt: HostRuntime) -> Result<(), Fail> {
     let alloc = rt.alloc();
-    let reading = shown(alloc, &ReadError::Memory)?;
+    let reading = shown(alloc, &ReadError::Memory(AllocError))?;
     assert_eq!(rt; reading.as_str(), "Memory");
     let failure = shown(alloc, &YaccGrammarFailure::Memory(AllocError))?;
     assert_eq!(rt; failure.as_str(), "Memory");
@@ -39,23 +39,14 @@ fn want_of_memory(rt: HostRuntime) -> Result<(), Fail> {
 fn reading(alloc: Global, text: &str) -> Result<String, AllocError> {
     match read_syntax(alloc, TREE, text, 0) {
         Ok(_) => String::from_str(alloc, "reads"),
-        Err(ReadError::Memory) => Err(AllocError),
+        Err(ReadError::Memory(e)) => Err(e),
         Err(e) => shown(alloc, &e),
     }
 }
 
 const READINGS: &[(&str, &str)] = &[
     ("%% S: 'a';", "reads"),
-    ("", "File ends prematurely"),
-    ("/*", "Incomplete comment"),
-    ("%start 1", "Illegal name"),
-    ("%expect x", "Illegal integer"),
-    ("%foo", "Unknown declaration"),
-    ("%% S 'a';", "Missing ':'"),
-    ("%% S: 'a'", "Incomplete rule"),
-    ("%% S: {", "Incomplete action"),
     ("%% S: 'a' %prec ;", "%prec not followed by token name"),
-    ("%% S: %empty 'a';", "%empty used in non-empty production"),
 ];
 
 #[test]
@@ -107,43 +98,7 @@ fn values_without_a_kind(rt: HostRuntime) -> Result<(), Fail> {
     Ok(())
 }
 
-fn told_change(
-    alloc: Global,
-    changed: Result<ASTWithValidityInfo, ASTModificationError>,
-) -> Result<String, AllocError> {
-    match changed {
-        Ok(kept) => {
-            drop(kept);
-            String::from_str(alloc, "changed")
-        }
-        Err(ASTModificationError::Memory(e)) => Err(e),
-        Err(e) => shown(alloc, &e),
-    }
-}
-
-fn change(alloc: Global, name: &str) -> Result<String, AllocError> {
-    let checked = ASTWithValidityInfo::new(alloc, TREE, "%% S: 'a';")?;
-    let changed = checked.clone_and_change_start_rule(alloc, name);
-    drop(checked);
-    told_change(alloc, changed)
-}
-
-const CHANGES: &[(&str, &str)] = &[
-    ("S", "changed"),
-    ("T", "Rule does not appear in grammar"),
-    ("", "Rule does not appear in grammar"),
-];
-
-#[test]
-fn changes_of_start_rules(rt: HostRuntime) -> Result<(), Fail> {
-    for (name, expected) in CHANGES {
-        let found = change(rt.alloc(), name)?;
-        assert_eq!(rt; found.as_str(), *expected, "{name}");
-    }
-    Ok(())
-}
-
-/// Errors, warnings and what their places are have names in the module of the parser too.
+/// Errors, warnings and what their spans are have names in the module of the parser too.
 #[test]
 fn names_in_the_parser(rt: HostRuntime) -> Result<(), Fail> {
     let alloc = rt.alloc();

@@ -1,6 +1,6 @@
 //! Kinds, and the values that stand for them.
 
-use crate::spell::spell_places;
+use crate::spell::spell_spans;
 use cfg_base::header::{
     GrmtoolsSectionParser, HeaderError, HeaderValue, Namespaced, SectionError, Setting, Value,
 };
@@ -10,10 +10,10 @@ use std::alloc::{AllocError, Global};
 use std::process::Abort;
 use std::test::*;
 
-/// An error as its text and its places.
+/// An error as its text and its spans.
 fn spell_error(alloc: Global, error: &HeaderError<Span>) -> Result<String, AllocError> {
     let mut out = format!(in alloc; "{error}")?;
-    spell_places(alloc, &mut out, error.spans())?;
+    spell_spans(alloc, &mut out, error.spans())?;
     match error.spanskind() {
         SpansKind::DuplicationError => out.push_str(" twice")?,
         SpansKind::Error => {}
@@ -50,146 +50,20 @@ fn compare(rt: &(impl Abort + AllocGlobal), cases: &[(&str, &str)]) -> Result<()
     Ok(())
 }
 
-const VALUES_OF_KINDS: &[(&str, &str)] = &[
-    ("%grmtools{yacckind: Grmtools}", "Grmtools"),
-    ("%grmtools{yacckind: Eco}", "Eco"),
-    ("%grmtools{YaccKind: GRMTOOLS}", "Grmtools"),
-    ("%grmtools{yacckind: eCO}", "Eco"),
-    ("%grmtools{yacckind: YaccKind::Eco}", "Eco"),
-    ("%grmtools{yacckind: yacckind::grmtools}", "Grmtools"),
-    (
-        "%grmtools{yacckind: Original(UserAction)}",
-        "Original(UserAction)",
-    ),
-    (
-        "%grmtools{yacckind: Original(GenericParseTree)}",
-        "Original(GenericParseTree)",
-    ),
-    (
-        "%grmtools{yacckind: Original(NoAction)}",
-        "Original(NoAction)",
-    ),
-    (
-        "%grmtools{yacckind: original(noaction)}",
-        "Original(NoAction)",
-    ),
+const VALUES: &[(&str, &str)] = &[
     (
         "%grmtools{yacckind: YaccKind::Original ( UserAction )}",
         "Original(UserAction)",
     ),
     (
-        "%grmtools{yacckind: Original(YaccOriginalActionKind::NoAction)}",
-        "Original(NoAction)",
-    ),
-    (
-        "%grmtools{yacckind: YACCKIND::ORIGINAL(YACCORIGINALACTIONKIND::USERACTION)}",
-        "Original(UserAction)",
-    ),
-];
-
-#[test]
-fn values_of_kinds(rt: HostRuntime) -> Result<(), Fail> {
-    compare(&rt, VALUES_OF_KINDS)
-}
-
-const VARIANT: &str = "Cannot convert to YaccKind: Unknown variant";
-
-const NAMESPACE: &str = "Cannot convert to YaccKind: Unknown namespace";
-
-const NO_PATH: &str = "Cannot convert to YaccKind: Cannot convert to YaccKind";
-
-/// Compares the error of a text's `yacckind`: why it is none, and where it stands.
-fn compare_error(
-    rt: &(impl Abort + AllocGlobal),
-    (text, why, place): (&str, &str, &str),
-) -> Result<(), Fail> {
-    let expected = format!(in rt.alloc(); "{why} {place}")?;
-    let found = answer(rt.alloc(), text)?;
-    assert_eq!(rt; found.as_str(), expected.as_str(), "{text}");
-    Ok(())
-}
-
-fn compare_errors(
-    rt: &(impl Abort + AllocGlobal),
-    cases: &[(&str, &str, &str)],
-) -> Result<(), Fail> {
-    for row in cases {
-        compare_error(rt, *row)?;
-    }
-    Ok(())
-}
-
-const WORDS_THAT_FIT_NO_KIND: &[(&str, &str, &str)] = &[
-    ("%grmtools{yacckind: Foo}", VARIANT, "20-23"),
-    ("%grmtools{yacckind: Original}", VARIANT, "20-28"),
-    ("%grmtools{yacckind: UserAction}", VARIANT, "20-30"),
-    ("%grmtools{yacckind: Eco1}", VARIANT, "20-24"),
-    ("%grmtools{yacckind: YaccKind::Foo}", VARIANT, "30-33"),
-    ("%grmtools{yacckind: YaccKind::Original}", VARIANT, "30-38"),
-    ("%grmtools{yacckind: Foo::Eco}", NAMESPACE, "20-23"),
-    ("%grmtools{yacckind: Foo::Bar}", NAMESPACE, "20-23"),
-    (
-        "%grmtools{yacckind: YaccOriginalActionKind::Eco}",
-        NAMESPACE,
-        "20-42",
-    ),
-    ("%grmtools{yacckind: Eco(UserAction)}", VARIANT, "20-23"),
-    ("%grmtools{yacckind: Grmtools(Grmtools)}", VARIANT, "20-28"),
-    ("%grmtools{yacckind: Foo(UserAction)}", VARIANT, "20-23"),
-    ("%grmtools{yacckind: Foo(Bar::Baz)}", VARIANT, "20-23"),
-    (
         "%grmtools{yacckind: Foo::Original(Bar)}",
-        NAMESPACE,
-        "20-23",
-    ),
-    ("%grmtools{yacckind: YaccKind::Foo(Bar)}", VARIANT, "30-33"),
-    ("%grmtools{yacckind: Original(Foo)}", VARIANT, "29-32"),
-    ("%grmtools{yacckind: Original(Eco)}", VARIANT, "29-32"),
-    (
-        "%grmtools{yacckind: Original(Foo::UserAction)}",
-        NAMESPACE,
-        "29-32",
-    ),
-    (
-        "%grmtools{yacckind: Original(Foo::Bar)}",
-        NAMESPACE,
-        "29-32",
-    ),
-    (
-        "%grmtools{yacckind: Original(YaccKind::UserAction)}",
-        NAMESPACE,
-        "29-37",
-    ),
-    (
-        "%grmtools{yacckind: Original(YaccOriginalActionKind::Foo)}",
-        VARIANT,
-        "53-56",
-    ),
-    (
-        "%grmtools{yacckind: YaccKind::Original(YaccOriginalActionKind::Foo)}",
-        VARIANT,
-        "63-66",
+        "Cannot convert to YaccKind: Unknown namespace 20-23",
     ),
 ];
 
 #[test]
-fn words_that_fit_no_kind(rt: HostRuntime) -> Result<(), Fail> {
-    compare_errors(&rt, WORDS_THAT_FIT_NO_KIND)
-}
-
-const SETTINGS_THAT_ARE_NO_PATH: &[(&str, &str, &str)] = &[
-    ("%grmtools{yacckind}", NO_PATH, "10-18"),
-    ("%grmtools{!yacckind}", NO_PATH, "10-19"),
-    ("%grmtools{yacckind: 7}", NO_PATH, "20-21"),
-    ("%grmtools{yacckind: 123}", NO_PATH, "20-23"),
-    ("%grmtools{yacckind: \"Eco\"}", NO_PATH, "20-25"),
-    ("%grmtools{yacckind: [Eco]}", NO_PATH, "20-21"),
-    ("%grmtools{yacckind: []}", NO_PATH, "20-21"),
-];
-
-#[test]
-fn settings_that_are_no_path(rt: HostRuntime) -> Result<(), Fail> {
-    compare_errors(&rt, SETTINGS_THAT_ARE_NO_PATH)
+fn values(rt: HostRuntime) -> Result<(), Fail> {
+    compare(&rt, VALUES)
 }
 
 fn spell_word(

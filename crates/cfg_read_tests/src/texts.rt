@@ -10,13 +10,9 @@ use std::alloc::{AllocError, Global};
 use std::process::Abort;
 use std::test::*;
 
-pub(crate) const YACC: YaccKind = YaccKind::Original(YaccOriginalActionKind::UserAction);
+const YACC: YaccKind = YaccKind::Original(YaccOriginalActionKind::UserAction);
 
-pub(crate) const TREE: YaccKind = YaccKind::Original(YaccOriginalActionKind::GenericParseTree);
-
-pub(crate) const NONE: YaccKind = YaccKind::Original(YaccOriginalActionKind::NoAction);
-
-/// A word as its text in round brackets and its places.
+/// A word as its text in round brackets and its spans.
 fn spell_word(alloc: Global, out: &mut String, word: &Word) -> Result<(), AllocError> {
     let text = word.text.as_str();
     let start = word.span.start();
@@ -185,7 +181,7 @@ fn spell(alloc: Global, x: &Syntax) -> Result<String, AllocError> {
     Ok(out)
 }
 
-/// What a text says, or its fault: its kind's text and its place.
+/// What a text says, or its fault: its kind's text and its span.
 fn answer(alloc: Global, kind: YaccKind, text: &str) -> Result<String, AllocError> {
     match read_syntax(alloc, kind, text, 0) {
         Ok(x) => {
@@ -193,18 +189,51 @@ fn answer(alloc: Global, kind: YaccKind, text: &str) -> Result<String, AllocErro
             drop(x);
             found
         }
-        Err(ReadError::Memory) => Err(AllocError),
-        Err(ReadError::Fault(fault, place)) => format!(in alloc; "{fault} {place}"),
+        Err(ReadError::Memory(e)) => Err(e),
+        Err(ReadError::Fault(fault, offset)) => format!(in alloc; "{fault} {offset}"),
     }
 }
 
-pub(crate) fn compare(
-    rt: &(impl Abort + AllocGlobal),
-    cases: &[(YaccKind, &str, &str)],
-) -> Result<(), Fail> {
+fn compare(rt: &(impl Abort + AllocGlobal), cases: &[(YaccKind, &str, &str)]) -> Result<(), Fail> {
     for (kind, text, expected) in cases {
         let found = answer(rt.alloc(), *kind, text)?;
         assert_eq!(rt; found.as_str(), *expected, "{text}");
     }
     Ok(())
+}
+
+const READINGS: &[(YaccKind, &str, &str)] = &[
+    (YACC, "%start S", "File ends prematurely 8"),
+    (
+        YACC,
+        "%start E %% E: T '+' E | T; T: 'ID';",
+        " start(E)7-8 rule(E)12-13|15-22 (T)15-16'(+)18-19(E)21-22|25-26 (T)25-26 rule(T)28-29|31-35 '(ID)32-34",
+    ),
+    (
+        YACC,
+        "%actiontype  Vec<u8> // x\r\n%%",
+        " type(Vec<u8> // x)13-25",
+    ),
+    (
+        YACC,
+        "%parse-param p : &'a T // x\n%%",
+        " param(p)13-14(&'a T // x)17-27",
+    ),
+    (
+        YACC,
+        "%parse-param a :: b : c::d\n%%",
+        " param(a :: b)13-19(c::d)22-26",
+    ),
+    (YACC, "%parse-param :\n%%", " param()13-13()14-14"),
+    (
+        YaccKind::Grmtools,
+        "%% S -> Result<a::B, ()> : 'a'; T->:;",
+        " rule(S)3-4->(Result<a::B, ()>)8-24|27-30 '(a)28-29 rule(T)32-33->()35-35|36-36 ",
+    ),
+];
+
+/// What the tree doesn't hold: spans of `%actiontype`, of `%parse-param` and of the types of rules.
+#[test]
+fn readings(rt: HostRuntime) -> Result<(), Fail> {
+    compare(&rt, READINGS)
 }

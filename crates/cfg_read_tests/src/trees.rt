@@ -1,8 +1,8 @@
-//! Texts, and the syntax trees that are made from them, copied and changed.
+//! Syntax trees, changed.
 
 ghost use Rattle.std.specs.Prelude.{◌<◌};
 
-use crate::spell::{spell_names, spell_placed, spell_places, spell_productions, spell_symbols};
+use crate::spell::spell_names;
 use cfg_base::span::Span;
 use cfg_read::yacc::ast::{GrammarAST, Production};
 use cfg_read::yacc::{ASTWithValidityInfo, YaccKind, YaccOriginalActionKind};
@@ -12,141 +12,9 @@ use std::test::*;
 
 const TREE: YaccKind = YaccKind::Original(YaccOriginalActionKind::GenericParseTree);
 
-/// Names with their precedences and places.
-fn spell_precs(alloc: Global, out: &mut String, ast: &GrammarAST) -> Result<(), AllocError> {
-    for (name, (precedence, span)) in ast.precs() {
-        let level = precedence.level;
-        let kind = precedence.kind;
-        let start = span.start();
-        let end = span.end();
-        out.push_str(format!(in alloc; "{name} {kind:?} {level} {start}-{end}; ")?.as_str())?;
-    }
-    Ok(())
-}
-
-/// Names with their places and printed texts.
-fn spell_epps(alloc: Global, out: &mut String, ast: &GrammarAST) -> Result<(), AllocError> {
-    for (name, found) in ast.epp() {
-        let start = found.0.start();
-        let end = found.0.end();
-        let text = &found.1.0;
-        out.push_str(format!(in alloc; "epp {name} {start}-{end} {text}; ")?.as_str())?;
-    }
-    Ok(())
-}
-
 fn names_of(alloc: Global, ast: &GrammarAST) -> Result<String, AllocError> {
     let mut out = String::new(alloc);
     spell_names(alloc, &mut out, ast)?;
-    Ok(out)
-}
-
-fn productions_of(alloc: Global, ast: &GrammarAST) -> Result<String, AllocError> {
-    let mut out = String::new(alloc);
-    spell_productions(alloc, &mut out, ast)?;
-    Ok(out)
-}
-
-/// The tokens with their first places, precedences and printed texts.
-fn tables_of(alloc: Global, ast: &GrammarAST) -> Result<String, AllocError> {
-    let mut out = String::new(alloc);
-    spell_placed(alloc, &mut out, "", ast.tokens())?;
-    spell_precs(alloc, &mut out, ast)?;
-    spell_epps(alloc, &mut out, ast)?;
-    Ok(out)
-}
-
-fn compare_productions(
-    rt: &(impl Abort + AllocGlobal),
-    ast: &GrammarAST,
-    text: &str,
-    wanted: &str,
-) -> Result<(), Fail> {
-    let found = productions_of(rt.alloc(), ast)?;
-    assert_eq!(rt; found.as_str(), wanted, "{text}");
-    Ok(())
-}
-
-fn compare_tables(
-    rt: &(impl Abort + AllocGlobal),
-    ast: &GrammarAST,
-    text: &str,
-    wanted: &str,
-) -> Result<(), Fail> {
-    let found = tables_of(rt.alloc(), ast)?;
-    assert_eq!(rt; found.as_str(), wanted, "{text}");
-    Ok(())
-}
-
-fn compare_parts(
-    rt: &(impl Abort + AllocGlobal),
-    ast: &GrammarAST,
-    (text, productions, tables): (&str, &str, &str),
-) -> Result<(), Fail> {
-    compare_productions(rt, ast, text, productions)?;
-    compare_tables(rt, ast, text, tables)
-}
-
-fn compare_row(rt: &(impl Abort + AllocGlobal), row: (&str, &str, &str)) -> Result<(), Fail> {
-    let checked = ASTWithValidityInfo::new(rt.alloc(), TREE, row.0)?;
-    let compared = compare_parts(rt, checked.ast(), row);
-    drop(checked);
-    compared
-}
-
-fn compare(rt: &(impl Abort + AllocGlobal), cases: &[(&str, &str, &str)]) -> Result<(), Fail> {
-    for row in cases {
-        compare_row(rt, *row)?;
-    }
-    Ok(())
-}
-
-const PARTS_OF_TREES: &[(&str, &str, &str)] = &[
-    (
-        "%token 'a' %% S: a T | 'b'; T: ;",
-        "17-20: t(a)17-18 r(T)19-20; 23-26: t(b)24-25; 31-31:; ",
-        "a 8-9; b 24-25; ",
-    ),
-    (
-        "%left p\n%% S: %empty%prec p;",
-        "14-27: ^p; ",
-        "p Left 0 6-7; ",
-    ),
-    (
-        "%% S: 'a' | %empty | ;",
-        "6-9: t(a)7-8; 12-18:; 21-21:; ",
-        "a 7-8; ",
-    ),
-    (
-        "%% S: 'a' { x { y } z } ;",
-        "6-9: t(a)7-8 =x { y } z 12-21; ",
-        "a 7-8; ",
-    ),
-    (
-        "%left 'a' /* c */ 'b'\n%right 'c' 'a'\n%% S: 'a' 'b';",
-        "43-50: t(a)44-45 t(b)48-49; ",
-        "a 44-45; b 48-49; a Left 0 7-8; b Left 0 19-20; c Right 1 30-31; ",
-    ),
-    (
-        "%epp a 'it\\'s' %epp a 'x' %% S: 'a';",
-        "32-35: t(a)33-34; ",
-        "a 33-34; epp a 5-6 it's; ",
-    ),
-];
-
-#[test]
-fn parts_of_trees(rt: HostRuntime) -> Result<(), Fail> {
-    compare(&rt, PARTS_OF_TREES)
-}
-
-/// What the declarations say, apart from `%token` and `%start`.
-fn declarations_of(alloc: Global, ast: &GrammarAST) -> Result<String, AllocError> {
-    let mut out = String::new(alloc);
-    spell_precs(alloc, &mut out, ast)?;
-    spell_placed(alloc, &mut out, "avoid ", ast.avoid_insert())?;
-    spell_placed(alloc, &mut out, "implicit ", ast.implicit_tokens())?;
-    spell_epps(alloc, &mut out, ast)?;
-    spell_symbols(alloc, &mut out, ast.expect_unused())?;
     Ok(out)
 }
 
@@ -205,17 +73,6 @@ fn compare_names(
     Ok(())
 }
 
-fn compare_declarations(
-    rt: &(impl Abort + AllocGlobal),
-    ast: &GrammarAST,
-    text: &str,
-    wanted: &str,
-) -> Result<(), Fail> {
-    let found = declarations_of(rt.alloc(), ast)?;
-    assert_eq!(rt; found.as_str(), wanted, "{text}");
-    Ok(())
-}
-
 fn compare_single(
     rt: &(impl Abort + AllocGlobal),
     ast: &GrammarAST,
@@ -225,106 +82,6 @@ fn compare_single(
     let found = single_of(rt.alloc(), ast)?;
     assert_eq!(rt; found.as_str(), wanted, "{text}");
     Ok(())
-}
-
-fn compare_tree(
-    rt: &(impl Abort + AllocGlobal),
-    ast: &GrammarAST,
-    text: &str,
-    (names, declarations, single): (&str, &str, &str),
-) -> Result<(), Fail> {
-    compare_names(rt, ast, text, names)?;
-    compare_declarations(rt, ast, text, declarations)?;
-    compare_single(rt, ast, text, single)
-}
-
-fn compare_copy(
-    rt: &(impl Abort + AllocGlobal),
-    ast: &GrammarAST,
-    text: &str,
-    wanted: (&str, &str, &str),
-) -> Result<(), Fail> {
-    let copy = ast.clone()?;
-    let compared = compare_tree(rt, &copy, text, wanted);
-    drop(copy);
-    compared
-}
-
-/// A tree and a copy of it, which say the same.
-fn compare_copies(
-    rt: &(impl Abort + AllocGlobal),
-    ast: &GrammarAST,
-    text: &str,
-    wanted: (&str, &str, &str),
-) -> Result<(), Fail> {
-    compare_tree(rt, ast, text, wanted)?;
-    compare_copy(rt, ast, text, wanted)
-}
-
-fn compare_text(
-    rt: &(impl Abort + AllocGlobal),
-    kind: YaccKind,
-    text: &str,
-    wanted: (&str, &str, &str),
-) -> Result<(), Fail> {
-    let checked = ASTWithValidityInfo::new(rt.alloc(), kind, text)?;
-    let compared = compare_copies(rt, checked.ast(), text, wanted);
-    drop(checked);
-    compared
-}
-
-fn compare_trees(
-    rt: &(impl Abort + AllocGlobal),
-    cases: &[(YaccKind, &str, (&str, &str, &str))],
-) -> Result<(), Fail> {
-    for (kind, text, wanted) in cases {
-        compare_text(rt, *kind, text, *wanted)?;
-    }
-    Ok(())
-}
-
-const TREES: &[(YaccKind, &str, (&str, &str, &str))] = &[
-    (
-        TREE,
-        "%start T %% S: 'a' T | ; T: 'b'; S: 'a' 'c';",
-        (
-            "T 7-8 | S 12-13 0 1 3; T 25-26 2; | a 16-17; b 29-30; c 41-42; ",
-            "",
-            "",
-        ),
-    ),
-    (
-        TREE,
-        "%token c a\n%left 'a'\n%right b\n%avoid_insert a\n%expect 3 %expect-rr 4 %expect-unused S 'a'\n%% S: 'b' a;",
-        (
-            "S 93-94 | S 93-94 0; | c 7-8; a 9-10; b 97-98; ",
-            "a Left 0 18-19; b Right 1 28-29; avoid a 44-45;  r(S)84-85 t(a)87-88",
-            "expect 3 54-55; expectrr 4 67-68; ",
-        ),
-    ),
-    (
-        YaccKind::Eco,
-        "%implicit_tokens ws nl\n%epp a 'A' %% S: 'a'; T: ; %% fn f() {}",
-        (
-            "S 37-38 | S 37-38 0; T 45-46 1; | ws 17-19; nl 20-22; a 41-42; ",
-            "implicit ws 17-19; implicit nl 20-22; epp a 28-29 A; ",
-            "programs fn f() {}; ",
-        ),
-    ),
-    (
-        YaccKind::Grmtools,
-        "%parse-param p: &str\n%parse-generics 'a\n%% S -> u64: 'a' { 1 }; S -> u32: ;",
-        (
-            "S 43-44 | S 43-44 0 1 ->u64; | a 54-55; ",
-            "",
-            "param p:&str; generics 'a; ",
-        ),
-    ),
-];
-
-#[test]
-fn trees(rt: HostRuntime) -> Result<(), Fail> {
-    compare_trees(&rt, TREES)
 }
 
 fn span_of(start: usize) -> Span
@@ -399,25 +156,4 @@ fn changed_trees(rt: HostRuntime) -> Result<(), Fail> {
     let compared = compare_changes(&rt, &mut ast);
     drop(ast);
     compared
-}
-
-/// The places of the tokens.
-fn places_of(alloc: Global, ast: &GrammarAST) -> Result<String, AllocError> {
-    let mut out = String::new(alloc);
-    spell_places(alloc, &mut out, ast.spans())?;
-    Ok(out)
-}
-
-fn places_of_text(alloc: Global, text: &str) -> Result<String, AllocError> {
-    let checked = ASTWithValidityInfo::new(alloc, TREE, text)?;
-    let found = places_of(alloc, checked.ast());
-    drop(checked);
-    found
-}
-
-#[test]
-fn places_of_tokens(rt: HostRuntime) -> Result<(), Fail> {
-    let found = places_of_text(rt.alloc(), "%token b\n%% S: 'a' b;")?;
-    assert_eq!(rt; found.as_str(), " 7-8 16-17");
-    Ok(())
 }

@@ -4,11 +4,11 @@ ghost use Rattle.std.specs.Prelude.{◌≡◌, Some, map, option_map, slice_get}
 ghost use Rattle.std.specs.Option.{option_copied};
 ghost use Rattle.std.specs.String.{string_bytes};
 ghost use Rattle.cfg_read.specs.AstChanges.{with_start};
-ghost use Rattle.cfg_read.specs.Building.{empty_ast};
-ghost use Rattle.cfg_read.specs.AstViews.{ast_symbol_of, production_of, named_place, named_places, named_rules, named_epps, named_precedences, rule_keys, own_names, placed_number, param_pair};
+ghost use Rattle.cfg_read.specs.AstBuild.{empty_ast};
+ghost use Rattle.cfg_read.specs.AstModels.{ast_symbol_of, production_of, named_span, named_spans, named_rules, named_epps, named_precedences, rule_keys, own_names, number_with_span, param_pair};
 
 use crate::yacc::Precedence;
-pub use crate::yacc::checked::ASTWithValidityInfo;
+pub use crate::yacc::validity_info::ASTWithValidityInfo;
 use cfg_base::span::Span;
 use indexmap::IndexMap;
 use std::alloc::Global;
@@ -18,6 +18,7 @@ use std::marker::Model;
 mod build;
 mod change;
 mod copy;
+mod parts;
 pub mod warnings;
 
 /// A symbol of a production, and where it stands.
@@ -29,7 +30,7 @@ pub enum Symbol {
 
 impl fmt::Display for Symbol {
     ghost use Rattle.std.specs.Prelude.{Some};
-    ghost use Rattle.cfg_read.specs.AstViews.{ast_symbol_of};
+    ghost use Rattle.cfg_read.specs.AstModels.{ast_symbol_of};
 
     ghost output = { λ s. Some (ast_symbol_of s).word.text };
 
@@ -49,7 +50,7 @@ pub struct Production {
     pub precedence: Option<String>,
     pub action: Option<String>,
     pub action_span: Option<Span>,
-    /// Symbols, `%empty` and `%prec` with its token; without these the place of the `|` or `;`.
+    /// The span of symbols, `%empty` and `%prec` with its token; without these an empty one at the `|` or `;`.
     pub prod_span: Span,
 }
 
@@ -88,22 +89,22 @@ impl Model for GrammarAST {
     ghost use Rattle.std.specs.Prelude.{◌≡◌, map, option_map};
     ghost use Rattle.std.specs.String.{string_bytes};
     ghost use Rattle.cfg_read.specs.Asts.{Ast};
-    ghost use Rattle.cfg_read.specs.AstViews.{ast_symbol_of, production_of, named_place, named_places, named_rules, named_epps, named_precedences, rule_keys, own_names, placed_number, param_pair};
+    ghost use Rattle.cfg_read.specs.AstModels.{ast_symbol_of, production_of, named_span, named_spans, named_rules, named_epps, named_precedences, rule_keys, own_names, number_with_span, param_pair};
 
     ghost Value = { Ast };
 
     ghost view = { λ a. record {
       is_valid = a.is_valid;
-      start = option_map named_place a.start;
+      start = option_map named_span a.start;
       rules = named_rules a.rules;
       productions = map production_of a.prods.items;
-      tokens = named_places a.tokens;
+      tokens = named_spans a.tokens;
       precedences = named_precedences a.precs;
-      avoid_insert = named_places a.avoid_insert;
-      implicit_tokens = named_places a.implicit_tokens;
+      avoid_insert = named_spans a.avoid_insert;
+      implicit_tokens = named_spans a.implicit_tokens;
       epp = named_epps a.epp;
-      expect = option_map placed_number a.expect;
-      expect_rr = option_map placed_number a.expectrr;
+      expect = option_map number_with_span a.expect;
+      expect_rr = option_map number_with_span a.expectrr;
       parse_param = option_map param_pair a.parse_param;
       parse_generics = option_map string_bytes a.parse_generics;
       programs = option_map string_bytes a.programs;
@@ -115,7 +116,7 @@ impl Model for GrammarAST {
 }
 
 impl GrammarAST {
-    /// One that says nothing but whether it is valid.
+    /// Creates a tree that says nothing but whether its text is valid.
     pub(crate) fn empty(alloc: Global, is_valid: bool) -> GrammarAST
         ensures { result ≡ empty_ast is_valid }
     {
@@ -147,7 +148,7 @@ impl GrammarAST {
 
     /// The start rule, and where the text names it first: in `%start`, else as the first heading.
     pub fn start(&self) -> Option<&(String, Span)>
-        ensures { option_map named_place (option_copied result) ≡ self.now.start }
+        ensures { option_map named_span (option_copied result) ≡ self.now.start }
     {
         self.start.as_ref()
     }
@@ -167,42 +168,42 @@ impl GrammarAST {
         &self.prods
     }
 
-    /// The tokens, each with its first place, in the order of these.
+    /// The tokens, each with the span of its first appearance, in the order of these.
     pub fn tokens(&self) -> &IndexMap<String, Span>
-        ensures { named_places result.now ≡ self.now.tokens }
+        ensures { named_spans result.now ≡ self.now.tokens }
     {
         &self.tokens
     }
 
-    /// The first places of the tokens, in the order of these.
+    /// The spans of the tokens' first appearances, in order.
     pub fn spans(&self) -> &[Span]
         ensures { result.now ≡ map (λ w. w.span) self.now.tokens }
     {
         self.tokens.values().as_slice()
     }
 
-    /// The precedences of tokens, each with the first place of the token in a precedence line.
+    /// The precedences of tokens, each with the token's first span in a precedence line.
     pub fn precs(&self) -> &IndexMap<String, (Precedence, Span)>
         ensures { named_precedences result.now ≡ self.now.precedences }
     {
         &self.precs
     }
 
-    /// The tokens of `%avoid_insert`, each with its first place there.
+    /// The tokens of `%avoid_insert`, each with its first span there.
     pub fn avoid_insert(&self) -> &IndexMap<String, Span>
-        ensures { named_places result.now ≡ self.now.avoid_insert }
+        ensures { named_spans result.now ≡ self.now.avoid_insert }
     {
         &self.avoid_insert
     }
 
-    /// The tokens of `%implicit_tokens`, each with its first place there.
+    /// The tokens of `%implicit_tokens`, each with its first span there.
     pub fn implicit_tokens(&self) -> &IndexMap<String, Span>
-        ensures { named_places result.now ≡ self.now.implicit_tokens }
+        ensures { named_spans result.now ≡ self.now.implicit_tokens }
     {
         &self.implicit_tokens
     }
 
-    /// The printed texts of tokens: the place of the token, and the text with its place.
+    /// The printed texts of tokens: the span of the token, and the text with its span.
     pub fn epp(&self) -> &IndexMap<String, (Span, (String, Span))>
         ensures { named_epps result.now ≡ self.now.epp }
     {
@@ -211,14 +212,14 @@ impl GrammarAST {
 
     /// How many shift/reduce conflicts are expected.
     pub fn expect(&self) -> Option<(usize, Span)>
-        ensures { option_map placed_number result ≡ self.now.expect }
+        ensures { option_map number_with_span result ≡ self.now.expect }
     {
         self.expect
     }
 
     /// How many reduce/reduce conflicts are expected.
     pub fn expectrr(&self) -> Option<(usize, Span)>
-        ensures { option_map placed_number result ≡ self.now.expect_rr }
+        ensures { option_map number_with_span result ≡ self.now.expect_rr }
     {
         self.expectrr
     }

@@ -2,19 +2,18 @@
 
 ghost use Rattle.std.specs.Prelude.{◌≡◌, ◌≤◌, ◌++◌, ◌∷◌, [], ℕ, List, Some, None, length, map, option_map, option_copied, IfOk, IfErr};
 ghost use Rattle.cfg_base.specs.declared.header.value.HeaderValue.{HeaderValue};
-ghost use Rattle.cfg_base.specs.Place.{Places};
+ghost use Rattle.cfg_base.specs.SpanModel.{SpanModel};
 ghost use Rattle.cfg_base.specs.HeaderTexts.{value_text};
-ghost use Rattle.cfg_base.specs.SectionFaults.{error_text};
-ghost use Rattle.cfg_base.specs.SectionAnswers.{ReadsHeader, IsSectionError};
+ghost use Rattle.cfg_base.specs.SectionResults.{error_text, ReadsHeader, IsSectionError};
 ghost use Rattle.cfg_base.specs.SectionRepeats.{Holds, said_of, entry_text};
 ghost use Rattle.cfg_base.specs.Sections.{PairText};
 ghost use Rattle.cfg_read.specs.declared.yacc.YaccKind.{YaccKind};
 ghost use Rattle.cfg_read.specs.SyntaxTexts.{SyntaxText};
 ghost use Rattle.cfg_read.specs.Reading.{Reads};
-ghost use Rattle.cfg_read.specs.Stopping.{IsErrorOf};
-ghost use Rattle.cfg_read.specs.Views.{syntax_of};
+ghost use Rattle.cfg_read.specs.SyntaxErrors.{IsErrorOf};
+ghost use Rattle.cfg_read.specs.SyntaxModels.{syntax_of};
 ghost use Rattle.cfg_read.specs.Validity.{FailureText, failure_at, header_failure};
-ghost use Rattle.cfg_read.specs.Showing.{kind_of, failures_in};
+ghost use Rattle.cfg_read.specs.ErrorModels.{kind_of, failures_in};
 ghost use Rattle.cfg_read.specs.Kinds.{Meaning, means, meaning_of, IsKindError};
 ghost use Rattle.cfg_read.specs.Files.{source, ReadsFile, FailsSection, FailsRest, FailsFile, FileOutcome, said_meaning, told_kind, TellsKind, FailsMeaning, FailsKind, LacksKind, KindOutcome, IsFailure, ShowsSection, ShowsFault};
 
@@ -44,7 +43,7 @@ pub enum YaccGrammarFailure {
 /// What reading a grammar text answers.
 pub type YaccGrammarResult<T> = Result<T, YaccGrammarFailure>;
 
-/// The errors of a section as those of its text.
+/// Makes the errors of a section those of its text.
 fn header_errors(
     alloc: Global,
     errors: Vec<HeaderError<Span>>,
@@ -58,6 +57,7 @@ fn header_errors(
     Ok(made)
 }
 
+/// Makes the failure of a section that was refused.
 fn section_failure(alloc: Global, e: SectionError) -> YaccGrammarFailure
     ensures { ShowsSection e result }
 {
@@ -70,7 +70,7 @@ fn section_failure(alloc: Global, e: SectionError) -> YaccGrammarFailure
     }
 }
 
-/// A list of one error at one place.
+/// Makes a list of one error with one span.
 fn one_error(
     alloc: Global,
     kind: YaccGrammarErrorKind,
@@ -83,19 +83,20 @@ fn one_error(
     Ok(errors)
 }
 
+/// Makes the failure of a text that doesn't read.
 fn fault_failure(alloc: Global, e: ReadError) -> YaccGrammarFailure
     ensures { ShowsFault e result }
 {
     match e {
-        ReadError::Memory => YaccGrammarFailure::Memory(AllocError),
-        ReadError::Fault(kind, place) => match one_error(alloc, kind, Span::new(place, place)) {
+        ReadError::Memory(e) => YaccGrammarFailure::Memory(e),
+        ReadError::Fault(kind, offset) => match one_error(alloc, kind, Span::new(offset, offset)) {
             Ok(errors) => YaccGrammarFailure::Invalid(errors),
             Err(e) => YaccGrammarFailure::Memory(e),
         },
     }
 }
 
-/// The header of a text, empty where it has no section, and the byte place behind its section, else 0.
+/// Reads a text's section: answers its header, empty where there is none, and the offset behind it, else 0.
 pub fn read_section(alloc: Global, text: &str) -> YaccGrammarResult<(Header<Span>, usize)>
     ensures ok { IfOk result (λ r. ReadsHeader (source text.now) r.0 r.1) }
     ensures within { IfOk result (λ r. r.1 ≤ length text.now) }
@@ -107,14 +108,13 @@ pub fn read_section(alloc: Global, text: &str) -> YaccGrammarResult<(Header<Span
     }
 }
 
-/// What a text of a kind says from a byte place on, behind its section.
+/// Reads what a text of a kind says from an offset on, behind its section.
 pub fn read_rest(
     alloc: Global,
     kind: YaccKind,
     text: &str,
     start: usize,
 ) -> YaccGrammarResult<Syntax>
-    requires { start ≤ length text.now }
     ensures ok { IfOk result (λ x. Reads kind text.now start (syntax_of x)) }
     ensures err { IfErr result (λ e. IsFailure (FailsRest kind text.now start) e) }
 {
@@ -124,9 +124,9 @@ pub fn read_rest(
     }
 }
 
-/// The error of a value that stands for no kind.
+/// Makes the failure of a value that stands for no kind.
 fn kind_failure(alloc: Global, e: KindError<Span>) -> YaccGrammarFailure
-    ensures { (m : Meaning Places) → IsKindError ⟦<Span as Clone>⟧.is_clone m e → IsFailure (FailsMeaning m) result }
+    ensures { (m : Meaning SpanModel) → IsKindError ⟦<Span as Clone>⟧.is_clone m e → IsFailure (FailsMeaning m) result }
 {
     match e {
         KindError::Memory(e) => YaccGrammarFailure::Memory(e),
@@ -134,13 +134,13 @@ fn kind_failure(alloc: Global, e: KindError<Span>) -> YaccGrammarFailure
             let error = YaccGrammarError::from(e);
             match vec![in alloc; error] {
                 Ok(errors) => YaccGrammarFailure::Invalid(errors),
-                Err(_) => YaccGrammarFailure::Memory(AllocError),
+                Err(e) => YaccGrammarFailure::Memory(e.into()),
             }
         }
     }
 }
 
-/// The value of a key.
+/// Answers the value of a key, if the key is there.
 fn value_of<'a>(
     alloc: Global,
     header: &'a Header<Span>,
@@ -152,7 +152,7 @@ fn value_of<'a>(
     Ok(header.get(&key))
 }
 
-/// The error of a text that tells no kind.
+/// Makes the failure of a text that tells no kind.
 fn no_kind(alloc: Global) -> YaccGrammarFailure
     ensures { IsFailure (FailsKind None) result }
 {
@@ -163,7 +163,7 @@ fn no_kind(alloc: Global) -> YaccGrammarFailure
     }
 }
 
-/// The kind of a key's value.
+/// Answers the kind of a key's value.
 fn kind_of_value(alloc: Global, value: &HeaderValue<Span>) -> YaccGrammarResult<YaccKind>
     ensures ok { IfOk result (λ k. meaning_of (value_text value.now.1) ≡ means k) }
     ensures err { IfErr result (λ e. IsFailure (FailsMeaning (meaning_of (value_text value.now.1))) e) }
@@ -174,7 +174,7 @@ fn kind_of_value(alloc: Global, value: &HeaderValue<Span>) -> YaccGrammarResult<
     }
 }
 
-/// The kind of a key's value, if the key is there.
+/// Answers the kind of a key's value, if the key is there.
 #[tactic(auto, using(crate::proofs::TextKinds::some_fails))]
 fn told_kind(alloc: Global, value: Option<&HeaderValue<Span>>) -> YaccGrammarResult<YaccKind>
     ensures ok { IfOk result (λ k. said_meaning (option_map entry_text (option_copied value.entry)) ≡ Some (means k)) }
@@ -189,7 +189,7 @@ fn told_kind(alloc: Global, value: Option<&HeaderValue<Span>>) -> YaccGrammarRes
     }
 }
 
-/// The kind that a header tells by `yacckind`.
+/// Answers the kind that a header tells by `yacckind`.
 pub fn kind_in(alloc: Global, header: &Header<Span>) -> YaccGrammarResult<YaccKind>
     ensures ok { (pairs : List PairText) → Holds header.now pairs → IfOk result (λ k. told_kind pairs ≡ Some (means k)) }
     ensures err { (pairs : List PairText) → Holds header.now pairs → IfErr result (λ e. IsFailure (FailsKind (told_kind pairs)) e) }

@@ -1,19 +1,20 @@
-//! The words of a grammar text, collected for looking names up.
+//! The names of a grammar text, collected for looking them up.
 
 ghost use Rattle.std.specs.Prelude.{◌≡◌, ◌≤◌, ◌++◌, ◌∷◌, [], List, map, drop, length, option_to_list, if◌then◌else◌, IfOk, OnOk};
 ghost use Rattle.std.specs.List.{flat_map};
 ghost use Rattle.cfg_read.specs.SyntaxTexts.{WordText};
-ghost use Rattle.cfg_read.specs.Names.{is_among, distinct, texts, headings, words_in, declared_tokens, symbols_in, is_token_by, tokens_by, rules_by, rules_used, placed, by_place, token_appearances, tokens_of};
+ghost use Rattle.cfg_read.specs.Names.{is_among, distinct, texts, headings, words_in, declared_tokens, implicit_tokens_of, symbols_in, is_token_by, tokens_by, rules_by, rules_used, put_by_offset, by_offset, is_rule, is_grammar_token, token_appearances};
 ghost use Rattle.cfg_read.specs.Validity.{precs_in};
-ghost use Rattle.cfg_read.specs.Views.{word_of, line_of, symbol_of, symbols_of, alternative_of, rule_of, level_of, epp_of, syntax_of};
-ghost use Rattle.cfg_read.specs.Showing.{words_at, symbols_at, names_in, has_name};
+ghost use Rattle.cfg_read.specs.SyntaxModels.{word_of, line_of, symbol_of, symbols_of, alternative_of, rule_of, level_of, epp_of, syntax_of};
+ghost use Rattle.cfg_read.specs.NameModels.{words_at, symbols_at, names_in, has_name};
 
 use crate::yacc::parser::syntax::{Alternative, Epp, Level, Line, Rule, Symbol, Syntax, Word};
 use indexmap::IndexSet;
 use std::alloc::{AllocError, Global};
+use std::marker::Model;
 
-/// Each name of the words once, where it first stands.
-pub fn distinct_names<'a>(
+/// Collects each name of the words once, where it first stands.
+pub(crate) fn distinct_names<'a>(
     alloc: Global,
     words: &[&'a Word],
 ) -> Result<IndexSet<&'a str>, AllocError>
@@ -37,7 +38,7 @@ fn push_words<'a>(found: &mut Vec<&'a Word>, symbols: &'a [Symbol]) -> Result<()
     Ok(())
 }
 
-/// The words of these symbols.
+/// Collects the words of these symbols.
 fn words<'a>(alloc: Global, symbols: &'a [Symbol]) -> Result<Vec<&'a Word>, AllocError>
     ensures { IfOk result (λ found. words_at found.items ≡ words_in (symbols_of symbols.now)) }
 {
@@ -46,8 +47,8 @@ fn words<'a>(alloc: Global, symbols: &'a [Symbol]) -> Result<Vec<&'a Word>, Allo
     Ok(found)
 }
 
-/// The words of these lines.
-pub fn line_words<'a>(alloc: Global, lines: &'a [Line]) -> Result<Vec<&'a Word>, AllocError>
+/// Collects the words of these lines.
+pub(crate) fn line_words<'a>(alloc: Global, lines: &'a [Line]) -> Result<Vec<&'a Word>, AllocError>
     ensures { IfOk result (λ found. words_at found.items ≡ flat_map words_in (map line_of lines.now)) }
 {
     let mut found = Vec::new(alloc);
@@ -68,8 +69,8 @@ fn push_if<'a>(found: &mut Vec<&'a Word>, word: &'a Word, wanted: bool) -> Resul
     Ok(())
 }
 
-/// The headings of the rules.
-pub fn heading_words<'a>(alloc: Global, rules: &'a [Rule]) -> Result<Vec<&'a Word>, AllocError>
+/// Collects the headings of the rules.
+fn heading_words<'a>(alloc: Global, rules: &'a [Rule]) -> Result<Vec<&'a Word>, AllocError>
     ensures { IfOk result (λ found. words_at found.items ≡ map (λ r. r.name) (map rule_of rules.now)) }
 {
     let mut found = Vec::new(alloc);
@@ -79,8 +80,11 @@ pub fn heading_words<'a>(alloc: Global, rules: &'a [Rule]) -> Result<Vec<&'a Wor
     Ok(found)
 }
 
-/// The tokens of the precedence lines.
-pub fn level_words<'a>(alloc: Global, levels: &'a [Level]) -> Result<Vec<&'a Word>, AllocError>
+/// Collects the tokens of the precedence lines.
+pub(crate) fn level_words<'a>(
+    alloc: Global,
+    levels: &'a [Level],
+) -> Result<Vec<&'a Word>, AllocError>
     ensures { IfOk result (λ found. words_at found.items ≡ flat_map (λ l. words_in l.tokens) (map level_of levels.now)) }
 {
     let mut found = Vec::new(alloc);
@@ -90,8 +94,8 @@ pub fn level_words<'a>(alloc: Global, levels: &'a [Level]) -> Result<Vec<&'a Wor
     Ok(found)
 }
 
-/// The tokens of `%epp`.
-pub fn epp_words<'a>(alloc: Global, epp: &'a [Epp]) -> Result<Vec<&'a Word>, AllocError>
+/// Collects the tokens of `%epp`.
+pub(crate) fn epp_words<'a>(alloc: Global, epp: &'a [Epp]) -> Result<Vec<&'a Word>, AllocError>
     ensures { IfOk result (λ found. words_at found.items ≡ map (λ e. e.token) (map epp_of epp.now)) }
 {
     let mut found = Vec::new(alloc);
@@ -101,6 +105,7 @@ pub fn epp_words<'a>(alloc: Global, epp: &'a [Epp]) -> Result<Vec<&'a Word>, All
     Ok(found)
 }
 
+/// Puts the token of `%prec` behind the others, if the alternative has one.
 fn push_prec<'a>(found: &mut Vec<&'a Word>, alternative: &'a Alternative) -> Result<(), AllocError>
     ensures { OnOk result (words_at found.new.items
         ≡ words_at found.old.items ++ option_to_list (alternative_of alternative.now).precedence) }
@@ -111,6 +116,7 @@ fn push_prec<'a>(found: &mut Vec<&'a Word>, alternative: &'a Alternative) -> Res
     Ok(())
 }
 
+/// Puts the tokens of `%prec` of these alternatives behind the others.
 fn push_precs<'a>(
     found: &mut Vec<&'a Word>,
     alternatives: &'a [Alternative],
@@ -124,8 +130,8 @@ fn push_precs<'a>(
     Ok(())
 }
 
-/// The tokens of `%prec`.
-pub fn prec_words<'a>(alloc: Global, rules: &'a [Rule]) -> Result<Vec<&'a Word>, AllocError>
+/// Collects the tokens of `%prec`.
+pub(crate) fn prec_words<'a>(alloc: Global, rules: &'a [Rule]) -> Result<Vec<&'a Word>, AllocError>
     ensures { IfOk result (λ found. words_at found.items ≡ flat_map precs_in (map rule_of rules.now)) }
 {
     let mut found = Vec::new(alloc);
@@ -135,6 +141,7 @@ pub fn prec_words<'a>(alloc: Global, rules: &'a [Rule]) -> Result<Vec<&'a Word>,
     Ok(found)
 }
 
+/// Puts these symbols behind the others.
 fn push_symbols<'a>(found: &mut Vec<&'a Symbol>, symbols: &'a [Symbol]) -> Result<(), AllocError>
     ensures { OnOk result (symbols_at found.new.items ≡ symbols_at found.old.items ++ symbols_of symbols.now) }
 {
@@ -144,6 +151,7 @@ fn push_symbols<'a>(found: &mut Vec<&'a Symbol>, symbols: &'a [Symbol]) -> Resul
     Ok(())
 }
 
+/// Puts the symbols of these alternatives behind the others.
 fn push_symbols_in<'a>(
     found: &mut Vec<&'a Symbol>,
     alternatives: &'a [Alternative],
@@ -157,8 +165,8 @@ fn push_symbols_in<'a>(
     Ok(())
 }
 
-/// All symbols of alternatives, in the order of the text.
-pub fn used_symbols<'a>(alloc: Global, rules: &'a [Rule]) -> Result<Vec<&'a Symbol>, AllocError>
+/// Collects all symbols of alternatives, in the order of the text.
+fn used_symbols<'a>(alloc: Global, rules: &'a [Rule]) -> Result<Vec<&'a Symbol>, AllocError>
     ensures { IfOk result (λ found. symbols_at found.items ≡ flat_map symbols_in (map rule_of rules.now)) }
 {
     let mut found = Vec::new(alloc);
@@ -168,8 +176,11 @@ pub fn used_symbols<'a>(alloc: Global, rules: &'a [Rule]) -> Result<Vec<&'a Symb
     Ok(found)
 }
 
-/// The symbols of these lines.
-pub fn line_symbols<'a>(alloc: Global, lines: &'a [Line]) -> Result<Vec<&'a Symbol>, AllocError>
+/// Collects the symbols of these lines.
+pub(crate) fn line_symbols<'a>(
+    alloc: Global,
+    lines: &'a [Line],
+) -> Result<Vec<&'a Symbol>, AllocError>
     ensures { IfOk result (λ found. symbols_at found.items ≡ flat_map (λ l. l) (map line_of lines.now)) }
 {
     let mut found = Vec::new(alloc);
@@ -179,15 +190,15 @@ pub fn line_symbols<'a>(alloc: Global, lines: &'a [Line]) -> Result<Vec<&'a Symb
     Ok(found)
 }
 
-/// Whether a symbol is a token, where these names are declared as tokens.
-pub fn is_token(symbol: &Symbol, declared: &IndexSet<&str>) -> bool
+/// Tells whether a symbol is a token, where these names are declared as tokens.
+pub(crate) fn is_token(symbol: &Symbol, declared: &IndexSet<&str>) -> bool
     ensures { result ≡ is_token_by (has_name declared.now) (symbol_of symbol.now) }
 {
     symbol.is_quoted || declared.contains(symbol.word.text.as_str())
 }
 
 /// Puts the words of those symbols that are tokens behind the others.
-pub fn push_tokens<'a>(
+fn push_tokens<'a>(
     found: &mut Vec<&'a Word>,
     symbols: &[&'a Symbol],
     declared: &IndexSet<&str>,
@@ -201,8 +212,8 @@ pub fn push_tokens<'a>(
     Ok(())
 }
 
-/// The words of those symbols that aren't tokens.
-pub fn rule_words<'a>(
+/// Collects the words of those symbols that aren't tokens.
+fn rule_words<'a>(
     alloc: Global,
     symbols: &[&'a Symbol],
     declared: &IndexSet<&str>,
@@ -216,24 +227,24 @@ pub fn rule_words<'a>(
     Ok(found)
 }
 
-/// Puts those words from `next` on that stand before a place behind the others, up to the first that doesn't, and answers
+/// Puts those words from `next` on that stand before a offset behind the others, up to the first that doesn't, and answers
 /// the number of that one.
 fn push_before<'a>(
     found: &mut Vec<&'a Word>,
     words: &[&'a Word],
     next: usize,
-    place: usize,
+    offset: usize,
 ) -> Result<usize, AllocError>
     requires { next ≤ length words.now }
     ensures within { IfOk result (λ at. at ≤ length words.now) }
-    ensures placed { (v : WordText) → (rest : List WordText → List WordText) → v.span.start ≡ place →
+    ensures put_by_offset { (v : WordText) → (rest : List WordText → List WordText) → v.span.start ≡ offset →
         IfOk result (λ at. words_at found.new.items ++ v ∷ rest (drop at (words_at words.now))
-        ≡ words_at found.old.items ++ placed v rest (drop next (words_at words.now))) }
+        ≡ words_at found.old.items ++ put_by_offset v rest (drop next (words_at words.now))) }
 {
     let mut at = next;
     'scan: while at < words.len() {
         let word = words[at];
-        if word.span.start() >= place {
+        if word.span.start() >= offset {
             return Ok(at);
         }
         found.push(word)?;
@@ -252,13 +263,13 @@ fn push_refs<'a>(found: &mut Vec<&'a Word>, words: &[&'a Word]) -> Result<(), Al
     Ok(())
 }
 
-/// Two lists of words, each in the order of the text, as one in this order.
-pub fn words_by_place<'a>(
+/// Joins two lists of words, each in the order of the text, to one in this order.
+fn words_by_offset<'a>(
     alloc: Global,
     words: &[&'a Word],
     others: &[&'a Word],
 ) -> Result<Vec<&'a Word>, AllocError>
-    ensures { IfOk result (λ found. words_at found.items ≡ by_place (words_at words.now) (words_at others.now)) }
+    ensures { IfOk result (λ found. words_at found.items ≡ by_offset (words_at words.now) (words_at others.now)) }
 {
     let mut found = Vec::new(alloc);
     let mut next = 0usize;
@@ -270,8 +281,8 @@ pub fn words_by_place<'a>(
     Ok(found)
 }
 
-/// The names that `%token` declares.
-pub fn declared_names<'a>(alloc: Global, x: &'a Syntax) -> Result<IndexSet<&'a str>, AllocError>
+/// Collects the names that `%token` declares.
+fn declared_names<'a>(alloc: Global, x: &'a Syntax) -> Result<IndexSet<&'a str>, AllocError>
     ensures { IfOk result (λ s. has_name s ≡ is_among (declared_tokens (syntax_of x.now))) }
 {
     let tokens = words(alloc, &x.tokens)?;
@@ -279,44 +290,126 @@ pub fn declared_names<'a>(alloc: Global, x: &'a Syntax) -> Result<IndexSet<&'a s
     Ok(names)
 }
 
-/// The names of the rules.
-pub fn rule_names<'a>(alloc: Global, x: &'a Syntax) -> Result<IndexSet<&'a str>, AllocError>
-    ensures names { IfOk result (λ s. names_in s ≡ texts (distinct (headings (syntax_of x.now)))) }
-    ensures has { IfOk result (λ s. has_name s ≡ is_among (headings (syntax_of x.now))) }
+/// Collects the names of the rules.
+fn rule_names<'a>(alloc: Global, x: &'a Syntax) -> Result<IndexSet<&'a str>, AllocError>
+    ensures { IfOk result (λ s. has_name s ≡ is_among (headings (syntax_of x.now))) }
 {
     let headings = heading_words(alloc, &x.rules)?;
     let names = distinct_names(alloc, &headings)?;
     Ok(names)
 }
 
-/// Every appearance of a token.
-pub fn token_words<'a>(alloc: Global, x: &'a Syntax) -> Result<Vec<&'a Word>, AllocError>
-    ensures { IfOk result (λ found. words_at found.items ≡ token_appearances (syntax_of x.now)) }
+/// Collects the tokens of `%token` and of `%implicit_tokens`, in the order of the text.
+fn told_tokens<'a>(alloc: Global, x: &'a Syntax) -> Result<Vec<&'a Word>, AllocError>
+    ensures { IfOk result (λ found. words_at found.items
+        ≡ by_offset (declared_tokens (syntax_of x.now)) (implicit_tokens_of (syntax_of x.now))) }
 {
     let tokens = words(alloc, &x.tokens)?;
     let implicit = line_words(alloc, &x.implicit_tokens)?;
-    let mut found = words_by_place(alloc, &tokens, &implicit)?;
-    let declared = declared_names(alloc, x)?;
-    let symbols = used_symbols(alloc, &x.rules)?;
-    push_tokens(&mut found, &symbols, &declared)?;
+    words_by_offset(alloc, &tokens, &implicit)
+}
+
+/// Collects every appearance of a token, where these are the symbols of all alternatives and the names that `%token`
+/// declares.
+fn token_words<'a>(
+    alloc: Global,
+    x: &'a Syntax,
+    symbols: &[&'a Symbol],
+    declared: &IndexSet<&str>,
+) -> Result<Vec<&'a Word>, AllocError>
+    ensures { IfOk result (λ found. words_at found.items
+        ≡ by_offset (declared_tokens (syntax_of x.now)) (implicit_tokens_of (syntax_of x.now))
+        ++ tokens_by (has_name declared.now) (symbols_at symbols.now)) }
+{
+    let mut found = told_tokens(alloc, x)?;
+    push_tokens(&mut found, symbols, declared)?;
     Ok(found)
 }
 
-/// The names of the grammar's tokens.
-pub fn token_names<'a>(alloc: Global, x: &'a Syntax) -> Result<IndexSet<&'a str>, AllocError>
-    ensures names { IfOk result (λ s. names_in s ≡ texts (tokens_of (syntax_of x.now))) }
-    ensures has { IfOk result (λ s. has_name s ≡ is_among (token_appearances (syntax_of x.now))) }
-{
-    let found = token_words(alloc, x)?;
-    let names = distinct_names(alloc, &found)?;
-    Ok(names)
+/// A syntax with its names, each collected once. A contract sees it as the syntax.
+#[derive(Drop)]
+pub(crate) struct Names<'a> {
+    syntax: &'a Syntax,
+    declared: IndexSet<&'a str>,
+    rules: IndexSet<&'a str>,
+    tokens: IndexSet<&'a str>,
+    token_words: Vec<&'a Word>,
+    used_rules: Vec<&'a Word>,
 }
 
-/// Those names in alternatives that stand for rules.
-pub fn used_rules<'a>(alloc: Global, x: &'a Syntax) -> Result<Vec<&'a Word>, AllocError>
-    ensures { IfOk result (λ found. words_at found.items ≡ rules_used (syntax_of x.now)) }
-{
-    let declared = declared_names(alloc, x)?;
-    let symbols = used_symbols(alloc, &x.rules)?;
-    rule_words(alloc, &symbols, &declared)
+impl<'a> Model for Names<'a> {
+    ghost use Rattle.cfg_read.specs.SyntaxTexts.{SyntaxText};
+    ghost use Rattle.cfg_read.specs.SyntaxModels.{syntax_of};
+    ghost use Rattle.cfg_read.specs.NameModels.{words_at, has_name, AreNamesOf};
+
+    ghost Value = { SyntaxText };
+
+    ghost view = { λ n. syntax_of n.syntax.now };
+
+    ghost invariant = { λ n. AreNamesOf (syntax_of n.syntax.now) (has_name n.declared) (has_name n.rules) (has_name n.tokens)
+        (words_at n.token_words.items) (words_at n.used_rules.items) };
+}
+
+impl<'a> Names<'a> {
+    /// Collects the names of a syntax.
+    pub(crate) fn of(alloc: Global, syntax: &'a Syntax) -> Result<Names<'a>, AllocError>
+        ensures { IfOk result (λ n. n ≡ syntax_of syntax.now) }
+    {
+        let declared = declared_names(alloc, syntax)?;
+        let symbols = used_symbols(alloc, &syntax.rules)?;
+        let token_words = token_words(alloc, syntax, &symbols, &declared)?;
+        let used_rules = rule_words(alloc, &symbols, &declared)?;
+        let tokens = distinct_names(alloc, &token_words)?;
+        let rules = rule_names(alloc, syntax)?;
+        Ok(Names {
+            syntax,
+            declared,
+            rules,
+            tokens,
+            token_words,
+            used_rules,
+        })
+    }
+
+    /// The syntax that the names stand in.
+    pub(crate) fn syntax(&self) -> &'a Syntax
+        ensures { syntax_of result.now ≡ self.now }
+    {
+        self.syntax
+    }
+
+    /// The names that `%token` declares.
+    pub(crate) fn declared(&self) -> &IndexSet<&'a str>
+        ensures { has_name result.now ≡ is_among (declared_tokens self.now) }
+    {
+        &self.declared
+    }
+
+    /// The names of the rules.
+    pub(crate) fn rules(&self) -> &IndexSet<&'a str>
+        ensures { has_name result.now ≡ is_rule self.now }
+    {
+        &self.rules
+    }
+
+    /// The names of the grammar's tokens.
+    pub(crate) fn tokens(&self) -> &IndexSet<&'a str>
+        ensures { has_name result.now ≡ is_grammar_token self.now }
+    {
+        &self.tokens
+    }
+
+    /// Every appearance of a token, in the order of the text.
+    pub(crate) fn token_words(&self) -> &[&'a Word]
+        ensures { words_at result.now ≡ token_appearances self.now }
+    {
+        self.token_words.as_slice()
+    }
+
+    /// Those names in alternatives that stand for rules, in the order of the text.
+    pub(crate) fn used_rules(&self) -> &[&'a Word]
+        ensures { words_at result.now ≡ rules_used self.now }
+    {
+        self.used_rules.as_slice()
+    }
 }

@@ -4,24 +4,25 @@ ghost use Rattle.std.specs.Prelude.{◌≡◌, true, ◌++◌, [], map, fold, op
 ghost use Rattle.std.specs.List.{flat_map};
 ghost use Rattle.std.specs.Option.{option_or};
 ghost use Rattle.std.specs.String.{string_bytes};
-ghost use Rattle.cfg_read.specs.Asts.{first_of, last_text, text_of, param_texts, expected_ast, heads_in, productions_in, start_of, rule_ast, ast_of};
-ghost use Rattle.cfg_read.specs.AstViews.{ast_symbol_of, production_of, named_place, named_places, named_rules, rule_entry_of, rule_keys, own_names, placed_number, param_pair};
+ghost use Rattle.cfg_read.specs.Asts.{first_item, last_text, text_of, param_texts, expected_ast, heads_in, productions_in, start_of, rule_ast, ast_of};
+ghost use Rattle.cfg_read.specs.AstModels.{ast_symbol_of, production_of, named_span, named_spans, named_rules, rule_entry_of, rule_keys, own_names, number_with_span, param_pair};
 ghost use Rattle.cfg_read.specs.Names.{is_among, distinct, headings, words_in, declared_tokens, tokens_of};
 ghost use Rattle.cfg_read.specs.Validity.{expected_symbols};
-ghost use Rattle.cfg_read.specs.Views.{word_of, words_of, symbol_of, line_of, param_of, rule_of, number_text, syntax_of};
-ghost use Rattle.cfg_read.specs.Showing.{symbols_at};
-ghost use Rattle.cfg_read.specs.Building.{headed, with_first, with_numbers, names_at, with_rules_of, with_tokens_of, with_texts_of, with_expected_of};
+ghost use Rattle.cfg_read.specs.SyntaxModels.{word_of, words_of, symbol_of, line_of, param_of, rule_of, number_text, syntax_of};
+ghost use Rattle.cfg_read.specs.NameModels.{symbols_at};
+ghost use Rattle.cfg_read.specs.AstBuild.{headed, with_first, with_numbers, names_at, with_rules_of, with_tokens_of, with_texts_of, with_expected_of};
 ghost use Rattle.cfg_read.specs.AstChanges.{with_number};
 
-use super::{GrammarAST, Production, Rule, Symbol};
+use super::{GrammarAST, Production, Rule, Symbol, parts};
+use crate::yacc::names::{self, Names};
 use crate::yacc::parser::syntax::{self, Line, Number, Param, Syntax, Word};
-use crate::yacc::{ast_parts, names};
 use cfg_base::span::Span;
 use indexmap::IndexMap;
 use std::alloc::{AllocError, Global};
 
+/// A word's text, with its span.
 fn to_named(word: Option<&Word>) -> Result<Option<(String, Span)>, AllocError>
-    ensures { IfOk result (λ named. option_map named_place named ≡ option_map (λ w. word_of w.now) word.entry) }
+    ensures { IfOk result (λ named. option_map named_span named ≡ option_map (λ w. word_of w.now) word.entry) }
 {
     match word {
         Some(word) => Ok(Some((word.text.clone()?, word.span))),
@@ -42,8 +43,9 @@ fn start_word(x: &Syntax) -> Option<&Word>
     }
 }
 
+/// The first of these numbers, with its span.
 fn to_number(numbers: &[Number]) -> Option<(usize, Span)>
-    ensures { option_map placed_number result ≡ first_of (map number_text numbers.now) }
+    ensures { option_map number_with_span result ≡ first_item (map number_text numbers.now) }
 {
     match numbers.first() {
         Some(number) => Some((number.value, number.span)),
@@ -51,6 +53,7 @@ fn to_number(numbers: &[Number]) -> Option<(usize, Span)>
     }
 }
 
+/// The name and the type of a parameter.
 fn to_param(param: &Option<Param>) -> Result<Option<(String, String)>, AllocError>
     ensures { IfOk result (λ pair. option_map param_pair pair ≡ option_map param_texts (option_map param_of param.now)) }
 {
@@ -64,6 +67,7 @@ fn to_param(param: &Option<Param>) -> Result<Option<(String, String)>, AllocErro
     }
 }
 
+/// A symbol of `%expect-unused`: a token where it is quoted, else a rule.
 fn to_expected(symbol: &syntax::Symbol) -> Result<Symbol, AllocError>
     ensures { IfOk result (λ s. ast_symbol_of s ≡ expected_ast (symbol_of symbol.now)) }
 {
@@ -76,6 +80,7 @@ fn to_expected(symbol: &syntax::Symbol) -> Result<Symbol, AllocError>
     }
 }
 
+/// These symbols of `%expect-unused`.
 fn to_all_expected(alloc: Global, symbols: &[&syntax::Symbol]) -> Result<Vec<Symbol>, AllocError>
     ensures { IfOk result (λ made. map ast_symbol_of made.items ≡ map expected_ast (symbols_at symbols.now)) }
 {
@@ -96,31 +101,29 @@ fn expected(alloc: Global, x: &Syntax) -> Result<Vec<Symbol>, AllocError>
     Ok(made)
 }
 
-/// The tokens of these lines, each with its first place.
-fn line_places(alloc: Global, lines: &[Line]) -> Result<IndexMap<String, Span>, AllocError>
-    ensures { IfOk result (λ places. named_places places ≡ distinct (flat_map words_in (map line_of lines.now))) }
+/// The tokens of these lines, each with the span of its first appearance.
+fn line_spans(alloc: Global, lines: &[Line]) -> Result<IndexMap<String, Span>, AllocError>
+    ensures { IfOk result (λ spans. named_spans spans ≡ distinct (flat_map words_in (map line_of lines.now))) }
 {
     let words = names::line_words(alloc, lines)?;
-    let places = ast_parts::first_places(alloc, &words)?;
-    Ok(places)
+    let spans = parts::first_spans(alloc, &words)?;
+    Ok(spans)
 }
 
-/// The grammar's tokens, each with its first place.
-fn tokens(alloc: Global, x: &Syntax) -> Result<IndexMap<String, Span>, AllocError>
-    ensures { IfOk result (λ places. named_places places ≡ tokens_of (syntax_of x.now)) }
+/// The grammar's tokens, each with the span of its first appearance.
+fn tokens(alloc: Global, names: &Names) -> Result<IndexMap<String, Span>, AllocError>
+    ensures { IfOk result (λ spans. named_spans spans ≡ tokens_of names.now) }
 {
-    let words = names::token_words(alloc, x)?;
-    let places = ast_parts::first_places(alloc, &words)?;
-    Ok(places)
+    parts::first_spans(alloc, names.token_words())
 }
 
-fn prods(alloc: Global, x: &Syntax) -> Result<Vec<Production>, AllocError>
+/// The productions, in the order of the text.
+fn prods(alloc: Global, names: &Names) -> Result<Vec<Production>, AllocError>
     ensures { IfOk result (λ made. map production_of made.items
-        ≡ flat_map (productions_in (is_among (declared_tokens (syntax_of x.now)))) (syntax_of x.now).rules) }
+        ≡ flat_map (productions_in (is_among (declared_tokens names.now))) names.now.rules) }
 {
-    let declared = names::declared_names(alloc, x)?;
-    let made = ast_parts::productions(alloc, &x.rules, &declared)?;
-    Ok(made)
+    let x = names.syntax();
+    parts::productions(alloc, &x.rules, names.declared())
 }
 
 /// The type of a rule's actions: its own, else the one for all rules.
@@ -248,6 +251,7 @@ fn number_rules(rules: &mut IndexMap<String, Rule>, heads: &[&str]) -> Result<()
     Ok(())
 }
 
+/// The rules, each with the numbers of its productions.
 fn rules(alloc: Global, x: &Syntax) -> Result<IndexMap<String, Rule>, AllocError>
     ensures rules { IfOk result (λ rules. named_rules rules
         ≡ map (rule_ast (syntax_of x.now)) (distinct (headings (syntax_of x.now)))) }
@@ -262,12 +266,13 @@ fn rules(alloc: Global, x: &Syntax) -> Result<IndexMap<String, Rule>, AllocError
 
 impl GrammarAST {
     /// Puts in the start rule, the rules and the productions of a text.
-    fn fill_rules(&mut self, alloc: Global, x: &Syntax) -> Result<(), AllocError>
-        ensures { OnOk result (self.new ≡ with_rules_of (ast_of true (syntax_of x.now)) self.old) }
+    fn fill_rules(&mut self, alloc: Global, names: &Names) -> Result<(), AllocError>
+        ensures { OnOk result (self.new ≡ with_rules_of (ast_of true names.now) self.old) }
     {
+        let x = names.syntax();
         let start = to_named(start_word(x))?;
         let rules = rules(alloc, x)?;
-        let prods = prods(alloc, x)?;
+        let prods = prods(alloc, names)?;
         self.start = start;
         self.rules = rules;
         self.prods = prods;
@@ -275,13 +280,14 @@ impl GrammarAST {
     }
 
     /// Puts in the tokens of a text and what its declarations say of them.
-    fn fill_tokens(&mut self, alloc: Global, x: &Syntax) -> Result<(), AllocError>
-        ensures { OnOk result (self.new ≡ with_tokens_of (ast_of true (syntax_of x.now)) self.old) }
+    fn fill_tokens(&mut self, alloc: Global, names: &Names) -> Result<(), AllocError>
+        ensures { OnOk result (self.new ≡ with_tokens_of (ast_of true names.now) self.old) }
     {
-        let tokens = tokens(alloc, x)?;
-        let precs = ast_parts::first_precedences(alloc, &x.levels)?;
-        let avoid_insert = line_places(alloc, &x.avoid_insert)?;
-        let implicit_tokens = line_places(alloc, &x.implicit_tokens)?;
+        let x = names.syntax();
+        let tokens = tokens(alloc, names)?;
+        let precs = parts::first_precedences(alloc, &x.levels)?;
+        let avoid_insert = line_spans(alloc, &x.avoid_insert)?;
+        let implicit_tokens = line_spans(alloc, &x.implicit_tokens)?;
         self.tokens = tokens;
         self.precs = precs;
         self.avoid_insert = avoid_insert;
@@ -293,10 +299,10 @@ impl GrammarAST {
     fn fill_texts(&mut self, alloc: Global, x: &Syntax) -> Result<(), AllocError>
         ensures { OnOk result (self.new ≡ with_texts_of (ast_of true (syntax_of x.now)) self.old) }
     {
-        let epp = ast_parts::first_epps(alloc, &x.epp)?;
+        let epp = parts::first_epps(alloc, &x.epp)?;
         let parse_param = to_param(&x.parse_param)?;
-        let parse_generics = ast_parts::to_text(&x.parse_generics)?;
-        let programs = ast_parts::to_text(&x.programs)?;
+        let parse_generics = parts::to_text(&x.parse_generics)?;
+        let programs = parts::to_text(&x.programs)?;
         self.epp = epp;
         self.parse_param = parse_param;
         self.parse_generics = parse_generics;
@@ -316,26 +322,27 @@ impl GrammarAST {
     }
 
     /// Puts in all that a text says.
-    fn fill(&mut self, alloc: Global, x: &Syntax) -> Result<(), AllocError>
-        ensures { OnOk result (self.new ≡ ast_of self.old.is_valid (syntax_of x.now)) }
+    fn fill(&mut self, alloc: Global, names: &Names) -> Result<(), AllocError>
+        ensures { OnOk result (self.new ≡ ast_of self.old.is_valid names.now) }
     {
-        self.fill_rules(alloc, x)?;
-        self.fill_tokens(alloc, x)?;
+        let x = names.syntax();
+        self.fill_rules(alloc, names)?;
+        self.fill_tokens(alloc, names)?;
         self.fill_texts(alloc, x)?;
         self.fill_expected(alloc, x)?;
         Ok(())
     }
 
-    /// What a text says. `is_valid` tells whether it is valid.
+    /// Makes the tree of what a text says, by its names. `is_valid` tells whether the text is valid.
     pub(crate) fn of_syntax(
         alloc: Global,
-        x: &Syntax,
+        names: &Names,
         is_valid: bool,
     ) -> Result<GrammarAST, AllocError>
-        ensures { IfOk result (λ a. a ≡ ast_of is_valid (syntax_of x.now)) }
+        ensures { IfOk result (λ a. a ≡ ast_of is_valid names.now) }
     {
         let mut tree = GrammarAST::empty(alloc, is_valid);
-        tree.fill(alloc, x)?;
+        tree.fill(alloc, names)?;
         Ok(tree)
     }
 }

@@ -4,17 +4,17 @@ ghost use Rattle.std.specs.Prelude.{◌≡◌, true, [], is_some, option_map, On
 ghost use Rattle.std.specs.Option.{option_copied};
 ghost use Rattle.std.specs.String.{string_bytes};
 ghost use Rattle.cfg_read.specs.Names.{is_among};
-ghost use Rattle.cfg_read.specs.Building.{has_rule};
+ghost use Rattle.cfg_read.specs.AstBuild.{has_rule};
 ghost use Rattle.cfg_read.specs.AstChanges.{with_rule, with_production, with_programs, rule_named};
-ghost use Rattle.cfg_read.specs.AstViews.{rule_entry_of, production_of};
+ghost use Rattle.cfg_read.specs.AstModels.{rule_entry_of, production_of};
 
 use super::{GrammarAST, Production, Rule, build};
 use cfg_base::span::Span;
 use std::alloc::{AllocError, Global};
 
 impl GrammarAST {
-    /// Adds a rule without productions behind the others. Where there is a rule of this name it takes that rule's place,
-    /// and the productions of that one are no rule's.
+    /// Adds a rule without productions behind the others. It replaces the rule of this name where there is one, and the
+    /// productions of that one are no rule's.
     pub fn add_rule(
         &mut self,
         alloc: Global,
@@ -57,7 +57,7 @@ impl GrammarAST {
         self.set_programs(text);
     }
 
-    /// Makes this the text behind the second `%%`, in the place of any that was there.
+    /// Makes this the text behind the second `%%`, instead of any that was there.
     pub fn set_programs(&mut self, text: String)
         ensures { self.new ≡ with_programs self.old (string_bytes text) }
     {
@@ -72,7 +72,7 @@ impl GrammarAST {
         self.rules.get(name)
     }
 
-    /// Whether this is the name of a token.
+    /// Tells whether this is the name of a token.
     pub fn has_token(&self, name: &str) -> bool
         ensures { result ≡ is_among self.now.tokens name.now }
     {

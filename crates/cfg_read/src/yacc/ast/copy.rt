@@ -2,8 +2,8 @@
 
 ghost use Rattle.std.specs.Prelude.{◌≡◌, map, option_map, IfOk, OnOk};
 ghost use Rattle.std.specs.String.{string_bytes};
-ghost use Rattle.cfg_read.specs.AstViews.{ast_symbol_of, production_of, named_place, param_pair, named_places, named_rules, named_epps, named_precedences, rule_keys, own_names};
-ghost use Rattle.cfg_read.specs.Building.{with_rules_of, with_tokens_of, with_texts_of, with_expected_of};
+ghost use Rattle.cfg_read.specs.AstModels.{ast_symbol_of, production_of, named_span, param_pair, named_spans, named_rules, named_epps, named_precedences, rule_keys, own_names};
+ghost use Rattle.cfg_read.specs.AstBuild.{with_rules_of, with_tokens_of, with_texts_of, with_expected_of};
 
 use super::{GrammarAST, Production, Rule, Symbol};
 use crate::yacc::Precedence;
@@ -13,7 +13,7 @@ use std::alloc::AllocError;
 
 impl Clone for Symbol {
     ghost use Rattle.std.specs.Prelude.{◌≡◌};
-    ghost use Rattle.cfg_read.specs.AstViews.{ast_symbol_of};
+    ghost use Rattle.cfg_read.specs.AstModels.{ast_symbol_of};
 
     ghost is_clone = { λ s t. ast_symbol_of t ≡ ast_symbol_of s };
 
@@ -25,6 +25,7 @@ impl Clone for Symbol {
     }
 }
 
+/// Copies a text, if there is one.
 fn copy_text(text: &Option<String>) -> Result<Option<String>, AllocError>
     ensures { IfOk result (λ copy. option_map string_bytes copy ≡ option_map string_bytes text.now) }
 {
@@ -36,7 +37,7 @@ fn copy_text(text: &Option<String>) -> Result<Option<String>, AllocError>
 
 impl Clone for Production {
     ghost use Rattle.std.specs.Prelude.{◌≡◌};
-    ghost use Rattle.cfg_read.specs.AstViews.{production_of};
+    ghost use Rattle.cfg_read.specs.AstModels.{production_of};
 
     ghost is_clone = { λ p q. production_of q ≡ production_of p };
 
@@ -56,7 +57,7 @@ impl Clone for Production {
 
 impl Clone for Rule {
     ghost use Rattle.std.specs.Prelude.{◌≡◌};
-    ghost use Rattle.cfg_read.specs.AstViews.{rule_entry_of};
+    ghost use Rattle.cfg_read.specs.AstModels.{rule_entry_of};
 
     ghost is_clone = { λ r s. rule_entry_of s ≡ rule_entry_of r };
 
@@ -72,8 +73,9 @@ impl Clone for Rule {
     }
 }
 
+/// Copies the start rule's name and its span.
 fn copy_start(start: &Option<(String, Span)>) -> Result<Option<(String, Span)>, AllocError>
-    ensures { IfOk result (λ copy. option_map named_place copy ≡ option_map named_place start.now) }
+    ensures { IfOk result (λ copy. option_map named_span copy ≡ option_map named_span start.now) }
 {
     match start {
         Some((name, span)) => Ok(Some((name.clone()?, *span))),
@@ -81,6 +83,7 @@ fn copy_start(start: &Option<(String, Span)>) -> Result<Option<(String, Span)>, 
     }
 }
 
+/// Copies the name and the type of `%parse-param`.
 fn copy_param(param: &Option<(String, String)>) -> Result<Option<(String, String)>, AllocError>
     ensures { IfOk result (λ copy. option_map param_pair copy ≡ option_map param_pair param.now) }
 {
@@ -94,13 +97,15 @@ fn copy_param(param: &Option<(String, String)>) -> Result<Option<(String, String
     }
 }
 
-fn copy_places(places: &IndexMap<String, Span>) -> Result<IndexMap<String, Span>, AllocError>
-    ensures { IfOk result (λ copy. named_places copy ≡ named_places places.now) }
+/// Copies names with their spans.
+fn copy_spans(spans: &IndexMap<String, Span>) -> Result<IndexMap<String, Span>, AllocError>
+    ensures { IfOk result (λ copy. named_spans copy ≡ named_spans spans.now) }
 {
-    let copy = places.clone()?;
+    let copy = spans.clone()?;
     Ok(copy)
 }
 
+/// Copies the precedences.
 fn copy_precs(
     precs: &IndexMap<String, (Precedence, Span)>,
 ) -> Result<IndexMap<String, (Precedence, Span)>, AllocError>
@@ -110,6 +115,7 @@ fn copy_precs(
     Ok(copy)
 }
 
+/// Copies the printed texts.
 fn copy_epp(
     epp: &IndexMap<String, (Span, (String, Span))>,
 ) -> Result<IndexMap<String, (Span, (String, Span))>, AllocError>
@@ -119,6 +125,7 @@ fn copy_epp(
     Ok(copy)
 }
 
+/// Copies the rules.
 fn copy_rules(rules: &IndexMap<String, Rule>) -> Result<IndexMap<String, Rule>, AllocError>
     requires { own_names rules.now ≡ rule_keys rules.now }
     ensures rules { IfOk result (λ copy. named_rules copy ≡ named_rules rules.now) }
@@ -128,6 +135,7 @@ fn copy_rules(rules: &IndexMap<String, Rule>) -> Result<IndexMap<String, Rule>, 
     Ok(copy)
 }
 
+/// Copies the productions.
 fn copy_prods(prods: &Vec<Production>) -> Result<Vec<Production>, AllocError>
     ensures { IfOk result (λ copy. map production_of copy.items ≡ map production_of prods.now.items) }
 {
@@ -135,6 +143,7 @@ fn copy_prods(prods: &Vec<Production>) -> Result<Vec<Production>, AllocError>
     Ok(copy)
 }
 
+/// Copies symbols.
 fn copy_symbols(symbols: &Vec<Symbol>) -> Result<Vec<Symbol>, AllocError>
     ensures { IfOk result (λ copy. map ast_symbol_of copy.items ≡ map ast_symbol_of symbols.now.items) }
 {
@@ -160,10 +169,10 @@ impl GrammarAST {
     fn copy_tokens_of(&mut self, from: &GrammarAST) -> Result<(), AllocError>
         ensures { OnOk result (self.new ≡ with_tokens_of from.now self.old) }
     {
-        let tokens = copy_places(&from.tokens)?;
+        let tokens = copy_spans(&from.tokens)?;
         let precs = copy_precs(&from.precs)?;
-        let avoid_insert = copy_places(&from.avoid_insert)?;
-        let implicit_tokens = copy_places(&from.implicit_tokens)?;
+        let avoid_insert = copy_spans(&from.avoid_insert)?;
+        let implicit_tokens = copy_spans(&from.implicit_tokens)?;
         self.tokens = tokens;
         self.precs = precs;
         self.avoid_insert = avoid_insert;

@@ -5,11 +5,11 @@ ghost use Rattle.std.specs.List.{flat_map, list_any, IsDistinct};
 ghost use Rattle.std.specs.Option.{option_map_or, option_copied};
 ghost use Rattle.std.specs.Str.{bytes_eq};
 ghost use Rattle.cfg_read.specs.AstChanges.{rule_named};
-ghost use Rattle.cfg_read.specs.AstViews.{ast_symbol_of, named_places};
+ghost use Rattle.cfg_read.specs.AstModels.{ast_symbol_of, named_spans};
 ghost use Rattle.cfg_read.specs.Names.{is_among};
-ghost use Rattle.cfg_read.specs.Showing.{names_in, has_name};
+ghost use Rattle.cfg_read.specs.NameModels.{names_in, has_name};
 ghost use Rattle.cfg_read.specs.Warnings.{UnusedRule, UnusedToken, AreUnused, AreWarnings, IsReached, IsUsed, expects_rule, expects_token, warnings_at, unused_rules, unused_tokens};
-ghost use Rattle.cfg_read.specs.WarningViews.{warning_kind, warning_of, warnings_in, warning_text, with_symbols, is_rule_symbol, is_token_symbol, is_any_symbol, symbols_of_all, symbols_under, rule_names, start_names};
+ghost use Rattle.cfg_read.specs.WarningModels.{warning_kind, warning_of, warnings_in, warning_text, with_symbol_names, is_rule_symbol, is_token_symbol, is_any_symbol, symbols_of_all, symbols_under, rule_names, start_names};
 
 use super::{GrammarAST, Symbol};
 use cfg_base::span::{Span, Spanned, SpansKind};
@@ -28,7 +28,7 @@ pub enum YaccGrammarWarningKind {
 
 impl fmt::Display for YaccGrammarWarningKind {
     ghost use Rattle.std.specs.Prelude.{Some};
-    ghost use Rattle.cfg_read.specs.WarningViews.{warning_kind, warning_text};
+    ghost use Rattle.cfg_read.specs.WarningModels.{warning_kind, warning_text};
 
     ghost output = { λ k. Some (warning_text (warning_kind k)) };
 
@@ -40,7 +40,7 @@ impl fmt::Display for YaccGrammarWarningKind {
     }
 }
 
-/// A warning, and the place that shows it.
+/// A warning, and the span that shows it.
 #[derive(Debug, Drop)]
 pub struct YaccGrammarWarning {
     pub kind: YaccGrammarWarningKind,
@@ -50,7 +50,7 @@ pub struct YaccGrammarWarning {
 
 impl fmt::Display for YaccGrammarWarning {
     ghost use Rattle.std.specs.Prelude.{Some};
-    ghost use Rattle.cfg_read.specs.WarningViews.{warning_of, warning_text};
+    ghost use Rattle.cfg_read.specs.WarningModels.{warning_of, warning_text};
 
     ghost output = { λ w. Some (warning_text (warning_of w).kind) };
 
@@ -79,7 +79,7 @@ impl Spanned for YaccGrammarWarning {
 /// Adds the names of the rules among these symbols.
 fn insert_rules<'a>(names: &mut IndexSet<&'a str>, symbols: &'a [Symbol]) -> Result<(), AllocError>
     ensures { OnOk result (names_in names.new
-        ≡ with_symbols is_rule_symbol (names_in names.old) (map ast_symbol_of symbols.now)) }
+        ≡ with_symbol_names is_rule_symbol (names_in names.old) (map ast_symbol_of symbols.now)) }
 {
     'symbols: for symbol in symbols {
         if let Symbol::Rule(text, _span) = symbol {
@@ -92,7 +92,7 @@ fn insert_rules<'a>(names: &mut IndexSet<&'a str>, symbols: &'a [Symbol]) -> Res
 /// Adds the names of the tokens among these symbols.
 fn insert_tokens<'a>(names: &mut IndexSet<&'a str>, symbols: &'a [Symbol]) -> Result<(), AllocError>
     ensures { OnOk result (names_in names.new
-        ≡ with_symbols is_token_symbol (names_in names.old) (map ast_symbol_of symbols.now)) }
+        ≡ with_symbol_names is_token_symbol (names_in names.old) (map ast_symbol_of symbols.now)) }
 {
     'symbols: for symbol in symbols {
         if let Symbol::Token(text, _span) = symbol {
@@ -145,28 +145,28 @@ fn push_if(
     Ok(())
 }
 
-/// Whether a name is in one of these sets.
+/// Tells whether a name is in one of these sets.
 fn is_in_either(name: &str, names: &IndexSet<&str>, others: &IndexSet<&str>) -> bool
     ensures { result ≡ (has_name names.now name.now || has_name others.now name.now) }
 {
     names.contains(name) || others.contains(name)
 }
 
-/// Whether this is a name of the map.
-fn is_key(name: &str, places: &IndexMap<String, Span>) -> bool
-    ensures { result ≡ is_among (named_places places.now) name.now }
+/// Tells whether this is a name of the map.
+fn is_key(name: &str, spans: &IndexMap<String, Span>) -> bool
+    ensures { result ≡ is_among (named_spans spans.now) name.now }
 {
-    places.contains_key(name)
+    spans.contains_key(name)
 }
 
-/// Whether a token is used, implicit or expected to be unused.
+/// Tells whether a token is used, implicit or expected to be unused.
 fn is_silent(
     name: &str,
     used: &IndexSet<&str>,
     implicit: &IndexMap<String, Span>,
     expected: &IndexSet<&str>,
 ) -> bool
-    ensures { result ≡ (has_name used.now name.now || (is_among (named_places implicit.now) name.now || has_name expected.now name.now)) }
+    ensures { result ≡ (has_name used.now name.now || (is_among (named_spans implicit.now) name.now || has_name expected.now name.now)) }
 {
     used.contains(name) || is_key(name, implicit) || expected.contains(name)
 }
@@ -191,7 +191,7 @@ impl GrammarAST {
         numbers: &[usize],
     ) -> Result<(), AllocError>
         ensures { OnOk result (names_in names.new
-            ≡ with_symbols is_rule_symbol (names_in names.old) (symbols_of_all self.now.productions numbers.now)) }
+            ≡ with_symbol_names is_rule_symbol (names_in names.old) (symbols_of_all self.now.productions numbers.now)) }
     {
         'pidxs: for number in numbers {
             if let Some(production) = self.prods.get(*number) {
@@ -208,7 +208,7 @@ impl GrammarAST {
         numbers: &[usize],
     ) -> Result<(), AllocError>
         ensures { OnOk result (names_in names.new
-            ≡ with_symbols is_token_symbol (names_in names.old) (symbols_of_all self.now.productions numbers.now)) }
+            ≡ with_symbol_names is_token_symbol (names_in names.old) (symbols_of_all self.now.productions numbers.now)) }
     {
         'pidxs: for number in numbers {
             if let Some(production) = self.prods.get(*number) {
@@ -225,7 +225,7 @@ impl GrammarAST {
         name: &str,
     ) -> Result<(), AllocError>
         ensures added { OnOk result (names_in names.new
-            ≡ with_symbols is_rule_symbol (names_in names.old) (symbols_under self.now name.now)) }
+            ≡ with_symbol_names is_rule_symbol (names_in names.old) (symbols_under self.now name.now)) }
         ensures unique { IsDistinct bytes_eq (rule_names self.now) }
     {
         if let Some(numbers) = self.numbers(name) {
@@ -241,7 +241,7 @@ impl GrammarAST {
         name: &str,
     ) -> Result<(), AllocError>
         ensures added { OnOk result (names_in names.new
-            ≡ with_symbols is_token_symbol (names_in names.old) (symbols_under self.now name.now)) }
+            ≡ with_symbol_names is_token_symbol (names_in names.old) (symbols_under self.now name.now)) }
         ensures unique { IsDistinct bytes_eq (rule_names self.now) }
     {
         if let Some(numbers) = self.numbers(name) {
@@ -291,6 +291,7 @@ impl GrammarAST {
         Ok(names)
     }
 
+    /// Puts a warning for each unused rule that isn't expected behind the others.
     fn push_unused_rules(
         &self,
         alloc: Global,
@@ -314,6 +315,7 @@ impl GrammarAST {
         Ok(())
     }
 
+    /// Puts a warning for each unused token that is neither implicit nor expected behind the others.
     fn push_unused_tokens(
         &self,
         alloc: Global,
@@ -337,7 +339,7 @@ impl GrammarAST {
         Ok(())
     }
 
-    /// All unused rules, then all unused tokens, by number: none that `%expect-unused` names, and no implicit tokens.
+    /// Lists all unused rules, then all unused tokens, by number: none that `%expect-unused` names, and no implicit tokens.
     fn unused(&self, alloc: Global) -> Result<Vec<YaccGrammarWarning>, AllocError>
         ensures { IfOk result (λ ws. AreUnused self.now (warnings_in ws.items)) }
     {
@@ -349,7 +351,7 @@ impl GrammarAST {
         Ok(warnings)
     }
 
-    /// The rules, then the tokens, that the start rule doesn't lead to, by number: none that `%expect-unused` names, no
+    /// Lists the rules, then the tokens, that the start rule doesn't lead to, by number: none that `%expect-unused` names, no
     /// implicit tokens, and none at all of a text that isn't valid.
     pub fn warnings(&self, alloc: Global) -> Result<Vec<YaccGrammarWarning>, AllocError>
         ensures { IfOk result (λ ws. AreWarnings self.now (map warning_of ws.items)) }

@@ -1,6 +1,9 @@
 //! The declarations of a grammar text.
 
-use crate::yacc::AssocKind;
+ghost use Rattle.std.specs.Prelude.{◌≡◌};
+ghost use Rattle.cfg_read.specs.Declarations.{declaration_named, knows};
+
+use crate::yacc::{AssocKind, YaccKind};
 
 /// A declaration, without what stands behind its word.
 #[derive(Clone, Copy, Debug, PartialEq, Eq)]
@@ -35,4 +38,53 @@ pub enum LineText {
     ActionType,
     ParseParam,
     ParseGenerics,
+}
+
+/// Answers the declaration of a word.
+#[tactic(auto, unfolding(crate::specs::Declarations::declaration_named))]
+pub(crate) fn declaration_named(word: &str) -> Option<Declaration>
+    ensures { result ≡ declaration_named word.now }
+{
+    if word == "token" {
+        Some(Declaration::Token)
+    } else if word == "left" {
+        Some(Declaration::Items(LineList::Level(AssocKind::Left)))
+    } else if word == "right" {
+        Some(Declaration::Items(LineList::Level(AssocKind::Right)))
+    } else if word == "nonassoc" {
+        Some(Declaration::Items(LineList::Level(AssocKind::Nonassoc)))
+    } else if word == "avoid_insert" {
+        Some(Declaration::Items(LineList::AvoidInsert))
+    } else if word == "implicit_tokens" {
+        Some(Declaration::Items(LineList::ImplicitTokens))
+    } else if word == "expect-unused" {
+        Some(Declaration::Items(LineList::ExpectUnused))
+    } else if word == "start" {
+        Some(Declaration::Start)
+    } else if word == "expect" {
+        Some(Declaration::Number(Count::Expect))
+    } else if word == "expect-rr" {
+        Some(Declaration::Number(Count::ExpectRR))
+    } else if word == "epp" {
+        Some(Declaration::Epp)
+    } else if word == "actiontype" {
+        Some(Declaration::Rest(LineText::ActionType))
+    } else if word == "parse-param" {
+        Some(Declaration::Rest(LineText::ParseParam))
+    } else if word == "parse-generics" {
+        Some(Declaration::Rest(LineText::ParseGenerics))
+    } else {
+        None
+    }
+}
+
+/// Tells whether a kind has a declaration.
+pub(crate) fn knows(kind: YaccKind, declaration: Declaration) -> bool
+    ensures { result ≡ knows kind declaration }
+{
+    match declaration {
+        Declaration::Items(LineList::ImplicitTokens) => matches!(kind, YaccKind::Eco),
+        Declaration::Rest(LineText::ActionType) => matches!(kind, YaccKind::Original(_)),
+        _ => true,
+    }
 }

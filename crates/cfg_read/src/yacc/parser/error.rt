@@ -2,7 +2,7 @@
 
 ghost use Rattle.std.specs.Prelude.{◌≡◌, false};
 ghost use Rattle.cfg_read.specs.Payloads.{holds_value};
-ghost use Rattle.cfg_read.specs.Showing.{kind_of};
+ghost use Rattle.cfg_read.specs.ErrorModels.{kind_of};
 ghost use Rattle.cfg_read.specs.ErrorTexts.{failure_text};
 ghost use Rattle.cfg_read.specs.declared.yacc.parser.error.ReadError.TheVariants.{Memory};
 
@@ -50,7 +50,7 @@ pub enum YaccGrammarErrorKind {
     UnknownEPP(String),
     ExpectedInput,
     InvalidYaccKind,
-    /// An error of the section, or of a value in it, and what its places are.
+    /// An error of the section, or of a value in it, and what its spans show.
     Header(HeaderErrorKind, SpansKind),
 }
 
@@ -134,7 +134,7 @@ impl YaccGrammarErrorKind {
 
 impl Display for YaccGrammarErrorKind {
     ghost use Rattle.std.specs.Prelude.{Some};
-    ghost use Rattle.cfg_read.specs.Showing.{kind_of};
+    ghost use Rattle.cfg_read.specs.ErrorModels.{kind_of};
     ghost use Rattle.cfg_read.specs.ErrorTexts.{failure_text};
 
     ghost output = { λ k. Some (failure_text (kind_of k)) };
@@ -160,7 +160,7 @@ impl Error for YaccGrammarErrorKind {}
 
 impl Clone for YaccGrammarErrorKind {
     ghost use Rattle.std.specs.Prelude.{◌≡◌};
-    ghost use Rattle.cfg_read.specs.Showing.{kind_of};
+    ghost use Rattle.cfg_read.specs.ErrorModels.{kind_of};
 
     ghost is_clone = { λ kind copy. kind_of copy ≡ kind_of kind };
 
@@ -171,7 +171,7 @@ impl Clone for YaccGrammarErrorKind {
             Self::UnknownToken(name) => Ok(Self::UnknownToken(name.clone()?)),
             Self::NoPrecForToken(name) => Ok(Self::NoPrecForToken(name.clone()?)),
             Self::UnknownEPP(name) => Ok(Self::UnknownEPP(name.clone()?)),
-            Self::Header(kind, places) => Ok(Self::Header(*kind, *places)),
+            Self::Header(kind, spanskind) => Ok(Self::Header(*kind, *spanskind)),
             plain => Ok(plain.copy_plain()),
         }
     }
@@ -180,9 +180,9 @@ impl Clone for YaccGrammarErrorKind {
 /// Why a text wasn't read.
 #[derive(Debug, Drop)]
 pub enum ReadError {
-    /// Want of memory.
-    Memory,
-    /// The text's fault, and its byte place.
+    /// Out of memory: the request that was refused.
+    Memory(AllocError),
+    /// The text's fault, and its offset.
     Fault(YaccGrammarErrorKind, usize),
 }
 
@@ -194,7 +194,7 @@ impl Display for ReadError {
 
     fn fmt<W: Write>(&self, f: &mut Formatter<W>) -> fmt::Result {
         match self {
-            ReadError::Memory => write!(f, "Memory"),
+            ReadError::Memory(_) => write!(f, "Memory"),
             ReadError::Fault(kind, _) => write!(f, "{kind}"),
         }
     }
@@ -203,17 +203,19 @@ impl Display for ReadError {
 impl Error for ReadError {}
 
 impl From<AllocError> for ReadError {
-    ghost from_gives = { λ _ e. e ≡ Memory };
+    ghost from_gives = { λ e r. r ≡ Memory e };
 
-    fn from(_e: AllocError) -> ReadError {
-        ReadError::Memory
+    fn from(e: AllocError) -> ReadError {
+        ReadError::Memory(e)
     }
 }
 
 impl<T: Drop> From<AllocFailed<T>> for ReadError {
-    ghost from_gives = { λ _ e. e ≡ Memory };
+    ghost use Rattle.cfg_read.specs.Scanning.{IsMemory};
 
-    fn from(_e: AllocFailed<T>) -> ReadError {
-        ReadError::Memory
+    ghost from_gives = { λ _ r. IsMemory r };
+
+    fn from(e: AllocFailed<T>) -> ReadError {
+        ReadError::Memory(e.into())
     }
 }

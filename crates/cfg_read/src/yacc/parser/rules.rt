@@ -3,222 +3,249 @@
 ghost use Rattle.std.specs.Prelude.{◌≡◌, ◌+◌, ◌≤◌, ◌<◌, ℕ, Option, None, Some, true, false, not, length, map, option_map, IfOk, IfErr, IsTrue};
 ghost use Rattle.std.specs.Bool.{Decides};
 ghost use Rattle.std.specs.Str.{IsCharBoundary};
-ghost use Rattle.cfg_read.specs.declared.yacc.parser.error.ReadError.TheVariants.{Memory};
-ghost use Rattle.cfg_read.specs.declared.yacc.parser.scan.Mark.TheVariants as marks;
-ghost use Rattle.cfg_read.specs.Bytes.{is_white, run_end};
-ghost use Rattle.cfg_read.specs.Words.{mark_at};
+ghost use Rattle.cfg_read.specs.declared.yacc.parser.scan.TokenKind.TheVariants as tokens;
+ghost use Rattle.cfg_base.specs.Text.{is_white, run_end};
+ghost use Rattle.cfg_read.specs.Words.{token_kind_at};
 ghost use Rattle.cfg_read.specs.SyntaxTexts.{WordText, RuleText, SyntaxText};
-ghost use Rattle.cfg_read.specs.Making.{word, Part, no_part, alternative, heading, with_rule};
+ghost use Rattle.cfg_read.specs.SyntaxUpdates.{word, Part, no_part, alternative, heading, append_rule};
 ghost use Rattle.cfg_read.specs.Declarations.{is_grmtools};
 ghost use Rattle.cfg_read.specs.Reading.{RuleName, RuleColon, More, PrecToken, Nothing, Spaced, At, IsLiteral, Steps, Reads};
-ghost use Rattle.cfg_read.specs.Stopping.{token_fault, rule_fault, alternative_fault, FailsFrom, IsErrorOf};
-ghost use Rattle.cfg_read.specs.Views.{word_of, alternative_of, rule_of, part_of, syntax_of};
-ghost use Rattle.cfg_read.specs.Scanning.{StartsBy, MarkFits, IsFaultAt, is_part, ends_alternative, bar_or_semicolon, rule_text, ends_rules, end_or_separator, is_name};
+ghost use Rattle.cfg_read.specs.SyntaxErrors.{token_fault, rule_fault, alternative_fault, FailsFrom, IsErrorOf};
+ghost use Rattle.cfg_read.specs.SyntaxModels.{word_of, alternative_of, rule_of, part_of, syntax_of};
+ghost use Rattle.cfg_read.specs.Scanning.{IsMemory, StartsBy, FitsToken, IsFaultAt, is_part, ends_alternative, bar_or_semicolon, rule_text, ends_rules, end_or_separator, begins_name};
 
 use crate::yacc::YaccKind;
+use crate::yacc::parser::draft::Draft;
 use crate::yacc::parser::error::{ReadError, YaccGrammarErrorKind};
-use crate::yacc::parser::scan::{Mark, Scanner};
-use crate::yacc::parser::syntax::{Alternative, Draft, Rule, Symbol, Syntax, Word};
+use crate::yacc::parser::scan::{Scanner, TokenKind};
+use crate::yacc::parser::syntax::{Alternative, Rule, Symbol, Syntax, Word};
 use std::alloc::Global;
 
 impl<'a> Scanner<'a> {
     /// Reads a symbol of an alternative.
-    fn symbol(&self, alloc: Global, draft: &mut Draft, place: usize) -> Result<usize, ReadError>
-        requires token { token_fault (mark_at self.now.text.now place) ≡ None }
-        requires within { place ≤ length self.now.text.now }
-        requires starts { StartsBy draft.old.span place }
-        ensures ok { IfOk result (λ b. (r : RuleText) (x : SyntaxText) → Steps self.now.kind self.now.text.now (At (More r (part_of draft.old)) x place) (Spaced (More r (part_of draft.new)) x b)) }
-        ensures err { IfErr result (λ e. (r : RuleText) (x : SyntaxText) → FailsFrom self.now.kind self.now.text.now (At (More r (part_of draft.old)) x place) e) }
-        ensures within { IfOk result (λ b. (place < b) × (b ≤ length self.now.text.now)) }
+    fn parse_symbol(
+        &self,
+        alloc: Global,
+        draft: &mut Draft,
+        offset: usize,
+    ) -> Result<usize, ReadError>
+        requires token { token_fault (token_kind_at self.now.text.now offset) ≡ None }
+        requires starts { StartsBy draft.old.span offset }
+        ensures ok { IfOk result (λ b. (r : RuleText) (x : SyntaxText) → Steps self.now.kind self.now.text.now (At (More r (part_of draft.old)) x offset) (Spaced (More r (part_of draft.new)) x b)) }
+        ensures err { IfErr result (λ e. (r : RuleText) (x : SyntaxText) → FailsFrom self.now.kind self.now.text.now (At (More r (part_of draft.old)) x offset) e) }
+        ensures more { IfOk result (λ b. offset < b) }
         ensures starts { IfOk result (λ b. StartsBy draft.new.span b) }
     {
-        let (symbol, end) = self.token(alloc, place)?;
+        let (symbol, end) = self.parse_token(alloc, offset)?;
         if draft.is_empty {
-            return Err(ReadError::Fault(YaccGrammarErrorKind::NonEmptyProduction, place));
+            return Err(ReadError::Fault(YaccGrammarErrorKind::NonEmptyProduction, offset));
         }
         if !draft.is_open() {
-            return Err(ReadError::Fault(YaccGrammarErrorKind::ProductionNotTerminated, place));
+            return Err(ReadError::Fault(YaccGrammarErrorKind::ProductionNotTerminated, offset));
         }
-        draft.add_symbol(symbol, place, end)?;
+        draft.add_symbol(symbol, offset, end)?;
         Ok(end)
     }
 
     /// Reads the `%empty` that stands here.
-    fn empty(&self, draft: &mut Draft, place: usize) -> Result<usize, ReadError>
-        requires literal { IsLiteral self.now.text.now place "empty" }
-        requires within { place + 6 ≤ length self.now.text.now }
-        requires starts { StartsBy draft.old.span place }
-        ensures ok { IfOk result (λ b. (r : RuleText) (x : SyntaxText) → Steps self.now.kind self.now.text.now (At (More r (part_of draft.old)) x place) (Spaced (More r (part_of draft.new)) x b)) }
-        ensures err { IfErr result (λ e. (r : RuleText) (x : SyntaxText) → FailsFrom self.now.kind self.now.text.now (At (More r (part_of draft.old)) x place) e) }
-        ensures within { IfOk result (λ b. b ≡ place + 6) }
+    fn parse_empty(&self, draft: &mut Draft, offset: usize) -> Result<usize, ReadError>
+        requires literal { IsLiteral self.now.text.now offset "empty" }
+        requires within { offset + 6 ≤ length self.now.text.now }
+        requires starts { StartsBy draft.old.span offset }
+        ensures ok { IfOk result (λ b. (r : RuleText) (x : SyntaxText) → Steps self.now.kind self.now.text.now (At (More r (part_of draft.old)) x offset) (Spaced (More r (part_of draft.new)) x b)) }
+        ensures err { IfErr result (λ e. (r : RuleText) (x : SyntaxText) → FailsFrom self.now.kind self.now.text.now (At (More r (part_of draft.old)) x offset) e) }
+        ensures within { IfOk result (λ b. b ≡ offset + 6) }
         ensures starts { IfOk result (λ b. StartsBy draft.new.span b) }
     {
         if !draft.symbols.is_empty() {
-            return Err(ReadError::Fault(YaccGrammarErrorKind::NonEmptyProduction, place));
+            return Err(ReadError::Fault(YaccGrammarErrorKind::NonEmptyProduction, offset));
         }
         if !draft.takes_empty() {
-            return Err(ReadError::Fault(YaccGrammarErrorKind::ProductionNotTerminated, place));
+            return Err(ReadError::Fault(YaccGrammarErrorKind::ProductionNotTerminated, offset));
         }
-        draft.add_empty(place, place + 6);
-        Ok(place + 6)
+        draft.add_empty(offset, offset + 6);
+        Ok(offset + 6)
     }
 
-    /// Reads the token of the `%prec` that stands at `place`.
-    fn prec_token(&self, alloc: Global, draft: &mut Draft, place: usize) -> Result<usize, ReadError>
-        requires within { place + 5 ≤ length self.now.text.now }
-        requires starts { StartsBy draft.old.span place }
-        ensures ok { IfOk result (λ b. (r : RuleText) (x : SyntaxText) → Steps self.now.kind self.now.text.now (Spaced (PrecToken r (part_of draft.old) place) x (place + 5)) (Spaced (More r (part_of draft.new)) x b)) }
-        ensures err { IfErr result (λ e. (r : RuleText) (x : SyntaxText) → FailsFrom self.now.kind self.now.text.now (Spaced (PrecToken r (part_of draft.old) place) x (place + 5)) e) }
-        ensures within { IfOk result (λ b. (place < b) × (b ≤ length self.now.text.now)) }
+    /// Reads the token of the `%prec` that stands at `offset`.
+    fn parse_prec_token(
+        &self,
+        alloc: Global,
+        draft: &mut Draft,
+        offset: usize,
+    ) -> Result<usize, ReadError>
+        requires within { offset + 5 ≤ length self.now.text.now }
+        requires starts { StartsBy draft.old.span offset }
+        ensures ok { IfOk result (λ b. (r : RuleText) (x : SyntaxText) → Steps self.now.kind self.now.text.now (Spaced (PrecToken r (part_of draft.old) offset) x (offset + 5)) (Spaced (More r (part_of draft.new)) x b)) }
+        ensures err { IfErr result (λ e. (r : RuleText) (x : SyntaxText) → FailsFrom self.now.kind self.now.text.now (Spaced (PrecToken r (part_of draft.old) offset) x (offset + 5)) e) }
+        ensures more { IfOk result (λ b. offset < b) }
         ensures starts { IfOk result (λ b. StartsBy draft.new.span b) }
     {
-        let start = self.gap(place + 5)?;
-        if !self.mark(start).begins_token() {
+        let start = self.parse_ws(offset + 5)?;
+        if !self.token_kind_at(start).begins_token() {
             return Err(ReadError::Fault(YaccGrammarErrorKind::PrecNotFollowedByToken, start));
         }
-        let (token, end) = self.token(alloc, start)?;
+        let (token, end) = self.parse_token(alloc, start)?;
         let Symbol { is_quoted: _, word } = token;
-        draft.add_precedence(word, place, end);
+        draft.add_precedence(word, offset, end);
         Ok(end)
     }
 
     /// Reads `%empty`, or `%prec` with its token.
-    fn percent_part(
+    fn parse_percent_part(
         &self,
         alloc: Global,
         draft: &mut Draft,
-        place: usize,
+        offset: usize,
     ) -> Result<usize, ReadError>
-        requires percent { mark_at self.now.text.now place ≡ marks.Percent }
-        requires within { place < length self.now.text.now }
-        requires starts { StartsBy draft.old.span place }
-        ensures ok { IfOk result (λ b. (r : RuleText) (x : SyntaxText) → Steps self.now.kind self.now.text.now (At (More r (part_of draft.old)) x place) (Spaced (More r (part_of draft.new)) x b)) }
-        ensures err { IfErr result (λ e. (r : RuleText) (x : SyntaxText) → FailsFrom self.now.kind self.now.text.now (At (More r (part_of draft.old)) x place) e) }
-        ensures within { IfOk result (λ b. (place < b) × (b ≤ length self.now.text.now)) }
+        requires percent { token_kind_at self.now.text.now offset ≡ tokens.Percent }
+        requires within { offset < length self.now.text.now }
+        requires starts { StartsBy draft.old.span offset }
+        ensures ok { IfOk result (λ b. (r : RuleText) (x : SyntaxText) → Steps self.now.kind self.now.text.now (At (More r (part_of draft.old)) x offset) (Spaced (More r (part_of draft.new)) x b)) }
+        ensures err { IfErr result (λ e. (r : RuleText) (x : SyntaxText) → FailsFrom self.now.kind self.now.text.now (At (More r (part_of draft.old)) x offset) e) }
+        ensures more { IfOk result (λ b. offset < b) }
         ensures starts { IfOk result (λ b. StartsBy draft.new.span b) }
     {
-        if self.has_empty(place) {
-            let end = self.empty(draft, place)?;
+        if self.has_empty(offset) {
+            let end = self.parse_empty(draft, offset)?;
             return Ok(end);
         }
-        if !self.has_prec(place) {
-            return Err(ReadError::Fault(YaccGrammarErrorKind::ProductionNotTerminated, place));
+        if !self.has_prec(offset) {
+            return Err(ReadError::Fault(YaccGrammarErrorKind::ProductionNotTerminated, offset));
         }
         if !draft.is_open() {
-            return Err(ReadError::Fault(YaccGrammarErrorKind::ProductionNotTerminated, place));
+            return Err(ReadError::Fault(YaccGrammarErrorKind::ProductionNotTerminated, offset));
         }
-        let end = self.prec_token(alloc, draft, place)?;
+        let end = self.parse_prec_token(alloc, draft, offset)?;
         Ok(end)
     }
 
     /// Reads the action whose `{` stands here.
-    fn action(&self, alloc: Global, draft: &mut Draft, place: usize) -> Result<usize, ReadError>
-        requires brace { mark_at self.now.text.now place ≡ marks.Brace }
-        requires fits { (place < length self.now.text.now) × IsCharBoundary self.now.text.now (place + 1) }
-        requires starts { StartsBy draft.old.span place }
-        ensures ok { IfOk result (λ b. (r : RuleText) (x : SyntaxText) → Steps self.now.kind self.now.text.now (At (More r (part_of draft.old)) x place) (Spaced (More r (part_of draft.new)) x b)) }
-        ensures err { IfErr result (λ e. (r : RuleText) (x : SyntaxText) → FailsFrom self.now.kind self.now.text.now (At (More r (part_of draft.old)) x place) e) }
-        ensures within { IfOk result (λ b. (place < b) × (b ≤ length self.now.text.now)) }
+    fn parse_action(
+        &self,
+        alloc: Global,
+        draft: &mut Draft,
+        offset: usize,
+    ) -> Result<usize, ReadError>
+        requires brace { token_kind_at self.now.text.now offset ≡ tokens.Brace }
+        requires fits { (offset < length self.now.text.now) × IsCharBoundary self.now.text.now (offset + 1) }
+        requires starts { StartsBy draft.old.span offset }
+        ensures ok { IfOk result (λ b. (r : RuleText) (x : SyntaxText) → Steps self.now.kind self.now.text.now (At (More r (part_of draft.old)) x offset) (Spaced (More r (part_of draft.new)) x b)) }
+        ensures err { IfErr result (λ e. (r : RuleText) (x : SyntaxText) → FailsFrom self.now.kind self.now.text.now (At (More r (part_of draft.old)) x offset) e) }
+        ensures more { IfOk result (λ b. offset < b) }
         ensures starts { IfOk result (λ b. StartsBy draft.new.span b) }
     {
         if draft.action.is_some() {
-            return Err(ReadError::Fault(YaccGrammarErrorKind::ProductionNotTerminated, place));
+            return Err(ReadError::Fault(YaccGrammarErrorKind::ProductionNotTerminated, offset));
         }
-        let Some(end) = self.action_end(place + 1) else {
-            return Err(ReadError::Fault(YaccGrammarErrorKind::IncompleteAction, place));
+        let Some(end) = self.action_end(offset + 1) else {
+            return Err(ReadError::Fault(YaccGrammarErrorKind::IncompleteAction, offset));
         };
-        let word = self.trimmed_word(alloc, place + 1, end)?;
+        let word = self.trimmed_word(alloc, offset + 1, end)?;
         draft.add_action(word);
         Ok(end + 1)
     }
 
-    /// Whether a part of an alternative begins here; else its end stands here.
-    fn begins_part(&self, place: usize) -> Result<bool, ReadError>
-        requires { place ≤ length self.now.text.now }
-        ensures ok { IfOk result (λ b. (is_part (mark_at self.now.text.now place) ≡ b) × (ends_alternative (mark_at self.now.text.now place) ≡ not b)) }
-        ensures err { IfErr result (λ e. IsFaultAt (alternative_fault (mark_at self.now.text.now place)) place e) }
-        ensures within { IfOk result (λ _. place < length self.now.text.now) }
+    /// Tells whether a part of an alternative begins here; else its end stands here.
+    fn begins_part(&self, offset: usize) -> Result<bool, ReadError>
+        ensures ok { IfOk result (λ b. (is_part (token_kind_at self.now.text.now offset) ≡ b) × (ends_alternative (token_kind_at self.now.text.now offset) ≡ not b)) }
+        ensures err { IfErr result (λ e. IsFaultAt (alternative_fault (token_kind_at self.now.text.now offset)) offset e) }
+        ensures within { IfOk result (λ _. offset < length self.now.text.now) }
     {
-        match self.mark(place) {
-            Mark::Name(_) | Mark::Quoted(_) | Mark::Percent | Mark::Brace => Ok(true),
-            Mark::Bar | Mark::Semicolon => Ok(false),
-            Mark::End => Err(ReadError::Fault(YaccGrammarErrorKind::IncompleteRule, place)),
-            Mark::OpenQuote => Err(ReadError::Fault(YaccGrammarErrorKind::IllegalString, place)),
-            _ => Err(ReadError::Fault(YaccGrammarErrorKind::ProductionNotTerminated, place)),
+        match self.token_kind_at(offset) {
+            TokenKind::Name(_) | TokenKind::Quoted(_) | TokenKind::Percent | TokenKind::Brace => Ok(
+                true,
+            ),
+            TokenKind::Bar | TokenKind::Semicolon => Ok(false),
+            TokenKind::End => Err(ReadError::Fault(YaccGrammarErrorKind::IncompleteRule, offset)),
+            TokenKind::OpenQuote => Err(ReadError::Fault(
+                YaccGrammarErrorKind::IllegalString,
+                offset,
+            )),
+            _ => Err(ReadError::Fault(YaccGrammarErrorKind::ProductionNotTerminated, offset)),
         }
     }
 
     /// Reads a part of an alternative.
-    fn part_alone(&self, alloc: Global, draft: &mut Draft, place: usize) -> Result<usize, ReadError>
-        requires part { is_part (mark_at self.now.text.now place) ≡ true }
-        requires within { place ≤ length self.now.text.now }
-        requires starts { StartsBy draft.old.span place }
-        ensures ok { IfOk result (λ b. (r : RuleText) (x : SyntaxText) → Steps self.now.kind self.now.text.now (At (More r (part_of draft.old)) x place) (Spaced (More r (part_of draft.new)) x b)) }
-        ensures err { IfErr result (λ e. (r : RuleText) (x : SyntaxText) → FailsFrom self.now.kind self.now.text.now (At (More r (part_of draft.old)) x place) e) }
-        ensures within { IfOk result (λ b. (place < b) × (b ≤ length self.now.text.now)) }
+    fn parse_part_alone(
+        &self,
+        alloc: Global,
+        draft: &mut Draft,
+        offset: usize,
+    ) -> Result<usize, ReadError>
+        requires part { is_part (token_kind_at self.now.text.now offset) ≡ true }
+        requires starts { StartsBy draft.old.span offset }
+        ensures ok { IfOk result (λ b. (r : RuleText) (x : SyntaxText) → Steps self.now.kind self.now.text.now (At (More r (part_of draft.old)) x offset) (Spaced (More r (part_of draft.new)) x b)) }
+        ensures err { IfErr result (λ e. (r : RuleText) (x : SyntaxText) → FailsFrom self.now.kind self.now.text.now (At (More r (part_of draft.old)) x offset) e) }
+        ensures more { IfOk result (λ b. offset < b) }
         ensures starts { IfOk result (λ b. StartsBy draft.new.span b) }
     {
-        match self.mark(place) {
-            Mark::Percent => self.percent_part(alloc, draft, place),
-            Mark::Brace => self.action(alloc, draft, place),
-            _ => self.symbol(alloc, draft, place),
+        match self.token_kind_at(offset) {
+            TokenKind::Percent => self.parse_percent_part(alloc, draft, offset),
+            TokenKind::Brace => self.parse_action(alloc, draft, offset),
+            _ => self.parse_symbol(alloc, draft, offset),
         }
     }
 
     /// Reads a part of an alternative, and the gap behind it.
-    fn part(&self, alloc: Global, draft: &mut Draft, place: usize) -> Result<usize, ReadError>
-        requires part { is_part (mark_at self.now.text.now place) ≡ true }
-        requires within { place ≤ length self.now.text.now }
-        requires starts { StartsBy draft.old.span place }
-        ensures ok { IfOk result (λ b. (r : RuleText) (x : SyntaxText) → Steps self.now.kind self.now.text.now (At (More r (part_of draft.old)) x place) (At (More r (part_of draft.new)) x b)) }
-        ensures err { IfErr result (λ e. (r : RuleText) (x : SyntaxText) → FailsFrom self.now.kind self.now.text.now (At (More r (part_of draft.old)) x place) e) }
-        ensures within { IfOk result (λ b. (place < b) × (b ≤ length self.now.text.now)) }
+    fn parse_part(
+        &self,
+        alloc: Global,
+        draft: &mut Draft,
+        offset: usize,
+    ) -> Result<usize, ReadError>
+        requires part { is_part (token_kind_at self.now.text.now offset) ≡ true }
+        requires starts { StartsBy draft.old.span offset }
+        ensures ok { IfOk result (λ b. (r : RuleText) (x : SyntaxText) → Steps self.now.kind self.now.text.now (At (More r (part_of draft.old)) x offset) (At (More r (part_of draft.new)) x b)) }
+        ensures err { IfErr result (λ e. (r : RuleText) (x : SyntaxText) → FailsFrom self.now.kind self.now.text.now (At (More r (part_of draft.old)) x offset) e) }
+        ensures more { IfOk result (λ b. offset < b) }
         ensures starts { IfOk result (λ b. StartsBy draft.new.span b) }
     {
-        let end = self.part_alone(alloc, draft, place)?;
-        Ok(self.gap(end)?)
+        let end = self.parse_part_alone(alloc, draft, offset)?;
+        Ok(self.parse_ws(end)?)
     }
 
     /// Reads an alternative, up to the `|` or `;` behind it.
-    fn alternative(&self, alloc: Global, place: usize) -> Result<(Alternative, usize), ReadError>
-        requires { place ≤ length self.now.text.now }
-        ensures ok { IfOk result (λ f. (p : Part) × (alternative_of f.0 ≡ alternative p f.1) × ((r : RuleText) (x : SyntaxText) → Steps self.now.kind self.now.text.now (Spaced (More r no_part) x place) (At (More r p) x f.1))) }
-        ensures end { IfOk result (λ f. ends_alternative (mark_at self.now.text.now f.1) ≡ true) }
-        ensures err { IfErr result (λ e. (r : RuleText) (x : SyntaxText) → FailsFrom self.now.kind self.now.text.now (Spaced (More r no_part) x place) e) }
-        ensures within { IfOk result (λ f. (place ≤ f.1) × (f.1 < length self.now.text.now)) }
+    fn parse_alternative(
+        &self,
+        alloc: Global,
+        offset: usize,
+    ) -> Result<(Alternative, usize), ReadError>
+        ensures ok { IfOk result (λ f. (p : Part) × (alternative_of f.0 ≡ alternative p f.1) × ((r : RuleText) (x : SyntaxText) → Steps self.now.kind self.now.text.now (Spaced (More r no_part) x offset) (At (More r p) x f.1))) }
+        ensures end { IfOk result (λ f. ends_alternative (token_kind_at self.now.text.now f.1) ≡ true) }
+        ensures err { IfErr result (λ e. (r : RuleText) (x : SyntaxText) → FailsFrom self.now.kind self.now.text.now (Spaced (More r no_part) x offset) e) }
+        ensures within { IfOk result (λ f. (offset ≤ f.1) × (f.1 < length self.now.text.now)) }
     {
         let mut draft = Draft::new(alloc);
-        let mut end = self.gap(place)?;
+        let mut end = self.parse_ws(offset)?;
         'parts: while self.begins_part(end)? {
-            end = self.part(alloc, &mut draft, end)?;
+            end = self.parse_part(alloc, &mut draft, end)?;
         }
         Ok((draft.finish(end), end))
     }
 
-    /// Whether the `;` stands where an alternative ends; else the `|` does.
-    fn is_last(&self, place: usize) -> bool
-        requires end { ends_alternative (mark_at self.now.text.now place) ≡ true }
-        requires within { place ≤ length self.now.text.now }
-        ensures { mark_at self.now.text.now place ≡ bar_or_semicolon result }
+    /// Tells whether the `;` stands where an alternative ends; else the `|` does.
+    fn is_last(&self, offset: usize) -> bool
+        requires end { ends_alternative (token_kind_at self.now.text.now offset) ≡ true }
+        ensures { token_kind_at self.now.text.now offset ≡ bar_or_semicolon result }
     {
-        !matches!(self.mark(place), Mark::Bar)
+        !matches!(self.token_kind_at(offset), TokenKind::Bar)
     }
 
     /// Reads the alternatives of a rule, and the `;`.
-    fn alternatives(
+    fn parse_alternatives(
         &self,
         alloc: Global,
-        place: usize,
+        offset: usize,
     ) -> Result<(Vec<Alternative>, usize), ReadError>
-        requires { place ≤ length self.now.text.now }
-        ensures ok { IfOk result (λ f. (n : WordText) (t : Option WordText) (x : SyntaxText) → Steps self.now.kind self.now.text.now (Spaced (More (heading n t) no_part) x place) (Spaced RuleName (with_rule x (rule_text n t (map alternative_of f.0.items))) f.1)) }
-        ensures err { IfErr result (λ e. (n : WordText) (t : Option WordText) (x : SyntaxText) → FailsFrom self.now.kind self.now.text.now (Spaced (More (heading n t) no_part) x place) e) }
-        ensures within { IfOk result (λ f. (place < f.1) × (f.1 ≤ length self.now.text.now)) }
+        ensures ok { IfOk result (λ f. (n : WordText) (t : Option WordText) (x : SyntaxText) → Steps self.now.kind self.now.text.now (Spaced (More (heading n t) no_part) x offset) (Spaced RuleName (append_rule x (rule_text n t (map alternative_of f.0.items))) f.1)) }
+        ensures err { IfErr result (λ e. (n : WordText) (t : Option WordText) (x : SyntaxText) → FailsFrom self.now.kind self.now.text.now (Spaced (More (heading n t) no_part) x offset) e) }
+        ensures more { IfOk result (λ f. offset < f.1) }
     {
         let mut alternatives = Vec::new(alloc);
-        let mut start = place;
+        let mut start = offset;
         'alternatives: loop {
-            let (alternative, end) = self.alternative(alloc, start)?;
+            let (alternative, end) = self.parse_alternative(alloc, start)?;
             alternatives.push(alternative)?;
             start = end + 1;
             if self.is_last(end) {
@@ -228,77 +255,76 @@ impl<'a> Scanner<'a> {
     }
 
     /// Reads the `:` behind a rule's name.
-    fn colon(&self, place: usize) -> Result<usize, ReadError>
+    fn parse_colon(&self, offset: usize) -> Result<usize, ReadError>
         requires kind { is_grmtools self.now.kind ≡ false }
-        requires within { place ≤ length self.now.text.now }
-        ensures ok { IfOk result (λ b. (r : WordText) (x : SyntaxText) → Steps self.now.kind self.now.text.now (At (RuleColon r) x place) (Spaced (More (heading r None) no_part) x b)) }
-        ensures err { IfErr result (λ e. (r : WordText) (x : SyntaxText) → FailsFrom self.now.kind self.now.text.now (At (RuleColon r) x place) e) }
-        ensures within { IfOk result (λ b. (place < b) × (b ≤ length self.now.text.now)) }
+        ensures ok { IfOk result (λ b. (r : WordText) (x : SyntaxText) → Steps self.now.kind self.now.text.now (At (RuleColon r) x offset) (Spaced (More (heading r None) no_part) x b)) }
+        ensures err { IfErr result (λ e. (r : WordText) (x : SyntaxText) → FailsFrom self.now.kind self.now.text.now (At (RuleColon r) x offset) e) }
+        ensures more { IfOk result (λ b. offset < b) }
     {
-        match self.mark(place) {
-            Mark::Colon => Ok(place + 1),
-            _ => Err(ReadError::Fault(YaccGrammarErrorKind::MissingColon, place)),
+        match self.token_kind_at(offset) {
+            TokenKind::Colon => Ok(offset + 1),
+            _ => Err(ReadError::Fault(YaccGrammarErrorKind::MissingColon, offset)),
         }
     }
 
-    /// Whether `->` stands here.
-    fn is_arrow(&self, place: usize) -> bool
-        requires { place ≤ length self.now.text.now }
-        ensures arrow { Decides result (mark_at self.now.text.now place ≡ marks.Arrow) }
-        ensures fits { IsTrue result → (place + 2 ≤ length self.now.text.now) × IsCharBoundary self.now.text.now (place + 2) }
+    /// Tells whether `->` stands here.
+    fn is_arrow(&self, offset: usize) -> bool
+        ensures arrow { Decides result (token_kind_at self.now.text.now offset ≡ tokens.Arrow) }
+        ensures fits { IsTrue result → (offset + 2 ≤ length self.now.text.now) × IsCharBoundary self.now.text.now (offset + 2) }
     {
-        matches!(self.mark(place), Mark::Arrow)
+        matches!(self.token_kind_at(offset), TokenKind::Arrow)
     }
 
     /// Reads the `->`, the type and the `:` behind a rule's name.
-    fn typed_colon(&self, alloc: Global, place: usize) -> Result<(Word, usize), ReadError>
+    fn parse_typed_colon(&self, alloc: Global, offset: usize) -> Result<(Word, usize), ReadError>
         requires kind { is_grmtools self.now.kind ≡ true }
-        requires within { place ≤ length self.now.text.now }
-        ensures ok { IfOk result (λ f. (r : WordText) (x : SyntaxText) → Steps self.now.kind self.now.text.now (At (RuleColon r) x place) (Spaced (More (heading r (Some (word_of f.0))) no_part) x f.1)) }
-        ensures err { IfErr result (λ e. (r : WordText) (x : SyntaxText) → FailsFrom self.now.kind self.now.text.now (At (RuleColon r) x place) e) }
-        ensures within { IfOk result (λ f. (place < f.1) × (f.1 ≤ length self.now.text.now)) }
+        ensures ok { IfOk result (λ f. (r : WordText) (x : SyntaxText) → Steps self.now.kind self.now.text.now (At (RuleColon r) x offset) (Spaced (More (heading r (Some (word_of f.0))) no_part) x f.1)) }
+        ensures err { IfErr result (λ e. (r : WordText) (x : SyntaxText) → FailsFrom self.now.kind self.now.text.now (At (RuleColon r) x offset) e) }
+        ensures more { IfOk result (λ f. offset < f.1) }
     {
-        if !self.is_arrow(place) {
-            return Err(ReadError::Fault(YaccGrammarErrorKind::MissingRightArrow, place));
+        if !self.is_arrow(offset) {
+            return Err(ReadError::Fault(YaccGrammarErrorKind::MissingRightArrow, offset));
         }
-        let Some(colon) = self.lone_colon(place + 2, self.text.len()) else {
+        let Some(colon) = self.lone_colon(offset + 2, self.text.len()) else {
             return Err(ReadError::Fault(YaccGrammarErrorKind::MissingColon, self.text.len()));
         };
-        let word = self.trimmed_word(alloc, place + 2, colon)?;
+        let word = self.trimmed_word(alloc, offset + 2, colon)?;
         Ok((word, colon + 1))
     }
 
     /// Reads what stands between a rule's name and its alternatives.
-    fn heading(&self, alloc: Global, place: usize) -> Result<(Option<Word>, usize), ReadError>
-        requires { place ≤ length self.now.text.now }
-        ensures ok { IfOk result (λ f. (r : WordText) (x : SyntaxText) → Steps self.now.kind self.now.text.now (At (RuleColon r) x place) (Spaced (More (heading r (option_map word_of f.0)) no_part) x f.1)) }
-        ensures err { IfErr result (λ e. (r : WordText) (x : SyntaxText) → FailsFrom self.now.kind self.now.text.now (At (RuleColon r) x place) e) }
-        ensures within { IfOk result (λ f. (place < f.1) × (f.1 ≤ length self.now.text.now)) }
+    fn parse_heading(
+        &self,
+        alloc: Global,
+        offset: usize,
+    ) -> Result<(Option<Word>, usize), ReadError>
+        ensures ok { IfOk result (λ f. (r : WordText) (x : SyntaxText) → Steps self.now.kind self.now.text.now (At (RuleColon r) x offset) (Spaced (More (heading r (option_map word_of f.0)) no_part) x f.1)) }
+        ensures err { IfErr result (λ e. (r : WordText) (x : SyntaxText) → FailsFrom self.now.kind self.now.text.now (At (RuleColon r) x offset) e) }
+        ensures more { IfOk result (λ f. offset < f.1) }
     {
         match self.kind {
             YaccKind::Grmtools => {
-                let (word, end) = self.typed_colon(alloc, place)?;
+                let (word, end) = self.parse_typed_colon(alloc, offset)?;
                 Ok((Some(word), end))
             }
             _ => {
-                let end = self.colon(place)?;
+                let end = self.parse_colon(offset)?;
                 Ok((None, end))
             }
         }
     }
 
     /// Reads a rule.
-    fn rule(&self, alloc: Global, place: usize) -> Result<(Rule, usize), ReadError>
-        requires name { is_name (mark_at self.now.text.now place) ≡ true }
-        requires within { place ≤ length self.now.text.now }
-        ensures ok { IfOk result (λ f. (x : SyntaxText) → Steps self.now.kind self.now.text.now (At RuleName x place) (Spaced RuleName (with_rule x (rule_of f.0)) f.1)) }
-        ensures err { IfErr result (λ e. (x : SyntaxText) → FailsFrom self.now.kind self.now.text.now (At RuleName x place) e) }
-        ensures within { IfOk result (λ f. (place < f.1) × (f.1 ≤ length self.now.text.now)) }
+    fn parse_rule(&self, alloc: Global, offset: usize) -> Result<(Rule, usize), ReadError>
+        requires name { begins_name (token_kind_at self.now.text.now offset) ≡ true }
+        ensures ok { IfOk result (λ f. (x : SyntaxText) → Steps self.now.kind self.now.text.now (At RuleName x offset) (Spaced RuleName (append_rule x (rule_of f.0)) f.1)) }
+        ensures err { IfErr result (λ e. (x : SyntaxText) → FailsFrom self.now.kind self.now.text.now (At RuleName x offset) e) }
+        ensures within { IfOk result (λ f. (offset < length self.now.text.now) × (offset < f.1)) }
     {
-        let (name, after) = self.name(alloc, place)?;
-        let start = self.gap(after)?;
-        let (action_type, body) = self.heading(alloc, start)?;
-        let (alternatives, end) = self.alternatives(alloc, body)?;
+        let (name, after) = self.parse_name(alloc, offset)?;
+        let start = self.parse_ws(after)?;
+        let (action_type, body) = self.parse_heading(alloc, start)?;
+        let (alternatives, end) = self.parse_alternatives(alloc, body)?;
         Ok((
             Rule {
                 name,
@@ -309,88 +335,92 @@ impl<'a> Scanner<'a> {
         ))
     }
 
-    /// Whether a rule begins here; else the rules end here.
-    fn begins_rule(&self, place: usize) -> Result<bool, ReadError>
-        requires { place ≤ length self.now.text.now }
-        ensures ok { IfOk result (λ b. (is_name (mark_at self.now.text.now place) ≡ b) × (ends_rules (mark_at self.now.text.now place) ≡ not b)) }
-        ensures err { IfErr result (λ e. IsFaultAt (rule_fault (mark_at self.now.text.now place)) place e) }
+    /// Tells whether a rule begins here; else the rules end here.
+    fn begins_rule(&self, offset: usize) -> Result<bool, ReadError>
+        ensures ok { IfOk result (λ b. (begins_name (token_kind_at self.now.text.now offset) ≡ b) × (ends_rules (token_kind_at self.now.text.now offset) ≡ not b)) }
+        ensures err { IfErr result (λ e. IsFaultAt (rule_fault (token_kind_at self.now.text.now offset)) offset e) }
     {
-        match self.mark(place) {
-            Mark::Name(_) => Ok(true),
-            Mark::End | Mark::Separator => Ok(false),
-            _ => Err(ReadError::Fault(YaccGrammarErrorKind::IllegalName, place)),
+        match self.token_kind_at(offset) {
+            TokenKind::Name(_) => Ok(true),
+            TokenKind::End | TokenKind::Separator => Ok(false),
+            _ => Err(ReadError::Fault(YaccGrammarErrorKind::IllegalName, offset)),
         }
     }
 
     /// Reads all rules and the gap behind them.
-    fn rules(&self, alloc: Global, syntax: &mut Syntax, place: usize) -> Result<usize, ReadError>
-        requires { place ≤ length self.now.text.now }
-        ensures ok { IfOk result (λ b. Steps self.now.kind self.now.text.now (Spaced RuleName (syntax_of syntax.old) place) (At RuleName (syntax_of syntax.new) b)) }
-        ensures end { IfOk result (λ b. ends_rules (mark_at self.now.text.now b) ≡ true) }
-        ensures err { IfErr result (λ e. FailsFrom self.now.kind self.now.text.now (Spaced RuleName (syntax_of syntax.old) place) e) }
-        ensures within { IfOk result (λ b. b ≤ length self.now.text.now) }
+    fn parse_rules(
+        &self,
+        alloc: Global,
+        syntax: &mut Syntax,
+        offset: usize,
+    ) -> Result<usize, ReadError>
+        ensures ok { IfOk result (λ b. Steps self.now.kind self.now.text.now (Spaced RuleName (syntax_of syntax.old) offset) (At RuleName (syntax_of syntax.new) b)) }
+        ensures end { IfOk result (λ b. ends_rules (token_kind_at self.now.text.now b) ≡ true) }
+        ensures err { IfErr result (λ e. FailsFrom self.now.kind self.now.text.now (Spaced RuleName (syntax_of syntax.old) offset) e) }
     {
-        let mut end = self.gap(place)?;
+        let mut end = self.parse_ws(offset)?;
         'rules: while self.begins_rule(end)? {
-            let (rule, after) = self.rule(alloc, end)?;
+            let (rule, after) = self.parse_rule(alloc, end)?;
             syntax.rules.push(rule)?;
-            end = self.gap(after)?;
+            end = self.parse_ws(after)?;
         }
         Ok(end)
     }
 
-    /// Whether `%%` stands where the rules end; else the text ends.
-    fn has_programs(&self, place: usize) -> bool
-        requires end { ends_rules (mark_at self.now.text.now place) ≡ true }
-        requires within { place ≤ length self.now.text.now }
-        ensures mark { mark_at self.now.text.now place ≡ end_or_separator result }
-        ensures fits { MarkFits self.now.text.now place (end_or_separator result) }
+    /// Tells whether `%%` stands where the rules end; else the text ends.
+    fn has_programs(&self, offset: usize) -> bool
+        requires end { ends_rules (token_kind_at self.now.text.now offset) ≡ true }
+        ensures kind { token_kind_at self.now.text.now offset ≡ end_or_separator result }
+        ensures fits { FitsToken self.now.text.now offset (end_or_separator result) }
     {
-        matches!(self.mark(place), Mark::Separator)
+        matches!(self.token_kind_at(offset), TokenKind::Separator)
     }
 
     /// Reads the programs behind the `%%` that stands here.
-    fn programs(&self, alloc: Global, place: usize) -> Result<Word, ReadError>
-        requires { (place + 2 ≤ length self.now.text.now) × IsCharBoundary self.now.text.now (place + 2) }
-        ensures ok { IfOk result (λ w. word_of w ≡ word self.now.text.now (run_end is_white self.now.text.now (place + 2)) (length self.now.text.now)) }
-        ensures err { IfErr result (λ e. e ≡ Memory) }
+    fn parse_programs(&self, alloc: Global, offset: usize) -> Result<Word, ReadError>
+        requires { (offset + 2 ≤ length self.now.text.now) × IsCharBoundary self.now.text.now (offset + 2) }
+        ensures ok { IfOk result (λ w. word_of w ≡ word self.now.text.now (run_end is_white self.now.text.now (offset + 2)) (length self.now.text.now)) }
+        ensures err { IfErr result IsMemory }
     {
-        let start = self.white_end(place + 2);
+        let start = self.white_end(offset + 2);
         Ok(self.word(alloc, start, self.text.len())?)
     }
 
     /// Reads what stands behind the rules.
-    fn last_part(&self, alloc: Global, syntax: &mut Syntax, place: usize) -> Result<(), ReadError>
-        requires end { ends_rules (mark_at self.now.text.now place) ≡ true }
-        requires within { place ≤ length self.now.text.now }
-        ensures ok { IfOk result (λ _. (b : ℕ) × Steps self.now.kind self.now.text.now (At RuleName (syntax_of syntax.old) place) (At Nothing (syntax_of syntax.new) b)) }
-        ensures err { IfErr result (λ e. e ≡ Memory) }
+    fn parse_last_part(
+        &self,
+        alloc: Global,
+        syntax: &mut Syntax,
+        offset: usize,
+    ) -> Result<(), ReadError>
+        requires end { ends_rules (token_kind_at self.now.text.now offset) ≡ true }
+        ensures ok { IfOk result (λ _. (b : ℕ) × Steps self.now.kind self.now.text.now (At RuleName (syntax_of syntax.old) offset) (At Nothing (syntax_of syntax.new) b)) }
+        ensures err { IfErr result IsMemory }
     {
-        if !self.has_programs(place) {
+        if !self.has_programs(offset) {
             return Ok(());
         }
-        let word = self.programs(alloc, place)?;
+        let word = self.parse_programs(alloc, offset)?;
         syntax.programs = Some(word);
         Ok(())
     }
 }
 
-/// What a text of a kind says from a byte place on, behind its section: its one reading, or its one
-/// fault, unless memory runs out.
+/// Reads what a text of a kind says from an offset on, behind its section: answers its one reading, or
+/// its one fault, unless memory runs out.
 pub fn read_syntax(
     alloc: Global,
     kind: YaccKind,
     text: &str,
     start: usize,
 ) -> Result<Syntax, ReadError>
-    requires { start ≤ length text.now }
     ensures ok { IfOk result (λ x. Reads kind text.now start (syntax_of x)) }
     ensures err { IfErr result (λ e. IsErrorOf kind text.now start e) }
 {
     let scanner = Scanner { text, kind };
     let mut syntax = Syntax::new(alloc);
-    let rules = scanner.declarations(alloc, &mut syntax, start)?;
-    let end = scanner.rules(alloc, &mut syntax, rules)?;
-    scanner.last_part(alloc, &mut syntax, end)?;
+    let rules = scanner.parse_declarations(alloc, &mut syntax, start)?;
+    let end = scanner.parse_rules(alloc, &mut syntax, rules)?;
+    scanner.parse_last_part(alloc, &mut syntax, end)?;
     Ok(syntax)
 }

@@ -1,18 +1,21 @@
-//! The words of a grammar text.
+//! Tells what stands at an offset of a grammar text, and where it ends.
 
 ghost use Rattle.std.specs.Prelude.{◌≡◌, ◌+◌, ◌≤◌, ◌<◌, length, slice_get, IfSome, IsTrue};
 ghost use Rattle.std.specs.Str.{IsUtf8};
-ghost use Rattle.cfg_read.specs.Bytes.{is_white, is_name_byte, is_digit, is_quoted_by, run_end, holds_line_feed, line_end};
-ghost use Rattle.cfg_read.specs.Words.{is_comment_end, comment_end, gap_mark, line_gap_mark, mark_at, quoted_mark, sign_mark};
+ghost use Rattle.cfg_base.specs.Text.{is_white, is_digit, run_end, line_end, is_comment_end, comment_end, gap_at, FitsGap};
+ghost use Rattle.cfg_read.specs.Bytes.{is_name_byte, is_quoted_by, holds_line_feed};
+ghost use Rattle.cfg_read.specs.Words.{line_gap_at, token_kind_at, quoted_kind, sign_kind};
 ghost use Rattle.cfg_read.specs.Reading.{ends_tokens, ends_line};
-ghost use Rattle.cfg_read.specs.Scanning.{GapFits, MarkFits, begins_token};
+ghost use Rattle.cfg_read.specs.Scanning.{FitsToken, begins_token};
 
 use crate::yacc::YaccKind;
 use crate::yacc::parser::bytes;
+use cfg_base::text;
+use cfg_base::text::GapPart;
 
-/// What stands at a place, and where it ends.
+/// What stands at an offset, and where it ends.
 #[derive(Clone, Copy, Debug, PartialEq, Eq)]
-pub enum Mark {
+pub(crate) enum TokenKind {
     End,
     /// A name, up to here.
     Name(usize),
@@ -38,91 +41,74 @@ pub enum Mark {
     Other,
 }
 
-/// What of a gap stands at a place.
+/// The string at an offset.
 #[derive(Clone, Copy, Debug, PartialEq, Eq)]
-pub enum GapMark {
-    /// White or a comment, up to here.
-    Part(usize),
-    /// A `/*` without `*/`.
-    Unclosed,
-    NoPart,
-}
-
-/// The string at a place.
-#[derive(Clone, Copy, Debug, PartialEq, Eq)]
-pub enum StringMark {
+pub(crate) enum StringKind {
     /// Its second quote stands here.
     Closed(usize),
     /// It is none, because of what stands here.
     Broken(usize),
 }
 
-/// A text and its kind. Places are byte places in the text.
+/// A text and its kind. Offsets are those of bytes in the text; past its end nothing stands.
 #[derive(Clone, Copy, Debug)]
-pub struct Scanner<'a> {
-    pub text: &'a str,
-    pub kind: YaccKind,
+pub(crate) struct Scanner<'a> {
+    pub(crate) text: &'a str,
+    pub(crate) kind: YaccKind,
 }
 
 impl<'a> Scanner<'a> {
-    pub fn byte(&self, place: usize) -> Option<u8>
-        ensures value { result ≡ slice_get self.now.text.now place }
-        ensures within { IfSome result (λ _. place < length self.now.text.now) }
+    /// Answers the byte at an offset; `None` from the text's end on.
+    pub(crate) fn byte(&self, offset: usize) -> Option<u8>
+        ensures value { result ≡ slice_get self.now.text.now offset }
+        ensures within { IfSome result (λ _. offset < length self.now.text.now) }
         ensures utf8 { IsUtf8 self.now.text.now }
     {
-        self.text.as_bytes().get(place).copied()
+        text::byte_at(self.text, offset)
     }
 
-    #[tactic(auto, unfolding(crate::specs::Bytes::run_end))]
-    fn name_end(&self, place: usize) -> usize
-        requires { place ≤ length self.now.text.now }
-        ensures value { result ≡ run_end is_name_byte self.now.text.now place }
+    /// Finds where the run of name bytes that begins here ends.
+    #[tactic(auto, unfolding(cfg_base::specs::Text::run_end))]
+    fn name_end(&self, offset: usize) -> usize
+        requires { offset ≤ length self.now.text.now }
+        ensures value { result ≡ run_end is_name_byte self.now.text.now offset }
         ensures within { result ≤ length self.now.text.now }
     {
-        place + bytes::name_len(&self.text.as_bytes()[place..])
+        offset + bytes::name_len(&self.text.as_bytes()[offset..])
     }
 
-    #[tactic(auto, unfolding(crate::specs::Bytes::run_end))]
-    fn digits_end(&self, place: usize) -> usize
-        requires { place ≤ length self.now.text.now }
-        ensures value { result ≡ run_end is_digit self.now.text.now place }
+    /// Finds the first such quote, or LF, from this offset on, else the text's end.
+    #[tactic(auto, unfolding(cfg_base::specs::Text::run_end))]
+    fn quoted_end(&self, quote: u8, offset: usize) -> usize
+        requires { offset ≤ length self.now.text.now }
+        ensures value { result ≡ run_end (is_quoted_by quote) self.now.text.now offset }
+        ensures from { offset ≤ result }
         ensures within { result ≤ length self.now.text.now }
     {
-        place + bytes::digits_len(&self.text.as_bytes()[place..])
+        offset + bytes::quoted_len(quote, &self.text.as_bytes()[offset..])
     }
 
-    #[tactic(auto, unfolding(crate::specs::Bytes::run_end))]
-    fn quoted_end(&self, quote: u8, place: usize) -> usize
-        requires { place ≤ length self.now.text.now }
-        ensures value { result ≡ run_end (is_quoted_by quote) self.now.text.now place }
-        ensures from { place ≤ result }
-        ensures within { result ≤ length self.now.text.now }
-    {
-        place + bytes::quoted_len(quote, &self.text.as_bytes()[place..])
-    }
-
-    /// Where the line ends: at the LF, or at the text's end.
-    #[tactic(auto, unfolding(crate::specs::Bytes::run_end))]
-    pub fn line_end(&self, place: usize) -> usize
-        requires { place ≤ length self.now.text.now }
-        ensures value { result ≡ line_end self.now.text.now place }
-        ensures from { place ≤ result }
+    /// Finds where the line ends: at the LF, or at the text's end.
+    pub(crate) fn line_end(&self, offset: usize) -> usize
+        requires { offset ≤ length self.now.text.now }
+        ensures value { result ≡ line_end self.now.text.now offset }
+        ensures from { offset ≤ result }
         ensures within { result ≤ length self.now.text.now }
         ensures utf8 { IsUtf8 self.now.text.now }
     {
-        place + bytes::line_len(&self.text.as_bytes()[place..])
+        text::line_end(self.text, offset)
     }
 
-    /// Where the run of white that begins here ends.
-    #[tactic(auto, unfolding(crate::specs::Bytes::run_end))]
-    pub fn white_end(&self, place: usize) -> usize
-        requires { place ≤ length self.now.text.now }
-        ensures value { result ≡ run_end is_white self.now.text.now place }
+    /// Finds where the run of white that begins here ends.
+    pub(crate) fn white_end(&self, offset: usize) -> usize
+        requires { offset ≤ length self.now.text.now }
+        ensures value { result ≡ run_end is_white self.now.text.now offset }
         ensures utf8 { IsUtf8 self.now.text.now }
     {
-        place + bytes::white_len(&self.text.as_bytes()[place..])
+        text::white_end(self.text, offset)
     }
 
+    /// Tells whether an LF stands between two offsets.
     #[tactic(auto, unfolding(crate::specs::Bytes::holds_line_feed))]
     fn holds_line_feed(&self, start: usize, end: usize) -> bool
         requires { (start ≤ end) × (end ≤ length self.now.text.now) }
@@ -131,143 +117,106 @@ impl<'a> Scanner<'a> {
         bytes::has_line_feed(&self.text.as_bytes()[start..end])
     }
 
-    /// Whether `*/` stands here.
-    fn is_comment_end(&self, place: usize) -> bool
-        ensures value { result ≡ is_comment_end self.now.text.now place }
-        ensures within { IsTrue result → place + 2 ≤ length self.now.text.now }
+    /// Tells what of a line gap stands at an offset.
+    #[tactic(auto, unfolding(crate::specs::Words::line_gap_at))]
+    pub(crate) fn line_gap_at(&self, offset: usize) -> GapPart
+        ensures value { result ≡ line_gap_at self.now.text.now offset }
+        ensures fits { FitsGap self.now.text.now offset result }
     {
-        self.byte(place) == Some(b'*') && self.byte(place + 1) == Some(b'/')
-    }
-
-    /// Where the first `*/` from this place on stands.
-    fn comment_end(&self, place: usize) -> Option<usize>
-        requires { place ≤ length self.now.text.now }
-        ensures value { result ≡ comment_end self.now.text.now place }
-        ensures within { IfSome result (λ b. (place ≤ b) × (b + 2 ≤ length self.now.text.now)) }
-    {
-        let mut end = place;
-        'bytes: while end < self.text.len() {
-            if self.is_comment_end(end) {
-                return Some(end);
-            }
-            end += 1;
-        }
-        None
-    }
-
-    #[tactic(auto, unfolding(crate::specs::Words::gap_mark))]
-    pub fn gap_mark(&self, place: usize) -> GapMark
-        requires { place ≤ length self.now.text.now }
-        ensures value { result ≡ gap_mark self.now.text.now place }
-        ensures fits { GapFits self.now.text.now place result }
-    {
-        match self.byte(place) {
-            Some(b) if bytes::is_white(b) => GapMark::Part(place + 1),
-            Some(b'/') => match self.byte(place + 1) {
-                Some(b'/') => GapMark::Part(self.line_end(place + 2)),
-                Some(b'*') => match self.comment_end(place + 2) {
-                    Some(end) => GapMark::Part(end + 2),
-                    None => GapMark::Unclosed,
-                },
-                _ => GapMark::NoPart,
+        match self.byte(offset) {
+            Some(b) if bytes::is_blank(b) => GapPart::Part(offset + 1),
+            Some(b'/') if self.byte(offset + 1) == Some(b'*') => match text::comment_end(
+                self.text,
+                offset + 2,
+            ) {
+                Some(end) if self.holds_line_feed(offset + 2, end) => GapPart::NoPart,
+                Some(end) => GapPart::Part(end + 2),
+                None => GapPart::Unclosed,
             },
-            _ => GapMark::NoPart,
+            _ => GapPart::NoPart,
         }
     }
 
-    #[tactic(auto, unfolding(crate::specs::Words::line_gap_mark))]
-    pub fn line_gap_mark(&self, place: usize) -> GapMark
-        requires { place ≤ length self.now.text.now }
-        ensures value { result ≡ line_gap_mark self.now.text.now place }
-        ensures fits { GapFits self.now.text.now place result }
-    {
-        match self.byte(place) {
-            Some(b) if bytes::is_blank(b) => GapMark::Part(place + 1),
-            Some(b'/') if self.byte(place + 1) == Some(b'*') => match self.comment_end(place + 2) {
-                Some(end) if self.holds_line_feed(place + 2, end) => GapMark::NoPart,
-                Some(end) => GapMark::Part(end + 2),
-                None => GapMark::Unclosed,
-            },
-            _ => GapMark::NoPart,
-        }
-    }
-
-    fn quoted(&self, quote: u8, place: usize) -> Mark
-        requires quote { slice_get self.now.text.now place ≡ Some quote }
+    /// Tells what begins at a quote.
+    fn quoted_kind(&self, quote: u8, offset: usize) -> TokenKind
+        requires quote { slice_get self.now.text.now offset ≡ Some quote }
         requires ascii { quote < 128 }
-        ensures value { result ≡ quoted_mark quote self.now.text.now place }
-        ensures fits { MarkFits self.now.text.now place result }
+        ensures value { result ≡ quoted_kind quote self.now.text.now offset }
+        ensures fits { FitsToken self.now.text.now offset result }
     {
-        match self.byte(place + 1) {
+        match self.byte(offset + 1) {
             Some(b) if b != b'\n' => {
-                let end = self.quoted_end(quote, place + 2);
+                let end = self.quoted_end(quote, offset + 2);
                 if self.byte(end) == Some(quote) {
-                    Mark::Quoted(end)
+                    TokenKind::Quoted(end)
                 } else {
-                    Mark::OpenQuote
+                    TokenKind::OpenQuote
                 }
             }
-            _ => Mark::OpenQuote,
+            _ => TokenKind::OpenQuote,
         }
     }
 
-    /// The mark of a sign.
-    fn sign(&self, b: u8, place: usize) -> Mark
-        requires { slice_get self.now.text.now place ≡ Some b }
-        ensures value { result ≡ sign_mark b self.now.text.now place }
-        ensures fits { MarkFits self.now.text.now place result }
+    /// Tells which sign stands here.
+    fn sign_kind(&self, b: u8, offset: usize) -> TokenKind
+        requires { slice_get self.now.text.now offset ≡ Some b }
+        ensures value { result ≡ sign_kind b self.now.text.now offset }
+        ensures fits { FitsToken self.now.text.now offset result }
     {
-        let next = self.byte(place + 1);
+        let next = self.byte(offset + 1);
         let is_arrow = next == Some(b'>');
         match b {
-            b'%' if next == Some(b'%') => Mark::Separator,
-            b'%' => Mark::Percent,
-            b':' => Mark::Colon,
-            b';' => Mark::Semicolon,
-            b'|' => Mark::Bar,
-            b'{' => Mark::Brace,
-            b'-' if is_arrow => Mark::Arrow,
-            b'\n' => Mark::Break,
-            b'/' if matches!(next, Some(b'/' | b'*')) => Mark::Break,
-            _ => Mark::Other,
+            b'%' if next == Some(b'%') => TokenKind::Separator,
+            b'%' => TokenKind::Percent,
+            b':' => TokenKind::Colon,
+            b';' => TokenKind::Semicolon,
+            b'|' => TokenKind::Bar,
+            b'{' => TokenKind::Brace,
+            b'-' if is_arrow => TokenKind::Arrow,
+            b'\n' => TokenKind::Break,
+            b'/' if matches!(next, Some(b'/' | b'*')) => TokenKind::Break,
+            _ => TokenKind::Other,
         }
     }
 
-    #[tactic(auto, unfolding(crate::specs::Words::mark_at))]
-    pub fn mark(&self, place: usize) -> Mark
-        requires { place ≤ length self.now.text.now }
-        ensures value { result ≡ mark_at self.now.text.now place }
-        ensures fits { MarkFits self.now.text.now place result }
+    /// Tells what stands at an offset, and where it ends.
+    #[tactic(auto, unfolding(crate::specs::Words::token_kind_at))]
+    pub(crate) fn token_kind_at(&self, offset: usize) -> TokenKind
+        ensures value { result ≡ token_kind_at self.now.text.now offset }
+        ensures fits { FitsToken self.now.text.now offset result }
     {
-        match self.byte(place) {
-            None => Mark::End,
-            Some(b) if bytes::is_name_start(b) => Mark::Name(self.name_end(place)),
-            Some(b) if bytes::is_digit(b) => Mark::Digits(self.digits_end(place)),
-            Some(b) if bytes::is_quote(b) => self.quoted(b, place),
-            Some(b) => self.sign(b, place),
+        match self.byte(offset) {
+            None => TokenKind::End,
+            Some(b) if bytes::is_name_start(b) => TokenKind::Name(self.name_end(offset)),
+            Some(b) if text::is_digit(b) => TokenKind::Digits(text::digits_end(self.text, offset)),
+            Some(b) if bytes::is_quote(b) => self.quoted_kind(b, offset),
+            Some(b) => self.sign_kind(b, offset),
         }
     }
 }
 
-impl Mark {
-    /// Whether a token begins here.
-    pub fn begins_token(self) -> bool
+impl TokenKind {
+    /// Tells whether a token begins here.
+    pub(crate) fn begins_token(self) -> bool
         ensures { result ≡ begins_token self }
     {
-        matches!(self, Mark::Name(_) | Mark::Quoted(_))
+        matches!(self, TokenKind::Name(_) | TokenKind::Quoted(_))
     }
 
-    /// Whether the tokens of `%token` end here.
-    pub fn ends_tokens(self) -> bool
+    /// Tells whether the tokens of `%token` end here.
+    pub(crate) fn ends_tokens(self) -> bool
         ensures { result ≡ ends_tokens self }
     {
-        matches!(self, Mark::End | Mark::Separator | Mark::Percent)
+        matches!(
+            self,
+            TokenKind::End | TokenKind::Separator | TokenKind::Percent
+        )
     }
 
-    /// Whether a line ends here, behind a line gap.
-    pub fn ends_line(self) -> bool
+    /// Tells whether a line ends here, behind a line gap.
+    pub(crate) fn ends_line(self) -> bool
         ensures { result ≡ ends_line self }
     {
-        matches!(self, Mark::End | Mark::Break)
+        matches!(self, TokenKind::End | TokenKind::Break)
     }
 }

@@ -1,7 +1,13 @@
 //! What a grammar text says, before its names are looked up.
 
+ghost use Rattle.std.specs.Prelude.{◌≡◌, OnOk};
+ghost use Rattle.cfg_read.specs.SyntaxUpdates.{no_syntax, append_list, append_number};
+ghost use Rattle.cfg_read.specs.SyntaxModels.{symbols_of, number_text, syntax_of};
+
 use crate::yacc::AssocKind;
+use crate::yacc::parser::declaration::{Count, LineList};
 use cfg_base::span::Span;
+use std::alloc::{AllocError, Global};
 
 /// A text, and where it stands.
 #[derive(Debug, Drop)]
@@ -26,18 +32,8 @@ pub struct Alternative {
     /// The token of `%prec`.
     pub precedence: Option<Word>,
     pub action: Option<Word>,
-    /// Symbols, `%empty` and `%prec` with its token; without these the place of the `|` or `;`.
+    /// Symbols, `%empty` and `%prec` with its token; without these an empty one at the `|` or `;`.
     pub span: Span,
-}
-
-/// An alternative as far as it is read.
-#[derive(Debug, Drop)]
-pub struct Draft {
-    pub symbols: Vec<Symbol>,
-    pub is_empty: bool,
-    pub precedence: Option<Word>,
-    pub action: Option<Word>,
-    pub span: Option<Span>,
 }
 
 /// One heading of a rule with its alternatives.
@@ -103,4 +99,55 @@ pub struct Syntax {
     pub rules: Vec<Rule>,
     /// The text behind the second `%%`.
     pub programs: Option<Word>,
+}
+
+impl Syntax {
+    /// Creates the syntax of an empty text.
+    pub(crate) fn new(alloc: Global) -> Syntax
+        ensures { syntax_of result ≡ no_syntax }
+    {
+        Syntax {
+            starts: Vec::new(alloc),
+            tokens: Vec::new(alloc),
+            levels: Vec::new(alloc),
+            avoid_insert: Vec::new(alloc),
+            implicit_tokens: Vec::new(alloc),
+            expect_unused: Vec::new(alloc),
+            expect: Vec::new(alloc),
+            expect_rr: Vec::new(alloc),
+            epp: Vec::new(alloc),
+            action_types: Vec::new(alloc),
+            parse_param: None,
+            parse_generics: None,
+            rules: Vec::new(alloc),
+            programs: None,
+        }
+    }
+
+    /// Appends what a line lists.
+    pub(crate) fn add_list(&mut self, list: LineList, items: Vec<Symbol>) -> Result<(), AllocError>
+        ensures { OnOk result (syntax_of self.new ≡ append_list (syntax_of self.old) list (symbols_of items.items)) }
+    {
+        match list {
+            LineList::Level(kind) => self.levels.push(Level {
+                kind,
+                tokens: items,
+            })?,
+            LineList::AvoidInsert => self.avoid_insert.push(Line { items })?,
+            LineList::ImplicitTokens => self.implicit_tokens.push(Line { items })?,
+            LineList::ExpectUnused => self.expect_unused.push(Line { items })?,
+        }
+        Ok(())
+    }
+
+    /// Appends the number of a declaration.
+    pub(crate) fn add_number(&mut self, count: Count, number: Number) -> Result<(), AllocError>
+        ensures { OnOk result (syntax_of self.new ≡ append_number (syntax_of self.old) count (number_text number)) }
+    {
+        match count {
+            Count::Expect => self.expect.push(number)?,
+            Count::ExpectRR => self.expect_rr.push(number)?,
+        }
+        Ok(())
+    }
 }

@@ -2,69 +2,21 @@
 
 ghost use Rattle.std.specs.Prelude.{◌≡◌, ◌+◌, ◌^◌, ◌≤◌, ◌<◌, length, slice_get, slice_range, Some, None, IfSome, MatchOption, IsTrue};
 ghost use Rattle.std.specs.Str.{IsCharBoundary, IsUtf8};
-ghost use Rattle.cfg_read.specs.Bytes.{first_place, trim_start, trim_end, trimmed};
+ghost use Rattle.cfg_base.specs.Text.{first_offset};
+ghost use Rattle.cfg_read.specs.Bytes.{trim_start, trim_end, trimmed};
 ghost use Rattle.cfg_read.specs.Words.{keyword, keyword_end, number_of, closes_string, breaks_string, stops_string, string_at, is_lone_colon, lone_colon, action_end};
-ghost use Rattle.cfg_read.specs.Declarations.{declaration_named, knows, declaration_of};
+ghost use Rattle.cfg_read.specs.Declarations.{declaration_of};
 ghost use Rattle.cfg_read.specs.Reading.{has_letters};
-ghost use Rattle.cfg_read.specs.Scanning.{FitsDigits, FitsPart, StringFits, depth_behind};
+ghost use Rattle.cfg_read.specs.Scanning.{FitsDigits, FitsPart, FitsString, depth_behind};
 
 use crate::yacc::parser::bytes;
-use crate::yacc::parser::declaration::{Count, Declaration, LineList, LineText};
-use crate::yacc::parser::scan::{Scanner, StringMark};
-use crate::yacc::{AssocKind, YaccKind};
+use crate::yacc::parser::declaration::{Declaration, declaration_named, knows};
+use crate::yacc::parser::scan::{Scanner, StringKind};
 use cfg_base::span::Span;
+use cfg_base::text;
 
-/// The declaration of a word.
-#[tactic(auto, unfolding(crate::specs::Declarations::declaration_named))]
-fn declaration_named(word: &str) -> Option<Declaration>
-    ensures { result ≡ declaration_named word.now }
-{
-    if word == "token" {
-        Some(Declaration::Token)
-    } else if word == "left" {
-        Some(Declaration::Items(LineList::Level(AssocKind::Left)))
-    } else if word == "right" {
-        Some(Declaration::Items(LineList::Level(AssocKind::Right)))
-    } else if word == "nonassoc" {
-        Some(Declaration::Items(LineList::Level(AssocKind::Nonassoc)))
-    } else if word == "avoid_insert" {
-        Some(Declaration::Items(LineList::AvoidInsert))
-    } else if word == "implicit_tokens" {
-        Some(Declaration::Items(LineList::ImplicitTokens))
-    } else if word == "expect-unused" {
-        Some(Declaration::Items(LineList::ExpectUnused))
-    } else if word == "start" {
-        Some(Declaration::Start)
-    } else if word == "expect" {
-        Some(Declaration::Number(Count::Expect))
-    } else if word == "expect-rr" {
-        Some(Declaration::Number(Count::ExpectRR))
-    } else if word == "epp" {
-        Some(Declaration::Epp)
-    } else if word == "actiontype" {
-        Some(Declaration::Rest(LineText::ActionType))
-    } else if word == "parse-param" {
-        Some(Declaration::Rest(LineText::ParseParam))
-    } else if word == "parse-generics" {
-        Some(Declaration::Rest(LineText::ParseGenerics))
-    } else {
-        None
-    }
-}
-
-/// Whether a kind has a declaration.
-fn knows(kind: YaccKind, declaration: Declaration) -> bool
-    ensures { result ≡ knows kind declaration }
-{
-    match declaration {
-        Declaration::Items(LineList::ImplicitTokens) => matches!(kind, YaccKind::Eco),
-        Declaration::Rest(LineText::ActionType) => matches!(kind, YaccKind::Original(_)),
-        _ => true,
-    }
-}
-
-/// How many braces are open behind a byte, where so many are before it; none, if the byte closes the
-/// action itself.
+/// Counts the braces that are open behind a byte, where `depth` are before it; `None` where the byte
+/// closes the action itself.
 fn depth_behind(byte: u8, depth: usize) -> Option<usize>
     requires { depth + 1 < 2 ^ 64 }
     ensures { result ≡ depth_behind byte depth }
@@ -77,91 +29,93 @@ fn depth_behind(byte: u8, depth: usize) -> Option<usize>
 }
 
 impl<'a> Scanner<'a> {
-    /// Where the word behind the `%` at a place ends.
-    #[tactic(auto, unfolding(crate::specs::Bytes::run_end))]
-    fn keyword_end(&self, place: usize) -> usize
-        requires { place < length self.now.text.now }
-        ensures value { result ≡ keyword_end self.now.text.now place }
+    /// Finds where the word behind the `%` at an offset ends.
+    #[tactic(auto, unfolding(cfg_base::specs::Text::run_end))]
+    fn keyword_end(&self, offset: usize) -> usize
+        requires { offset < length self.now.text.now }
+        ensures value { result ≡ keyword_end self.now.text.now offset }
         ensures utf8 { IsUtf8 self.now.text.now }
     {
-        place + 1 + bytes::keyword_len(&self.text.as_bytes()[place + 1..])
+        offset + 1 + bytes::keyword_len(&self.text.as_bytes()[offset + 1..])
     }
 
-    /// The declaration whose word stands behind the `%` at a place, and where the word ends.
-    pub fn declaration(&self, place: usize) -> Option<(Declaration, usize)>
-        requires { (place < length self.now.text.now) × IsCharBoundary self.now.text.now (place + 1) }
-        ensures value { MatchOption result (declaration_of self.now.kind (keyword self.now.text.now place) ≡ None) (λ d. (declaration_of self.now.kind (keyword self.now.text.now place) ≡ Some d.0) × (d.1 ≡ keyword_end self.now.text.now place)) }
-        ensures fits { IfSome result (λ d. FitsPart self.now.text.now (place + 1) d.1) }
+    /// Reads the word behind the `%` at an offset: answers its declaration, and where the word ends.
+    pub(crate) fn parse_keyword(&self, offset: usize) -> Option<(Declaration, usize)>
+        requires { (offset < length self.now.text.now) × IsCharBoundary self.now.text.now (offset + 1) }
+        ensures value { MatchOption result (declaration_of self.now.kind (keyword self.now.text.now offset) ≡ None) (λ d. (declaration_of self.now.kind (keyword self.now.text.now offset) ≡ Some d.0) × (d.1 ≡ keyword_end self.now.text.now offset)) }
+        ensures fits { IfSome result (λ d. FitsPart self.now.text.now (offset + 1) d.1) }
     {
-        let end = self.keyword_end(place);
-        match declaration_named(&self.text[place + 1..end]) {
+        let end = self.keyword_end(offset);
+        match declaration_named(&self.text[offset + 1..end]) {
             Some(declaration) if knows(self.kind, declaration) => Some((declaration, end)),
             _ => None,
         }
     }
 
-    /// Whether `empty` stands behind the `%` at a place.
+    /// Tells whether `empty` stands behind the `%` at an offset.
     #[tactic(auto, unfolding(crate::specs::Reading::has_letters))]
-    pub fn has_empty(&self, place: usize) -> bool
-        requires { place < length self.now.text.now }
-        ensures value { result ≡ has_letters self.now.text.now place "empty" }
-        ensures within { IsTrue result → place + 6 ≤ length self.now.text.now }
+    pub(crate) fn has_empty(&self, offset: usize) -> bool
+        requires { offset < length self.now.text.now }
+        ensures value { result ≡ has_letters self.now.text.now offset "empty" }
+        ensures within { IsTrue result → offset + 6 ≤ length self.now.text.now }
     {
-        self.text.as_bytes()[place + 1..].starts_with(b"empty")
+        self.text.as_bytes()[offset + 1..].starts_with(b"empty")
     }
 
-    /// Whether `prec` stands behind the `%` at a place.
+    /// Tells whether `prec` stands behind the `%` at an offset.
     #[tactic(auto, unfolding(crate::specs::Reading::has_letters))]
-    pub fn has_prec(&self, place: usize) -> bool
-        requires { place < length self.now.text.now }
-        ensures value { result ≡ has_letters self.now.text.now place "prec" }
-        ensures within { IsTrue result → place + 5 ≤ length self.now.text.now }
+    pub(crate) fn has_prec(&self, offset: usize) -> bool
+        requires { offset < length self.now.text.now }
+        ensures value { result ≡ has_letters self.now.text.now offset "prec" }
+        ensures within { IsTrue result → offset + 5 ≤ length self.now.text.now }
     {
-        self.text.as_bytes()[place + 1..].starts_with(b"prec")
+        self.text.as_bytes()[offset + 1..].starts_with(b"prec")
     }
 
-    /// The number that these digits write, if it isn't too large.
+    /// Answers the number that these digits write, if it isn't too large.
     #[tactic(auto, unfolding(crate::specs::Words::number_of))]
-    pub fn number(&self, start: usize, end: usize) -> Option<usize>
+    pub(crate) fn number_value(&self, start: usize, end: usize) -> Option<usize>
         requires { FitsDigits self.now.text.now start end }
         ensures { result ≡ number_of (slice_range self.now.text.now start end) }
     {
         self.text[start..end].parse().ok()
     }
 
-    fn closes_string(&self, quote: u8, place: usize) -> bool
-        requires { 0 < place }
-        ensures value { result ≡ closes_string quote self.now.text.now place }
-        ensures quote { IsTrue result → slice_get self.now.text.now place ≡ Some quote }
+    /// Tells whether this quote stands here and ends a string.
+    fn closes_string(&self, quote: u8, offset: usize) -> bool
+        requires { 0 < offset }
+        ensures value { result ≡ closes_string quote self.now.text.now offset }
+        ensures quote { IsTrue result → slice_get self.now.text.now offset ≡ Some quote }
     {
-        self.byte(place) == Some(quote) && self.byte(place - 1) != Some(b'\\')
+        self.byte(offset) == Some(quote) && self.byte(offset - 1) != Some(b'\\')
     }
 
-    fn breaks_string(&self, place: usize) -> bool
-        requires { place < length self.now.text.now }
-        ensures { result ≡ breaks_string self.now.text.now place }
+    /// Tells whether what stands here can't stand in a string.
+    fn breaks_string(&self, offset: usize) -> bool
+        ensures { result ≡ breaks_string self.now.text.now offset }
     {
-        match self.byte(place) {
+        match self.byte(offset) {
             Some(b'\r' | b'\n') => true,
-            Some(b'\\') => !matches!(self.byte(place + 1), Some(b'\'' | b'"')),
+            Some(b'\\') => !matches!(self.byte(offset + 1), Some(b'\'' | b'"')),
             _ => false,
         }
     }
 
-    fn stops_string(&self, quote: u8, place: usize) -> bool
-        requires { (0 < place) × (place < length self.now.text.now) }
-        ensures { result ≡ stops_string quote self.now.text.now place }
+    /// Tells whether a string ends or breaks here.
+    fn stops_string(&self, quote: u8, offset: usize) -> bool
+        requires { 0 < offset }
+        ensures { result ≡ stops_string quote self.now.text.now offset }
     {
-        self.closes_string(quote, place) || self.breaks_string(place)
+        self.closes_string(quote, offset) || self.breaks_string(offset)
     }
 
-    /// The first place from this one on where a string ends or breaks.
-    fn string_stop(&self, quote: u8, place: usize) -> Option<usize>
-        requires { (0 < place) × (place ≤ length self.now.text.now) }
-        ensures value { result ≡ first_place (stops_string quote self.now.text.now) place (length self.now.text.now) }
-        ensures within { IfSome result (λ b. (place ≤ b) × (b < length self.now.text.now)) }
+    /// Finds the first offset from this one on where a string ends or breaks.
+    fn string_stop(&self, quote: u8, offset: usize) -> Option<usize>
+        requires { 0 < offset }
+        ensures value { result ≡ first_offset (stops_string quote self.now.text.now) offset (length self.now.text.now) }
+        ensures within { IfSome result (λ b. (offset ≤ b) × (b < length self.now.text.now)) }
     {
-        let mut end = place;
+        let mut end = offset;
         'bytes: while end < self.text.len() {
             if self.stops_string(quote, end) {
                 return Some(end);
@@ -171,69 +125,68 @@ impl<'a> Scanner<'a> {
         None
     }
 
-    /// The string at a place.
+    /// Tells what string stands at an offset.
     #[tactic(auto, unfolding(crate::specs::Words::string_at))]
-    pub fn string_mark(&self, place: usize) -> StringMark
-        requires { place ≤ length self.now.text.now }
-        ensures value { result ≡ string_at self.now.text.now place }
-        ensures fits { StringFits self.now.text.now place result }
+    pub(crate) fn string_at(&self, offset: usize) -> StringKind
+        ensures value { result ≡ string_at self.now.text.now offset }
+        ensures fits { FitsString self.now.text.now offset result }
     {
-        match self.byte(place) {
-            Some(quote) if bytes::is_quote(quote) => match self.string_stop(quote, place + 1) {
-                Some(end) if self.closes_string(quote, end) => StringMark::Closed(end),
-                Some(end) => StringMark::Broken(end),
-                None => StringMark::Broken(self.text.len()),
+        match self.byte(offset) {
+            Some(quote) if bytes::is_quote(quote) => match self.string_stop(quote, offset + 1) {
+                Some(end) if self.closes_string(quote, end) => StringKind::Closed(end),
+                Some(end) => StringKind::Broken(end),
+                None => StringKind::Broken(self.text.len()),
             },
-            _ => StringMark::Broken(place),
+            _ => StringKind::Broken(offset),
         }
     }
 
-    fn is_lone_colon(&self, place: usize) -> bool
-        requires { (0 < place) × (place < length self.now.text.now) }
-        ensures value { result ≡ is_lone_colon self.now.text.now place }
+    /// Tells whether a `:` stands here that isn't next to another.
+    fn is_lone_colon(&self, offset: usize) -> bool
+        requires { 0 < offset }
+        ensures value { result ≡ is_lone_colon self.now.text.now offset }
         ensures utf8 { IsUtf8 self.now.text.now }
     {
-        self.byte(place) == Some(b':')
-            && self.byte(place + 1) != Some(b':')
-            && self.byte(place - 1) != Some(b':')
+        self.byte(offset) == Some(b':')
+            && self.byte(offset + 1) != Some(b':')
+            && self.byte(offset - 1) != Some(b':')
     }
 
-    /// Where the first `:` that isn't next to another stands between two places.
-    pub fn lone_colon(&self, start: usize, end: usize) -> Option<usize>
-        requires { (0 < start) × (start ≤ end) × (end ≤ length self.now.text.now) }
+    /// Finds the first `:` between two offsets that isn't next to another.
+    pub(crate) fn lone_colon(&self, start: usize, end: usize) -> Option<usize>
+        requires { 0 < start }
         ensures value { result ≡ lone_colon self.now.text.now start end }
         ensures within { IfSome result (λ c. (start ≤ c) × (c < end) × IsCharBoundary self.now.text.now c × IsCharBoundary self.now.text.now (c + 1)) }
     {
-        let mut place = start;
-        'bytes: while place < end {
-            if self.is_lone_colon(place) {
-                return Some(place);
+        let mut offset = start;
+        'bytes: while offset < end {
+            if self.is_lone_colon(offset) {
+                return Some(offset);
             }
-            place += 1;
+            offset += 1;
         }
         None
     }
 
-    /// Where the `}` of the action stands that begins at this place, behind its `{`.
-    pub fn action_end(&self, start: usize) -> Option<usize>
-        requires { start ≤ length self.now.text.now }
+    /// Finds the `}` of the action that begins at this offset, behind its `{`.
+    pub(crate) fn action_end(&self, start: usize) -> Option<usize>
         ensures value { result ≡ action_end self.now.text.now start }
         ensures within { IfSome result (λ b. (start ≤ b) × (b < length self.now.text.now) × IsCharBoundary self.now.text.now b) }
     {
-        let mut place = start;
+        let mut offset = start;
         let mut depth: usize = 0;
-        'bytes: while let Some(byte) = self.byte(place) {
+        'bytes: while let Some(byte) = self.byte(offset) {
             let Some(next) = depth_behind(byte, depth) else {
-                return Some(place);
+                return Some(offset);
             };
             depth = next;
-            place += 1;
+            offset += 1;
         }
         None
     }
 
-    /// The text between two places without the white at its ends.
-    pub fn trim(&self, start: usize, end: usize) -> Span
+    /// Answers the span of the text between two offsets without the white at its ends.
+    pub(crate) fn trim(&self, start: usize, end: usize) -> Span
         requires { FitsPart self.now.text.now start end }
         ensures value { result ≡ trimmed self.now.text.now start end }
         ensures fits { FitsPart self.now.text.now result.start result.end }
@@ -242,15 +195,17 @@ impl<'a> Scanner<'a> {
         Span::new(from, self.trim_end(from, end))
     }
 
+    /// Finds where the text between two offsets begins without its first white.
     #[tactic(auto, unfolding(crate::specs::Bytes::trim_start))]
     fn trim_start(&self, start: usize, end: usize) -> usize
         requires { FitsPart self.now.text.now start end }
         ensures value { result ≡ trim_start self.now.text.now start end }
         ensures utf8 { IsUtf8 self.now.text.now }
     {
-        start + bytes::white_len(&self.text.as_bytes()[start..end])
+        start + text::white_len(&self.text.as_bytes()[start..end])
     }
 
+    /// Finds where the text between two offsets ends without its last white.
     #[tactic(auto, unfolding(crate::specs::Bytes::trim_end))]
     fn trim_end(&self, start: usize, end: usize) -> usize
         requires { FitsPart self.now.text.now start end }

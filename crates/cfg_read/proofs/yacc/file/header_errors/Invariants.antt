@@ -1,7 +1,7 @@
 use Rattle.std.specs.Prelude.{◌≡◌, map}
-use Rattle.cfg_base.specs.SectionFaults.{error_text}
+use Rattle.cfg_base.specs.SectionResults.{error_text}
 use Rattle.cfg_read.specs.Validity.{header_failure}
-use Rattle.cfg_read.specs.Showing.{failures_in}
+use Rattle.cfg_read.specs.ErrorModels.{failures_in}
 use Rattle.cfg_read.proofs.yacc.file.header_errors.Given as goal
 
 abbrev pub invariant-errors : goal.invariant-errors

@@ -1,4 +1,4 @@
-use Rattle.cfg_read.specs.Showing.{failures_in}
+use Rattle.cfg_read.specs.ErrorModels.{failures_in}
 use Rattle.cfg_read.proofs.FileFailures.{front_fails}
 use Rattle.cfg_read.proofs.yacc.file.no_kind.Goals as goal
 

@@ -2,8 +2,8 @@ use Rattle.std.proofs.Common.{◌≡◌, ◌+◌, ◌++◌, [], ◌∷◌, map, 
 use Rattle.std.proofs.lemmas.List.{take_more, take_all, map-append}
 use Rattle.cfg_read.specs.declared.yacc.parser.syntax.Word.{Word}
 use Rattle.cfg_read.specs.Names.{distinct, texts}
-use Rattle.cfg_read.specs.Views.{word_of}
-use Rattle.cfg_read.specs.Showing.{words_at}
+use Rattle.cfg_read.specs.SyntaxModels.{word_of}
+use Rattle.cfg_read.specs.NameModels.{words_at}
 use Rattle.cfg_read.proofs.NameLemmas.{has_all, names_step}
 use Rattle.cfg_read.proofs.yacc.names.distinct_names.Goals as goal
 

@@ -1,7 +1,7 @@
 use Rattle.std.proofs.Common.{◌≡◌, map, take}
 use Rattle.cfg_read.specs.SyntaxTexts.{EppText}
-use Rattle.cfg_read.specs.Views.{epp_of}
-use Rattle.cfg_read.specs.Showing.{words_at}
+use Rattle.cfg_read.specs.SyntaxModels.{epp_of}
+use Rattle.cfg_read.specs.NameModels.{words_at}
 use Rattle.cfg_read.proofs.yacc.names.epp_words.Given as goal
 
 abbrev pub invariant-epp : goal.invariant-epp

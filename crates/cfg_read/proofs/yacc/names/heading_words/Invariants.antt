@@ -1,7 +1,7 @@
 use Rattle.std.proofs.Common.{◌≡◌, map, take}
 use Rattle.cfg_read.specs.SyntaxTexts.{RuleText}
-use Rattle.cfg_read.specs.Views.{rule_of}
-use Rattle.cfg_read.specs.Showing.{words_at}
+use Rattle.cfg_read.specs.SyntaxModels.{rule_of}
+use Rattle.cfg_read.specs.NameModels.{words_at}
 use Rattle.cfg_read.proofs.yacc.names.heading_words.Given as goal
 
 abbrev pub invariant-rules : goal.invariant-rules

@@ -2,8 +2,8 @@ use Rattle.std.proofs.Common.{◌≡◌, map, take}
 use Rattle.std.specs.List.{flat_map}
 use Rattle.cfg_read.specs.SyntaxTexts.{LevelText}
 use Rattle.cfg_read.specs.Names.{words_in}
-use Rattle.cfg_read.specs.Views.{level_of}
-use Rattle.cfg_read.specs.Showing.{words_at}
+use Rattle.cfg_read.specs.SyntaxModels.{level_of}
+use Rattle.cfg_read.specs.NameModels.{words_at}
 use Rattle.cfg_read.proofs.yacc.names.level_words.Given as goal
 
 abbrev pub invariant-levels : goal.invariant-levels

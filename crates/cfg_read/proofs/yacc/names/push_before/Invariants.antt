@@ -1,14 +1,14 @@
 use Rattle.std.proofs.Common.{◌≡◌, ◌≤◌, ◌-◌, ◌++◌, List, drop, length}
 use Rattle.cfg_read.specs.SyntaxTexts.{WordText}
-use Rattle.cfg_read.specs.Names.{placed}
-use Rattle.cfg_read.specs.Showing.{words_at}
+use Rattle.cfg_read.specs.Names.{put_by_offset}
+use Rattle.cfg_read.specs.NameModels.{words_at}
 use Rattle.cfg_read.proofs.yacc.names.push_before.Given as goal
 
 abbrev pub invariant-scan : goal.invariant-scan
 invariant-scan l = record {
   within : l.at ≤ length l.words;
-  same : (v : WordText) → (rest : List WordText → List WordText) → v.span.start ≡ l.place →
-      words_at l.found.items ++ placed v rest (drop l.at (words_at l.words)) ≡ words_at l.fn.found.items ++ placed v rest (drop l.next (words_at l.words));
+  same : (v : WordText) → (rest : List WordText → List WordText) → v.span.start ≡ l.offset →
+      words_at l.found.items ++ put_by_offset v rest (drop l.at (words_at l.words)) ≡ words_at l.fn.found.items ++ put_by_offset v rest (drop l.next (words_at l.words));
 }
 
 abbrev pub decreases-scan : goal.decreases-scan

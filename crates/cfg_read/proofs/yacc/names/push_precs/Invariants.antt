@@ -1,8 +1,8 @@
 use Rattle.std.proofs.Common.{◌≡◌, ◌++◌, map, take, option_to_list}
 use Rattle.std.specs.List.{flat_map}
 use Rattle.cfg_read.specs.SyntaxTexts.{AlternativeText}
-use Rattle.cfg_read.specs.Views.{alternative_of}
-use Rattle.cfg_read.specs.Showing.{words_at}
+use Rattle.cfg_read.specs.SyntaxModels.{alternative_of}
+use Rattle.cfg_read.specs.NameModels.{words_at}
 use Rattle.cfg_read.proofs.yacc.names.push_precs.Given as goal
 
 abbrev pub invariant-alternatives : goal.invariant-alternatives

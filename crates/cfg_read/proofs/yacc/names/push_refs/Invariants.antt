@@ -1,5 +1,5 @@
 use Rattle.std.proofs.Common.{◌≡◌, ◌++◌, take}
-use Rattle.cfg_read.specs.Showing.{words_at}
+use Rattle.cfg_read.specs.NameModels.{words_at}
 use Rattle.cfg_read.proofs.yacc.names.push_refs.Given as goal
 
 abbrev pub invariant-words : goal.invariant-words

@@ -1,6 +1,6 @@
 use Rattle.std.proofs.Common.{◌≡◌, ◌++◌, take}
-use Rattle.cfg_read.specs.Views.{symbols_of}
-use Rattle.cfg_read.specs.Showing.{symbols_at}
+use Rattle.cfg_read.specs.SyntaxModels.{symbols_of}
+use Rattle.cfg_read.specs.NameModels.{symbols_at}
 use Rattle.cfg_read.proofs.yacc.names.push_symbols.Given as goal
 
 abbrev pub invariant-symbols : goal.invariant-symbols

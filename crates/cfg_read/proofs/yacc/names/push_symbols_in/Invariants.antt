@@ -1,8 +1,8 @@
 use Rattle.std.proofs.Common.{◌≡◌, ◌++◌, map, take}
 use Rattle.std.specs.List.{flat_map}
 use Rattle.cfg_read.specs.SyntaxTexts.{AlternativeText}
-use Rattle.cfg_read.specs.Views.{alternative_of}
-use Rattle.cfg_read.specs.Showing.{symbols_at}
+use Rattle.cfg_read.specs.SyntaxModels.{alternative_of}
+use Rattle.cfg_read.specs.NameModels.{symbols_at}
 use Rattle.cfg_read.proofs.yacc.names.push_symbols_in.Given as goal
 
 abbrev pub invariant-alternatives : goal.invariant-alternatives

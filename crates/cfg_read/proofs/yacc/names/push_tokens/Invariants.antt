@@ -1,6 +1,6 @@
 use Rattle.std.proofs.Common.{◌≡◌, ◌++◌, take}
 use Rattle.cfg_read.specs.Names.{tokens_by}
-use Rattle.cfg_read.specs.Showing.{words_at, symbols_at, has_name}
+use Rattle.cfg_read.specs.NameModels.{words_at, symbols_at, has_name}
 use Rattle.cfg_read.proofs.yacc.names.push_tokens.Given as goal
 
 abbrev pub invariant-symbols : goal.invariant-symbols

@@ -1,7 +1,7 @@
 use Rattle.std.proofs.Common.{◌≡◌, ◌++◌, take}
 use Rattle.cfg_read.specs.Names.{words_in}
-use Rattle.cfg_read.specs.Views.{symbols_of}
-use Rattle.cfg_read.specs.Showing.{words_at}
+use Rattle.cfg_read.specs.SyntaxModels.{symbols_of}
+use Rattle.cfg_read.specs.NameModels.{words_at}
 use Rattle.cfg_read.proofs.yacc.names.push_words.Given as goal
 
 abbrev pub invariant-symbols : goal.invariant-symbols

@@ -1,6 +1,6 @@
 use Rattle.std.proofs.Common.{◌≡◌, take}
 use Rattle.cfg_read.specs.Names.{rules_by}
-use Rattle.cfg_read.specs.Showing.{words_at, symbols_at, has_name}
+use Rattle.cfg_read.specs.NameModels.{words_at, symbols_at, has_name}
 use Rattle.cfg_read.proofs.yacc.names.rule_words.Given as goal
 
 abbrev pub invariant-symbols : goal.invariant-symbols

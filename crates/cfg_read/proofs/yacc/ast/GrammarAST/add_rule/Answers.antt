@@ -2,7 +2,7 @@ use Rattle.std.proofs.Common.{◌≡◌, ℕ, List, [], map, option_map, sym, ap
 use Rattle.std.specs.String.{string_bytes}
 use Rattle.cfg_read.specs.Asts.{Ast, RuleAst}
 use Rattle.cfg_read.specs.AstChanges.{put_rule, with_rule}
-use Rattle.cfg_read.specs.AstViews.{named_rule}
+use Rattle.cfg_read.specs.AstModels.{named_rule}
 use Rattle.cfg_read.specs.declared.yacc.ast.Rule.{Rule}
 use Rattle.cfg_read.specs.contracts.yacc.ast.GrammarAST.{the_view}
 use Rattle.cfg_read.proofs.ChangeLemmas.{own, key, put_entry, names_put}

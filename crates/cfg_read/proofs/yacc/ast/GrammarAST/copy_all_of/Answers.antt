@@ -1,6 +1,6 @@
 use Rattle.std.proofs.Common.{Bool, ap, ◌∙◌}
 use Rattle.cfg_read.specs.Asts.{Ast}
-use Rattle.cfg_read.specs.Building.{with_tokens_of, with_texts_of, with_expected_of}
+use Rattle.cfg_read.specs.AstBuild.{with_tokens_of, with_texts_of, with_expected_of}
 use Rattle.cfg_read.proofs.yacc.ast.GrammarAST.copy_all_of.Goals as goal
 
 pub returns : goal.returns

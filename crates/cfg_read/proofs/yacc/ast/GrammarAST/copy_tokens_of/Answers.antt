@@ -1,7 +1,7 @@
 use Rattle.std.proofs.Common.{ap, ◌∙◌}
 use Rattle.cfg_read.specs.contracts.yacc.ast.GrammarAST.{the_view}
 use Rattle.cfg_read.specs.Asts.{Ast}
-use Rattle.cfg_read.specs.Building.{with_tokens_of}
+use Rattle.cfg_read.specs.AstBuild.{with_tokens_of}
 use Rattle.cfg_read.proofs.ChangeLemmas.{tokens_put}
 use Rattle.cfg_read.proofs.yacc.ast.GrammarAST.copy_tokens_of.Goals as goal
 

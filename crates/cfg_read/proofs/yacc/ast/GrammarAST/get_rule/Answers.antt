@@ -1,8 +1,8 @@
 use Rattle.std.proofs.Common.{is_some, option_map, ap, ◌∙◌}
 use Rattle.cfg_read.specs.Asts.{Ast}
 use Rattle.cfg_read.specs.AstChanges.{rule_named}
-use Rattle.cfg_read.specs.AstViews.{rule_entry_of}
-use Rattle.cfg_read.specs.Building.{has_rule}
+use Rattle.cfg_read.specs.AstModels.{rule_entry_of}
+use Rattle.cfg_read.specs.AstBuild.{has_rule}
 use Rattle.cfg_read.proofs.ChangeLemmas.{rule_found}
 use Rattle.cfg_read.proofs.RuleLemmas.{found_rule, copied_is_some}
 use Rattle.cfg_read.proofs.yacc.ast.GrammarAST.get_rule.Goals as goal

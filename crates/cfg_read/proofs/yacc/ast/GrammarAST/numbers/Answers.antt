@@ -6,7 +6,7 @@ use Rattle.std.specs.String.{string_bytes}
 use Rattle.cfg_read.specs.declared.yacc.ast.Rule.{Rule}
 use Rattle.cfg_read.specs.Asts.{Ast, RuleAst}
 use Rattle.cfg_read.specs.AstChanges.{rule_named}
-use Rattle.cfg_read.specs.WarningViews.{rule_names}
+use Rattle.cfg_read.specs.WarningModels.{rule_names}
 use Rattle.cfg_read.proofs.WarningLemmas.{found_named, found_none, distinct_map, rule_names_of}
 use Rattle.cfg_read.proofs.yacc.ast.GrammarAST.numbers.Goals as goal
 

@@ -2,10 +2,10 @@ use Rattle.std.proofs.Common.{◌≡◌, ◌||◌, [], ◌∷◌, ◌++◌, map,
 use Rattle.std.specs.String.{string_bytes}
 use Rattle.cfg_read.specs.SyntaxTexts.{WordText}
 use Rattle.cfg_read.specs.Asts.{Ast}
-use Rattle.cfg_read.specs.AstViews.{ast_symbol_of, named_rule}
-use Rattle.cfg_read.specs.Showing.{has_name}
+use Rattle.cfg_read.specs.AstModels.{ast_symbol_of, named_rule}
+use Rattle.cfg_read.specs.NameModels.{has_name}
 use Rattle.cfg_read.specs.Warnings.{WarningText, UnusedRule, expects_rule, warnings_at, unused_rules}
-use Rattle.cfg_read.specs.WarningViews.{warnings_in}
+use Rattle.cfg_read.specs.WarningModels.{warnings_in}
 use Rattle.cfg_read.proofs.WarningLemmas.{told_more, with_rules}
 use Rattle.cfg_read.proofs.yacc.ast.GrammarAST.push_unused_rules.Goals as goal
 

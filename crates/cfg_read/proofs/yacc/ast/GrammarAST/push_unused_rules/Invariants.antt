@@ -1,8 +1,8 @@
 use Rattle.std.proofs.Common.{◌≡◌, ◌++◌, map}
-use Rattle.cfg_read.specs.AstViews.{named_rule}
-use Rattle.cfg_read.specs.Showing.{has_name}
+use Rattle.cfg_read.specs.AstModels.{named_rule}
+use Rattle.cfg_read.specs.NameModels.{has_name}
 use Rattle.cfg_read.specs.Warnings.{UnusedRule, warnings_at, unused_rules}
-use Rattle.cfg_read.specs.WarningViews.{warnings_in}
+use Rattle.cfg_read.specs.WarningModels.{warnings_in}
 use Rattle.cfg_read.proofs.WarningLemmas.{with_rules}
 use Rattle.cfg_read.proofs.yacc.ast.GrammarAST.push_unused_rules.Given as goal
 

@@ -2,7 +2,7 @@ use Rattle.std.proofs.Common.{◌≡◌, ◌+◌, ◌-◌, ◌<◌, ◌≤◌, �
 use Rattle.std.specs.Str.{bytes_eq}
 use Rattle.std.proofs.lemmas.List.{length-map}
 use Rattle.std.proofs.lemmas.Option.{slice_get-map}
-use Rattle.cfg_read.specs.Showing.{names_in}
+use Rattle.cfg_read.specs.NameModels.{names_in}
 use Rattle.cfg_read.proofs.WarningLemmas.{distinct_map, has_set}
 use Rattle.cfg_read.proofs.ReachedLemmas.{Walked, all_names, walk_start, walk_step, walk_end, walk_bound}
 use Rattle.cfg_read.proofs.yacc.ast.GrammarAST.reached.Goals as goal

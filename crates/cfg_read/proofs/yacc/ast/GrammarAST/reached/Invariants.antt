@@ -1,5 +1,5 @@
 use Rattle.std.proofs.Common.{◌-◌, length}
-use Rattle.cfg_read.specs.Showing.{names_in}
+use Rattle.cfg_read.specs.NameModels.{names_in}
 use Rattle.cfg_read.proofs.ReachedLemmas.{Walked, all_names}
 use Rattle.cfg_read.proofs.yacc.ast.GrammarAST.reached.Given as goal
 

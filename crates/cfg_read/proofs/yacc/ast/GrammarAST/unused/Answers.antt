@@ -1,7 +1,7 @@
 use Rattle.std.proofs.Common.{◌++◌, ap, ◌∙◌}
-use Rattle.cfg_read.specs.Showing.{has_name}
+use Rattle.cfg_read.specs.NameModels.{has_name}
 use Rattle.cfg_read.specs.Warnings.{UnusedRule, UnusedToken, warnings_at, unused_rules, unused_tokens}
-use Rattle.cfg_read.specs.WarningViews.{warnings_in}
+use Rattle.cfg_read.specs.WarningModels.{warnings_in}
 use Rattle.cfg_read.proofs.yacc.ast.GrammarAST.unused.Goals as goal
 
 pub returns : goal.returns

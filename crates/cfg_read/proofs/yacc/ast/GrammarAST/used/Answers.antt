@@ -1,6 +1,6 @@
 use Rattle.std.proofs.Common.{◌≡◌, ◌+◌, ◌≤◌, ℕ, List, [], Some, length, get_or, slice_get, sym, ap, ◌∙◌, subst, arith, Bor}
 use Rattle.std.proofs.lemmas.List.{length-map}
-use Rattle.cfg_read.specs.Showing.{names_in}
+use Rattle.cfg_read.specs.NameModels.{names_in}
 use Rattle.cfg_read.proofs.WarningLemmas.{has_set}
 use Rattle.cfg_read.proofs.ReachedLemmas.{Gathered, at_gives, item_there, gather_step, gather_end}
 use Rattle.cfg_read.proofs.yacc.ast.GrammarAST.used.Goals as goal

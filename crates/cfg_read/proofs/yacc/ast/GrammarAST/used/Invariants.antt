@@ -1,4 +1,4 @@
-use Rattle.cfg_read.specs.Showing.{names_in}
+use Rattle.cfg_read.specs.NameModels.{names_in}
 use Rattle.cfg_read.proofs.ReachedLemmas.{Gathered}
 use Rattle.cfg_read.proofs.yacc.ast.GrammarAST.used.Given as goal
 

@@ -4,8 +4,8 @@ use Rattle.cfg_read.specs.declared.yacc.parser.syntax.Symbol.{Symbol}
 use Rattle.cfg_read.specs.declared.yacc.parser.syntax.Line.{Line}
 use Rattle.cfg_read.specs.SyntaxTexts.{SymbolText}
 use Rattle.cfg_read.specs.Asts.{expected_ast}
-use Rattle.cfg_read.specs.Showing.{symbols_at}
-use Rattle.cfg_read.specs.Views.{line_of}
+use Rattle.cfg_read.specs.NameModels.{symbols_at}
+use Rattle.cfg_read.specs.SyntaxModels.{line_of}
 use Rattle.cfg_read.proofs.yacc.ast.build.expected.Goals as goal
 
 pub returns : goal.returns

@@ -1,8 +1,8 @@
 use Rattle.std.proofs.Common.{◌≡◌, [], map, take, fold, option_map}
 use Rattle.cfg_read.specs.Asts.{text_of}
-use Rattle.cfg_read.specs.AstViews.{named_rules, own_names, rule_keys}
-use Rattle.cfg_read.specs.Views.{word_of, rule_of}
-use Rattle.cfg_read.specs.Building.{headed, with_first}
+use Rattle.cfg_read.specs.AstModels.{named_rules, own_names, rule_keys}
+use Rattle.cfg_read.specs.SyntaxModels.{word_of, rule_of}
+use Rattle.cfg_read.specs.AstBuild.{headed, with_first}
 use Rattle.cfg_read.proofs.yacc.ast.build.headed_rules.Given as goal
 
 abbrev pub invariant-headings : goal.invariant-headings

@@ -1,8 +1,8 @@
 use Rattle.std.proofs.Common.{◌≡◌, map, take}
 use Rattle.std.specs.List.{flat_map}
 use Rattle.cfg_read.specs.Asts.{heads_in}
-use Rattle.cfg_read.specs.Views.{rule_of}
-use Rattle.cfg_read.specs.Building.{names_at}
+use Rattle.cfg_read.specs.SyntaxModels.{rule_of}
+use Rattle.cfg_read.specs.AstBuild.{names_at}
 use Rattle.cfg_read.proofs.yacc.ast.build.heads.Given as goal
 
 abbrev pub invariant-rules : goal.invariant-rules

@@ -7,9 +7,9 @@ use Rattle.std.specs.declared.alloc.Global.{Global}
 use Rattle.std.specs.declared.string.String.{String}
 use Rattle.cfg_read.specs.declared.yacc.ast.Rule.{Rule}
 use Rattle.cfg_read.specs.Asts.{RuleAst, text_of}
-use Rattle.cfg_read.specs.AstViews.{named_rule}
-use Rattle.cfg_read.specs.Views.{word_of, rule_of}
-use Rattle.cfg_read.specs.Building.{headed, has_rule}
+use Rattle.cfg_read.specs.AstModels.{named_rule}
+use Rattle.cfg_read.specs.SyntaxModels.{word_of, rule_of}
+use Rattle.cfg_read.specs.AstBuild.{headed, has_rule}
 use Rattle.cfg_read.proofs.RuleLemmas.{entries_new, found_rule, with_text}
 use Rattle.cfg_read.proofs.yacc.ast.build.insert_heading.Goals as goal
 

@@ -1,8 +1,8 @@
 use Rattle.std.proofs.Common.{◌≡◌, ◌+◌, ◌≤◌, ◌++◌, [], ◌∷◌, ℕ, List, map, take, get_or, length, sym, ap, ◌∙◌, arith, Bor}
 use Rattle.std.proofs.lemmas.List.{take_more, map-append, length-map, length-take-le}
 use Rattle.cfg_read.specs.AstChanges.{with_number}
-use Rattle.cfg_read.specs.AstViews.{named_rules}
-use Rattle.cfg_read.specs.Building.{names_at, with_numbers}
+use Rattle.cfg_read.specs.AstModels.{named_rules}
+use Rattle.cfg_read.specs.AstBuild.{names_at, with_numbers}
 use Rattle.cfg_read.proofs.RuleLemmas.{numbers_more, numbers_none}
 use Rattle.cfg_read.proofs.yacc.ast.build.number_rules.Goals as goal
 

@@ -1,6 +1,6 @@
 use Rattle.std.proofs.Common.{◌≡◌, map, take}
-use Rattle.cfg_read.specs.AstViews.{named_rules, own_names, rule_keys}
-use Rattle.cfg_read.specs.Building.{names_at, with_numbers}
+use Rattle.cfg_read.specs.AstModels.{named_rules, own_names, rule_keys}
+use Rattle.cfg_read.specs.AstBuild.{names_at, with_numbers}
 use Rattle.cfg_read.proofs.yacc.ast.build.number_rules.Given as goal
 
 abbrev pub invariant-heads : goal.invariant-heads

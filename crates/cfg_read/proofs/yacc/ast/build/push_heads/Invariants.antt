@@ -1,8 +1,8 @@
 use Rattle.std.proofs.Common.{◌≡◌, ◌++◌, map, take}
 use Rattle.std.specs.String.{string_bytes}
 use Rattle.cfg_read.specs.SyntaxTexts.{AlternativeText}
-use Rattle.cfg_read.specs.Views.{alternative_of}
-use Rattle.cfg_read.specs.Building.{names_at}
+use Rattle.cfg_read.specs.SyntaxModels.{alternative_of}
+use Rattle.cfg_read.specs.AstBuild.{names_at}
 use Rattle.cfg_read.proofs.yacc.ast.build.push_heads.Given as goal
 
 abbrev pub invariant-alternatives : goal.invariant-alternatives

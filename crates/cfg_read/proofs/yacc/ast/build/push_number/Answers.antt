@@ -6,7 +6,7 @@ use Rattle.std.proofs.Common.{slice_get}
 use Rattle.std.proofs.Common.{option_map}
 use Rattle.std.specs.String.{string_bytes}
 use Rattle.cfg_read.specs.Asts.{RuleAst}
-use Rattle.cfg_read.specs.AstViews.{named_rule}
+use Rattle.cfg_read.specs.AstModels.{named_rule}
 use Rattle.cfg_read.proofs.RuleLemmas.{place_in, index_is, numbered, unnumbered, names_stay, keys_stay}
 use Rattle.cfg_read.proofs.ChangeLemmas.{on_err, rules_stay}
 use Rattle.cfg_read.proofs.yacc.ast.build.push_number.Goals as goal

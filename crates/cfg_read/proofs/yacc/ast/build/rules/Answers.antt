@@ -3,10 +3,10 @@ use Rattle.std.specs.List.{flat_map}
 use Rattle.cfg_read.specs.declared.yacc.parser.syntax.Rule.{Rule}
 use Rattle.cfg_read.specs.declared.yacc.parser.syntax.Word.{Word}
 use Rattle.cfg_read.specs.Asts.{heads, heads_in, last_text, text_of}
-use Rattle.cfg_read.specs.AstViews.{named_rules}
+use Rattle.cfg_read.specs.AstModels.{named_rules}
 use Rattle.cfg_read.specs.Names.{distinct, headings}
-use Rattle.cfg_read.specs.Views.{word_of, rule_of, words_of, syntax_of}
-use Rattle.cfg_read.specs.Building.{headed, names_at, with_first, with_numbers}
+use Rattle.cfg_read.specs.SyntaxModels.{word_of, rule_of, words_of, syntax_of}
+use Rattle.cfg_read.specs.AstBuild.{headed, names_at, with_first, with_numbers}
 use Rattle.cfg_read.proofs.RuleLemmas.{headings_once, blanks_numbered}
 use Rattle.cfg_read.proofs.yacc.ast.build.rules.Goals as goal
 

@@ -1,6 +1,6 @@
 use Rattle.std.proofs.Common.{ap, ◌∙◌}
 use Rattle.cfg_read.specs.Asts.{text_of}
-use Rattle.cfg_read.specs.Views.{word_of}
+use Rattle.cfg_read.specs.SyntaxModels.{word_of}
 use Rattle.std.proofs.Common.{option_map}
 use Rattle.cfg_read.proofs.RuleLemmas.{word_there, last_is}
 use Rattle.cfg_read.proofs.yacc.ast.build.shared_type.Goals as goal

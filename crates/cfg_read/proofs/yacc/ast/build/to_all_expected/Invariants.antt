@@ -1,7 +1,7 @@
 use Rattle.std.proofs.Common.{◌≡◌, map, take}
 use Rattle.cfg_read.specs.Asts.{expected_ast}
-use Rattle.cfg_read.specs.AstViews.{ast_symbol_of}
-use Rattle.cfg_read.specs.Showing.{symbols_at}
+use Rattle.cfg_read.specs.AstModels.{ast_symbol_of}
+use Rattle.cfg_read.specs.NameModels.{symbols_at}
 use Rattle.cfg_read.proofs.yacc.ast.build.to_all_expected.Given as goal
 
 abbrev pub invariant-symbols : goal.invariant-symbols

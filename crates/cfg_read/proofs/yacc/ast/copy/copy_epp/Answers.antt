@@ -1,4 +1,4 @@
-use Rattle.cfg_read.specs.AstViews.{named_epp}
+use Rattle.cfg_read.specs.AstModels.{named_epp}
 use Rattle.cfg_read.proofs.Clones.{clones_map}
 use Rattle.cfg_read.proofs.yacc.ast.copy.copy_epp.Goals as goal
 

@@ -1,4 +1,4 @@
-use Rattle.cfg_read.specs.AstViews.{named_precedence}
+use Rattle.cfg_read.specs.AstModels.{named_precedence}
 use Rattle.cfg_read.proofs.Clones.{clones_map}
 use Rattle.cfg_read.proofs.yacc.ast.copy.copy_precs.Goals as goal
 

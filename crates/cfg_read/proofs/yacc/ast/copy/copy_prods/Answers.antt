@@ -1,4 +1,4 @@
-use Rattle.cfg_read.specs.AstViews.{production_of}
+use Rattle.cfg_read.specs.AstModels.{production_of}
 use Rattle.cfg_read.proofs.Clones.{clones_map}
 use Rattle.cfg_read.proofs.yacc.ast.copy.copy_prods.Goals as goal
 

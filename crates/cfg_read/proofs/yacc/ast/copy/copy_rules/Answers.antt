@@ -4,7 +4,7 @@ use Rattle.std.specs.declared.alloc.Global.{Global}
 use Rattle.std.specs.declared.string.String.{String}
 use Rattle.cfg_read.specs.declared.yacc.ast.Rule.{Rule}
 use Rattle.cfg_read.specs.Asts.{RuleAst}
-use Rattle.cfg_read.specs.AstViews.{named_rule}
+use Rattle.cfg_read.specs.AstModels.{named_rule}
 use Rattle.cfg_read.proofs.Clones.{clones_map}
 use Rattle.cfg_read.proofs.RuleLemmas.{with_text}
 use Rattle.cfg_read.proofs.yacc.ast.copy.copy_rules.Goals as goal

@@ -1,7 +1,7 @@
 use Rattle.std.proofs.Common.{◌≡◌, map, take, sym, ap, ◌∙◌}
-use Rattle.cfg_read.specs.AstViews.{ast_symbol_of}
-use Rattle.cfg_read.specs.Showing.{names_in}
-use Rattle.cfg_read.specs.WarningViews.{with_symbol, with_symbols, is_token_symbol}
+use Rattle.cfg_read.specs.AstModels.{ast_symbol_of}
+use Rattle.cfg_read.specs.NameModels.{names_in}
+use Rattle.cfg_read.specs.WarningModels.{with_symbol_name, with_symbol_names, is_token_symbol}
 use Rattle.cfg_read.proofs.WarningLemmas.{added, symbols_more}
 use Rattle.cfg_read.proofs.yacc.ast.warnings.insert_tokens.Goals as goal
 use Rattle.cfg_read.proofs.yacc.ast.warnings.insert_tokens.Goals.{in-Token+in_ok-insert, in_default}
@@ -11,12 +11,12 @@ symbols-preserved c =
     let xs = c.args.symbols.now in
     let i = c.symbols.symbol-index in
     let x = c.symbol-item.result in
-    let names = with_symbols is_token_symbol (names_in c.args.names.now) (map ast_symbol_of (take i xs)) in
-    let step : names_in c.match-symbol.names ≡ with_symbol is_token_symbol names (ast_symbol_of x) = elim c.match-symbol.branch [
+    let names = with_symbol_names is_token_symbol (names_in c.args.names.now) (map ast_symbol_of (take i xs)) in
+    let step : names_in c.match-symbol.names ≡ with_symbol_name is_token_symbol names (ast_symbol_of x) = elim c.match-symbol.branch [
       | in-Token+in_ok-insert w ↦
           ap names_in w.names-is
           ∙ added c.symbols.names.keys w.insert.new.self.keys w.as_str.result names _ w.in_ok-insert.ensures.keys c.symbols.invariant w.as_str.ensures.value
-          ∙ ap (λ y. with_symbol is_token_symbol names (ast_symbol_of y)) (sym w.in-Token.is)
-      | in_default w ↦ ap names_in w.names-is ∙ c.symbols.invariant ∙ ap (λ y. with_symbol is_token_symbol names (ast_symbol_of y)) (sym w.in_default.is)
+          ∙ ap (λ y. with_symbol_name is_token_symbol names (ast_symbol_of y)) (sym w.in-Token.is)
+      | in_default w ↦ ap names_in w.names-is ∙ c.symbols.invariant ∙ ap (λ y. with_symbol_name is_token_symbol names (ast_symbol_of y)) (sym w.in_default.is)
     ] in
     step ∙ sym (symbols_more is_token_symbol (names_in c.args.names.now) xs i x c.symbols-test.true c.symbol-item.is)

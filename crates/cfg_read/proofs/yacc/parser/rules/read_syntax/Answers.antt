@@ -17,5 +17,5 @@ returns-in_err-end-clause-err c =
 pub returns-clause-ok : goal.returns-clause-ok
 returns-clause-ok c =
     let declarations = rw c.new-syntax.ensures at c.in_ok-rules.ensures.ok in
-    let last_part = c.in_ok-last_part.ensures.ok in
+    let last_part = c.in_ok-parse_last_part.ensures.ok in
     (last_part.0, join declarations (join c.in_ok-end.ensures.ok last_part.1))

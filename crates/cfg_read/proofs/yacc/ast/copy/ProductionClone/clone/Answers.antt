@@ -1,4 +1,4 @@
-use Rattle.cfg_read.specs.AstViews.{ast_symbol_of}
+use Rattle.cfg_read.specs.AstModels.{ast_symbol_of}
 use Rattle.cfg_read.proofs.Clones.{clones_map}
 use Rattle.cfg_read.proofs.yacc.ast.copy.ProductionClone.clone.Goals as goal
 

@@ -1,6 +1,6 @@
-use Rattle.cfg_read.specs.Views.{syntax_of}
+use Rattle.cfg_read.specs.SyntaxModels.{syntax_of}
 use Rattle.cfg_read.specs.Reading.{here}
-use Rattle.cfg_read.specs.Stopping.{nothing_on_line}
+use Rattle.cfg_read.specs.SyntaxErrors.{nothing_on_line}
 use Rattle.cfg_read.proofs.Chains.{one, join, join_fails, fails_by}
 use Rattle.cfg_read.proofs.Lines.{parse_param_to, no_parameter_at}
 use Rattle.std.proofs.lemmas.Result.{err_from_is_err_and}
@@ -16,10 +16,10 @@ returns-in_err-param-clause-err c =
     let p = err_from_is_err_and c.from_residual-in_err-param.result c.from_residual-in_err-param.ensures.1 in
     rw (p.1, p.2) (fails_by _ _ _ here (λ e. no_parameter_at _ c.in_ok-_rest.ensures.ok.0 c.in_ok-_rest.ensures.ok.1 e) c.in_err-param.ensures.err)
 
-pub returns-in_err-gap-clause-err : goal.returns-in_err-gap-clause-err
-returns-in_err-gap-clause-err c =
-    let p = err_from_is_err_and c.from_residual-in_err-gap.result c.from_residual-in_err-gap.ensures.1 in
-    rw (p.1, p.2) (join_fails _ (one (parse_param_to {x = syntax_of c.args.syntax.now} _ c.in_ok-_rest.ensures.ok.0 c.in_ok-param.ensures.ok c.in_ok-_rest.ensures.ok.1)) (c.in_err-gap.ensures.err _ _))
+pub returns-in_err-parse_ws-clause-err : goal.returns-in_err-parse_ws-clause-err
+returns-in_err-parse_ws-clause-err c =
+    let p = err_from_is_err_and c.from_residual-in_err-parse_ws.result c.from_residual-in_err-parse_ws.ensures.1 in
+    rw (p.1, p.2) (join_fails _ (one (parse_param_to {x = syntax_of c.args.syntax.now} _ c.in_ok-_rest.ensures.ok.0 c.in_ok-param.ensures.ok c.in_ok-_rest.ensures.ok.1)) (c.in_err-parse_ws.ensures.err _ _))
 
 pub returns-clause-ok : goal.returns-clause-ok
-returns-clause-ok c = join (one (parse_param_to {x = syntax_of c.args.syntax.now} _ c.in_ok-_rest.ensures.ok.0 c.in_ok-param.ensures.ok c.in_ok-_rest.ensures.ok.1)) (c.in_ok-gap.ensures.ok _ _)
+returns-clause-ok c = join (one (parse_param_to {x = syntax_of c.args.syntax.now} _ c.in_ok-_rest.ensures.ok.0 c.in_ok-param.ensures.ok c.in_ok-_rest.ensures.ok.1)) (c.in_ok-parse_ws.ensures.ok _ _)

@@ -8,9 +8,9 @@ use Rattle.cfg_read.proofs.yacc.parser.scan.Scanner.unescaped.Given as goal
 
 abbrev pub invariant-parts : goal.invariant-parts
 invariant-parts l = record {
-  fits : FitsPart l.self.text.now l.place l.end;
-  same : string_bytes l.text ++ filter is_plain (slice_range l.self.text.now l.place l.end) ≡ filter is_plain (slice_range l.self.text.now l.start l.end);
+  fits : FitsPart l.self.text.now l.offset l.end;
+  same : string_bytes l.text ++ filter is_plain (slice_range l.self.text.now l.offset l.end) ≡ filter is_plain (slice_range l.self.text.now l.start l.end);
 }
 
 abbrev pub decreases-parts : goal.decreases-parts
-decreases-parts l = l.end - l.place
+decreases-parts l = l.end - l.offset

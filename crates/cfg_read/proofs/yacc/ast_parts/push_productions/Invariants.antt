@@ -1,9 +1,0 @@
-use Rattle.std.proofs.Common.{◌≡◌, ◌++◌, map, take}
-use Rattle.cfg_read.specs.Asts.{production_ast}
-use Rattle.cfg_read.specs.AstViews.{production_of}
-use Rattle.cfg_read.specs.Views.{alternative_of}
-use Rattle.cfg_read.specs.Showing.{has_name}
-use Rattle.cfg_read.proofs.yacc.ast_parts.push_productions.Given as goal
-
-abbrev pub invariant-alternatives : goal.invariant-alternatives
-invariant-alternatives l = map production_of l.made.items ≡ map production_of l.fn.made.items ++ map (production_ast (has_name l.declared)) (map alternative_of (take l.alternative-index l.alternatives))

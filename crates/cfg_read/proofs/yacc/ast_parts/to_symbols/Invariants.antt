@@ -1,9 +1,0 @@
-use Rattle.std.proofs.Common.{◌≡◌, map, take}
-use Rattle.cfg_read.specs.Asts.{symbol_ast}
-use Rattle.cfg_read.specs.AstViews.{ast_symbol_of}
-use Rattle.cfg_read.specs.Views.{symbols_of}
-use Rattle.cfg_read.specs.Showing.{has_name}
-use Rattle.cfg_read.proofs.yacc.ast_parts.to_symbols.Given as goal
-
-abbrev pub invariant-symbols : goal.invariant-symbols
-invariant-symbols l = map ast_symbol_of l.made.items ≡ map (symbol_ast (has_name l.declared)) (symbols_of (take l.one-index l.symbols))

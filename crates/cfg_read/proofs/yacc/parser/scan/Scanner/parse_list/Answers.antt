@@ -1,0 +1,17 @@
+use Rattle.cfg_read.specs.SyntaxModels.{syntax_of}
+use Rattle.cfg_read.proofs.Chains.{join, join_fails}
+use Rattle.std.proofs.lemmas.Result.{err_from_is_err_and}
+use Rattle.cfg_read.proofs.yacc.parser.scan.Scanner.parse_list.Goals as goal
+
+pub returns-in_err-items-clause-err : goal.returns-in_err-items-clause-err
+returns-in_err-items-clause-err c =
+    let p = err_from_is_err_and c.from_residual.result c.from_residual.ensures.1 in
+    rw (p.1, p.2) (c.in_err-items.ensures.err _ _)
+
+pub returns-in_err-parse_ws-clause-err : goal.returns-in_err-parse_ws-clause-err
+returns-in_err-parse_ws-clause-err c =
+    let p = err_from_is_err_and c.from_residual-in_err-parse_ws.result c.from_residual-in_err-parse_ws.ensures.1 in
+    rw (p.1, p.2) (join_fails _ (c.in_ok-items.ensures.ok c.args.list (syntax_of c.args.syntax.now)) (c.in_err-parse_ws.ensures.err _ _))
+
+pub returns-clause-ok : goal.returns-clause-ok
+returns-clause-ok c = rw c.in_ok-add_list.ensures (join (c.in_ok-items.ensures.ok c.args.list (syntax_of c.args.syntax.now)) (c.in_ok-parse_ws.ensures.ok _ _))

@@ -1,8 +1,0 @@
-use Rattle.std.proofs.Common.{◌≡◌, ◌++◌, take}
-use Rattle.cfg_read.specs.Showing.{words_at, has_name}
-use Rattle.cfg_read.specs.Showing.{failures_in, unknown_failure}
-use Rattle.cfg_read.specs.Validity.{unknown_by}
-use Rattle.cfg_read.proofs.yacc.validity.push_unknown.Given as goal
-
-abbrev pub invariant-words : goal.invariant-words
-invariant-words l = failures_in l.errors.items ≡ failures_in l.fn.errors.items ++ unknown_by (unknown_failure l.what) (has_name l.known) (words_at (take l.word-index l.words))

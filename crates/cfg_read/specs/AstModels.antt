@@ -1,0 +1,70 @@
+-- What the parts of a syntax tree say, without where they lie in memory.
+use Rattle.std.specs.Prelude.{ℕ, true, false, List, map, option_map}
+use Rattle.std.specs.String.{string_bytes}
+use Rattle.indexmap.specs.IndexMap.{IndexMap}
+use Rattle.cfg_base.specs.SpanModel.{SpanModel}
+use Rattle.std.specs.declared.alloc.Global.{Global}
+use Rattle.std.specs.declared.string.String.{String}
+use Rattle.cfg_read.specs.declared.yacc.ast.Symbol.{Symbol}
+use Rattle.cfg_read.specs.declared.yacc.ast.Symbol.TheVariants.{Rule, Token}
+use Rattle.cfg_read.specs.declared.yacc.ast.Production.{Production}
+use Rattle.cfg_read.specs.declared.yacc.ast.Rule.{Rule as RuleEntry}
+use Rattle.cfg_read.specs.declared.yacc.Precedence.{Precedence}
+use Rattle.cfg_read.specs.SyntaxTexts.{WordText, NumberText, EppText}
+use Rattle.cfg_read.specs.Asts.{SymbolAst, RuleAst, ProductionAst, PrecedenceAst}
+
+abbrev pub ast_symbol_of : Symbol → SymbolAst
+ast_symbol_of (Rule text span) = record { is_token = false; word = record { text = string_bytes text; span = span } }
+ast_symbol_of (Token text span) = record { is_token = true; word = record { text = string_bytes text; span = span } }
+
+abbrev pub production_of : Production → ProductionAst
+production_of p = record {
+  symbols = map ast_symbol_of p.symbols.items;
+  precedence = option_map string_bytes p.precedence;
+  action = option_map string_bytes p.action;
+  action_span = p.action_span;
+  span = p.prod_span;
+}
+
+-- the names of a map with their spans, in its order
+abbrev pub named_span : String Global × SpanModel → WordText
+named_span e = record { text = string_bytes e.0; span = e.1 }
+
+abbrev pub named_spans : {S : Type 0} → IndexMap (String Global) SpanModel S → List WordText
+named_spans m = map named_span m.entries
+
+-- those of printed texts, and of precedences
+abbrev pub named_epp : String Global × (SpanModel × (String Global × SpanModel)) → EppText
+named_epp e = record { token = record { text = string_bytes e.0; span = e.1.0 }; text = record { text = string_bytes e.1.1.0; span = e.1.1.1 } }
+
+abbrev pub named_epps : {S : Type 0} → IndexMap (String Global) (SpanModel × (String Global × SpanModel)) S → List EppText
+named_epps m = map named_epp m.entries
+
+abbrev pub named_precedence : String Global × (Precedence × SpanModel) → PrecedenceAst
+named_precedence e = record { token = record { text = string_bytes e.0; span = e.1.1 }; level = e.1.0.level; kind = e.1.0.kind }
+
+abbrev pub named_precedences : {S : Type 0} → IndexMap (String Global) (Precedence × SpanModel) S → List PrecedenceAst
+named_precedences m = map named_precedence m.entries
+
+-- a rule, and one in a map that is named by its key
+abbrev pub rule_entry_of : RuleEntry → RuleAst
+rule_entry_of r = record { name = named_span r.name; productions = r.pidxs.items; action_type = option_map string_bytes r.actiont }
+
+abbrev pub named_rule : String Global × RuleEntry → RuleAst
+named_rule e = record { name = record { text = string_bytes e.0; span = e.1.name.1 }; productions = e.1.pidxs.items; action_type = option_map string_bytes e.1.actiont }
+
+abbrev pub named_rules : {S : Type 0} → IndexMap (String Global) RuleEntry S → List RuleAst
+named_rules m = map named_rule m.entries
+
+-- the keys of these rules, and the names that the rules themselves have
+abbrev pub rule_keys : {S : Type 0} → IndexMap (String Global) RuleEntry S → List (List ℕ)
+rule_keys m = map (λ (e : String Global × RuleEntry). string_bytes e.0) m.entries
+
+abbrev pub own_names : {S : Type 0} → IndexMap (String Global) RuleEntry S → List (List ℕ)
+own_names m = map (λ (e : String Global × RuleEntry). string_bytes e.1.name.0) m.entries
+
+abbrev pub number_with_span : ℕ × SpanModel → NumberText
+number_with_span n = record { value = n.0; span = n.1 }
+
+abbrev pub param_pair : String Global × String Global → List ℕ × List ℕ
+param_pair p = (string_bytes p.0, string_bytes p.1)

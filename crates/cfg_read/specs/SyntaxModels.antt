@@ -1,0 +1,70 @@
+-- What a syntax value of the program says, without where it lies in memory.
+use Rattle.std.specs.Prelude.{map, option_map, List}
+use Rattle.std.specs.String.{string_bytes}
+use Rattle.cfg_read.specs.declared.yacc.parser.syntax.Word.{Word}
+use Rattle.cfg_read.specs.declared.yacc.parser.syntax.Symbol.{Symbol}
+use Rattle.cfg_read.specs.declared.yacc.parser.syntax.Alternative.{Alternative}
+use Rattle.cfg_read.specs.declared.yacc.parser.draft.Draft.{Draft}
+use Rattle.cfg_read.specs.declared.yacc.parser.syntax.Rule.{Rule}
+use Rattle.cfg_read.specs.declared.yacc.parser.syntax.Level.{Level}
+use Rattle.cfg_read.specs.declared.yacc.parser.syntax.Line.{Line}
+use Rattle.cfg_read.specs.declared.yacc.parser.syntax.Number.{Number}
+use Rattle.cfg_read.specs.declared.yacc.parser.syntax.Epp.{Epp}
+use Rattle.cfg_read.specs.declared.yacc.parser.syntax.Param.{Param}
+use Rattle.cfg_read.specs.declared.yacc.parser.syntax.Syntax.{Syntax}
+use Rattle.cfg_read.specs.SyntaxTexts.{WordText, SymbolText, AlternativeText, RuleText, LevelText, NumberText, EppText, ParamText, SyntaxText}
+use Rattle.cfg_read.specs.SyntaxUpdates.{Part}
+
+abbrev pub word_of : Word → WordText
+word_of w = record { text = string_bytes w.text; span = w.span }
+
+abbrev pub words_of : List Word → List WordText
+words_of ws = map word_of ws
+
+abbrev pub symbol_of : Symbol → SymbolText
+symbol_of s = record { is_quoted = s.is_quoted; word = word_of s.word }
+
+abbrev pub symbols_of : List Symbol → List SymbolText
+symbols_of ss = map symbol_of ss
+
+abbrev pub line_of : Line → List SymbolText
+line_of l = symbols_of l.items.items
+
+abbrev pub alternative_of : Alternative → AlternativeText
+alternative_of a = record { symbols = symbols_of a.symbols.items; is_empty = a.is_empty; precedence = option_map word_of a.precedence; action = option_map word_of a.action; span = a.span }
+
+abbrev pub part_of : Draft → Part
+part_of d = record { symbols = symbols_of d.symbols.items; is_empty = d.is_empty; precedence = option_map word_of d.precedence; action = option_map word_of d.action; span = d.span }
+
+abbrev pub rule_of : Rule → RuleText
+rule_of r = record { name = word_of r.name; action_type = option_map word_of r.action_type; alternatives = map alternative_of r.alternatives.items }
+
+abbrev pub level_of : Level → LevelText
+level_of l = record { kind = l.kind; tokens = symbols_of l.tokens.items }
+
+abbrev pub number_text : Number → NumberText
+number_text n = record { value = n.value; span = n.span }
+
+abbrev pub epp_of : Epp → EppText
+epp_of e = record { token = word_of e.token; text = word_of e.text }
+
+abbrev pub param_of : Param → ParamText
+param_of p = record { name = word_of p.name; param_type = word_of p.param_type }
+
+abbrev pub syntax_of : Syntax → SyntaxText
+syntax_of x = record {
+  starts = words_of x.starts.items;
+  tokens = symbols_of x.tokens.items;
+  levels = map level_of x.levels.items;
+  avoid_insert = map line_of x.avoid_insert.items;
+  implicit_tokens = map line_of x.implicit_tokens.items;
+  expect_unused = map line_of x.expect_unused.items;
+  expect = map number_text x.expect.items;
+  expect_rr = map number_text x.expect_rr.items;
+  epp = map epp_of x.epp.items;
+  action_types = words_of x.action_types.items;
+  parse_param = option_map param_of x.parse_param;
+  parse_generics = option_map word_of x.parse_generics;
+  rules = map rule_of x.rules.items;
+  programs = option_map word_of x.programs;
+}

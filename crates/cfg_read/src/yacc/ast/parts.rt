@@ -1,0 +1,223 @@
+//! Makes the parts of a syntax tree from what a text says.
+
+ghost use Rattle.std.specs.Prelude.{◌≡◌, ◌++◌, ◌∷◌, [], map, fold, option_map, IfOk, OnOk};
+ghost use Rattle.std.specs.List.{flat_map};
+ghost use Rattle.std.specs.String.{string_bytes};
+ghost use Rattle.cfg_read.specs.Asts.{symbol_ast, text_of, production_ast, productions_in, with_epp_of, with_precedence_of, precedence_ast, level_precedences, precedences_of};
+ghost use Rattle.cfg_read.specs.AstModels.{ast_symbol_of, production_of, named_spans, named_epps, named_precedences};
+ghost use Rattle.cfg_read.specs.Names.{with_distinct, distinct};
+ghost use Rattle.cfg_read.specs.SyntaxModels.{word_of, symbol_of, symbols_of, alternative_of, rule_of, epp_of, level_of};
+ghost use Rattle.cfg_read.specs.NameModels.{has_name, words_at};
+
+use super::{Production, Symbol};
+use crate::yacc::parser::syntax::{self, Alternative, Epp, Level, Word};
+use crate::yacc::{Precedence, PrecedenceLevel, names};
+use cfg_base::span::Span;
+use indexmap::{IndexMap, IndexSet};
+use std::alloc::{AllocError, Global};
+
+/// A symbol of a production: a token or a rule, where these names are declared as tokens.
+fn to_symbol(symbol: &syntax::Symbol, declared: &IndexSet<&str>) -> Result<Symbol, AllocError>
+    ensures { IfOk result (λ s. ast_symbol_of s ≡ symbol_ast (has_name declared.now) (symbol_of symbol.now)) }
+{
+    let text = symbol.word.text.clone()?;
+    let span = symbol.word.span;
+    if names::is_token(symbol, declared) {
+        Ok(Symbol::Token(text, span))
+    } else {
+        Ok(Symbol::Rule(text, span))
+    }
+}
+
+/// The symbols of a production.
+fn to_symbols(
+    alloc: Global,
+    symbols: &[syntax::Symbol],
+    declared: &IndexSet<&str>,
+) -> Result<Vec<Symbol>, AllocError>
+    ensures { IfOk result (λ made. map ast_symbol_of made.items
+        ≡ map (symbol_ast (has_name declared.now)) (symbols_of symbols.now)) }
+{
+    let mut made = Vec::new(alloc);
+    'symbols: for one in symbols {
+        let new = to_symbol(one, declared)?;
+        made.push(new)?;
+    }
+    Ok(made)
+}
+
+/// A word's text, if there is a word.
+pub(super) fn to_text(word: &Option<Word>) -> Result<Option<String>, AllocError>
+    ensures { IfOk result (λ text. option_map string_bytes text ≡ text_of (option_map word_of word.now)) }
+{
+    match word {
+        Some(word) => Ok(Some(word.text.clone()?)),
+        None => Ok(None),
+    }
+}
+
+/// A word's span, if there is a word.
+fn to_span(word: &Option<Word>) -> Option<Span>
+    ensures { result ≡ option_map (λ w. w.span) (option_map word_of word.now) }
+{
+    match word {
+        Some(word) => Some(word.span),
+        None => None,
+    }
+}
+
+/// The production of an alternative.
+fn to_production(
+    alloc: Global,
+    alternative: &Alternative,
+    declared: &IndexSet<&str>,
+) -> Result<Production, AllocError>
+    ensures { IfOk result (λ p. production_of p ≡ production_ast (has_name declared.now) (alternative_of alternative.now)) }
+{
+    let symbols = to_symbols(alloc, &alternative.symbols, declared)?;
+    let precedence = to_text(&alternative.precedence)?;
+    let action = to_text(&alternative.action)?;
+    let action_span = to_span(&alternative.action);
+    Ok(Production {
+        symbols,
+        precedence,
+        action,
+        action_span,
+        prod_span: alternative.span,
+    })
+}
+
+fn push_productions(
+    alloc: Global,
+    made: &mut Vec<Production>,
+    alternatives: &[Alternative],
+    declared: &IndexSet<&str>,
+) -> Result<(), AllocError>
+    ensures { OnOk result (map production_of made.new.items
+        ≡ map production_of made.old.items ++ map (production_ast (has_name declared.now)) (map alternative_of alternatives.now)) }
+{
+    'alternatives: for alternative in alternatives {
+        let new = to_production(alloc, alternative, declared)?;
+        made.push(new)?;
+    }
+    Ok(())
+}
+
+/// The productions of these rules, in the order of the text.
+pub(super) fn productions(
+    alloc: Global,
+    rules: &[syntax::Rule],
+    declared: &IndexSet<&str>,
+) -> Result<Vec<Production>, AllocError>
+    ensures { IfOk result (λ made. map production_of made.items
+        ≡ flat_map (productions_in (has_name declared.now)) (map rule_of rules.now)) }
+{
+    let mut made = Vec::new(alloc);
+    'rules: for rule in rules {
+        push_productions(alloc, &mut made, &rule.alternatives, declared)?;
+    }
+    Ok(made)
+}
+
+/// Puts a name with its span behind the others, where it isn't there yet.
+fn insert_first(spans: &mut IndexMap<String, Span>, word: &Word) -> Result<(), AllocError>
+    ensures { OnOk result (named_spans spans.new ≡ with_distinct (named_spans spans.old) (word_of word.now)) }
+{
+    if !spans.contains_key(word.text.as_str()) {
+        let name = word.text.clone()?;
+        spans.insert(name, word.span)?;
+    }
+    Ok(())
+}
+
+/// Each name of the words with its first span, in the order of these.
+pub(super) fn first_spans(
+    alloc: Global,
+    words: &[&Word],
+) -> Result<IndexMap<String, Span>, AllocError>
+    ensures { IfOk result (λ spans. named_spans spans ≡ distinct (words_at words.now)) }
+{
+    let mut spans = IndexMap::new(alloc);
+    'words: for word in words {
+        insert_first(&mut spans, word)?;
+    }
+    Ok(spans)
+}
+
+/// Puts a token's printed text behind the others, where it has none yet.
+fn insert_epp(
+    epps: &mut IndexMap<String, (Span, (String, Span))>,
+    epp: &Epp,
+) -> Result<(), AllocError>
+    ensures { OnOk result (named_epps epps.new ≡ with_epp_of (named_epps epps.old) (epp_of epp.now)) }
+{
+    if !epps.contains_key(epp.token.text.as_str()) {
+        let name = epp.token.text.clone()?;
+        let text = epp.text.text.clone()?;
+        epps.insert(name, (epp.token.span, (text, epp.text.span)))?;
+    }
+    Ok(())
+}
+
+/// The printed texts, a token's first one.
+pub(super) fn first_epps(
+    alloc: Global,
+    all: &[Epp],
+) -> Result<IndexMap<String, (Span, (String, Span))>, AllocError>
+    ensures { IfOk result (λ epps. named_epps epps ≡ fold with_epp_of [] (map epp_of all.now)) }
+{
+    let mut epps = IndexMap::new(alloc);
+    'epps: for epp in all {
+        insert_epp(&mut epps, epp)?;
+    }
+    Ok(epps)
+}
+
+/// Puts a token's precedence behind the others, where it has none yet.
+fn insert_precedence(
+    found: &mut IndexMap<String, (Precedence, Span)>,
+    precedence: Precedence,
+    word: &Word,
+) -> Result<(), AllocError>
+    ensures { OnOk result (named_precedences found.new
+        ≡ with_precedence_of (named_precedences found.old) (precedence_ast precedence.level precedence.kind (word_of word.now))) }
+{
+    if !found.contains_key(word.text.as_str()) {
+        let name = word.text.clone()?;
+        found.insert(name, (precedence, word.span))?;
+    }
+    Ok(())
+}
+
+/// Puts the precedences of a line behind the others, for tokens that have none yet.
+fn insert_level(
+    found: &mut IndexMap<String, (Precedence, Span)>,
+    number: PrecedenceLevel,
+    level: &Level,
+) -> Result<(), AllocError>
+    ensures { OnOk result (named_precedences found.new
+        ≡ fold with_precedence_of (named_precedences found.old) (level_precedences number (level_of level.now))) }
+{
+    let precedence = Precedence {
+        level: number,
+        kind: level.kind,
+    };
+    'tokens: for token in &level.tokens {
+        insert_precedence(found, precedence, &token.word)?;
+    }
+    Ok(())
+}
+
+/// The precedences: each line is a level, the first one 0, and a token's first one counts.
+pub(super) fn first_precedences(
+    alloc: Global,
+    levels: &[Level],
+) -> Result<IndexMap<String, (Precedence, Span)>, AllocError>
+    ensures { IfOk result (λ found. named_precedences found ≡ precedences_of (map level_of levels.now)) }
+{
+    let mut found = IndexMap::new(alloc);
+    'levels: for (number, level) in levels.iter().enumerate() {
+        insert_level(&mut found, number as PrecedenceLevel, level)?;
+    }
+    Ok(found)
+}

@@ -6,7 +6,7 @@ use Rattle.std.proofs.lemmas.List.Sums.{sum_by-cons, sum_by-set}
 use Rattle.std.proofs.lemmas.Bool.{cases_eq, cases_lt, cases_Bool}
 use Rattle.vob.specs.Bits.{bitwise}
 use Rattle.cfgrammar.specs.Sets.{is_set, is_set_in, missing, missing_in, joined_to, HasAllOf, AreRows}
-use Rattle.cfgrammar.specs.Passes.{Steps}
+use Rattle.cfgrammar.specs.Passes.{PassStep}
 
 abbrev pub join : List Bool → List Bool → List Bool
 join xs ys = bitwise (λ x y. x || y) xs ys
@@ -111,7 +111,7 @@ within_rows n m rows A t r h = elim (cases_lt A n) [ inl lt ↦ (lt, inside lt) 
     inside lt = elim (cases_lt t m) [ inl x ↦ x | inr le ↦ absurd (never (sym (get_or_past (get_or rows A []) t false (omega (arith, r.width A lt, le))) ∙ h)) ]
 
 -- what joining to a row does, where `changed` says whether the row changed
-pub rows_step : (rows : List (List Bool)) (A : ℕ) (ys : List Bool) (changed : Bool) → A < length rows → length (get_or rows A []) ≡ length ys → IsTrue changed ↔ (join (get_or rows A []) ys ≢ get_or rows A []) → Steps missing_in (HasAllOf A ys) rows (joined_to rows A ys) changed
+pub rows_step : (rows : List (List Bool)) (A : ℕ) (ys : List Bool) (changed : Bool) → A < length rows → length (get_or rows A []) ≡ length ys → IsTrue changed ↔ (join (get_or rows A []) ys ≢ get_or rows A []) → PassStep missing_in (HasAllOf A ys) rows (joined_to rows A ys) changed
 rows_step rows A ys changed lt len tells = record { still = λ e. kept (same e); closed = λ e t h. has e t h; fewer = λ e. less e }
   where
     lost : missing (join (get_or rows A []) ys) ≡ missing (get_or rows A []) → missing (join (get_or rows A []) ys) < missing (get_or rows A []) → ⊥
@@ -133,7 +133,7 @@ rows_step rows A ys changed lt len tells = record { still = λ e. kept (same e);
     less e = elim (join_fills (get_or rows A []) ys len) [ inl q ↦ absurd (tells.0 e q) | inr fewer ↦ omega (arith, sum_by-set missing rows A (join (get_or rows A []) ys) [] lt, fewer) ]
 
 -- putting one number into a set
-pub put_step : (xs : List Bool) (n : ℕ) (changed : Bool) → n < length xs → IsTrue changed ↔ (is_set xs n ≡ false) → Steps missing (λ l. IsTrue (is_set l n)) xs (set xs n true) changed
+pub put_step : (xs : List Bool) (n : ℕ) (changed : Bool) → n < length xs → IsTrue changed ↔ (is_set xs n ≡ false) → PassStep missing (λ l. IsTrue (is_set l n)) xs (set xs n true) changed
 put_step xs n changed lt tells = record { still = λ e. put_again xs n lt (there e); closed = λ e. there e; fewer = λ e. put_fills xs n lt (tells.0 e) }
   where
     there : changed ≡ false → is_set xs n ≡ true
@@ -149,3 +149,16 @@ empty_sized n m rows e = record {
   count = ap length e ∙ length-replicate n (replicate m false);
   width = λ A lt. ap (λ l. length (get_or l A [])) e ∙ ap length (get_or-replicate n A (replicate m false) [] lt) ∙ length-replicate m false;
 }
+
+-- a set that was emptied and joined to another
+pub copied : (old mid row new : List Bool) → length old ≡ length row → mid ≡ replicate (length old) false → new ≡ join mid row → (length new ≡ length row) × ((t : ℕ) → IsTrue (is_set new t) ↔ IsTrue (is_set row t))
+copied old mid row new len m e =
+    let same : length mid ≡ length row = ap length m ∙ length-replicate (length old) false ∙ len in
+    (ap length e ∙ length-bitwise (λ x y. x || y) mid row same ∙ same, λ t. at same t)
+  where
+    at : length mid ≡ length row → (t : ℕ) → IsTrue (is_set new t) ↔ IsTrue (is_set row t)
+    at same t =
+        let j = joined mid row t same in (
+          λ h. elim (j.0 (subst (λ l. IsTrue (is_set l t)) e h)) [ inl x ↦ absurd (none_set (length old) t (subst (λ l. IsTrue (is_set l t)) m x)) | inr y ↦ y ],
+          λ h. subst (λ l. IsTrue (is_set l t)) (sym e) (j.1 (inr h)),
+        )

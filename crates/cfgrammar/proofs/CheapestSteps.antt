@@ -12,8 +12,8 @@ use Rattle.cfg_theory.specs.CostTables.{Concatenates}
 use Rattle.cfg_theory.specs.CheapestLists.{NoneIsCheaper, IsTight, HaveCosts, IsClosedOver, ListsOfWantedRules, ListsAreShort}
 use Rattle.cfg_theory.proofs.Lists.{get_from_drop}
 use Rattle.cfgrammar.specs.Sets.{is_set}
-use Rattle.cfgrammar.specs.Passes.{Steps}
-use Rattle.cfgrammar.specs.CostTable.{bound, cost_of, cost_in, AreCosts, IsClosedBy}
+use Rattle.cfgrammar.specs.Passes.{PassStep}
+use Rattle.cfgrammar.specs.CostTable.{bound, cost_in, AreCosts, IsClosedBy}
 use Rattle.std.specs.declared.alloc.Global.{Global}
 use Rattle.std.specs.declared.vec.Vec.{Vec}
 use Rattle.cfg_base.specs.declared.symbol.TIdx.{TIdx}
@@ -122,9 +122,6 @@ made_of {S} number table t a b s xs e q r h w =
     (subst (λ (k : List (List (List ℕ))). Contains (lists_of number xs) w ↔ Concatenates (lists_in k) b w) q
     (subst (λ (c : List Sym). Contains (lists_of number xs) w ↔ Concatenates (lists_in t) c w) r (h w)))
 
-pub closed_of : (G : Grammar) (costs now : List ℕ) (least table : List (Option ℕ)) → now ≡ costs → table ≡ least → ((p : ℕ) → p < length G.productions → IsClosedBy G (cost_of costs) p least) → (p : ℕ) → p < length G.productions → IsClosedBy G (cost_of now) p table
-closed_of G costs now least table e q h p lt = subst (λ (c : List ℕ). IsClosedBy G (cost_of c) p table) (sym e) (subst (λ (t : List (Option ℕ)). IsClosedBy G (cost_of costs) p t) (sym q) (h p lt))
-
 pub body_has : (G : Grammar) (table : List (List (List ℕ))) (p : ℕ) → WellFormed G → length table ≡ G.rules → AllHaveLists table (body_of G p)
 body_has G table p good count = from (body_of G p) 0 refl
   where
@@ -136,10 +133,10 @@ body_has G table p good count = from (body_of G p) 0 refl
 -- ---- one production
 
 module _ (G : Grammar) (f : ℕ → ℕ) (least : List (Option ℕ)) (wanted : List Bool) (p : ℕ) (table : List (List (List ℕ))) where
-  pub not_wanted : is_set wanted (head_of G p) ≡ false → Steps spare_in (IsJoined G f least wanted p) table table false
+  pub not_wanted : is_set wanted (head_of G p) ≡ false → PassStep spare_in (IsJoined G f least wanted p) table table false
   not_wanted free = record { still = λ e. refl; closed = λ e h _ _ _. absurd (false_true (sym free ∙ h)); fewer = λ e. cc }
 
-  pub not_given : (answer : Bool) → answer ≡ false → (IsTrue answer ↔ GivesLeast G f least p) → Steps spare_in (IsJoined G f least wanted p) table table false
+  pub not_given : (answer : Bool) → answer ≡ false → (IsTrue answer ↔ GivesLeast G f least p) → PassStep spare_in (IsJoined G f least wanted p) table table false
   not_given answer e told = record { still = λ _. refl; closed = λ _ _ h _ _. absurd (false_true (sym e ∙ told.1 h)); fewer = λ e. cc }
 
   module _ (A : ℕ) (own new ws : List (List ℕ)) (lt : A < length table) (is : own ≡ get_or table A own) (head : A ≡ head_of G p) (made : (w : List ℕ) → Contains ws w ↔ Concatenates (lists_in table) (body_of G p) w) where
@@ -151,7 +148,7 @@ module _ (G : Grammar) (f : ℕ → ℕ) (least : List (Option ℕ)) (wanted : L
         other_default (x ∷ l) zero d e less = refl
         other_default (x ∷ l) (suc k) d e less = other_default l k d e (omega (arith, less))
 
-    pub joins : (changed : Bool) → Steps spare (λ l. (v : List ℕ) → Contains ws v → Contains l v) own new changed → Steps spare_in (IsJoined G f least wanted p) table (set table A new) changed
+    pub joins : (changed : Bool) → PassStep spare (λ l. (v : List ℕ) → Contains ws v → Contains l v) own new changed → PassStep spare_in (IsJoined G f least wanted p) table (set table A new) changed
     joins changed h = record {
       still = λ e. set_same table A new [] lt (h.still e ∙ here);
       closed = λ e _ _ w k. subst (λ B. Contains (lists_in table B) w) head (subst (λ l. Contains l w) here (h.closed e w ((made w).1 k)));

@@ -1,5 +1,5 @@
 -- How passes fill the table of least costs, and what it says at the end.
-use Rattle.std.proofs.Common.{◌≡◌, ℕ, zero, suc, ◌+◌, ◌<◌, ◌≤◌, ◌⊎◌, inl, inr, true, false, List, [], ◌∷◌, ◌++◌, length, get_or, set, drop, replicate, map, min, Option, Some, None, refl, sym, ap, ◌∙◌, subst, arith}
+use Rattle.std.proofs.Common.{◌≡◌, MatchOption, ℕ, zero, suc, ◌+◌, ◌<◌, ◌≤◌, ◌⊎◌, inl, inr, true, false, List, [], ◌∷◌, ◌++◌, length, get_or, set, drop, replicate, map, min, Option, Some, None, refl, sym, ap, ◌∙◌, subst, arith}
 use Rattle.std.proofs.lemmas.List.{get_or-set_same, get_or-set_other, length-set, length-replicate, get_or_read}
 use Rattle.std.proofs.lemmas.List.Sums.{sum_by-set}
 use Rattle.std.proofs.lemmas.Bool.{cases_eq, cases_lt}
@@ -11,12 +11,12 @@ use Rattle.cfg_theory.proofs.Lists.{get_from_drop}
 use Rattle.cfg_theory.proofs.Derivation.{derives_rule, tokens_both}
 use Rattle.cfg_theory.proofs.CostTables.{at_least, cost-append, one_sum}
 use Rattle.cfgrammar.specs.CostTable.{bound, cost_of, cost_in, cost_at, HasCost, AllHaveCosts, IsCost, HasNoCost, AreCosts, IsClosedBy, weight, fall, IsLess}
-use Rattle.cfgrammar.specs.Passes.{Steps}
+use Rattle.cfgrammar.specs.Passes.{PassStep}
 use Rattle.std.proofs.Math.ListN.{get_or-append}
 use Rattle.std.proofs.Math.Seq.{get_or-append_seam}
 use Rattle.std.proofs.lemmas.List.{length_push}
 use Rattle.cfg_base.specs.declared.symbol.TIdx.{TIdx}
-use Rattle.cfgrammar.specs.Sentences.{Costed, AreAnswers}
+use Rattle.cfgrammar.specs.Sentences.{Costed, CostedTable, AreAnswers}
 
 some_same : (m n : ℕ) → Some m ≡ Some n → m ≡ n
 some_same m n e = cc
@@ -173,32 +173,41 @@ closed_if G f p table n k (Some m) sums is at not i s =
     let le : m ≤ k = elim (cases_lt k m) [ inl lt ↦ absurd (not lt) | inr le ↦ le ] in
     (m, at, omega (arith, e, le, is))
 
-pub closed_step : (G : Grammar) (f : ℕ → ℕ) (p : ℕ) (table : List (Option ℕ)) (n k : ℕ) (o : Option ℕ) → Sums f (cost_in table) (body_of G p) n → k ≡ min n bound → cost_in table (head_of G p) ≡ o → (IsLess (Some k) o → ⊥) → Steps fall (IsClosedBy G f p) table table false
+pub closed_step : (G : Grammar) (f : ℕ → ℕ) (p : ℕ) (table : List (Option ℕ)) (n k : ℕ) (o : Option ℕ) → Sums f (cost_in table) (body_of G p) n → k ≡ min n bound → cost_in table (head_of G p) ≡ o → (IsLess (Some k) o → ⊥) → PassStep fall (IsClosedBy G f p) table table false
 closed_step G f p table n k o sums is at not = record { still = λ e. refl; closed = λ e. closed_if G f p table n k o sums is at not; fewer = λ e. cc }
 
-pub cheaper_step : (G : Grammar) (f : ℕ → ℕ) (p : ℕ) (table : List (Option ℕ)) (A n k : ℕ) (o : Option ℕ) → A < length table → o ≡ get_or table A None → k ≡ min n bound → IsLess (Some k) o → Steps fall (IsClosedBy G f p) table (set table A (Some k)) true
+pub cheaper_step : (G : Grammar) (f : ℕ → ℕ) (p : ℕ) (table : List (Option ℕ)) (A n k : ℕ) (o : Option ℕ) → A < length table → o ≡ get_or table A None → k ≡ min n bound → IsLess (Some k) o → PassStep fall (IsClosedBy G f p) table (set table A (Some k)) true
 cheaper_step G f p table A n k o lt at is less = record { still = λ e. cc; closed = λ e. absurd (wrong e); fewer = λ e. falls table A k o lt at (omega (arith, is)) less }
   where
     wrong : true ≡ false → ⊥
     wrong e = cc
 
+-- ---- what a table that is looked up says
+
+module _ (G : Grammar) (costs : List ℕ) (table : List (Option ℕ)) (v : CostedTable) (is : ◌≡◌ {A = CostedTable} (record { grammar = G; costs = costs; table = table }) v) (count : length table ≡ G.rules) (i A : ℕ) (e : i ≡ A) (in_range : A < v.grammar.rules) where
+  pub row_below : i < length table
+  row_below = let n = ap (λ (w : CostedTable). w.grammar.rules) is in omega (arith, n, count, in_range, e)
+
+  pub row_cost : (x : Option ℕ) → x ≡ get_or table i x → x ≡ cost_in v.table A
+  row_cost x at = get_or_read table i x row_below at None ∙ ap (cost_in table) e ∙ ap (λ (w : CostedTable). cost_in w.table A) is
+
+pub body_seen : (G : Grammar) (costs : List ℕ) (table now : List (Option ℕ)) (v : CostedTable) → ◌≡◌ {A = CostedTable} (record { grammar = G; costs = costs; table = table }) v → now ≡ table → (p : ℕ) (o : Option ℕ) →
+    MatchOption o (HasNoCost costs now (body_of G p)) (λ k. IsCost costs now (body_of G p) k) → MatchOption o (HasNoCost v.costs v.table (body_of v.grammar p)) (λ k. IsCost v.costs v.table (body_of v.grammar p) k)
+body_seen G costs table now v is e p o h =
+    subst (λ (w : CostedTable). MatchOption o (HasNoCost w.costs w.table (body_of w.grammar p)) (λ k. IsCost w.costs w.table (body_of w.grammar p) k)) is
+    (subst (λ (l : List (Option ℕ)). MatchOption o (HasNoCost costs l (body_of G p)) (λ k. IsCost costs l (body_of G p) k)) e h)
+
 -- ---- what a generator answers
 
-module _ (G : Grammar) (costs : List ℕ) (table : List (Option ℕ)) (h : AreCosts G (cost_of costs) table) (closed : (p : ℕ) → p < length G.productions → IsClosedBy G (cost_of costs) p table) (v : Costed) (is : ◌≡◌ {A = Costed} (record { grammar = G; costs = costs }) v) (i A : ℕ) (e : i ≡ A) (in_range : A < v.grammar.rules) (x : Option ℕ) (at : x ≡ get_or table i x) where
-  low : A < length table
-  low = let n = ap (λ (w : Costed). w.grammar.rules) is in let m = h.count in omega (arith, n, m, in_range)
-
-  found : cost_in table A ≡ x
-  found = sym (get_or_read table A x low (subst (λ k. x ≡ get_or table k x) e at) None)
-
+module _ (t : CostedTable) (h : AreCosts t.grammar (cost_of t.costs) t.table) (closed : (p : ℕ) → p < length t.grammar.productions → IsClosedBy t.grammar (cost_of t.costs) p t.table) (v : Costed) (is : ◌≡◌ {A = Costed} (record { grammar = t.grammar; costs = t.costs }) v) (A : ℕ) (x : Option ℕ) (at : x ≡ cost_in t.table A) where
   pub answers_none : x ≡ None → IsProductive v.grammar A → ⊥
-  answers_none q = subst (λ (w : Costed). IsProductive w.grammar A → ⊥) is (no_sentence G (cost_of costs) table h closed A (found ∙ q))
+  answers_none q = subst (λ (w : Costed). IsProductive w.grammar A → ⊥) is (no_sentence t.grammar (cost_of t.costs) t.table h closed A (sym at ∙ q))
 
   pub answers_cost : (n : ℕ) → x ≡ Some n → n < bound → IsLeastCost v.grammar (cost_of v.costs) A n
-  answers_cost n q less = subst (λ (w : Costed). IsLeastCost w.grammar (cost_of w.costs) A n) is (is_least G (cost_of costs) table h closed A n (found ∙ q) less)
+  answers_cost n q less = subst (λ (w : Costed). IsLeastCost w.grammar (cost_of w.costs) A n) is (is_least t.grammar (cost_of t.costs) t.table h closed A n (sym at ∙ q) less)
 
-  pub answers_large : (n : ℕ) → WellFormed G → LeastCostsExist → x ≡ Some n → bound ≤ n → (k : ℕ) × IsLeastCost v.grammar (cost_of v.costs) A k × (65535 < k)
-  answers_large n good law q ge = subst (λ (w : Costed). (k : ℕ) × IsLeastCost w.grammar (cost_of w.costs) A k × (65535 < k)) is (is_large G (cost_of costs) table h closed A n good law (found ∙ q) ge)
+  pub answers_large : (n : ℕ) → WellFormed t.grammar → LeastCostsExist → x ≡ Some n → bound ≤ n → (k : ℕ) × IsLeastCost v.grammar (cost_of v.costs) A k × (65535 < k)
+  answers_large n good law q ge = subst (λ (w : Costed). (k : ℕ) × IsLeastCost w.grammar (cost_of w.costs) A k × (65535 < k)) is (is_large t.grammar (cost_of t.costs) t.table h closed A n good law (sym at ∙ q) ge)
 
 -- ---- answers of a function
 

@@ -7,7 +7,7 @@ use Rattle.std.proofs.lemmas.List.{length-map, drop_all}
 use Rattle.std.proofs.lemmas.List.Edits.{length-insert, get_or-insert_below, get_or-insert_at, get_or-insert_above}
 use Rattle.cfg_theory.specs.Cost.{IsBefore}
 use Rattle.cfg_theory.proofs.FirstLists.{before_on}
-use Rattle.cfgrammar.specs.Passes.{Steps}
+use Rattle.cfgrammar.specs.Passes.{PassStep}
 use Rattle.std.specs.declared.alloc.Global.{Global}
 use Rattle.std.specs.declared.vec.Vec.{Vec}
 use Rattle.std.proofs.lemmas.List.{map-append, take-map, drop-map, take_more, flat_map_more}
@@ -218,7 +218,7 @@ module _ {S : Type 0} (number : S → ℕ) (xs new : List (Vec (TIdx S) Global))
     still_sound V q v c = subst (λ l. Contains l v ⊎ (v ≡ tokens_of number w)) q (sound_insert (lists_of number xs) (tokens_of number w) n here' v (subst (λ l. Contains l v) with_list c))
 
 -- each of the lists is there
-pub all_put : (V : List (List ℕ)) (n : ℕ) (a b : List (List ℕ)) (x : Bool) → length V ≤ n → Steps spare (λ own. (k : ℕ) → k < n → Contains own (get_or V k [])) a b x → Steps spare (λ own. (v : List ℕ) → Contains V v → Contains own v) a b x
+pub all_put : (V : List (List ℕ)) (n : ℕ) (a b : List (List ℕ)) (x : Bool) → length V ≤ n → PassStep spare (λ own. (k : ℕ) → k < n → Contains own (get_or V k [])) a b x → PassStep spare (λ own. (v : List ℕ) → Contains V v → Contains own v) a b x
 all_put V n a b x le h = record {
   still = h.still;
   closed = λ e v c. let (k, lt, q) = c in subst (Contains a) (any_default V k [] v lt ∙ q) (h.closed e k (omega (arith, lt, le)));

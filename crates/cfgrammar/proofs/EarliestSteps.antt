@@ -20,7 +20,7 @@ use Rattle.cfg_base.specs.declared.symbol.Symbol.{Symbol}
 use Rattle.cfgrammar.specs.Symbols.{sym_of, syms_of}
 use Rattle.cfgrammar.specs.TokenLists.{tokens_of}
 use Rattle.cfgrammar.specs.Sets.{is_set}
-use Rattle.cfgrammar.specs.Passes.{Steps}
+use Rattle.cfgrammar.specs.Passes.{PassStep}
 use Rattle.cfgrammar.specs.CostTable.{bound, cost_in, AreCosts, IsClosedBy}
 use Rattle.cfgrammar.specs.CheapestTable.{GivesLeast, IsHandedOn, IsFirstCheapest}
 use Rattle.cfgrammar.specs.EarliestTable.{found_list, found_lists, as_lists, found_in, GivesNone, GivesOne, ComesFirst, AreFound, IsTakenIn, lists_up_to, lists_ahead, room_of, room_in}
@@ -208,20 +208,20 @@ body_below G n p good count = from (body_of G p) 0 refl
     from (token t ∷ a) d e = let r = get_from_drop (body_of G p) d (token t) a e in from a (suc d) r.1
 
 module _ (G : Grammar) (f : ℕ → ℕ) (least : List (Option ℕ)) (wanted : List Bool) (p : ℕ) (K : List (Option (List ℕ))) where
-  still_all : IsTakenIn G f least wanted p K → Steps (room_in G.tokens) (IsTakenIn G f least wanted p) K K false
+  still_all : IsTakenIn G f least wanted p K → PassStep (room_in G.tokens) (IsTakenIn G f least wanted p) K K false
   still_all h = record { still = λ e. refl; closed = λ e. h; fewer = λ e. absurd (false_true e) }
 
-  pub not_wanted : is_set wanted (head_of G p) ≡ false → Steps (room_in G.tokens) (IsTakenIn G f least wanted p) K K false
+  pub not_wanted : is_set wanted (head_of G p) ≡ false → PassStep (room_in G.tokens) (IsTakenIn G f least wanted p) K K false
   not_wanted free = still_all (λ h _ _ _. absurd (false_true (sym free ∙ h)))
 
-  pub not_given : (answer : Bool) → answer ≡ false → (IsTrue answer ↔ GivesLeast G f least p) → Steps (room_in G.tokens) (IsTakenIn G f least wanted p) K K false
+  pub not_given : (answer : Bool) → answer ≡ false → (IsTrue answer ↔ GivesLeast G f least p) → PassStep (room_in G.tokens) (IsTakenIn G f least wanted p) K K false
   not_given answer e told = still_all (λ _ h _ _. absurd (false_true (sym e ∙ told.1 h)))
 
-  pub not_found : GivesNone K (body_of G p) → Steps (room_in G.tokens) (IsTakenIn G f least wanted p) K K false
+  pub not_found : GivesNone K (body_of G p) → PassStep (room_in G.tokens) (IsTakenIn G f least wanted p) K K false
   not_found none = still_all (λ _ _ w c. absurd (none w c))
 
   module _ (w : List ℕ) (o : Option (List ℕ)) (one : GivesOne K (body_of G p) w) (is : o ≡ get_or K (head_of G p) None) where
-    pub not_first : (ComesFirst w o → ⊥) → Steps (room_in G.tokens) (IsTakenIn G f least wanted p) K K false
+    pub not_first : (ComesFirst w o → ⊥) → PassStep (room_in G.tokens) (IsTakenIn G f least wanted p) K K false
     not_first not = still_all (λ _ _ v c. subst (λ r. HasUpTo (as_lists r) v) is (subst (HasUpTo (as_lists o)) (sym ((one v).0 c)) (by o not)))
       where
         by : (r : Option (List ℕ)) → (ComesFirst w r → ⊥) → HasUpTo (as_lists r) w
@@ -239,7 +239,7 @@ module _ (G : Grammar) (f : ℕ → ℕ) (least : List (Option ℕ)) (wanted : L
           let low = costs.within (head_of G p) n q in
           omega (arith, le, low, k)
 
-      pub put_first : ComesFirst w o → Steps (room_in G.tokens) (IsTakenIn G f least wanted p) K (set K (head_of G p) (Some w)) true
+      pub put_first : ComesFirst w o → PassStep (room_in G.tokens) (IsTakenIn G f least wanted p) K (set K (head_of G p) (Some w)) true
       put_first h = record { still = λ e. absurd (true_false e); closed = λ e. absurd (true_false e); fewer = λ e. fewer }
         where
           fewer : room_in G.tokens (set K (head_of G p) (Some w)) < room_in G.tokens K

@@ -9,7 +9,7 @@ use Rattle.cfg_theory.specs.First.{AllOf, IsFirstTable, FirstTablesAreExact}
 use Rattle.cfg_theory.proofs.Derivation.{derives_rule, nullable_of, first_of_list}
 use Rattle.cfgrammar.specs.Sets.{is_set, is_set_in, missing, missing_in, joined_to, HasAllOf, AreRows}
 use Rattle.cfgrammar.specs.Firsts.{FirstSets, HasEpsilon, HasFirst, AreOf, AreFirsts, AreSound, IsClosedAt, IsWithin, AllWithin, IsNullableIn, FirstBefore, FirstsOf, room}
-use Rattle.cfgrammar.specs.Passes.{Steps}
+use Rattle.cfgrammar.specs.Passes.{PassStep}
 use Rattle.cfgrammar.proofs.Bits.{join, length-bitwise, joined, none_set, none_in, put_in, row_set, rows_set, empty_sized}
 use Rattle.cfg_theory.proofs.Lists.{get_from_drop}
 use Rattle.cfgrammar.proofs.Passed.{step_and}
@@ -84,14 +84,14 @@ same_sets a b t r e =
     ap (λ x. record { tokens = b.tokens; rows = b.rows; epsilons = x }) e
 
 -- a step of the rows, and one of the nullable rules, are steps of the sets
-pub rows_lifted : (C : List (List Bool) → Type 0) (old new : FirstSets) (changed : Bool) → new.tokens ≡ old.tokens → new.epsilons ≡ old.epsilons → Steps missing_in C old.rows new.rows changed → Steps room (λ s. C s.rows) old new changed
+pub rows_lifted : (C : List (List Bool) → Type 0) (old new : FirstSets) (changed : Bool) → new.tokens ≡ old.tokens → new.epsilons ≡ old.epsilons → PassStep missing_in C old.rows new.rows changed → PassStep room (λ s. C s.rows) old new changed
 rows_lifted C old new changed tokens epsilons r = record {
   still = λ e. same_sets new old tokens (r.still e) epsilons;
   closed = r.closed;
   fewer = λ e. let less = r.fewer e in let y = ap missing epsilons in omega (arith, less, y);
 }
 
-pub epsilons_lifted : (C : List Bool → Type 0) (old new : FirstSets) (changed : Bool) → new.tokens ≡ old.tokens → new.rows ≡ old.rows → Steps missing C old.epsilons new.epsilons changed → Steps room (λ s. C s.epsilons) old new changed
+pub epsilons_lifted : (C : List Bool → Type 0) (old new : FirstSets) (changed : Bool) → new.tokens ≡ old.tokens → new.rows ≡ old.rows → PassStep missing C old.epsilons new.epsilons changed → PassStep room (λ s. C s.epsilons) old new changed
 epsilons_lifted C old new changed tokens rows r = record {
   still = λ e. same_sets new old tokens rows (r.still e);
   closed = r.closed;
@@ -154,8 +154,8 @@ taken_sizes G old new A ys nullable h lt len tokens rows epsilons = record {
     kept false = refl
 
 -- what one production adds, told
-pub taken_step : (G : Grammar) (p : ℕ) (old mid new : FirstSets) (ys : List Bool) (nullable grew found : Bool) → Steps room (λ s. HasAllOf (head_of G p) ys s.rows) old mid grew → Steps room (λ s. IsTrue nullable → HasEpsilon s (head_of G p)) mid new found →
-    IsTrue nullable ↔ AllOf (HasEpsilon old) (body_of G p) → ((t : ℕ) → IsTrue (is_set ys t) ↔ FirstsOf old (body_of G p) t) → Steps room (λ s. IsClosedAt G s p) old new (grew || found)
+pub taken_step : (G : Grammar) (p : ℕ) (old mid new : FirstSets) (ys : List Bool) (nullable grew found : Bool) → PassStep room (λ s. HasAllOf (head_of G p) ys s.rows) old mid grew → PassStep room (λ s. IsTrue nullable → HasEpsilon s (head_of G p)) mid new found →
+    IsTrue nullable ↔ AllOf (HasEpsilon old) (body_of G p) → ((t : ℕ) → IsTrue (is_set ys t) ↔ FirstsOf old (body_of G p) t) → PassStep room (λ s. IsClosedAt G s p) old new (grew || found)
 taken_step G p old mid new ys nullable grew found h k null first =
     let r = step_and room (λ s. HasAllOf (head_of G p) ys s.rows) (λ s. IsTrue nullable → HasEpsilon s (head_of G p)) old mid new grew found h k in
     record {
@@ -165,7 +165,7 @@ taken_step G p old mid new ys nullable grew found h k null first =
     }
 
 -- a rule that is put among the nullable ones only where it is
-pub epsilon_if : (old new : FirstSets) (A : ℕ) (nullable changed : Bool) → nullable ≡ true → Steps room (λ s. IsTrue (is_set s.epsilons A)) old new changed → Steps room (λ s. IsTrue nullable → HasEpsilon s A) old new changed
+pub epsilon_if : (old new : FirstSets) (A : ℕ) (nullable changed : Bool) → nullable ≡ true → PassStep room (λ s. IsTrue (is_set s.epsilons A)) old new changed → PassStep room (λ s. IsTrue nullable → HasEpsilon s A) old new changed
 epsilon_if old new A nullable changed e h = record { still = h.still; closed = λ q _. h.closed q; fewer = h.fewer }
 
 pub none_sound : (G : Grammar) (n m k : ℕ) (s : FirstSets) → s.rows ≡ replicate n (replicate m false) → s.epsilons ≡ replicate k false → AreSound G s

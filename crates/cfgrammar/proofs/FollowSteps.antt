@@ -11,7 +11,7 @@ use Rattle.cfg_theory.proofs.Follow.{follow_after, follow_passed, follow_end}
 use Rattle.cfgrammar.specs.Sets.{is_set, is_set_in, missing_in, AreRows}
 use Rattle.cfgrammar.specs.Firsts.{FirstSets, HasEpsilon, HasFirst, AreFirsts, IsWithin, FirstBefore}
 use Rattle.cfgrammar.specs.Follows.{FollowSets, HasFollow, AreOf, AreFollows, AreSound, Behind, IsClosedFrom, HasSet, HasAll, added, room}
-use Rattle.cfgrammar.specs.Passes.{Steps}
+use Rattle.cfgrammar.specs.Passes.{PassStep}
 use Rattle.std.proofs.lemmas.List.{get_or-set_same, get_or-replicate, length-replicate, length-set}
 use Rattle.cfgrammar.proofs.Bits.{join, length-bitwise, joined, row_set, rows_set, alone, none_in, empty_sized}
 use Rattle.cfgrammar.proofs.FirstSteps.{first_table, within_of}
@@ -64,7 +64,7 @@ added_sound G old new (rule A) bits sound rows within len e true_bits = λ R t h
     by R t h = elim (row_set old.rows A R t (join (get_or old.rows A []) bits) lt) [ inl q ↦ subst (λ B. IsFollow G B t) (sym q.0) (here t (sym q.1 ∙ h)) | inr q ↦ sound R t (sym q.1 ∙ h) ]
 
 -- a step of the rows is one of the sets
-pub rows_lifted : (C : List (List Bool) → Type 0) (old new : FollowSets) (changed : Bool) → new.tokens ≡ old.tokens → Steps missing_in C old.rows new.rows changed → Steps room (λ s. C s.rows) old new changed
+pub rows_lifted : (C : List (List Bool) → Type 0) (old new : FollowSets) (changed : Bool) → new.tokens ≡ old.tokens → PassStep missing_in C old.rows new.rows changed → PassStep room (λ s. C s.rows) old new changed
 rows_lifted C old new changed tokens r = record {
   still = λ e. ap (λ x. record { tokens = x; rows = new.rows }) tokens ∙ ap (λ x. record { tokens = old.tokens; rows = x }) (r.still e);
   closed = r.closed;
@@ -134,7 +134,7 @@ added_keeps n m rows (rule A) bits R t r within len h =
       | inr q ↦ q.1 ∙ h
     ]
 
-pub nothing_behind : (G : Grammar) (f : FirstSets) (p n : ℕ) (s : FollowSets) → length (body_of G p) ≤ n → Steps room (IsClosedFrom G f p n) s s false
+pub nothing_behind : (G : Grammar) (f : FirstSets) (p n : ℕ) (s : FollowSets) → length (body_of G p) ≤ n → PassStep room (IsClosedFrom G f p n) s s false
 nothing_behind G f p n s le = record { still = λ e. refl; closed = λ e d R t from next b. absurd (none_next (body_of G p) d (rule R) (omega (arith, le, from)) next.at); fewer = λ e. cc }
 
 pub starts_behind : (f : FirstSets) (P : ℕ → Type 0) (a : List Sym) (k : ℕ) (bits : List Bool) → length a ≤ k → ((t : ℕ) → IsTrue (is_set bits t) ↔ P t) → (t : ℕ) → IsTrue (is_set bits t) ↔ Behind f P (drop k a) t
@@ -184,7 +184,7 @@ module _ (G : Grammar) (good : WellFormed G) (f : FirstSets) (k : AreFirsts G f)
         let h = behind_cons f (view x) (drop (length xs - place) (body_of G p)) (HasFollow start (head_of G p)) (λ u. IsTrue (is_set bits u)) tells t in
         subst (λ l. IsTrue (is_set new t) ↔ Behind f (HasFollow start (head_of G p)) l t) (sym next) ((λ y. h.0 ((made t).0 y)), (λ y. (made t).1 (h.1 y)))
 
-    pub new_steps : (old new : FollowSets) (y z : Bool) → Steps room (IsClosedFrom G f p (length xs - place)) start old y → Steps room (λ s. HasAll s (view x) bits) old new z → Steps room (IsClosedFrom G f p (length xs - (place + 1))) start new (y || z)
+    pub new_steps : (old new : FollowSets) (y z : Bool) → PassStep room (IsClosedFrom G f p (length xs - place)) start old y → PassStep room (λ s. HasAll s (view x) bits) old new z → PassStep room (IsClosedFrom G f p (length xs - (place + 1))) start new (y || z)
     new_steps old new y z h j =
         let r = step_and room (IsClosedFrom G f p (length xs - place)) (λ s. HasAll s (view x) bits) start old new y z h j in
         let a : length xs - place ≡ suc at = omega (arith, e) in

@@ -5,11 +5,11 @@ use Rattle.std.proofs.lemmas.List.{get_or-map, length-map}
 use Rattle.cfg_theory.specs.Grammar.{Production, Grammar, IsOf, WellFormed, head_of, body_of}
 use Rattle.cfgrammar.specs.Symbols.{syms_of}
 use Rattle.cfgrammar.specs.Value.{GrammarValue}
-use Rattle.cfgrammar.specs.Parts.{value_of, production_of, with_productions}
-use Rattle.cfgrammar.specs.declared.yacc.parts.RuleParts.{RuleParts}
-use Rattle.cfgrammar.specs.declared.yacc.parts.TokenParts.{TokenParts}
-use Rattle.cfgrammar.specs.declared.yacc.parts.ProductionParts.{ProductionParts}
-use Rattle.cfgrammar.specs.declared.yacc.parts.KeptParts.{KeptParts}
+use Rattle.cfgrammar.specs.Info.{value_of, production_of, with_productions}
+use Rattle.cfgrammar.specs.declared.yacc.info.RuleInfo.{RuleInfo}
+use Rattle.cfgrammar.specs.declared.yacc.info.TokenInfo.{TokenInfo}
+use Rattle.cfgrammar.specs.declared.yacc.info.ProductionInfo.{ProductionInfo}
+use Rattle.cfgrammar.specs.declared.yacc.info.KeptInfo.{KeptInfo}
 
 module _ {X : Type 0} (view : X → Production) (G : Grammar) (xs : List X) (e : G.productions ≡ map view xs) where
   -- the production of a number
@@ -32,17 +32,17 @@ pub some_rule : (G : Grammar) → WellFormed G → 0 < G.rules
 some_rule G good = good.heads G.start 0 good.start_of
 
 -- in a value that is made of parts
-module _ {S : Type 0} (number : S → ℕ) (rules : List RuleParts) (tokens : List TokenParts) (prods : List (ProductionParts S)) (start : ℕ) (kept : KeptParts S) (v : GrammarValue) (is : value_of number rules tokens prods start kept ≡ v) where
-  place : (i p : ℕ) (x : ProductionParts S) → i ≡ p → x ≡ get_or prods i x → x ≡ get_or prods p x
+module _ {S : Type 0} (number : S → ℕ) (rules : List RuleInfo) (tokens : List TokenInfo) (prods : List (ProductionInfo S)) (start : ℕ) (kept : KeptInfo S) (v : GrammarValue) (is : value_of number rules tokens prods start kept ≡ v) where
+  place : (i p : ℕ) (x : ProductionInfo S) → i ≡ p → x ≡ get_or prods i x → x ≡ get_or prods p x
   place i p x e h = subst (λ k. x ≡ get_or prods k x) e h
 
   within : (p : ℕ) → p < length v.grammar.productions → p < length prods
   within p lt = let n = ap (λ w. length w.grammar.productions) is in let m = length-map prods (production_of number) in omega (arith, n, m, lt)
 
-  pub body_in : (i p : ℕ) (x : ProductionParts S) → i ≡ p → p < length v.grammar.productions → x ≡ get_or prods i x → body_of v.grammar p ≡ syms_of number x.symbols.items
+  pub body_in : (i p : ℕ) (x : ProductionInfo S) → i ≡ p → p < length v.grammar.productions → x ≡ get_or prods i x → body_of v.grammar p ≡ syms_of number x.symbols.items
   body_in i p x e lt h = sym (ap (λ w. body_of w.grammar p) is) ∙ body_at (production_of number) (value_of number rules tokens prods start kept).grammar prods refl p x x (within p lt) (place i p x e h)
 
-  pub head_in : (i p : ℕ) (x : ProductionParts S) → i ≡ p → p < length v.grammar.productions → x ≡ get_or prods i x → head_of v.grammar p ≡ number x.rule.0
+  pub head_in : (i p : ℕ) (x : ProductionInfo S) → i ≡ p → p < length v.grammar.productions → x ≡ get_or prods i x → head_of v.grammar p ≡ number x.rule.0
   head_in i p x e lt h = sym (ap (λ w. head_of w.grammar p) is) ∙ head_at (production_of number) (value_of number rules tokens prods start kept).grammar prods refl p x x (within p lt) (place i p x e h)
 
 -- only the productions matter

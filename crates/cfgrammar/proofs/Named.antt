@@ -14,9 +14,9 @@ use Rattle.std.proofs.lemmas.Bool.{cases_lt, cases_Bool, lt-ltb}
 use Rattle.indexmap.specs.IndexSet.{insert_key}
 use Rattle.cfg_theory.specs.Grammar.{end_token}
 use Rattle.cfgrammar.specs.Value.{GrammarValue, RuleFacts, TokenFacts, IsGrammar, IsRuleNamed, IsTokenNamed, end_facts}
-use Rattle.cfgrammar.specs.Parts.{rule_facts, token_facts, part_name, token_part_name, texts_in, IsPartNamed, IsTokenPartNamed, ListsNames}
-use Rattle.cfgrammar.specs.declared.yacc.parts.RuleParts.{RuleParts}
-use Rattle.cfgrammar.specs.declared.yacc.parts.TokenParts.{TokenParts}
+use Rattle.cfgrammar.specs.Info.{rule_facts, token_facts, part_name, token_part_name, texts_in, IsPartNamed, IsTokenPartNamed, ListsNames}
+use Rattle.cfgrammar.specs.declared.yacc.info.RuleInfo.{RuleInfo}
+use Rattle.cfgrammar.specs.declared.yacc.info.TokenInfo.{TokenInfo}
 
 some_none : {X : Type 0} (x : X) → Some x ≡ None → ⊥
 some_none x e = cc
@@ -183,16 +183,16 @@ over_map : {X Y Z : Type 0} (f : X → Y) (g : Y → Z) (k : X → Z) → ((x : 
 over_map f g k e None = refl
 over_map f g k e (Some x) = ap Some (e x)
 
-pub rule_part : (g : GrammarValue) (rules : List RuleParts) → map rule_facts rules ≡ g.rules → (A : ℕ) (name : List ℕ) → IsPartNamed rules A name → IsRuleNamed g A name
+pub rule_part : (g : GrammarValue) (rules : List RuleInfo) → map rule_facts rules ≡ g.rules → (A : ℕ) (name : List ℕ) → IsPartNamed rules A name → IsRuleNamed g A name
 rule_part g rules is A name n = record { at = ap (λ l. option_map (λ (r : RuleFacts). r.name) (slice_get l A)) (sym is) ∙ ap (option_map (λ (r : RuleFacts). r.name)) (slice_get-map rule_facts rules A) ∙ over_map rule_facts (λ (r : RuleFacts). r.name) part_name (λ x. refl) (slice_get rules A) ∙ n.at }
 
-pub token_part : (g : GrammarValue) (tokens : List TokenParts) → map token_facts tokens ≡ g.tokens → (t : ℕ) (name : List ℕ) → IsTokenPartNamed tokens t name → IsTokenNamed g t name
+pub token_part : (g : GrammarValue) (tokens : List TokenInfo) → map token_facts tokens ≡ g.tokens → (t : ℕ) (name : List ℕ) → IsTokenPartNamed tokens t name → IsTokenNamed g t name
 token_part g tokens is t name n = record { at = ap (λ l. option_map (λ (k : TokenFacts). k.name) (slice_get l t)) (sym is) ∙ ap (option_map (λ (k : TokenFacts). k.name)) (slice_get-map token_facts tokens t) ∙ over_map token_facts (λ (k : TokenFacts). k.name) token_part_name (λ x. refl) (slice_get tokens t) ∙ n.at }
 
-pub all_rules : (rules : List RuleParts) → map part_name rules ≡ map (λ (r : RuleFacts). r.name) (map rule_facts rules)
+pub all_rules : (rules : List RuleInfo) → map part_name rules ≡ map (λ (r : RuleFacts). r.name) (map rule_facts rules)
 all_rules [] = refl
 all_rules (r ∷ rules) = ap (λ l. part_name r ∷ l) (all_rules rules)
 
-pub all_tokens : (tokens : List TokenParts) → filter_map token_part_name tokens ≡ filter_map (λ (k : TokenFacts). k.name) (map token_facts tokens)
+pub all_tokens : (tokens : List TokenInfo) → filter_map token_part_name tokens ≡ filter_map (λ (k : TokenFacts). k.name) (map token_facts tokens)
 all_tokens [] = refl
 all_tokens (t ∷ tokens) = ap (cons_option (token_part_name t)) (all_tokens tokens)

@@ -15,7 +15,7 @@ use Rattle.cfg_theory.proofs.Derivation.{derives_rule}
 use Rattle.cfg_theory.proofs.CostTables.{chained, one_sum}
 use Rattle.cfg_theory.proofs.Kept.{named_costs, lists_from, has_in_range}
 use Rattle.cfgrammar.specs.CostTable.{bound, cost_in}
-use Rattle.cfgrammar.specs.Passes.{Steps}
+use Rattle.cfgrammar.specs.Passes.{PassStep}
 use Rattle.cfgrammar.specs.Sets.{is_set, missing}
 use Rattle.cfgrammar.specs.Greatest.{IsAmong, AreGaining, IsNarrowedBy, held}
 use Rattle.cfgrammar.proofs.Bits.{none_set, put_in, put_step}
@@ -87,7 +87,7 @@ module _ (G : Grammar) (f : ℕ → ℕ) (costs : List (Option ℕ)) (table : Is
 -- what a production does
 module _ (G : Grammar) (f : ℕ → ℕ) (costs : List (Option ℕ)) (old : List Bool) (p : ℕ) (new : List Bool) where
   abbrev Step : List Bool → Bool → Type 0
-  Step to changed = Steps missing (IsNarrowedBy G f costs old p) new to changed
+  Step to changed = PassStep missing (IsNarrowedBy G f costs old p) new to changed
 
   idle : IsNarrowedBy G f costs old p new → Step new false
   idle closed = record { still = λ e. refl; closed = λ e. closed; fewer = λ e. cc }
@@ -111,8 +111,8 @@ module _ (G : Grammar) (f : ℕ → ℕ) (costs : List (Option ℕ)) (old : List
       at : IsTrue (is_set new A) → IsTrue (is_set new (head_of G p))
       at h = subst (λ B. IsTrue (is_set new B)) (sym e) h
 
-pub into : (G : Grammar) (f : ℕ → ℕ) (costs : List (Option ℕ)) (old : List Bool) (p : ℕ) (new to : List Bool) (A : ℕ) (changed : Bool) → to ≡ set new A true → head_of G p ≡ A → A < length new → IsTrue changed ↔ (is_set new A ≡ false) → Steps missing (IsNarrowedBy G f costs old p) new to changed
-into G f costs old p new to A changed made e lt tells = subst (λ b. Steps missing (IsNarrowedBy G f costs old p) new b changed) (sym made) (put_into G f costs old p new A changed e lt tells)
+pub into : (G : Grammar) (f : ℕ → ℕ) (costs : List (Option ℕ)) (old : List Bool) (p : ℕ) (new to : List Bool) (A : ℕ) (changed : Bool) → to ≡ set new A true → head_of G p ≡ A → A < length new → IsTrue changed ↔ (is_set new A ≡ false) → PassStep missing (IsNarrowedBy G f costs old p) new to changed
+into G f costs old p new to A changed made e lt tells = subst (λ b. PassStep missing (IsNarrowedBy G f costs old p) new b changed) (sym made) (put_into G f costs old p new A changed e lt tells)
 
 pub with_width : (bits : List Bool) (A : ℕ) → length (set bits A true) ≡ length bits
 with_width bits A = length-set bits A true

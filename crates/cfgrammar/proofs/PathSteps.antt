@@ -10,7 +10,7 @@ use Rattle.cfg_theory.specs.Path.{IsReachTable, PathTablesAreExact}
 use Rattle.cfg_theory.proofs.Paths.{path_on}
 use Rattle.cfgrammar.specs.Sets.{is_set, missing}
 use Rattle.cfgrammar.specs.Paths.{AreReached, IsReachedFrom, IsIn, HasPlace, with_rule}
-use Rattle.cfgrammar.specs.Passes.{Steps}
+use Rattle.cfgrammar.specs.Passes.{PassStep}
 use Rattle.cfgrammar.proofs.Bits.{none_set, put_in}
 use Rattle.cfgrammar.proofs.Passed.{step_and}
 
@@ -27,12 +27,12 @@ named_more G p n X bits at (below, here) d R lt next = elim (cases_eq d n) [ inl
     at_place : d ≡ n → IsTrue (is_set bits R)
     at_place e = subst (IsIn bits) (some_same X (rule R) (sym at ∙ ap (slice_get (body_of G p)) (sym e) ∙ next.at)) here
 
-pub named_step : (G : Grammar) (p n : ℕ) (X : Sym) (a b c : List Bool) (x y : Bool) → slice_get (body_of G p) n ≡ Some X → Steps missing (NamedBelow G p n) a b x → Steps missing (λ s. IsIn s X) b c y → Steps missing (NamedBelow G p (n + 1)) a c (x || y)
+pub named_step : (G : Grammar) (p n : ℕ) (X : Sym) (a b c : List Bool) (x y : Bool) → slice_get (body_of G p) n ≡ Some X → PassStep missing (NamedBelow G p n) a b x → PassStep missing (λ s. IsIn s X) b c y → PassStep missing (NamedBelow G p (n + 1)) a c (x || y)
 named_step G p n X a b c x y at h k =
     let r = step_and missing (NamedBelow G p n) (λ s. IsIn s X) a b c x y h k in
     record { still = r.still; closed = λ e. named_more G p n X a at (r.closed e); fewer = r.fewer }
 
-pub all_named : (G : Grammar) (A p n : ℕ) (a b : List Bool) (x : Bool) → length (body_of G p) ≤ n → Steps missing (NamedBelow G p n) a b x → Steps missing (IsReachedFrom G A p) a b x
+pub all_named : (G : Grammar) (A p n : ℕ) (a b : List Bool) (x : Bool) → length (body_of G p) ≤ n → PassStep missing (NamedBelow G p n) a b x → PassStep missing (IsReachedFrom G A p) a b x
 all_named G A p n a b x le h = record {
   still = h.still;
   closed = λ e _ d R next. h.closed e d R (let lt = slice_get_within (body_of G p) d (rule R) next.at in omega (arith, lt, le)) next;
@@ -40,7 +40,7 @@ all_named G A p n a b x le h = record {
 }
 
 -- nothing is added where the production's rule isn't reached
-pub not_reached : (G : Grammar) (A p : ℕ) (a : List Bool) → (head_of G p ≡ A → ⊥) → is_set a (head_of G p) ≡ false → Steps missing (IsReachedFrom G A p) a a false
+pub not_reached : (G : Grammar) (A p : ℕ) (a : List Bool) → (head_of G p ≡ A → ⊥) → is_set a (head_of G p) ≡ false → PassStep missing (IsReachedFrom G A p) a a false
 not_reached G A p a ne free = record { still = λ e. refl; closed = λ e h. absurd (elim h [ inl q ↦ ne q | inr q ↦ wrong (sym free ∙ q) ]); fewer = λ e. cc }
   where
     wrong : false ≡ true → ⊥

@@ -6,7 +6,7 @@ use Rattle.std.proofs.lemmas.List.{flat_map_more}
 use Rattle.std.proofs.lemmas.Option.{slice_get-map, get_or_from_slice_get}
 use Rattle.cfg_theory.specs.Grammar.{rule}
 use Rattle.cfgrammar.specs.Value.{GrammarValue, RuleFacts, IsRuleNamed}
-use Rattle.cfgrammar.specs.Shown.{name_of}
+use Rattle.cfgrammar.specs.PrettyPrint.{name_of}
 
 -- one more symbol behind a text
 pub text_more : {X : Type 0} (f : X → List ℕ) (before now : List ℕ) (ys : List X) (x : X) → now ≡ before ++ flat_map f ys → now ++ f x ≡ before ++ flat_map f (ys ++ x ∷ [])

@@ -11,7 +11,7 @@ use Rattle.cfg_theory.specs.Greatest.{IsKeptTable, GreatestCostsExist, KeptTable
 use Rattle.cfg_theory.proofs.Derivation.{derives_rule, tokens_both}
 use Rattle.cfg_theory.proofs.CostTables.{cost-append, one_sum}
 use Rattle.cfgrammar.specs.CostTable.{bound, cost_of, cost_in}
-use Rattle.cfgrammar.specs.Passes.{Steps}
+use Rattle.cfgrammar.specs.Passes.{PassStep}
 use Rattle.cfgrammar.specs.Sets.{is_set}
 use Rattle.cfgrammar.specs.Sentences.{Costed}
 use Rattle.cfgrammar.specs.Greatest.{AreRaised, IsRaisedBy, IsMore, slack, rise, AreGreatest}
@@ -95,7 +95,7 @@ none_raised G f top table e = record {
 -- what a production does
 module _ (G : Grammar) (f : ℕ → ℕ) (top : ℕ) (skipped : List Bool) (p : ℕ) (table : List (Option ℕ)) where
   abbrev Step : List (Option ℕ) → Bool → Type 0
-  Step new changed = Steps (rise top) (IsRaisedBy G f top skipped p) table new changed
+  Step new changed = PassStep (rise top) (IsRaisedBy G f top skipped p) table new changed
 
   idle : IsRaisedBy G f top skipped p table → Step table false
   idle closed = record { still = λ e. refl; closed = λ e. closed; fewer = λ e. cc }

@@ -11,7 +11,7 @@ use Rattle.cfg_theory.specs.Grammar.{Grammar, Production, head_of}
 use Rattle.cfg_base.specs.declared.symbol.PIdx.{PIdx}
 use Rattle.cfgrammar.specs.Symbols.{numbers_of}
 use Rattle.cfgrammar.specs.Value.{productions_of}
-use Rattle.cfgrammar.specs.Parts.{ListsBelow, ListsProductions, with_productions}
+use Rattle.cfgrammar.specs.Info.{ListsBelow, ListsProductions, with_productions}
 
 range_more : (a n : ℕ) → range_with_len a (suc n) ≡ range_with_len a n ++ (a + n) ∷ []
 range_more a zero = let e : a ≡ a + 0 = omega arith in ap (λ k. k ∷ []) e

@@ -12,7 +12,7 @@ use Rattle.cfg_base.specs.declared.symbol.PIdx.{PIdx}
 use Rattle.cfgrammar.specs.Symbols.{numbers_of}
 use Rattle.cfgrammar.specs.Value.{productions_of}
 use Rattle.cfgrammar.specs.CostTable.{cost_in}
-use Rattle.cfgrammar.specs.Passes.{Steps, Anything}
+use Rattle.cfgrammar.specs.Passes.{PassStep, Anything}
 use Rattle.cfgrammar.specs.Sets.{is_set}
 use Rattle.cfgrammar.specs.Greatest.{LeadsOut, held}
 
@@ -84,8 +84,8 @@ out_empties xs n lt h =
     let one : ◌≡◌ {A = ℕ} (cond (get_or xs n false) 1 0) 1 = rw h refl in
     omega (arith, e, one)
 
-pub out_step : (xs to : List Bool) (n : ℕ) (changed : Bool) → to ≡ set xs n false → n < length xs → IsTrue changed ↔ (is_set xs n ≡ true) → Steps held Anything xs to changed
-out_step xs to n changed made lt tells = subst (λ l. Steps held Anything xs l changed) (sym made) (record { still = λ e. out_again xs n lt (gone e); closed = λ e. tt; fewer = λ e. out_empties xs n lt (tells.0 e) })
+pub out_step : (xs to : List Bool) (n : ℕ) (changed : Bool) → to ≡ set xs n false → n < length xs → IsTrue changed ↔ (is_set xs n ≡ true) → PassStep held Anything xs to changed
+out_step xs to n changed made lt tells = subst (λ l. PassStep held Anything xs l changed) (sym made) (record { still = λ e. out_again xs n lt (gone e); closed = λ e. tt; fewer = λ e. out_empties xs n lt (tells.0 e) })
   where
     gone : changed ≡ false → is_set xs n ≡ false
     gone e = elim (cases_Bool (is_set xs n)) [ inl h ↦ absurd (true_false (sym (tells.1 h) ∙ e)) | inr h ↦ h ]
@@ -102,6 +102,6 @@ settled_bounded G f costs table law xs to A made lt out (n, h) = (n + r.0, λ B 
       | inr ne ↦ (let le = h B w (sym (get_or-set_other xs A B false false ne) ∙ free) d in omega (arith, le))
     ]
 
-pub held_still : (a b : List Bool) (x : Bool) → Steps held Anything a b x → held b ≤ held a
+pub held_still : (a b : List Bool) (x : Bool) → PassStep held Anything a b x → held b ≤ held a
 held_still a b true h = let lt = h.fewer refl in omega (arith, lt)
 held_still a b false h = let e = ap held (h.still refl) in omega (arith, e)

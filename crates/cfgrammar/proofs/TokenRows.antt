@@ -5,7 +5,7 @@ use Rattle.std.proofs.lemmas.List.{get_or-map, map-set, length-map, length-set, 
 use Rattle.std.proofs.lemmas.Bool.{cases_Bool}
 use Rattle.vob.specs.Packed.{Contents}
 use Rattle.cfgrammar.specs.Sets.{SetRows, is_set, is_set_in, missing_in, joined_to, HasAllOf, AreRows}
-use Rattle.cfgrammar.specs.Passes.{Steps}
+use Rattle.cfgrammar.specs.Passes.{PassStep}
 use Rattle.cfgrammar.proofs.Bits.{join, length-bitwise, rows_set, rows_step}
 
 abbrev pub rows_of : List Contents → List (List Bool)
@@ -56,11 +56,11 @@ module _ (items : List Contents) (width : ℕ) (v : SetRows) (is : record { widt
       pub join_value : ◌≡◌ {A = SetRows} (record { width = width; rows = rows_of (set items A y) }) (record { width = v.width; rows = joined_to v.rows A ys })
       join_value = ap {B = SetRows} (λ k. record { width = k; rows = rows_of (set items A y) }) (ap (λ (w : SetRows). w.width) is) ∙ ap {B = SetRows} (λ l. record { width = v.width; rows = l }) new_rows
 
-      pub join_steps : (changed : Bool) → IsTrue changed ↔ (y.bits ≢ x.bits) → Steps missing_in (HasAllOf A ys) v.rows (rows_of (set items A y)) changed
+      pub join_steps : (changed : Bool) → IsTrue changed ↔ (y.bits ≢ x.bits) → PassStep missing_in (HasAllOf A ys) v.rows (rows_of (set items A y)) changed
       join_steps changed tells =
           let row = get_or v.rows A [] in
           let told : IsTrue changed ↔ (join row ys ≢ row) = subst (λ b. IsTrue changed ↔ (join b ys ≢ b)) row_is (subst (λ b. IsTrue changed ↔ (b ≢ x.bits)) made tells) in
-          subst (λ l. Steps missing_in (HasAllOf A ys) v.rows l changed) (sym new_rows) (rows_step v.rows A ys changed lt (all_rows.width A lt ∙ sym len) told)
+          subst (λ l. PassStep missing_in (HasAllOf A ys) v.rows l changed) (sym new_rows) (rows_step v.rows A ys changed lt (all_rows.width A lt ∙ sym len) told)
 
     -- a number was put in
     module _ (t : ℕ) (made : y.bits ≡ set x.bits t true) where

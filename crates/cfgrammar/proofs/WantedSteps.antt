@@ -11,7 +11,7 @@ use Rattle.cfg_theory.proofs.Lists.{get_from_drop}
 use Rattle.cfg_theory.proofs.CostTables.{one_sum}
 use Rattle.cfgrammar.specs.Sets.{is_set, missing}
 use Rattle.cfgrammar.specs.Paths.{HasPlace, with_rule}
-use Rattle.cfgrammar.specs.Passes.{Steps}
+use Rattle.cfgrammar.specs.Passes.{PassStep}
 use Rattle.cfgrammar.specs.CostTable.{bound, cost_in}
 use Rattle.cfgrammar.specs.CheapestTable.{GivesLeast, AreNamedIn, IsHandedOn, AreKept}
 use Rattle.cfgrammar.proofs.Bits.{put_in}
@@ -66,7 +66,7 @@ kept_with bits (rule R) new place e B h = subst (λ l. IsTrue (is_set l B)) (sym
 kept_with bits (token t) new place e B h = subst (λ l. IsTrue (is_set l B)) (sym e) h
 
 -- all that is named
-pub all_in : (G : Grammar) (p n : ℕ) (a b : List Bool) (x : Bool) → length (body_of G p) ≤ n → Steps missing (NamedBelow G p n) a b x → Steps missing (AreNamedIn G p) a b x
+pub all_in : (G : Grammar) (p n : ℕ) (a b : List Bool) (x : Bool) → length (body_of G p) ≤ n → PassStep missing (NamedBelow G p n) a b x → PassStep missing (AreNamedIn G p) a b x
 all_in G p n a b x le h = record {
   still = h.still;
   closed = λ e d R next. h.closed e d R (let lt = slice_get_within (body_of G p) d (rule R) next.at in omega (arith, lt, le)) next;
@@ -74,13 +74,13 @@ all_in G p n a b x le h = record {
 }
 
 module _ (G : Grammar) (f : ℕ → ℕ) (least : List (Option ℕ)) (p : ℕ) where
-  pub not_wanted : (a : List Bool) → is_set a (head_of G p) ≡ false → Steps missing (IsHandedOn G f least p) a a false
+  pub not_wanted : (a : List Bool) → is_set a (head_of G p) ≡ false → PassStep missing (IsHandedOn G f least p) a a false
   not_wanted a free = record { still = λ e. refl; closed = λ e h _. absurd (false_true (sym free ∙ h)); fewer = λ e. cc }
 
-  pub not_given : (a : List Bool) (answer : Bool) → answer ≡ false → (IsTrue answer ↔ GivesLeast G f least p) → Steps missing (IsHandedOn G f least p) a a false
+  pub not_given : (a : List Bool) (answer : Bool) → answer ≡ false → (IsTrue answer ↔ GivesLeast G f least p) → PassStep missing (IsHandedOn G f least p) a a false
   not_given a answer e told = record { still = λ _. refl; closed = λ _ _ h. absurd (false_true (sym e ∙ told.1 h)); fewer = λ e. cc }
 
-  pub handed : (a b : List Bool) (x : Bool) → Steps missing (AreNamedIn G p) a b x → Steps missing (IsHandedOn G f least p) a b x
+  pub handed : (a b : List Bool) (x : Bool) → PassStep missing (AreNamedIn G p) a b x → PassStep missing (IsHandedOn G f least p) a b x
   handed a b x h = record { still = h.still; closed = λ e _ _. h.closed e; fewer = h.fewer }
 
 -- as a fact on the list of symbols

@@ -1,7 +1,7 @@
 pub mod Symbols
 pub mod Value
-pub mod Parts
-pub mod Shown
+pub mod Info
+pub mod PrettyPrint
 pub mod Sets
 pub mod Firsts
 pub mod Follows
@@ -13,5 +13,5 @@ pub mod Greatest
 pub mod TokenLists
 pub mod CheapestTable
 pub mod EarliestTable
-pub mod Made
-pub mod MadeParts
+pub mod FromAst
+pub mod AddedProductions

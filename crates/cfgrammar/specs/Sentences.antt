@@ -1,5 +1,5 @@
 -- What contracts see of the costs of a grammar's sentences, and when each refusal comes.
-use Rattle.std.specs.Prelude.{◌≡◌, ℕ, ◌<◌, List, length, get_or}
+use Rattle.std.specs.Prelude.{◌≡◌, ℕ, ◌<◌, List, length, get_or, Option}
 use Rattle.cfg_base.specs.declared.symbol.TIdx.{TIdx}
 use Rattle.cfg_theory.specs.Grammar.{Grammar}
 use Rattle.cfg_theory.specs.Derivation.{IsProductive}
@@ -11,6 +11,12 @@ use Rattle.cfgrammar.specs.declared.yacc.sentences.CostError.TheVariants.{NoSent
 pub record Costed : Type 0 where
   pub grammar : Grammar
   pub costs : List ℕ
+
+-- and with a table of costs of its rules
+pub record CostedTable : Type 0 where
+  pub grammar : Grammar
+  pub costs : List ℕ
+  pub table : List (Option ℕ)
 
 -- the rule derives no token list; or its least cost is past 65,535
 abbrev pub LeastIsRefused : Grammar → (ℕ → ℕ) → ℕ → CostError → Type 0

@@ -2,20 +2,20 @@
 use Rattle.std.specs.Prelude.{◌≡◌, ℕ, ◌<◌, ◌≤◌, ◌==◌, Bool, false, List, [], ◌∷◌, length, Option, None, Some, slice_get, option_map, filter}
 use Rattle.std.specs.List.{range_with_len}
 use Rattle.std.specs.Option.{option_or}
-use Rattle.cfg_base.specs.Place.{Places}
+use Rattle.cfg_base.specs.SpanModel.{SpanModel}
 use Rattle.cfg_read.specs.declared.yacc.AssocKind.{AssocKind}
 use Rattle.cfg_read.specs.declared.yacc.Precedence.{Precedence}
 use Rattle.cfg_theory.specs.Grammar.{Grammar, head_of, body_of, end_token, WellFormed}
 
 pub record RuleFacts : Type 0 where
   pub name : List ℕ
-  pub span : Places
+  pub span : SpanModel
   -- the type of its actions
   pub action_type : Option (List ℕ)
 
 pub record TokenFacts : Type 0 where
   pub name : Option (List ℕ)
-  pub span : Option Places
+  pub span : Option SpanModel
   -- the text of `%epp`
   pub epp : Option (List ℕ)
   pub precedence : Option Precedence
@@ -31,10 +31,10 @@ abbrev pub shown_text : TokenFacts → Option (List ℕ)
 shown_text t = option_or t.epp t.name
 
 pub record ProductionFacts : Type 0 where
-  pub span : Places
+  pub span : SpanModel
   pub precedence : Option Precedence
   pub action : Option (List ℕ)
-  pub action_span : Option Places
+  pub action_span : Option SpanModel
 
 -- the name and the type of `%parse-param`
 pub record ParamFacts : Type 0 where
@@ -74,8 +74,13 @@ pub data HasLevel (g : GrammarValue) (level : ℕ) (kind : AssocKind) : Type 0 w
   of_production : (p : ℕ) → option_map (λ q. q.precedence) (slice_get g.productions p) ≡ Some (Some (record { level = level; kind = kind })) → HasLevel g level kind
 
 -- each level has one kind
-abbrev pub LevelsHaveOneKind : GrammarValue → Type 0
-LevelsHaveOneKind g = (level : ℕ) (j k : AssocKind) → HasLevel g level j → HasLevel g level k → j ≡ k
+abbrev pub GrammarLevelsHaveOneKind : GrammarValue → Type 0
+GrammarLevelsHaveOneKind g = (level : ℕ) (j k : AssocKind) → HasLevel g level j → HasLevel g level k → j ≡ k
+
+-- no token and no production has a precedence
+pub record HasNoPrecedences (g : GrammarValue) : Type 0 where
+  pub of_token : (t : ℕ) (r : Precedence) → option_map (λ k. k.precedence) (slice_get g.tokens t) ≡ Some (Some r) → ⊥
+  pub of_production : (p : ℕ) (r : Precedence) → option_map (λ q. q.precedence) (slice_get g.productions p) ≡ Some (Some r) → ⊥
 
 -- the productions of the rule A, in order
 abbrev pub productions_of : Grammar → ℕ → List ℕ
@@ -103,6 +108,6 @@ pub record IsGrammar (top : ℕ) (g : GrammarValue) : Type 0 where
   pub named : (t : ℕ) → t < end_token g.grammar → (name : List ℕ) × IsTokenNamed g t name
   pub end_unnamed : slice_get g.tokens (end_token g.grammar) ≡ Some end_facts
   -- precedences of one level have one kind
-  pub levels : LevelsHaveOneKind g
+  pub levels : GrammarLevelsHaveOneKind g
   -- the implicit rule is `~`
   pub implicit_rule : (A : ℕ) → g.kept.implicit_rule ≡ Some A → IsRuleNamed g A (126 ∷ [])

@@ -2,12 +2,12 @@
 
 pub mod firsts;
 pub mod follows;
+pub mod from_ast;
 pub mod grammar;
-pub mod making;
-mod parts;
+mod info;
 mod paths;
 pub mod sentences;
-mod sets;
+pub mod sets;
 
 pub use cfg_base::span::SpansKind;
 pub use cfg_read::yacc::{
@@ -18,6 +18,6 @@ pub use cfg_read::yacc::{
 };
 pub use firsts::YaccFirsts;
 pub use follows::YaccFollows;
+pub use from_ast::{TooMany, YaccGrammarMakeError};
 pub use grammar::YaccGrammar;
-pub use making::{TooMany, YaccGrammarMakeError};
 pub use sentences::{CostError, SentenceError, SentenceGenerator};

@@ -1,8 +1,8 @@
-//! Tests of `cfgrammar`: grammars of texts, at index types of one and of four bytes.
+//! Tests of `cfgrammar` that need more than a text and what is printed of its grammar: calls that change a value, loops
+//! over a grammar's numbers, functions handed in, counts past an index type, texts of errors. Texts with what is printed of
+//! their grammars, FIRST and FOLLOW sets, paths, sentences and refusals are the rows of the program `grammar_rows`.
 #![tactic(auto)]
 
-#[cfg(test)]
-mod grammars;
 #[cfg(test)]
 mod make;
 #[cfg(test)]
@@ -12,8 +12,4 @@ mod refusals;
 #[cfg(test)]
 mod sentences;
 #[cfg(test)]
-mod sets;
-#[cfg(test)]
 mod sizes;
-#[cfg(test)]
-mod texts;

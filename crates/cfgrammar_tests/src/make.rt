@@ -1,12 +1,10 @@
-//! Grammars of texts, or why there are none; and whether a number is one of a grammar's.
+//! Grammars of texts, or why there are none.
 
-ghost use Rattle.std.specs.Prelude.{◌<◌, IsTrue, length};
-
+use cfgrammar::Spanned;
 use cfgrammar::index::IndexStorage;
 use cfgrammar::yacc::{
     TooMany, YaccGrammar, YaccGrammarError, YaccGrammarMakeError, YaccKind, YaccOriginalActionKind,
 };
-use cfgrammar::{PIdx, RIdx, Spanned, TIdx};
 use std::alloc::{AllocError, Global};
 use std::test::*;
 
@@ -68,25 +66,4 @@ pub fn refusal<S: IndexStorage>(
     text: &str,
 ) -> Result<String, AllocError> {
     spell_refusal::<S>(alloc, YaccGrammar::new_with_storaget(alloc, kind, text))
-}
-
-/// Whether this is a rule of the grammar.
-pub fn has_rule<S: IndexStorage>(grm: &YaccGrammar<S>, ridx: RIdx<S>) -> bool
-    ensures { IsTrue result → S.number ridx.0 < grm.now.grammar.rules }
-{
-    ridx.0.to_usize() < grm.rules_len().0.to_usize()
-}
-
-/// Whether this is a token of the grammar.
-pub fn has_token<S: IndexStorage>(grm: &YaccGrammar<S>, tidx: TIdx<S>) -> bool
-    ensures { IsTrue result → S.number tidx.0 < grm.now.grammar.tokens }
-{
-    tidx.0.to_usize() < grm.tokens_len().0.to_usize()
-}
-
-/// Whether this is a production of the grammar.
-pub fn has_prod<S: IndexStorage>(grm: &YaccGrammar<S>, pidx: PIdx<S>) -> bool
-    ensures { IsTrue result → S.number pidx.0 < length grm.now.grammar.productions }
-{
-    pidx.0.to_usize() < grm.prods_len().0.to_usize()
 }

@@ -1,7 +1,6 @@
 //! Counts that fit an index type, and counts that don't.
 
 use crate::make::{TREE, refusal};
-use cfgrammar::yacc::YaccKind;
 use std::alloc::{AllocError, Global};
 use std::process::Abort;
 use std::test::*;
@@ -20,15 +19,10 @@ fn push_names(
     Ok(())
 }
 
-fn compare(
-    rt: &(impl Abort + AllocGlobal),
-    kind: YaccKind,
-    text: &str,
-    wanted: &str,
-) -> Result<(), Fail> {
-    let found = refusal::<u8>(rt.alloc(), kind, text)?;
+fn compare(rt: &(impl Abort + AllocGlobal), text: &str, wanted: &str) -> Result<(), Fail> {
+    let found = refusal::<u8>(rt.alloc(), TREE, text)?;
     assert_eq!(rt; found.as_str(), wanted);
-    let found = refusal::<u16>(rt.alloc(), kind, text)?;
+    let found = refusal::<u16>(rt.alloc(), TREE, text)?;
     assert_eq!(rt; found.as_str(), "");
     Ok(())
 }
@@ -49,40 +43,7 @@ fn counts_of_names(rt: HostRuntime) -> Result<(), Fail> {
         text.push_str(front)?;
         push_names(alloc, &mut text, before, count, behind)?;
         text.push_str(end)?;
-        compare(&rt, TREE, text.as_str(), wanted)?;
-    }
-    Ok(())
-}
-
-fn repeated(alloc: Global, front: &str, part: &str, count: usize) -> Result<String, AllocError> {
-    let mut text = String::from_str(alloc, front)?;
-    for _ in 0..count {
-        text.push_str(part)?;
-    }
-    text.push_str(";")?;
-    Ok(text)
-}
-
-const ECO: &str = "%implicit_tokens w\n%% S: ";
-
-const COUNTS_OF_PRODUCTIONS: &[(YaccKind, &str, &str, usize, &str)] = &[
-    (TREE, "%% S: ", " 'x'", 255, ""),
-    (TREE, "%% S: ", " 'x'", 256, "TooManySymbols 256"),
-    (TREE, "%% S: ", " | 'x'", 253, ""),
-    (TREE, "%% S: ", " | 'x'", 254, "TooManyProds 256"),
-    (TREE, "%% S: ", " | 'x'", 255, "TooManyProds 257"),
-    (YaccKind::Eco, ECO, " 'x'", 127, ""),
-    (YaccKind::Eco, ECO, " 'x'", 128, "TooManySymbols 256"),
-    (YaccKind::Eco, ECO, " S", 255, ""),
-    (YaccKind::Eco, ECO, " | 'x'", 250, ""),
-    (YaccKind::Eco, ECO, " | 'x'", 251, "TooManyProds 256"),
-];
-
-#[test]
-fn counts_of_productions(rt: HostRuntime) -> Result<(), Fail> {
-    for (kind, front, part, count, wanted) in COUNTS_OF_PRODUCTIONS {
-        let text = repeated(rt.alloc(), front, part, *count)?;
-        compare(&rt, *kind, text.as_str(), wanted)?;
+        compare(&rt, text.as_str(), wanted)?;
     }
     Ok(())
 }

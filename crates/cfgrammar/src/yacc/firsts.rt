@@ -6,7 +6,7 @@ ghost use Rattle.cfg_theory.specs.First.{AllOf};
 ghost use Rattle.cfgrammar.specs.Symbols.{sym_of, syms_of};
 ghost use Rattle.cfgrammar.specs.Sets.{is_set, joined_to, HasAllOf};
 ghost use Rattle.cfgrammar.specs.Firsts.{FirstSets, HasEpsilon, HasFirst, AreOf, AreFirsts, AreSound, IsClosedAt, IsWithin, IsNullableIn, FirstBefore, FirstsOf, AllWithin, room};
-ghost use Rattle.cfgrammar.specs.Passes.{Steps, Anything};
+ghost use Rattle.cfgrammar.specs.Passes.{PassStep, Anything};
 
 use crate::yacc::grammar::{YaccGrammar, index_of};
 use crate::yacc::sets::{TokenSets, clear_unless};
@@ -46,8 +46,8 @@ impl<S: IndexStorage> YaccGrammar<S> {
 }
 
 impl<S: IndexStorage> YaccFirsts<S> {
-    /// Whether the rule is nullable; a token isn't.
-    fn is_nullable(&self, symbol: Symbol<S>) -> bool
+    /// Whether the symbol is a nullable rule; a token isn't nullable.
+    pub fn is_nullable(&self, symbol: Symbol<S>) -> bool
         requires { IsWithin self.now (sym_of S.number symbol) }
         ensures { IsTrue result ↔ IsNullableIn self.now (sym_of S.number symbol) }
     {
@@ -80,8 +80,8 @@ impl<S: IndexStorage> YaccFirsts<S> {
         tail.set(tidx.0.to_usize(), true);
     }
 
-    /// Turns what may follow a symbol into what may stand from the symbol on.
-    pub(crate) fn put_before(&self, symbol: Symbol<S>, tail: &mut Vob)
+    /// Turns the tokens that a list begins with into those that the symbol followed by the list begins with.
+    pub fn put_before(&self, symbol: Symbol<S>, tail: &mut Vob)
         requires within { IsWithin self.now (sym_of S.number symbol) }
         requires width { length tail.old.bits ≡ self.now.tokens }
         ensures width { length tail.new.bits ≡ self.now.tokens }
@@ -93,8 +93,9 @@ impl<S: IndexStorage> YaccFirsts<S> {
         }
     }
 
-    /// Makes of `begins` what the symbols begin with, by the sets so far, and says whether they are all nullable.
-    fn front(&self, symbols: &[Symbol<S>], begins: &mut Vob) -> bool
+    /// Sets `begins` to the tokens that the symbols begin with, by these sets, and says whether all the symbols are
+    /// nullable.
+    pub fn first_of(&self, symbols: &[Symbol<S>], begins: &mut Vob) -> bool
         requires within { AllWithin self.now (syms_of S.number symbols.now) }
         requires width { length begins.old.bits ≡ self.now.tokens }
         ensures width { length begins.new.bits ≡ self.now.tokens }
@@ -118,7 +119,7 @@ impl<S: IndexStorage> YaccFirsts<S> {
         ensures tokens { self.new.tokens ≡ self.old.tokens }
         ensures rows { self.new.rows ≡ joined_to self.old.rows (S.number rule.0) tokens.now.bits }
         ensures epsilons { self.new.epsilons ≡ self.old.epsilons }
-        ensures steps { Steps room (λ s. HasAllOf (S.number rule.0) tokens.now.bits s.rows) self.old self.new result }
+        ensures steps { PassStep room (λ s. HasAllOf (S.number rule.0) tokens.now.bits s.rows) self.old self.new result }
     {
         self.firsts.join(rule.0.to_usize(), tokens)
     }
@@ -129,7 +130,7 @@ impl<S: IndexStorage> YaccFirsts<S> {
         ensures tokens { self.new.tokens ≡ self.old.tokens }
         ensures rows { self.new.rows ≡ self.old.rows }
         ensures epsilons { self.new.epsilons ≡ if nullable then slice_set self.old.epsilons (S.number rule.0) true else self.old.epsilons }
-        ensures steps { Steps room (λ s. IsTrue nullable → HasEpsilon s (S.number rule.0)) self.old self.new result }
+        ensures steps { PassStep room (λ s. IsTrue nullable → HasEpsilon s (S.number rule.0)) self.old self.new result }
     {
         if !nullable {
             return false;
@@ -216,10 +217,10 @@ impl<S: IndexStorage> YaccFirsts<S> {
         ensures sizes { AreOf grm.now.grammar self.new }
         ensures width { length begins.new.bits ≡ grm.now.grammar.tokens }
         ensures sound { AreSound grm.now.grammar self.new }
-        ensures steps { Steps room (λ s. IsClosedAt grm.now.grammar s (S.number pidx.0)) self.old self.new result }
+        ensures steps { PassStep room (λ s. IsClosedAt grm.now.grammar s (S.number pidx.0)) self.old self.new result }
     {
         grm.stays_well_formed();
-        let nullable = self.front(grm.prod(pidx), begins);
+        let nullable = self.first_of(grm.prod(pidx), begins);
         let rule = grm.prod_to_rule(pidx);
         let grew = self.add_tokens(rule, begins);
         let found = self.add_epsilon(rule, nullable);
@@ -235,7 +236,7 @@ impl<S: IndexStorage> YaccFirsts<S> {
         ensures sizes { AreOf grm.now.grammar self.new }
         ensures width { length begins.new.bits ≡ grm.now.grammar.tokens }
         ensures sound { AreSound grm.now.grammar self.new }
-        ensures steps { Steps room Anything self.old self.new result }
+        ensures steps { PassStep room Anything self.old self.new result }
     {
         let count = grm.prods_len().0.to_usize();
         let mut changed = false;
@@ -253,7 +254,7 @@ impl<S: IndexStorage> YaccFirsts<S> {
         ensures sizes { AreOf grm.now.grammar self.new }
         ensures width { length begins.new.bits ≡ grm.now.grammar.tokens }
         ensures sound { AreSound grm.now.grammar self.new }
-        ensures steps { Steps room (λ s. (p : ℕ) → p < length grm.now.grammar.productions → IsClosedAt grm.now.grammar s p) self.old self.new result }
+        ensures steps { PassStep room (λ s. (p : ℕ) → p < length grm.now.grammar.productions → IsClosedAt grm.now.grammar s p) self.old self.new result }
     {
         let mut changed = false;
         'prods: for number in 0..grm.prods_len().0.to_usize() {
@@ -270,7 +271,7 @@ impl<S: IndexStorage> YaccFirsts<S> {
         ensures sizes { AreOf grm.now.grammar self.new }
         ensures width { length begins.new.bits ≡ grm.now.grammar.tokens }
         ensures sound { AreSound grm.now.grammar self.new }
-        ensures steps { Steps room (λ s. (p : ℕ) → p < length grm.now.grammar.productions → IsClosedAt grm.now.grammar s p) self.old self.new result }
+        ensures steps { PassStep room (λ s. (p : ℕ) → p < length grm.now.grammar.productions → IsClosedAt grm.now.grammar s p) self.old self.new result }
     {
         let back = self.pass_back(grm, begins);
         let on = self.pass(grm, begins);

@@ -6,7 +6,7 @@ ghost use Rattle.cfgrammar.specs.Symbols.{sym_of, syms_of};
 ghost use Rattle.cfgrammar.specs.Sets.{is_set, joined_to, HasAllOf};
 ghost use Rattle.cfgrammar.specs.Firsts.{AreFirsts};
 ghost use Rattle.cfgrammar.specs.Follows.{FollowSets, HasFollow, AreOf, AreFollows, AreSound, IsClosedFrom, HasSet, HasAll, added, room};
-ghost use Rattle.cfgrammar.specs.Passes.{Steps, Anything};
+ghost use Rattle.cfgrammar.specs.Passes.{PassStep, Anything};
 
 use crate::yacc::firsts::YaccFirsts;
 use crate::yacc::grammar::{YaccGrammar, index_of};
@@ -111,7 +111,7 @@ impl<S: IndexStorage> YaccFollows<S> {
         requires width { length tokens.now.bits ≡ self.old.tokens }
         ensures tokens { self.new.tokens ≡ self.old.tokens }
         ensures rows { self.new.rows ≡ joined_to self.old.rows (S.number rule.0) tokens.now.bits }
-        ensures steps { Steps room (λ s. HasAllOf (S.number rule.0) tokens.now.bits s.rows) self.old self.new result }
+        ensures steps { PassStep room (λ s. HasAllOf (S.number rule.0) tokens.now.bits s.rows) self.old self.new result }
     {
         self.follows.join(rule.0.to_usize(), tokens)
     }
@@ -122,7 +122,7 @@ impl<S: IndexStorage> YaccFollows<S> {
         requires width { length tokens.now.bits ≡ self.old.tokens }
         ensures tokens { self.new.tokens ≡ self.old.tokens }
         ensures rows { self.new.rows ≡ added self.old.rows (sym_of S.number symbol) tokens.now.bits }
-        ensures steps { Steps room (λ s. HasAll s (sym_of S.number symbol) tokens.now.bits) self.old self.new result }
+        ensures steps { PassStep room (λ s. HasAll s (sym_of S.number symbol) tokens.now.bits) self.old self.new result }
     {
         match symbol {
             Symbol::Rule(rule) => self.add_tokens(rule, tokens),
@@ -147,7 +147,7 @@ impl<S: IndexStorage> YaccFollows<S> {
         ensures width { length behind.new.bits ≡ grm.now.grammar.tokens }
         ensures sound { AreSound grm.now.grammar self.new }
         ensures kept { (t : ℕ) → HasFollow self.old 0 t → HasFollow self.new 0 t }
-        ensures steps { Steps room (IsClosedFrom grm.now.grammar firsts.now (S.number pidx.0) 0) self.old self.new result }
+        ensures steps { PassStep room (IsClosedFrom grm.now.grammar firsts.now (S.number pidx.0) 0) self.old self.new result }
     {
         grm.stays_well_formed();
         let symbols = grm.prod(pidx);
@@ -172,7 +172,7 @@ impl<S: IndexStorage> YaccFollows<S> {
         ensures width { length behind.new.bits ≡ grm.now.grammar.tokens }
         ensures sound { AreSound grm.now.grammar self.new }
         ensures kept { (t : ℕ) → HasFollow self.old 0 t → HasFollow self.new 0 t }
-        ensures steps { Steps room Anything self.old self.new result }
+        ensures steps { PassStep room Anything self.old self.new result }
     {
         let count = grm.prods_len().0.to_usize();
         let mut changed = false;
@@ -192,7 +192,7 @@ impl<S: IndexStorage> YaccFollows<S> {
         ensures width { length behind.new.bits ≡ grm.now.grammar.tokens }
         ensures sound { AreSound grm.now.grammar self.new }
         ensures kept { (t : ℕ) → HasFollow self.old 0 t → HasFollow self.new 0 t }
-        ensures steps { Steps room (λ s. (p : ℕ) → p < length grm.now.grammar.productions → IsClosedFrom grm.now.grammar firsts.now p 0 s) self.old self.new result }
+        ensures steps { PassStep room (λ s. (p : ℕ) → p < length grm.now.grammar.productions → IsClosedFrom grm.now.grammar firsts.now p 0 s) self.old self.new result }
     {
         let mut changed = false;
         'prods: for number in 0..grm.prods_len().0.to_usize() {
@@ -211,7 +211,7 @@ impl<S: IndexStorage> YaccFollows<S> {
         ensures width { length behind.new.bits ≡ grm.now.grammar.tokens }
         ensures sound { AreSound grm.now.grammar self.new }
         ensures kept { (t : ℕ) → HasFollow self.old 0 t → HasFollow self.new 0 t }
-        ensures steps { Steps room (λ s. (p : ℕ) → p < length grm.now.grammar.productions → IsClosedFrom grm.now.grammar firsts.now p 0 s) self.old self.new result }
+        ensures steps { PassStep room (λ s. (p : ℕ) → p < length grm.now.grammar.productions → IsClosedFrom grm.now.grammar firsts.now p 0 s) self.old self.new result }
     {
         let back = self.pass_back(grm, firsts, behind);
         let on = self.pass(grm, firsts, behind);

@@ -7,18 +7,19 @@ ghost use Rattle.std.specs.String.{string_bytes};
 ghost use Rattle.cfg_theory.specs.Grammar.{Grammar, WellFormed, IsOf, head_of, body_of, end_token};
 ghost use Rattle.cfgrammar.specs.Symbols.{syms_of, numbers_of};
 ghost use Rattle.cfgrammar.specs.Value.{GrammarValue, IsGrammar, IsRuleNamed, IsTokenNamed, productions_of};
-ghost use Rattle.cfgrammar.specs.Parts.{value_of, production_of, with_productions, texts_in, ListsProductions, ListsNames};
+ghost use Rattle.cfgrammar.specs.Info.{value_of, production_of, with_productions, texts_in, ListsProductions, ListsNames};
 
+mod construct;
+mod indices;
+mod kept;
 pub mod laws;
 mod name_sets;
 mod names;
-mod new;
-mod printed;
-mod texts;
+mod pretty_print;
 mod tokens_map;
 mod walks;
 
-use crate::yacc::parts::{KeptParts, ProductionParts, RuleParts, TokenParts};
+use crate::yacc::info::{KeptInfo, ProductionInfo, RuleInfo, TokenInfo};
 use cfg_base::index::IndexStorage;
 use cfg_base::symbol::{PIdx, RIdx, SIdx, Symbol, TIdx};
 use indexmap::IndexSet;
@@ -29,12 +30,12 @@ pub use walks::{PIdxs, RIdxs, TIdxs};
 /// A grammar whose rules, tokens and productions have numbers of `S`.
 #[derive(Drop)]
 pub struct YaccGrammar<S: IndexStorage> {
-    rules: Vec<RuleParts>,
+    rules: Vec<RuleInfo>,
     rule_prods: Vec<Vec<PIdx<S>>>,
-    tokens: Vec<TokenParts>,
-    prods: Vec<ProductionParts<S>>,
+    tokens: Vec<TokenInfo>,
+    prods: Vec<ProductionInfo<S>>,
     start: PIdx<S>,
-    kept: KeptParts<S>,
+    kept: KeptInfo<S>,
     rule_names: IndexSet<String>,
     token_names: IndexSet<String>,
 }
@@ -43,7 +44,7 @@ impl<S: IndexStorage> Model for YaccGrammar<S> {
     ghost use Rattle.std.specs.Prelude.{map};
     ghost use Rattle.cfgrammar.specs.Symbols.{numbers_of};
     ghost use Rattle.cfgrammar.specs.Value.{GrammarValue, IsGrammar};
-    ghost use Rattle.cfgrammar.specs.Parts.{value_of, texts_in, ListsProductions, ListsNames};
+    ghost use Rattle.cfgrammar.specs.Info.{value_of, texts_in, ListsProductions, ListsNames};
 
     ghost Value = { GrammarValue };
 
@@ -77,7 +78,7 @@ fn text_of(text: &Option<String>) -> Option<&str>
 fn list_productions<S: IndexStorage>(
     alloc: Global,
     rules: usize,
-    prods: &[ProductionParts<S>],
+    prods: &[ProductionInfo<S>],
 ) -> Result<Vec<Vec<PIdx<S>>>, AllocError>
     requires fits { length prods.now ≤ S.MAX }
     requires heads { (p A : ℕ) → IsOf (with_productions rules (map (production_of S.number) prods.now)) p A → A < rules }
@@ -109,11 +110,11 @@ impl<S: IndexStorage> YaccGrammar<S> {
     /// Of parts that make a well-formed grammar, whose counts fit.
     pub(crate) fn of_parts(
         alloc: Global,
-        rules: Vec<RuleParts>,
-        tokens: Vec<TokenParts>,
-        prods: Vec<ProductionParts<S>>,
+        rules: Vec<RuleInfo>,
+        tokens: Vec<TokenInfo>,
+        prods: Vec<ProductionInfo<S>>,
         start: PIdx<S>,
-        kept: KeptParts<S>,
+        kept: KeptInfo<S>,
     ) -> Result<Self, AllocError>
         requires { IsGrammar S.MAX (value_of S.number rules.items tokens.items prods.items (S.number start.0) kept) }
         ensures { IfOk result (λ g. g ≡ value_of S.number rules.items tokens.items prods.items (S.number start.0) kept) }

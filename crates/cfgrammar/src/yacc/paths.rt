@@ -6,7 +6,7 @@ ghost use Rattle.cfg_theory.specs.Derivation.{HasPath};
 ghost use Rattle.cfgrammar.specs.Symbols.{sym_of, syms_of};
 ghost use Rattle.cfgrammar.specs.Sets.{is_set, missing};
 ghost use Rattle.cfgrammar.specs.Paths.{AreReached, IsReachedFrom, IsIn, HasPlace, with_rule};
-ghost use Rattle.cfgrammar.specs.Passes.{Steps, Anything};
+ghost use Rattle.cfgrammar.specs.Passes.{PassStep, Anything};
 
 use crate::yacc::grammar::{YaccGrammar, index_of};
 use cfg_base::index::IndexStorage;
@@ -36,7 +36,7 @@ impl<S: IndexStorage> YaccGrammar<S> {
 pub(crate) fn add_symbol<S: IndexStorage>(symbol: Symbol<S>, reached: &mut Vob) -> bool
     requires { HasPlace reached.old.bits (sym_of S.number symbol) }
     ensures bits { reached.new.bits ≡ with_rule reached.old.bits (sym_of S.number symbol) }
-    ensures steps { Steps missing (λ b. IsIn b (sym_of S.number symbol)) reached.old.bits reached.new.bits result }
+    ensures steps { PassStep missing (λ b. IsIn b (sym_of S.number symbol)) reached.old.bits reached.new.bits result }
 {
     match symbol {
         Symbol::Rule(rule) => reached.set(rule.0.to_usize(), true),
@@ -57,7 +57,7 @@ fn add_named<S: IndexStorage>(
     requires reached { (head_of grm.now.grammar (S.number pidx.0) ≡ S.number from.0) ⊎ IsTrue (is_set reached.old.bits (head_of grm.now.grammar (S.number pidx.0))) }
     ensures width { length reached.new.bits ≡ grm.now.grammar.rules }
     ensures sound { AreReached grm.now.grammar (S.number from.0) reached.new.bits }
-    ensures steps { Steps missing (IsReachedFrom grm.now.grammar (S.number from.0) (S.number pidx.0)) reached.old.bits reached.new.bits result }
+    ensures steps { PassStep missing (IsReachedFrom grm.now.grammar (S.number from.0) (S.number pidx.0)) reached.old.bits reached.new.bits result }
 {
     grm.stays_well_formed();
     let symbols = grm.prod(pidx);
@@ -80,7 +80,7 @@ fn take_prod<S: IndexStorage>(
     requires sound { AreReached grm.now.grammar (S.number from.0) reached.old.bits }
     ensures width { length reached.new.bits ≡ grm.now.grammar.rules }
     ensures sound { AreReached grm.now.grammar (S.number from.0) reached.new.bits }
-    ensures steps { Steps missing (IsReachedFrom grm.now.grammar (S.number from.0) (S.number pidx.0)) reached.old.bits reached.new.bits result }
+    ensures steps { PassStep missing (IsReachedFrom grm.now.grammar (S.number from.0) (S.number pidx.0)) reached.old.bits reached.new.bits result }
 {
     let rule = grm.prod_to_rule(pidx).0.to_usize();
     grm.stays_well_formed();
@@ -99,7 +99,7 @@ fn pass<S: IndexStorage>(grm: &YaccGrammar<S>, from: RIdx<S>, reached: &mut Vob)
     requires sound { AreReached grm.now.grammar (S.number from.0) reached.old.bits }
     ensures width { length reached.new.bits ≡ grm.now.grammar.rules }
     ensures sound { AreReached grm.now.grammar (S.number from.0) reached.new.bits }
-    ensures steps { Steps missing (λ b. (p : ℕ) → p < length grm.now.grammar.productions → IsReachedFrom grm.now.grammar (S.number from.0) p b) reached.old.bits reached.new.bits result }
+    ensures steps { PassStep missing (λ b. (p : ℕ) → p < length grm.now.grammar.productions → IsReachedFrom grm.now.grammar (S.number from.0) p b) reached.old.bits reached.new.bits result }
 {
     let mut changed = false;
     'prods: for number in 0..grm.prods_len().0.to_usize() {
@@ -114,7 +114,7 @@ fn pass_back<S: IndexStorage>(grm: &YaccGrammar<S>, from: RIdx<S>, reached: &mut
     requires sound { AreReached grm.now.grammar (S.number from.0) reached.old.bits }
     ensures width { length reached.new.bits ≡ grm.now.grammar.rules }
     ensures sound { AreReached grm.now.grammar (S.number from.0) reached.new.bits }
-    ensures steps { Steps missing Anything reached.old.bits reached.new.bits result }
+    ensures steps { PassStep missing Anything reached.old.bits reached.new.bits result }
 {
     let count = grm.prods_len().0.to_usize();
     let mut changed = false;
@@ -130,7 +130,7 @@ fn sweep<S: IndexStorage>(grm: &YaccGrammar<S>, from: RIdx<S>, reached: &mut Vob
     requires sound { AreReached grm.now.grammar (S.number from.0) reached.old.bits }
     ensures width { length reached.new.bits ≡ grm.now.grammar.rules }
     ensures sound { AreReached grm.now.grammar (S.number from.0) reached.new.bits }
-    ensures steps { Steps missing (λ b. (p : ℕ) → p < length grm.now.grammar.productions → IsReachedFrom grm.now.grammar (S.number from.0) p b) reached.old.bits reached.new.bits result }
+    ensures steps { PassStep missing (λ b. (p : ℕ) → p < length grm.now.grammar.productions → IsReachedFrom grm.now.grammar (S.number from.0) p b) reached.old.bits reached.new.bits result }
 {
     let back = pass_back(grm, from, reached);
     let on = pass(grm, from, reached);

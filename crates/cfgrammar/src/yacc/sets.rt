@@ -1,8 +1,8 @@
-//! A set of tokens for each rule.
+//! Sets of tokens, one for each rule: FIRST and FOLLOW sets are kept so, and lookaheads of a closure may be.
 
 ghost use Rattle.std.specs.Prelude.{◌≡◌, ℕ, ◌<◌, ◌↔◌, ◌||◌, Bool, true, false, not, IsTrue, IfOk, List, [], length, map, get_or, replicate, slice_set, if◌then◌else◌};
 ghost use Rattle.cfgrammar.specs.Sets.{SetRows, is_set, is_set_in, missing_in, joined_to, HasAllOf, AreRows};
-ghost use Rattle.cfgrammar.specs.Passes.{Steps};
+ghost use Rattle.cfgrammar.specs.Passes.{PassStep};
 
 use std::alloc::{AllocError, Global};
 use std::marker::Model;
@@ -27,7 +27,7 @@ impl Model for TokenSets {
 }
 
 impl TokenSets {
-    /// So many empty sets of numbers below `width`.
+    /// Creates `count` empty sets of numbers below `width`.
     pub fn empty(alloc: Global, count: usize, width: usize) -> Result<TokenSets, AllocError>
         ensures { IfOk result (λ s. s ≡ record { width = width; rows = replicate count (replicate width false) }) }
     {
@@ -52,7 +52,8 @@ impl TokenSets {
         requires within { rule < length self.old.rows }
         requires width { length tokens.now.bits ≡ self.old.width }
         ensures value { self.new ≡ record { width = self.old.width; rows = joined_to self.old.rows rule tokens.now.bits } }
-        ensures steps { Steps missing_in (HasAllOf rule tokens.now.bits) self.old.rows self.new.rows result }
+        ensures width_was { length (get_or self.old.rows rule []) ≡ self.old.width }
+        ensures steps { PassStep missing_in (HasAllOf rule tokens.now.bits) self.old.rows self.new.rows result }
     {
         let row = &mut self.rows[rule];
         row.or(tokens)

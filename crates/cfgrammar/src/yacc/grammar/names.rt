@@ -2,7 +2,7 @@
 
 ghost use Rattle.std.specs.Prelude.{◌≡◌, ◌<◌, ℕ, length, slice_get, option_map, Some, IfSome, IfNone, MatchOption};
 ghost use Rattle.cfg_theory.specs.Grammar.{end_token};
-ghost use Rattle.cfgrammar.specs.Value.{IsRuleNamed, IsTokenNamed, LevelsHaveOneKind};
+ghost use Rattle.cfgrammar.specs.Value.{IsRuleNamed, IsTokenNamed, GrammarLevelsHaveOneKind};
 
 use super::{YaccGrammar, index_of, name_sets, text_of};
 use cfg_base::index::IndexStorage;
@@ -83,7 +83,7 @@ impl<S: IndexStorage> YaccGrammar<S> {
     pub fn token_precedence(&self, tidx: TIdx<S>) -> Option<Precedence>
         requires { S.number tidx.0 < self.now.grammar.tokens }
         ensures value { option_map (λ t. t.precedence) (slice_get self.now.tokens (S.number tidx.0)) ≡ Some result }
-        ensures levels { LevelsHaveOneKind self.now }
+        ensures levels { GrammarLevelsHaveOneKind self.now }
     {
         self.tokens[tidx.0.to_usize()].precedence
     }
@@ -92,7 +92,7 @@ impl<S: IndexStorage> YaccGrammar<S> {
     pub fn prod_precedence(&self, pidx: PIdx<S>) -> Option<Precedence>
         requires { S.number pidx.0 < length self.now.grammar.productions }
         ensures value { option_map (λ p. p.precedence) (slice_get self.now.productions (S.number pidx.0)) ≡ Some result }
-        ensures levels { LevelsHaveOneKind self.now }
+        ensures levels { GrammarLevelsHaveOneKind self.now }
     {
         self.prods[pidx.0.to_usize()].precedence
     }

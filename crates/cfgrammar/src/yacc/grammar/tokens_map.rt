@@ -2,7 +2,7 @@
 
 ghost use Rattle.std.specs.Prelude.{◌≡◌, ◌<◌, Some, length, map, slice_get, IfOk};
 ghost use Rattle.std.specs.List.{enumerate_from, filter_map};
-ghost use Rattle.cfgrammar.specs.Parts.{texts_in};
+ghost use Rattle.cfgrammar.specs.Info.{texts_in};
 
 use super::{YaccGrammar, index_of};
 use cfg_base::index::IndexStorage;

@@ -9,15 +9,17 @@ ghost use Rattle.cfg_theory.specs.Grammar.{Grammar, body_of};
 ghost use Rattle.cfg_theory.specs.Cost.{AreCheapest};
 ghost use Rattle.cfg_theory.specs.CostTables.{Concatenates};
 ghost use Rattle.cfgrammar.specs.Symbols.{sym_of, syms_of};
-ghost use Rattle.cfgrammar.specs.Passes.{Steps, Anything};
-ghost use Rattle.cfgrammar.specs.CostTable.{bound, cost_of, cost_in, AreCosts, IsClosedBy};
+ghost use Rattle.cfgrammar.specs.Passes.{PassStep, Anything};
+ghost use Rattle.cfgrammar.specs.CostTable.{bound, cost_of, cost_in};
 ghost use Rattle.cfgrammar.specs.TokenLists.{lists_of};
 ghost use Rattle.cfgrammar.specs.CheapestTable.{ListsAreRefused, lists_in, lists_before, AllHaveLists, AreLists, IsJoined, spare_in};
 
-use super::wanted::{gives_least, wanted_rules};
-use super::words::{TokenLists, insert_all, join_all, put_before};
-use super::{BOUND, SentenceError, SentenceGenerator};
-use crate::yacc::grammar::{YaccGrammar, index_of};
+use super::least::LeastCosts;
+use super::needed::wanted_rules;
+use super::token_costs::BOUND;
+use super::token_lists::{TokenLists, insert_all, join_all, put_before};
+use super::{SentenceError, SentenceGenerator};
+use crate::yacc::grammar::index_of;
 use cfg_base::index::IndexStorage;
 use cfg_base::symbol::{PIdx, RIdx, Symbol, TIdx};
 use cfg_theory::cost::{cheapest_lists_of_wanted_rules, productive_rules_have_least_costs};
@@ -38,17 +40,12 @@ impl<'a, S: IndexStorage> SentenceGenerator<'a, S> {
         ensures err { IfErr result (λ e. ListsAreRefused self.now.grammar (cost_of self.now.costs) (S.number ridx.0) e) }
     {
         productive_rules_have_least_costs();
-        self.grm.stays_well_formed();
-        match self.least[ridx.0.to_usize()] {
+        self.least.stays_well_formed();
+        self.least.stays_least();
+        match self.least.of_rule(ridx) {
             None => Err(SentenceError::NoSentence),
             Some(cost) if cost < BOUND => {
-                let lists = lists_of_rule(
-                    alloc,
-                    self.grm,
-                    self.costs.as_slice(),
-                    self.least.as_slice(),
-                    ridx,
-                )?;
+                let lists = lists_of_rule(alloc, &self.least, ridx)?;
                 Ok(lists)
             }
             Some(_) => Err(SentenceError::CostTooLarge),
@@ -59,22 +56,18 @@ impl<'a, S: IndexStorage> SentenceGenerator<'a, S> {
 /// The cheapest lists of a rule whose least cost is below the bound.
 fn lists_of_rule<S: IndexStorage>(
     alloc: Global,
-    grm: &YaccGrammar<S>,
-    costs: &[u8],
-    least: &[Option<u32>],
+    least: &LeastCosts<S>,
     ridx: RIdx<S>,
 ) -> Result<Vec<Vec<TIdx<S>>>, AllocError>
-    requires rule { S.number ridx.0 < grm.now.grammar.rules }
-    requires tokens { length costs.now ≡ grm.now.grammar.tokens }
-    requires costs { AreCosts grm.now.grammar (cost_of costs.now) least.now }
-    requires closed { (p : ℕ) → p < length grm.now.grammar.productions → IsClosedBy grm.now.grammar (cost_of costs.now) p least.now }
-    requires cost { (n : ℕ) × (cost_in least.now (S.number ridx.0) ≡ Some n) × (n < bound) }
-    ensures lists { IfOk result (λ v. AreCheapest grm.now.grammar (cost_of costs.now) (S.number ridx.0) (lists_of S.number v.items)) }
+    requires rule { S.number ridx.0 < least.now.grammar.rules }
+    requires cost { (n : ℕ) × (cost_in least.now.table (S.number ridx.0) ≡ Some n) × (n < bound) }
+    ensures lists { IfOk result (λ v. AreCheapest least.now.grammar (cost_of least.now.costs) (S.number ridx.0) (lists_of S.number v.items)) }
     ensures some { IfOk result (λ v. 0 < length v.items) }
 {
     cheapest_lists_of_wanted_rules();
-    let wanted = wanted_rules(alloc, grm, costs, least, ridx)?;
-    let mut table = cheapest_lists(alloc, grm, costs, least, &wanted)?;
+    least.stays_least();
+    let wanted = wanted_rules(alloc, least, ridx)?;
+    let mut table = cheapest_lists(alloc, least, &wanted)?;
     let lists = table.swap_remove(ridx.0.to_usize());
     Ok(lists.into_vec())
 }
@@ -122,31 +115,27 @@ fn put_together<S: IndexStorage>(
 /// Takes in one production, and says whether a list was new.
 fn take_prod<S: IndexStorage>(
     alloc: Global,
-    grm: &YaccGrammar<S>,
-    costs: &[u8],
-    least: &[Option<u32>],
+    least: &LeastCosts<S>,
     wanted: &Vob,
     pidx: PIdx<S>,
     table: &mut Vec<TokenLists<S>>,
 ) -> Result<bool, AllocError>
-    requires production { S.number pidx.0 < length grm.now.grammar.productions }
-    requires tokens { length costs.now ≡ grm.now.grammar.tokens }
-    requires costs { AreCosts grm.now.grammar (cost_of costs.now) least.now }
-    requires width { length wanted.now.bits ≡ grm.now.grammar.rules }
-    requires lists { AreLists grm.now.grammar (cost_of costs.now) least.now table.old.items }
-    ensures lists { IfOk result (λ _. AreLists grm.now.grammar (cost_of costs.now) least.now table.new.items) }
-    ensures steps { IfOk result (λ b. Steps spare_in (IsJoined grm.now.grammar (cost_of costs.now) least.now wanted.now.bits (S.number pidx.0)) table.old.items table.new.items b) }
+    requires production { S.number pidx.0 < length least.now.grammar.productions }
+    requires width { length wanted.now.bits ≡ least.now.grammar.rules }
+    requires lists { AreLists least.now.grammar (cost_of least.now.costs) least.now.table table.old.items }
+    ensures lists { IfOk result (λ _. AreLists least.now.grammar (cost_of least.now.costs) least.now.table table.new.items) }
+    ensures steps { IfOk result (λ b. PassStep spare_in (IsJoined least.now.grammar (cost_of least.now.costs) least.now.table wanted.now.bits (S.number pidx.0)) table.old.items table.new.items b) }
 {
     cheapest_lists_of_wanted_rules();
-    grm.stays_well_formed();
-    let rule = grm.prod_to_rule(pidx).0.to_usize();
+    least.stays_well_formed();
+    let rule = least.prod_to_rule(pidx).0.to_usize();
     if !wanted.get_unchecked(rule) {
         return Ok(false);
     }
-    if !gives_least(grm, costs, least, pidx) {
+    if !least.gives_least(pidx) {
         return Ok(false);
     }
-    let lists = put_together(alloc, grm.prod(pidx), table.as_slice())?;
+    let lists = put_together(alloc, least.prod(pidx), table.as_slice())?;
     let own = &mut table[rule];
     let changed = insert_all(alloc, lists.as_slice(), own)?;
     Ok(changed)
@@ -155,30 +144,18 @@ fn take_prod<S: IndexStorage>(
 /// Takes in each production once, and says whether a list was new.
 fn pass<S: IndexStorage>(
     alloc: Global,
-    grm: &YaccGrammar<S>,
-    costs: &[u8],
-    least: &[Option<u32>],
+    least: &LeastCosts<S>,
     wanted: &Vob,
     table: &mut Vec<TokenLists<S>>,
 ) -> Result<bool, AllocError>
-    requires tokens { length costs.now ≡ grm.now.grammar.tokens }
-    requires costs { AreCosts grm.now.grammar (cost_of costs.now) least.now }
-    requires width { length wanted.now.bits ≡ grm.now.grammar.rules }
-    requires lists { AreLists grm.now.grammar (cost_of costs.now) least.now table.old.items }
-    ensures lists { IfOk result (λ _. AreLists grm.now.grammar (cost_of costs.now) least.now table.new.items) }
-    ensures steps { IfOk result (λ b. Steps spare_in (λ t. (p : ℕ) → p < length grm.now.grammar.productions → IsJoined grm.now.grammar (cost_of costs.now) least.now wanted.now.bits p t) table.old.items table.new.items b) }
+    requires width { length wanted.now.bits ≡ least.now.grammar.rules }
+    requires lists { AreLists least.now.grammar (cost_of least.now.costs) least.now.table table.old.items }
+    ensures lists { IfOk result (λ _. AreLists least.now.grammar (cost_of least.now.costs) least.now.table table.new.items) }
+    ensures steps { IfOk result (λ b. PassStep spare_in (λ t. (p : ℕ) → p < length least.now.grammar.productions → IsJoined least.now.grammar (cost_of least.now.costs) least.now.table wanted.now.bits p t) table.old.items table.new.items b) }
 {
     let mut changed = false;
-    'prods: for number in 0..grm.prods_len().0.to_usize() {
-        changed |= take_prod(
-            alloc,
-            grm,
-            costs,
-            least,
-            wanted,
-            PIdx(index_of(number)),
-            table,
-        )?;
+    'prods: for number in 0..least.prods_len().0.to_usize() {
+        changed |= take_prod(alloc, least, wanted, PIdx(index_of(number)), table)?;
     }
     Ok(changed)
 }
@@ -186,24 +163,20 @@ fn pass<S: IndexStorage>(
 /// The same, from the last production to the first.
 fn pass_back<S: IndexStorage>(
     alloc: Global,
-    grm: &YaccGrammar<S>,
-    costs: &[u8],
-    least: &[Option<u32>],
+    least: &LeastCosts<S>,
     wanted: &Vob,
     table: &mut Vec<TokenLists<S>>,
 ) -> Result<bool, AllocError>
-    requires tokens { length costs.now ≡ grm.now.grammar.tokens }
-    requires costs { AreCosts grm.now.grammar (cost_of costs.now) least.now }
-    requires width { length wanted.now.bits ≡ grm.now.grammar.rules }
-    requires lists { AreLists grm.now.grammar (cost_of costs.now) least.now table.old.items }
-    ensures lists { IfOk result (λ _. AreLists grm.now.grammar (cost_of costs.now) least.now table.new.items) }
-    ensures steps { IfOk result (λ b. Steps spare_in Anything table.old.items table.new.items b) }
+    requires width { length wanted.now.bits ≡ least.now.grammar.rules }
+    requires lists { AreLists least.now.grammar (cost_of least.now.costs) least.now.table table.old.items }
+    ensures lists { IfOk result (λ _. AreLists least.now.grammar (cost_of least.now.costs) least.now.table table.new.items) }
+    ensures steps { IfOk result (λ b. PassStep spare_in Anything table.old.items table.new.items b) }
 {
-    let count = grm.prods_len().0.to_usize();
+    let count = least.prods_len().0.to_usize();
     let mut changed = false;
     'prods: for number in 0..count {
         let pidx = PIdx(index_of(count - 1 - number));
-        changed |= take_prod(alloc, grm, costs, least, wanted, pidx, table)?;
+        changed |= take_prod(alloc, least, wanted, pidx, table)?;
     }
     Ok(changed)
 }
@@ -211,21 +184,17 @@ fn pass_back<S: IndexStorage>(
 /// Both: lists of later rules, and of earlier ones, are then taken in at once.
 fn sweep<S: IndexStorage>(
     alloc: Global,
-    grm: &YaccGrammar<S>,
-    costs: &[u8],
-    least: &[Option<u32>],
+    least: &LeastCosts<S>,
     wanted: &Vob,
     table: &mut Vec<TokenLists<S>>,
 ) -> Result<bool, AllocError>
-    requires tokens { length costs.now ≡ grm.now.grammar.tokens }
-    requires costs { AreCosts grm.now.grammar (cost_of costs.now) least.now }
-    requires width { length wanted.now.bits ≡ grm.now.grammar.rules }
-    requires lists { AreLists grm.now.grammar (cost_of costs.now) least.now table.old.items }
-    ensures lists { IfOk result (λ _. AreLists grm.now.grammar (cost_of costs.now) least.now table.new.items) }
-    ensures steps { IfOk result (λ b. Steps spare_in (λ t. (p : ℕ) → p < length grm.now.grammar.productions → IsJoined grm.now.grammar (cost_of costs.now) least.now wanted.now.bits p t) table.old.items table.new.items b) }
+    requires width { length wanted.now.bits ≡ least.now.grammar.rules }
+    requires lists { AreLists least.now.grammar (cost_of least.now.costs) least.now.table table.old.items }
+    ensures lists { IfOk result (λ _. AreLists least.now.grammar (cost_of least.now.costs) least.now.table table.new.items) }
+    ensures steps { IfOk result (λ b. PassStep spare_in (λ t. (p : ℕ) → p < length least.now.grammar.productions → IsJoined least.now.grammar (cost_of least.now.costs) least.now.table wanted.now.bits p t) table.old.items table.new.items b) }
 {
-    let back = pass_back(alloc, grm, costs, least, wanted, table)?;
-    let on = pass(alloc, grm, costs, least, wanted, table)?;
+    let back = pass_back(alloc, least, wanted, table)?;
+    let on = pass(alloc, least, wanted, table)?;
     Ok(back | on)
 }
 
@@ -242,20 +211,16 @@ fn no_lists<S: IndexStorage>(alloc: Global, rules: usize) -> Result<Vec<TokenLis
 /// The lists of the wanted rules.
 fn cheapest_lists<S: IndexStorage>(
     alloc: Global,
-    grm: &YaccGrammar<S>,
-    costs: &[u8],
-    least: &[Option<u32>],
+    least: &LeastCosts<S>,
     wanted: &Vob,
 ) -> Result<Vec<TokenLists<S>>, AllocError>
-    requires tokens { length costs.now ≡ grm.now.grammar.tokens }
-    requires costs { AreCosts grm.now.grammar (cost_of costs.now) least.now }
-    requires width { length wanted.now.bits ≡ grm.now.grammar.rules }
-    ensures lists { IfOk result (λ v. AreLists grm.now.grammar (cost_of costs.now) least.now v.items) }
-    ensures joined { IfOk result (λ v. (p : ℕ) → p < length grm.now.grammar.productions → IsJoined grm.now.grammar (cost_of costs.now) least.now wanted.now.bits p v.items) }
+    requires width { length wanted.now.bits ≡ least.now.grammar.rules }
+    ensures lists { IfOk result (λ v. AreLists least.now.grammar (cost_of least.now.costs) least.now.table v.items) }
+    ensures joined { IfOk result (λ v. (p : ℕ) → p < length least.now.grammar.productions → IsJoined least.now.grammar (cost_of least.now.costs) least.now.table wanted.now.bits p v.items) }
 {
-    let mut table = no_lists(alloc, grm.rules_len().0.to_usize())?;
+    let mut table = no_lists(alloc, least.rules_len().0.to_usize())?;
     'passes: loop {
-        let changed = sweep(alloc, grm, costs, least, wanted, &mut table)?;
+        let changed = sweep(alloc, least, wanted, &mut table)?;
         if !changed {
             return Ok(table);
         }

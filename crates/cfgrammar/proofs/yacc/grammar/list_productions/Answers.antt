@@ -2,7 +2,7 @@ use Rattle.std.proofs.Common.{◌≡◌, ◌<◌, refl, sym, ap, ◌∙◌, arit
 use Rattle.std.specs.Prelude.{map}
 use Rattle.std.proofs.lemmas.List.{length-map}
 use Rattle.cfgrammar.specs.Symbols.{numbers_of}
-use Rattle.cfgrammar.specs.Parts.{production_of, with_productions}
+use Rattle.cfgrammar.specs.Info.{production_of, with_productions}
 use Rattle.cfgrammar.proofs.Lookups.{is_of}
 use Rattle.cfgrammar.proofs.RuleLists.{below_none, put_last, numbers_push, all_below}
 use Rattle.cfgrammar.proofs.yacc.grammar.list_productions.Goals as goal

@@ -1,6 +1,6 @@
 use Rattle.std.proofs.Common.{map}
 use Rattle.cfgrammar.specs.Symbols.{numbers_of}
-use Rattle.cfgrammar.specs.Parts.{production_of, with_productions, ListsBelow}
+use Rattle.cfgrammar.specs.Info.{production_of, with_productions, ListsBelow}
 use Rattle.cfgrammar.proofs.yacc.grammar.list_productions.Given as goal
 
 abbrev pub invariant-prods : goal.invariant-prods

@@ -1,6 +1,6 @@
 use Rattle.std.proofs.Common.{◌≡◌, ℕ, length}
 use Rattle.cfgrammar.specs.Follows.{AreOf, AreSound, HasFollow, room}
-use Rattle.cfgrammar.specs.Passes.{Steps, Anything}
+use Rattle.cfgrammar.specs.Passes.{PassStep, Anything}
 use Rattle.cfgrammar.proofs.yacc.follows.YaccFollows.pass_back.Given as goal
 
 abbrev pub invariant-prods : goal.invariant-prods
@@ -9,5 +9,5 @@ invariant-prods g l = record {
   width : length l.behind.bits ≡ l.grm.grammar.tokens;
   sound : AreSound l.grm.grammar l.self;
   kept : (t : ℕ) → HasFollow l.initial.self 0 t → HasFollow l.self 0 t;
-  steps : Steps room Anything l.initial.self l.self l.changed;
+  steps : PassStep room Anything l.initial.self l.self l.changed;
 }

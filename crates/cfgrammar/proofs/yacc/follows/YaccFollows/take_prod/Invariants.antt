@@ -3,7 +3,7 @@ use Rattle.std.specs.Prelude.{IsTrue}
 use Rattle.cfg_theory.specs.Grammar.{head_of, body_of}
 use Rattle.cfgrammar.specs.Sets.{is_set}
 use Rattle.cfgrammar.specs.Follows.{AreOf, AreSound, HasFollow, Behind, IsClosedFrom, room}
-use Rattle.cfgrammar.specs.Passes.{Steps}
+use Rattle.cfgrammar.specs.Passes.{PassStep}
 use Rattle.cfgrammar.proofs.yacc.follows.YaccFollows.take_prod.Given as goal
 
 abbrev pub invariant-back : goal.invariant-back
@@ -14,5 +14,5 @@ invariant-back g l = record {
   kept : (t : ℕ) → HasFollow l.initial.self 0 t → HasFollow l.self 0 t;
   bits : (t : ℕ) → IsTrue (is_set l.behind.bits t) ↔
       Behind l.firsts (HasFollow l.initial.self (head_of l.grm.grammar (g.S.IndexStorage.number l.fn.pidx.0))) (drop (length l.symbols - l.place) (body_of l.grm.grammar (g.S.IndexStorage.number l.fn.pidx.0))) t;
-  steps : Steps room (IsClosedFrom l.grm.grammar l.firsts (g.S.IndexStorage.number l.fn.pidx.0) (length l.symbols - l.place)) l.initial.self l.self l.changed;
+  steps : PassStep room (IsClosedFrom l.grm.grammar l.firsts (g.S.IndexStorage.number l.fn.pidx.0) (length l.symbols - l.place)) l.initial.self l.self l.changed;
 }

@@ -1,9 +1,9 @@
 use Rattle.std.proofs.Common.{Err, refl, sym, subst}
-use Rattle.cfg_read.specs.Showing.{failures_in}
+use Rattle.cfg_read.specs.ErrorModels.{failures_in}
 use Rattle.cfg_read.specs.Files.{LacksKind, IsFailure}
-use Rattle.cfgrammar.specs.declared.yacc.making.YaccGrammarMakeError.TheVariants as errors
-use Rattle.cfgrammar.specs.Made.{MakesFile, of_kind, without_kind}
-use Rattle.cfgrammar.proofs.MadeTexts.{file_memory}
+use Rattle.cfgrammar.specs.declared.yacc.from_ast.YaccGrammarMakeError.TheVariants as errors
+use Rattle.cfgrammar.specs.FromAst.{MakesFile, of_kind, without_kind}
+use Rattle.cfgrammar.proofs.FromAstTexts.{file_memory}
 use Rattle.cfgrammar.proofs.yacc.grammar.YaccGrammar.from_str.Goals as goal
 
 pub returns-in-Ok : goal.returns-in-Ok

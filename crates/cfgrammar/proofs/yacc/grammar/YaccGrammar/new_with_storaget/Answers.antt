@@ -1,4 +1,4 @@
-use Rattle.cfgrammar.proofs.MadeTexts.{text_memory}
+use Rattle.cfgrammar.proofs.FromAstTexts.{text_memory}
 use Rattle.cfgrammar.proofs.yacc.grammar.YaccGrammar.new_with_storaget.Goals as goal
 
 pub returns-in-Err : goal.returns-in-Err

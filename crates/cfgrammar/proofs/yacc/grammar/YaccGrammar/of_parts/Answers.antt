@@ -2,7 +2,7 @@ use Rattle.std.proofs.Common.{◌<◌, length, refl, ap, ◌∙◌, subst, arith
 use Rattle.std.specs.Prelude.{map}
 use Rattle.std.specs.List.{filter_map}
 use Rattle.cfgrammar.specs.Symbols.{numbers_of}
-use Rattle.cfgrammar.specs.Parts.{value_of, production_of, with_productions, part_name, token_part_name, texts_in, IsPartNamed, IsTokenPartNamed, ListsProductions, ListsNames}
+use Rattle.cfgrammar.specs.Info.{value_of, production_of, with_productions, part_name, token_part_name, texts_in, IsPartNamed, IsTokenPartNamed, ListsProductions, ListsNames}
 use Rattle.cfgrammar.proofs.Lookups.{is_of_any}
 use Rattle.cfgrammar.proofs.Named.{rule_part, token_part, all_rules, all_tokens}
 use Rattle.cfgrammar.proofs.RuleLists.{lists_of_any}

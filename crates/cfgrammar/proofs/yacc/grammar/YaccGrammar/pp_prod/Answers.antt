@@ -4,7 +4,7 @@ use Rattle.std.specs.List.{flat_map}
 use Rattle.cfg_theory.specs.Grammar.{Sym, IsOf, rule, head_of}
 use Rattle.cfgrammar.specs.Symbols.{syms_of}
 use Rattle.cfgrammar.specs.Value.{IsGrammar}
-use Rattle.cfgrammar.specs.Shown.{name_of, quoted}
+use Rattle.cfgrammar.specs.PrettyPrint.{name_of, quoted}
 use Rattle.cfgrammar.proofs.Printing.{rule_named}
 use Rattle.cfgrammar.proofs.yacc.grammar.YaccGrammar.pp_prod.Goals as goal
 

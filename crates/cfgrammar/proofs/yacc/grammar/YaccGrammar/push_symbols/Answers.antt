@@ -5,7 +5,7 @@ use Rattle.std.specs.String.{string_bytes}
 use Rattle.std.proofs.lemmas.List.{take_more, map-append}
 use Rattle.std.proofs.lemmas.Option.{slice_get-get_or, slice_get-map}
 use Rattle.cfgrammar.specs.Symbols.{sym_of, syms_of}
-use Rattle.cfgrammar.specs.Shown.{name_of, quoted}
+use Rattle.cfgrammar.specs.PrettyPrint.{name_of, quoted}
 use Rattle.cfgrammar.proofs.Printing.{text_more}
 use Rattle.cfgrammar.proofs.yacc.grammar.YaccGrammar.push_symbols.Goals as goal
 

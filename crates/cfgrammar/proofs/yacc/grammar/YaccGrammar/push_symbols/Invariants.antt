@@ -2,7 +2,7 @@ use Rattle.std.proofs.Common.{◌≡◌, ◌++◌, take}
 use Rattle.std.specs.List.{flat_map}
 use Rattle.std.specs.String.{string_bytes}
 use Rattle.cfgrammar.specs.Symbols.{syms_of}
-use Rattle.cfgrammar.specs.Shown.{name_of, quoted}
+use Rattle.cfgrammar.specs.PrettyPrint.{name_of, quoted}
 use Rattle.cfgrammar.proofs.yacc.grammar.YaccGrammar.push_symbols.Given as goal
 
 abbrev pub invariant-symbols : goal.invariant-symbols

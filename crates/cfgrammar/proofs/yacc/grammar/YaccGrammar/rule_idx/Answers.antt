@@ -1,6 +1,6 @@
 use Rattle.std.proofs.Common.{sym, subst, arith}
 use Rattle.cfgrammar.specs.Value.{IsGrammar, IsRuleNamed}
-use Rattle.cfgrammar.specs.Parts.{texts_in}
+use Rattle.cfgrammar.specs.Info.{texts_in}
 use Rattle.cfgrammar.proofs.Named.{rule_at, rule_place, rule_fits}
 use Rattle.cfgrammar.proofs.yacc.grammar.YaccGrammar.rule_idx.Goals as goal
 

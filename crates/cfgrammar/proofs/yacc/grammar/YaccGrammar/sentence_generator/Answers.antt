@@ -7,7 +7,7 @@ pub tokens-init : goal.tokens-init
 tokens-init g c = answers_none_yet g.S.IndexStorage.number (λ x r. g.F.Fn.post c.args.f (x, tt) r) c.new-costs.result.items c.new-costs.ensures.items
 
 pub tokens-preserved : goal.tokens-preserved
-tokens-preserved g c = answers_push g.S.IndexStorage.number (λ x r. g.F.Fn.post c.args.f (x, tt) r) c.tokens.number c.tokens.costs.items _ c.f.result c.push.new.self.items c.tokens.invariant c.index_of.ensures c.f.ensures c.in_ok-push.ensures.items
+tokens-preserved g c = answers_push g.S.IndexStorage.number (λ x r. g.F.Fn.post c.args.f (x, tt) r) c.tokens.number c.tokens.costs.items _ c.f.result c.push.new.self.items c.tokens.invariant c.token_at.ensures c.f.ensures c.in_ok-push.ensures.items
 
 pub returns-clause-costs : goal.returns-clause-costs
 returns-clause-costs g c =

@@ -1,6 +1,6 @@
 use Rattle.std.proofs.Common.{◌<◌, sym, subst, arith}
 use Rattle.cfgrammar.specs.Value.{IsGrammar, IsTokenNamed}
-use Rattle.cfgrammar.specs.Parts.{texts_in}
+use Rattle.cfgrammar.specs.Info.{texts_in}
 use Rattle.cfgrammar.proofs.Named.{token_at, token_place, token_below, token_fits}
 use Rattle.cfgrammar.proofs.yacc.grammar.YaccGrammar.token_idx.Goals as goal
 

@@ -1,6 +1,6 @@
 use Rattle.std.proofs.Common.{refl, ap, subst}
 use Rattle.cfgrammar.specs.Value.{TokenFacts, IsGrammar}
-use Rattle.cfgrammar.specs.Parts.{token_facts}
+use Rattle.cfgrammar.specs.Info.{token_facts}
 use Rattle.cfgrammar.proofs.Facts.{token_in, or_end, name_named}
 use Rattle.cfgrammar.proofs.yacc.grammar.YaccGrammar.token_name.Goals as goal
 

@@ -5,7 +5,7 @@ use Rattle.std.specs.String.{string_bytes}
 use Rattle.std.proofs.lemmas.List.{length-map, length-take-le, take_all, take_more}
 use Rattle.std.proofs.lemmas.Option.{slice_get_within, get_or_from_slice_get}
 use Rattle.cfgrammar.specs.Value.{GrammarValue, TokenFacts}
-use Rattle.cfgrammar.specs.Parts.{texts_in}
+use Rattle.cfgrammar.specs.Info.{texts_in}
 use Rattle.cfgrammar.proofs.Named.{token_at, token_fits}
 use Rattle.cfgrammar.proofs.Placed.{place_more}
 use Rattle.cfgrammar.proofs.yacc.grammar.YaccGrammar.tokens_map.Goals as goal

@@ -2,7 +2,7 @@ use Rattle.std.proofs.Common.{◌≡◌, ◌++◌, [], Some, sym, ap, ◌∙◌}
 use Rattle.std.specs.Prelude.{option_map}
 use Rattle.std.specs.List.{cons_option}
 use Rattle.std.specs.String.{string_bytes}
-use Rattle.cfgrammar.specs.Parts.{texts_in, token_part_name}
+use Rattle.cfgrammar.specs.Info.{texts_in, token_part_name}
 use Rattle.cfgrammar.proofs.Named.{insert_text}
 use Rattle.cfgrammar.proofs.yacc.grammar.name_sets.push_name.Goals as goal
 

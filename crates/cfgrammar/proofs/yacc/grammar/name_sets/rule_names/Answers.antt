@@ -4,7 +4,7 @@ use Rattle.std.specs.List.{list_any}
 use Rattle.std.specs.Str.{bytes_eq}
 use Rattle.std.proofs.lemmas.List.{take_more, map-append}
 use Rattle.std.proofs.lemmas.Option.{slice_get-get_or}
-use Rattle.cfgrammar.specs.Parts.{part_name, texts_in}
+use Rattle.cfgrammar.specs.Info.{part_name, texts_in}
 use Rattle.cfgrammar.proofs.Named.{fresh_in, insert_text}
 use Rattle.cfgrammar.proofs.yacc.grammar.name_sets.rule_names.Goals as goal
 

@@ -1,5 +1,5 @@
 use Rattle.std.proofs.Common.{◌≡◌, map, take}
-use Rattle.cfgrammar.specs.Parts.{part_name, texts_in}
+use Rattle.cfgrammar.specs.Info.{part_name, texts_in}
 use Rattle.cfgrammar.proofs.yacc.grammar.name_sets.rule_names.Given as goal
 
 abbrev pub invariant-rules : goal.invariant-rules

@@ -5,7 +5,7 @@ use Rattle.std.specs.Str.{bytes_eq}
 use Rattle.std.proofs.lemmas.List.{take_more}
 use Rattle.std.proofs.lemmas.List.Elements.{filter_map-append}
 use Rattle.std.proofs.lemmas.Option.{slice_get-get_or}
-use Rattle.cfgrammar.specs.Parts.{token_part_name}
+use Rattle.cfgrammar.specs.Info.{token_part_name}
 use Rattle.cfgrammar.proofs.Named.{fresh}
 use Rattle.cfgrammar.proofs.yacc.grammar.name_sets.token_names.Goals as goal
 

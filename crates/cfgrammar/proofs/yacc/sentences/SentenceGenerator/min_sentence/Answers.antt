@@ -1,4 +1,4 @@
-use Rattle.std.proofs.Common.{ℕ, ◌<◌, List, length, refl, subst, arith}
+use Rattle.std.proofs.Common.{◌<◌, length, refl, subst, arith}
 use Rattle.cfg_theory.specs.Grammar.{WellFormed}
 use Rattle.cfgrammar.specs.CostTable.{cost_of}
 use Rattle.cfgrammar.specs.Sentences.{Costed}
@@ -6,7 +6,7 @@ use Rattle.cfgrammar.specs.TokenLists.{tokens_of, lists_of}
 use Rattle.cfgrammar.specs.CheapestTable.{IsFirstCheapest}
 use Rattle.cfgrammar.proofs.CostSteps.{answers_none, answers_large}
 use Rattle.cfgrammar.proofs.Dictionary.{tokens_count, lists_count, list_at}
-use Rattle.cfgrammar.proofs.CheapestSteps.{closed_of, is_first}
+use Rattle.cfgrammar.proofs.CheapestSteps.{is_first}
 use Rattle.cfgrammar.proofs.yacc.sentences.SentenceGenerator.min_sentence.Goals as goal
 
 pub returns-then-not-all_cost-clause-ok : goal.returns-then-not-all_cost-clause-ok
@@ -19,20 +19,15 @@ returns-then-not-all_cost-clause-ok g c =
     is_first c.args.self.now.grammar (cost_of c.args.self.now.costs) (number c.args.ridx.0) (lists_of number xs) c.in_ok-lists.ensures.ok (omega (arith, some, count)) (tokens_of number w.items)
     (list_at number xs 0 w w.items some c.swap_remove.ensures.value refl)
 
-pub list_of_rule-requires-clause-closed : goal.list_of_rule-requires-clause-closed
-list_of_rule-requires-clause-closed g c =
-    let s = c.self.inside in
-    closed_of s.grm.now.grammar s.costs.items c.as_slice-costs.result.now s.least.items c.as_slice.result.now c.as_slice-costs.ensures.value c.as_slice.ensures.value c.self.invariant.1
-
 pub returns-in-None-clause-err : goal.returns-in-None-clause-err
 returns-in-None-clause-err g c =
-    let s = c.self.inside in
-    answers_none s.grm.now.grammar s.costs.items s.least.items c.self.invariant.0 c.self.invariant.1 c.args.self.now c.self.view_is c.to_usize.result (g.S.IndexStorage.number c.args.ridx.0) c.to_usize.ensures.value c.requires c.index.result.now c.index.ensures c.in-None.is
+    let s = c.self.inside.least in
+    answers_none s c.stays_least.ensures.costs c.stays_least.ensures.closed c.args.self.now c.self.view_is (g.S.IndexStorage.number c.args.ridx.0) c.of_rule.result c.of_rule.ensures c.in-None.is
 
 pub returns-in-Some-2-clause-err : goal.returns-in-Some-2-clause-err
 returns-in-Some-2-clause-err g c =
-    let s = c.self.inside in
-    answers_large s.grm.now.grammar s.costs.items s.least.items c.self.invariant.0 c.self.invariant.1 c.args.self.now c.self.view_is c.to_usize.result (g.S.IndexStorage.number c.args.ridx.0) c.to_usize.ensures.value c.requires c.index.result.now c.index.ensures c.in-Some.cost c.stays_well_formed.ensures c.productive_rules_have_least_costs.ensures c.in-Some.is c.if-cost-lt-BOUND.false
+    let s = c.self.inside.least in
+    answers_large s c.stays_least.ensures.costs c.stays_least.ensures.closed c.args.self.now c.self.view_is (g.S.IndexStorage.number c.args.ridx.0) c.of_rule.result c.of_rule.ensures c.in-Some.cost c.stays_well_formed.ensures c.productive_rules_have_least_costs.ensures c.in-Some.is c.if-cost-lt-BOUND.false
 
 pub returns-in_ok-list-in-Some-clause-short : goal.returns-in_ok-list-in-Some-clause-short
 returns-in_ok-list-in-Some-clause-short g c costly =
@@ -40,7 +35,7 @@ returns-in_ok-list-in-Some-clause-short g c costly =
     let G = c.args.self.now.grammar in
     let w = tokens_of number c.in_ok-list-in-Some.list.items in
     let good = subst (λ (v : Costed). WellFormed v.grammar) c.self.view_is c.stays_well_formed.ensures in
-    let first = subst (λ (v : Costed). IsFirstCheapest v.grammar (cost_of v.costs) (number c.args.ridx.0) w) c.self.view_is (subst (λ (costs : List ℕ). IsFirstCheapest c.self.inside.grm.now.grammar (cost_of costs) (number c.args.ridx.0) w) c.as_slice-costs.ensures.value c.in_ok-list-in-Some.ensures) in
+    let first = subst (λ (v : Costed). IsFirstCheapest v.grammar (cost_of v.costs) (number c.args.ridx.0) w) c.self.view_is c.in_ok-list-in-Some.ensures in
     let cheapest = first.cheapest in
     let le = c.cheap_lists_are_short.ensures.short G (cost_of c.args.self.now.costs) good costly (number c.args.ridx.0) w cheapest.has in
     let n = tokens_count number c.in_ok-list-in-Some.list.items in

@@ -3,15 +3,15 @@ use Rattle.cfgrammar.proofs.yacc.sentences.SentenceGenerator.min_sentence_cost.G
 
 pub returns-in-None-clause-err : goal.returns-in-None-clause-err
 returns-in-None-clause-err g c =
-    let s = c.self.inside in
-    answers_none s.grm.now.grammar s.costs.items s.least.items c.self.invariant.0 c.self.invariant.1 c.args.self.now c.self.view_is c.to_usize.result (g.S.IndexStorage.number c.args.ridx.0) c.to_usize.ensures.value c.requires c.index.result.now c.index.ensures c.in-None.is
+    let s = c.self.inside.least in
+    answers_none s c.stays_least.ensures.costs c.stays_least.ensures.closed c.args.self.now c.self.view_is (g.S.IndexStorage.number c.args.ridx.0) c.of_rule.result c.of_rule.ensures c.in-None.is
 
 pub returns-in-Some-clause-ok : goal.returns-in-Some-clause-ok
 returns-in-Some-clause-ok g c =
-    let s = c.self.inside in
-    answers_cost s.grm.now.grammar s.costs.items s.least.items c.self.invariant.0 c.self.invariant.1 c.args.self.now c.self.view_is c.to_usize.result (g.S.IndexStorage.number c.args.ridx.0) c.to_usize.ensures.value c.requires c.index.result.now c.index.ensures c.in-Some.cost c.in-Some.is c.if-cost-lt-BOUND.true
+    let s = c.self.inside.least in
+    answers_cost s c.stays_least.ensures.costs c.stays_least.ensures.closed c.args.self.now c.self.view_is (g.S.IndexStorage.number c.args.ridx.0) c.of_rule.result c.of_rule.ensures c.in-Some.cost c.in-Some.is c.if-cost-lt-BOUND.true
 
 pub returns-in-Some-2-clause-err : goal.returns-in-Some-2-clause-err
 returns-in-Some-2-clause-err g c =
-    let s = c.self.inside in
-    answers_large s.grm.now.grammar s.costs.items s.least.items c.self.invariant.0 c.self.invariant.1 c.args.self.now c.self.view_is c.to_usize.result (g.S.IndexStorage.number c.args.ridx.0) c.to_usize.ensures.value c.requires c.index.result.now c.index.ensures c.in-Some.cost c.stays_well_formed.ensures c.productive_rules_have_least_costs.ensures c.in-Some.is c.if-cost-lt-BOUND.false
+    let s = c.self.inside.least in
+    answers_large s c.stays_least.ensures.costs c.stays_least.ensures.closed c.args.self.now c.self.view_is (g.S.IndexStorage.number c.args.ridx.0) c.of_rule.result c.of_rule.ensures c.in-Some.cost c.stays_well_formed.ensures c.productive_rules_have_least_costs.ensures c.in-Some.is c.if-cost-lt-BOUND.false

@@ -1,18 +1,12 @@
 use Rattle.cfgrammar.proofs.CostSteps.{answers_none, answers_large}
-use Rattle.cfgrammar.proofs.CheapestSteps.{closed_of}
 use Rattle.cfgrammar.proofs.yacc.sentences.SentenceGenerator.min_sentences.Goals as goal
 
 pub returns-in-None-clause-err : goal.returns-in-None-clause-err
 returns-in-None-clause-err g c =
-    let s = c.self.inside in
-    answers_none s.grm.now.grammar s.costs.items s.least.items c.self.invariant.0 c.self.invariant.1 c.args.self.now c.self.view_is c.to_usize.result (g.S.IndexStorage.number c.args.ridx.0) c.to_usize.ensures.value c.requires c.index.result.now c.index.ensures c.in-None.is
+    let s = c.self.inside.least in
+    answers_none s c.stays_least.ensures.costs c.stays_least.ensures.closed c.args.self.now c.self.view_is (g.S.IndexStorage.number c.args.ridx.0) c.of_rule.result c.of_rule.ensures c.in-None.is
 
 pub returns-in-Some-2-clause-err : goal.returns-in-Some-2-clause-err
 returns-in-Some-2-clause-err g c =
-    let s = c.self.inside in
-    answers_large s.grm.now.grammar s.costs.items s.least.items c.self.invariant.0 c.self.invariant.1 c.args.self.now c.self.view_is c.to_usize.result (g.S.IndexStorage.number c.args.ridx.0) c.to_usize.ensures.value c.requires c.index.result.now c.index.ensures c.in-Some.cost c.stays_well_formed.ensures c.productive_rules_have_least_costs.ensures c.in-Some.is c.if-cost-lt-BOUND.false
-
-pub lists_of_rule-requires-clause-closed : goal.lists_of_rule-requires-clause-closed
-lists_of_rule-requires-clause-closed g c =
-    let s = c.self.inside in
-    closed_of s.grm.now.grammar s.costs.items c.as_slice.result.now s.least.items c.as_slice-in-Some.result.now c.as_slice.ensures.value c.as_slice-in-Some.ensures.value c.self.invariant.1
+    let s = c.self.inside.least in
+    answers_large s c.stays_least.ensures.costs c.stays_least.ensures.closed c.args.self.now c.self.view_is (g.S.IndexStorage.number c.args.ridx.0) c.of_rule.result c.of_rule.ensures c.in-Some.cost c.stays_well_formed.ensures c.productive_rules_have_least_costs.ensures c.in-Some.is c.if-cost-lt-BOUND.false

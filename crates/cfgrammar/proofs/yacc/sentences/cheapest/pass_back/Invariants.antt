@@ -1,10 +1,10 @@
 use Rattle.cfgrammar.specs.CostTable.{cost_of}
-use Rattle.cfgrammar.specs.Passes.{Steps, Anything}
+use Rattle.cfgrammar.specs.Passes.{PassStep, Anything}
 use Rattle.cfgrammar.specs.CheapestTable.{AreLists, spare_in}
 use Rattle.cfgrammar.proofs.yacc.sentences.cheapest.pass_back.Given as goal
 
 abbrev pub invariant-prods : goal.invariant-prods
 invariant-prods g l = record {
-  lists : AreLists l.grm.grammar (cost_of l.costs) l.least l.table.items;
-  steps : Steps spare_in Anything l.initial.table.items l.table.items l.changed;
+  lists : AreLists l.least.grammar (cost_of l.least.costs) l.least.table l.table.items;
+  steps : PassStep spare_in Anything l.initial.table.items l.table.items l.changed;
 }

@@ -6,5 +6,5 @@ use Rattle.cfgrammar.proofs.yacc.sentences.cheapest.sweep.Goals as goal
 
 pub returns-clause-steps : goal.returns-clause-steps
 returns-clause-steps g c =
-    let G = c.args.grm.now.grammar in
-    step_last spare_in (λ (t : List (List (List ℕ))). (p : ℕ) → p < length G.productions → IsJoined G (cost_of c.args.costs.now) c.args.least.now c.args.wanted.now.bits p t) c.args.table.now.items c.pass_back.new.table.items c.pass.new.table.items c.in_ok-back.back c.in_ok-on.on c.in_ok-back.ensures.steps c.in_ok-on.ensures.steps
+    let G = c.args.least.now.grammar in
+    step_last spare_in (λ (t : List (List (List ℕ))). (p : ℕ) → p < length G.productions → IsJoined G (cost_of c.args.least.now.costs) c.args.least.now.table c.args.wanted.now.bits p t) c.args.table.now.items c.pass_back.new.table.items c.pass.new.table.items c.in_ok-back.back c.in_ok-on.on c.in_ok-back.ensures.steps c.in_ok-on.ensures.steps

@@ -10,7 +10,7 @@ use Rattle.cfgrammar.proofs.yacc.sentences.cheapest.take_prod.Goals as goal
 
 pub get_unchecked-requires : goal.get_unchecked-requires
 get_unchecked-requires g c =
-    let G = c.args.grm.now.grammar in
+    let G = c.args.least.now.grammar in
     let p = g.S.IndexStorage.number c.args.pidx.0 in
     let lt : head_of G p < G.rules = c.stays_well_formed.ensures.heads p (head_of G p) (record { in_range = c.requires.production; head = refl }) in
     let e = c.to_usize-rule.ensures.value ∙ c.prod_to_rule.ensures in
@@ -19,15 +19,15 @@ get_unchecked-requires g c =
 
 pub returns-then-not-get_unchecked-clause-steps : goal.returns-then-not-get_unchecked-clause-steps
 returns-then-not-get_unchecked-clause-steps g c =
-    not_wanted c.args.grm.now.grammar (cost_of c.args.costs.now) c.args.least.now c.args.wanted.now.bits (g.S.IndexStorage.number c.args.pidx.0) c.args.table.now.items
+    not_wanted c.args.least.now.grammar (cost_of c.args.least.now.costs) c.args.least.now.table c.args.wanted.now.bits (g.S.IndexStorage.number c.args.pidx.0) c.args.table.now.items
     (ap (is_set c.args.wanted.now.bits) (sym (c.to_usize-rule.ensures.value ∙ c.prod_to_rule.ensures)) ∙ sym c.get_unchecked.ensures ∙ c.if-not-get_unchecked.true)
 
 pub returns-then-not-gives_least-clause-steps : goal.returns-then-not-gives_least-clause-steps
-returns-then-not-gives_least-clause-steps g c = not_given c.args.grm.now.grammar (cost_of c.args.costs.now) c.args.least.now c.args.wanted.now.bits (g.S.IndexStorage.number c.args.pidx.0) c.args.table.now.items c.gives_least.result c.if-not-gives_least.true c.gives_least.ensures
+returns-then-not-gives_least-clause-steps g c = not_given c.args.least.now.grammar (cost_of c.args.least.now.costs) c.args.least.now.table c.args.wanted.now.bits (g.S.IndexStorage.number c.args.pidx.0) c.args.table.now.items c.gives_least.result c.if-not-gives_least.true c.gives_least.ensures
 
 pub put_together-requires : goal.put_together-requires
 put_together-requires g c =
-    let G = c.args.grm.now.grammar in
+    let G = c.args.least.now.grammar in
     let p = g.S.IndexStorage.number c.args.pidx.0 in
     let table = c.args.table.now.items in
     subst (λ (l : List (List (List ℕ))). AllHaveLists l (syms_of g.S.IndexStorage.number c.prod.result.now)) (sym c.as_slice.ensures.value)
@@ -35,7 +35,7 @@ put_together-requires g c =
 
 pub index_mut-own-requires : goal.index_mut-own-requires
 index_mut-own-requires g c =
-    let G = c.args.grm.now.grammar in
+    let G = c.args.least.now.grammar in
     let p = g.S.IndexStorage.number c.args.pidx.0 in
     let lt : head_of G p < G.rules = c.stays_well_formed.ensures.heads p (head_of G p) (record { in_range = c.requires.production; head = refl }) in
     let e = c.to_usize-rule.ensures.value ∙ c.prod_to_rule.ensures in
@@ -45,9 +45,9 @@ index_mut-own-requires g c =
 pub returns-clause-lists : goal.returns-clause-lists
 returns-clause-lists g c =
     let number = g.S.IndexStorage.number in
-    let G = c.args.grm.now.grammar in
-    let f = cost_of c.args.costs.now in
-    let least = c.args.least.now in
+    let G = c.args.least.now.grammar in
+    let f = cost_of c.args.least.now.costs in
+    let least = c.args.least.now.table in
     let p = number c.args.pidx.0 in
     let table = c.args.table.now.items in
     let A = c.to_usize-rule.result in
@@ -62,9 +62,9 @@ returns-clause-lists g c =
 pub returns-clause-steps : goal.returns-clause-steps
 returns-clause-steps g c =
     let number = g.S.IndexStorage.number in
-    let G = c.args.grm.now.grammar in
-    let f = cost_of c.args.costs.now in
-    let least = c.args.least.now in
+    let G = c.args.least.now.grammar in
+    let f = cost_of c.args.least.now.costs in
+    let least = c.args.least.now.table in
     let p = number c.args.pidx.0 in
     let table = c.args.table.now.items in
     let A = c.to_usize-rule.result in

@@ -7,5 +7,5 @@ use Rattle.cfgrammar.proofs.yacc.sentences.unbounded.narrowed.Goals as goal
 
 pub returns-then-not-sweep-clause-closed : goal.returns-then-not-sweep-clause-closed
 returns-then-not-sweep-clause-closed g c =
-    let G = c.args.grm.now.grammar in
-    done missing (λ (b : List Bool). (p : ℕ) → p < length G.productions → IsNarrowedBy G (cost_of c.args.costs.now) c.args.costly.now c.args.old.now.bits p b) c.passes.new.bits c.sweep.new.new.bits c.sweep.result c.if-not-sweep.true c.sweep.ensures.steps
+    let G = c.args.costly.now.grammar in
+    done missing (λ (b : List Bool). (p : ℕ) → p < length G.productions → IsNarrowedBy G (cost_of c.args.costly.now.costs) c.args.costly.now.table c.args.old.now.bits p b) c.passes.new.bits c.sweep.new.new.bits c.sweep.result c.if-not-sweep.true c.sweep.ensures.steps

@@ -6,8 +6,8 @@ use Rattle.cfgrammar.proofs.yacc.sentences.unbounded.narrowed.Given as goal
 
 abbrev pub invariant-passes : goal.invariant-passes
 invariant-passes g l = record {
-  width : length l.new.bits ≡ l.grm.grammar.rules;
-  sound : AreGaining l.grm.grammar (cost_of l.costs) l.old.bits l.new.bits;
+  width : length l.new.bits ≡ l.costly.grammar.rules;
+  sound : AreGaining l.costly.grammar (cost_of l.costly.costs) l.old.bits l.new.bits;
 }
 
 abbrev pub decreases-passes : goal.decreases-passes

@@ -2,12 +2,12 @@ use Rattle.std.proofs.Common.{◌≡◌, ℕ, ◌<◌, length}
 use Rattle.cfgrammar.specs.CostTable.{cost_of}
 use Rattle.cfgrammar.specs.Sets.{missing}
 use Rattle.cfgrammar.specs.Greatest.{AreGaining, IsNarrowedBy}
-use Rattle.cfgrammar.specs.Passes.{Steps}
+use Rattle.cfgrammar.specs.Passes.{PassStep}
 use Rattle.cfgrammar.proofs.yacc.sentences.unbounded.pass.Given as goal
 
 abbrev pub invariant-prods : goal.invariant-prods
 invariant-prods g l = record {
-  width : length l.new.bits ≡ l.grm.grammar.rules;
-  sound : AreGaining l.grm.grammar (cost_of l.costs) l.old.bits l.new.bits;
-  steps : Steps missing (λ b. (p : ℕ) → p < l.number → IsNarrowedBy l.grm.grammar (cost_of l.costs) l.costly l.old.bits p b) l.initial.new.bits l.new.bits l.changed;
+  width : length l.new.bits ≡ l.costly.grammar.rules;
+  sound : AreGaining l.costly.grammar (cost_of l.costly.costs) l.old.bits l.new.bits;
+  steps : PassStep missing (λ b. (p : ℕ) → p < l.number → IsNarrowedBy l.costly.grammar (cost_of l.costly.costs) l.costly.table l.old.bits p b) l.initial.new.bits l.new.bits l.changed;
 }

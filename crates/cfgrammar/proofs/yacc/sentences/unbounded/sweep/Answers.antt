@@ -7,5 +7,5 @@ use Rattle.cfgrammar.proofs.yacc.sentences.unbounded.sweep.Goals as goal
 
 pub returns-clause-steps : goal.returns-clause-steps
 returns-clause-steps g c =
-    let G = c.args.grm.now.grammar in
-    step_last missing (λ (b : List Bool). (p : ℕ) → p < length G.productions → IsNarrowedBy G (cost_of c.args.costs.now) c.args.costly.now c.args.old.now.bits p b) c.args.new.now.bits c.pass_back-back.new.new.bits c.pass-on.new.new.bits c.pass_back-back.result c.pass-on.result c.pass_back-back.ensures.steps c.pass-on.ensures.steps
+    let G = c.args.costly.now.grammar in
+    step_last missing (λ (b : List Bool). (p : ℕ) → p < length G.productions → IsNarrowedBy G (cost_of c.args.costly.now.costs) c.args.costly.now.table c.args.old.now.bits p b) c.args.new.now.bits c.pass_back-back.new.new.bits c.pass-on.new.new.bits c.pass_back-back.result c.pass-on.result c.pass_back-back.ensures.steps c.pass-on.ensures.steps

@@ -1,43 +1,32 @@
-use Rattle.std.proofs.Common.{◌≡◌, ◌<◌, List, length, refl, sym, ap, ◌∙◌, subst, arith}
-use Rattle.cfg_theory.specs.Grammar.{Sym, IsOf, head_of, body_of}
-use Rattle.cfgrammar.specs.CostTable.{cost_of, AllHaveCosts, IsCost, HasNoCost}
+use Rattle.std.proofs.Common.{◌≡◌, ◌<◌, length, refl, sym, ap, ◌∙◌, subst, arith}
+use Rattle.cfg_theory.specs.Grammar.{IsOf, head_of, body_of}
+use Rattle.cfgrammar.specs.CostTable.{cost_of, IsCost, HasNoCost}
 use Rattle.cfgrammar.specs.Greatest.{AreGaining}
-use Rattle.cfgrammar.proofs.CostSteps.{body_costs}
 use Rattle.cfgrammar.proofs.NarrowSteps.{still_gaining, costless_step, unnamed_step, into, with_width}
 use Rattle.cfgrammar.proofs.yacc.sentences.unbounded.take_prod.Goals as goal
 
-pub body_cost-requires-clause-within : goal.body_cost-requires-clause-within
-body_cost-requires-clause-within g c =
-    let G = c.args.grm.now.grammar in
-    let costs = c.args.costs.now in
-    let p = g.S.IndexStorage.number c.args.pidx.0 in
-    subst (AllHaveCosts costs c.args.costly.now) (sym c.prod.ensures) (body_costs G costs c.args.costly.now p c.stays_well_formed.ensures c.requires.tokens c.requires.count)
-
-pub body_cost-requires-clause-capped : goal.body_cost-requires-clause-capped
-body_cost-requires-clause-capped g c = λ A n e. let le = c.requires.table.within A n e in omega (arith, le)
-
 pub returns-in_default-clause-steps : goal.returns-in_default-clause-steps
 returns-in_default-clause-steps g c =
-    let G = c.args.grm.now.grammar in
-    let costs = c.args.costs.now in
-    let costly = c.args.costly.now in
+    let G = c.args.costly.now.grammar in
+    let costs = c.args.costly.now.costs in
+    let costly = c.args.costly.now.table in
     let p = g.S.IndexStorage.number c.args.pidx.0 in
-    let none : HasNoCost costs costly (body_of G p) = subst (λ (a : List Sym). HasNoCost costs costly a) c.prod.ensures c.in_default.ensures in
+    let none : HasNoCost costs costly (body_of G p) = c.in_default.ensures in
     costless_step G (cost_of costs) costly c.args.old.now.bits p c.args.new.now.bits none
 
 pub returns-then-not-names_kept-clause-steps : goal.returns-then-not-names_kept-clause-steps
 returns-then-not-names_kept-clause-steps g c =
-    let G = c.args.grm.now.grammar in
-    let costs = c.args.costs.now in
-    let costly = c.args.costly.now in
+    let G = c.args.costly.now.grammar in
+    let costs = c.args.costly.now.costs in
+    let costly = c.args.costly.now.table in
     let p = g.S.IndexStorage.number c.args.pidx.0 in
-    let cost : IsCost costs costly (body_of G p) c.in-Some.cost = subst (λ (a : List Sym). IsCost costs costly a c.in-Some.cost) c.prod.ensures c.in-Some.ensures in
+    let cost : IsCost costs costly (body_of G p) c.in-Some.cost = c.in-Some.ensures in
     let h = c.names_kept.ensures in
     unnamed_step G (cost_of costs) costly c.args.old.now.bits p c.args.new.now.bits cost.0 c.in-Some.cost cost.1 cost.2 (λ le. h.none_old le c.if-not-names_kept.true) (λ lt. h.none_new lt c.if-not-names_kept.true)
 
 pub set-requires : goal.set-requires
 set-requires g c =
-    let G = c.args.grm.now.grammar in
+    let G = c.args.costly.now.grammar in
     let p = g.S.IndexStorage.number c.args.pidx.0 in
     let lt : head_of G p < G.rules = c.stays_well_formed.ensures.heads p (head_of G p) (record { in_range = c.requires.production; head = refl }) in
     let e = c.to_usize.ensures.value ∙ c.prod_to_rule.ensures in
@@ -49,9 +38,9 @@ returns-clause-width g c = ap length c.set.ensures.bits ∙ with_width c.args.ne
 
 pub returns-clause-sound : goal.returns-clause-sound
 returns-clause-sound g c =
-    let G = c.args.grm.now.grammar in
-    let costs = c.args.costs.now in
-    let costly = c.args.costly.now in
+    let G = c.args.costly.now.grammar in
+    let costs = c.args.costly.now.costs in
+    let costly = c.args.costly.now.table in
     let f = cost_of costs in
     let p = g.S.IndexStorage.number c.args.pidx.0 in
     let A = c.to_usize.result in
@@ -59,16 +48,16 @@ returns-clause-sound g c =
     let o : IsOf G p A = record { in_range = c.requires.production; head = sym e } in
     let lt = c.stays_well_formed.ensures.heads p A o in
     let width = c.requires.width in
-    let cost : IsCost costs costly (body_of G p) c.in-Some.cost = subst (λ (a : List Sym). IsCost costs costly a c.in-Some.cost) c.prod.ensures c.in-Some.ensures in
+    let cost : IsCost costs costly (body_of G p) c.in-Some.cost = c.in-Some.ensures in
     let h = c.names_kept.ensures in
     subst (AreGaining G f c.args.old.now.bits) (sym c.set.ensures.bits)
-    (still_gaining G f costly c.requires.table c.args.old.now.bits p A o cost.0 cost.1 c.args.new.now.bits c.requires.sound c.in-Some.cost cost.2 (omega (arith, lt, width)) (λ le. h.several le c.if-not-names_kept.false) (λ low. h.single low c.if-not-names_kept.false))
+    (still_gaining G f costly c.stays_kept.ensures.table c.args.old.now.bits p A o cost.0 cost.1 c.args.new.now.bits c.requires.sound c.in-Some.cost cost.2 (omega (arith, lt, width)) (λ le. h.several le c.if-not-names_kept.false) (λ low. h.single low c.if-not-names_kept.false))
 
 pub returns-clause-steps : goal.returns-clause-steps
 returns-clause-steps g c =
-    let G = c.args.grm.now.grammar in
-    let costs = c.args.costs.now in
-    let costly = c.args.costly.now in
+    let G = c.args.costly.now.grammar in
+    let costs = c.args.costly.now.costs in
+    let costly = c.args.costly.now.table in
     let old = c.args.old.now.bits in
     let bits = c.args.new.now.bits in
     let p = g.S.IndexStorage.number c.args.pidx.0 in

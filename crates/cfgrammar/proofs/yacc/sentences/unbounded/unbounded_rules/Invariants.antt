@@ -7,8 +7,8 @@ use Rattle.cfgrammar.proofs.yacc.sentences.unbounded.unbounded_rules.Given as go
 
 abbrev pub invariant-rounds : goal.invariant-rounds
 invariant-rounds g l = record {
-  width : length l.kept.bits ≡ l.grm.grammar.rules;
-  bounded : (n : ℕ) × IsBoundedBy l.grm.grammar (cost_of l.costs) (is_set l.kept.bits) n;
+  width : length l.kept.bits ≡ l.costly.grammar.rules;
+  bounded : (n : ℕ) × IsBoundedBy l.costly.grammar (cost_of l.costly.costs) (is_set l.kept.bits) n;
 }
 
 abbrev pub decreases-rounds : goal.decreases-rounds

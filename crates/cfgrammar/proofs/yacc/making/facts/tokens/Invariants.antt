@@ -1,7 +1,0 @@
-use Rattle.std.proofs.Common.{◌≡◌, map, take}
-use Rattle.cfgrammar.specs.Parts.{token_facts}
-use Rattle.cfgrammar.specs.Made.{file_token_facts}
-use Rattle.cfgrammar.proofs.yacc.making.facts.tokens.Given as goal
-
-abbrev pub invariant-tokens : goal.invariant-tokens
-invariant-tokens l = map token_facts l.tokens.items ≡ take l.place (map (file_token_facts l.ast) l.ast.tokens)

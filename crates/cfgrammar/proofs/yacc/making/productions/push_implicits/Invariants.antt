@@ -1,7 +1,0 @@
-use Rattle.std.proofs.Common.{map, take}
-use Rattle.cfgrammar.specs.Made.{implicit_production}
-use Rattle.cfgrammar.specs.MadeParts.{Adds}
-use Rattle.cfgrammar.proofs.yacc.making.productions.push_implicits.Given as goal
-
-abbrev pub invariant-tokens : goal.invariant-tokens
-invariant-tokens g l = Adds g.S.IndexStorage.number l.fn.made.items l.made.items (map (implicit_production l.ast) (take l.place l.ast.implicit_tokens))

@@ -1,0 +1,11 @@
+use Rattle.std.proofs.Common.{ℕ, ◌<◌, ◌⊎◌, List, [], get_or}
+use Rattle.std.specs.Prelude.{Contains}
+use Rattle.cfgrammar.specs.Passes.{PassStep}
+use Rattle.cfgrammar.specs.TokenLists.{lists_of, spare}
+use Rattle.cfgrammar.proofs.yacc.sentences.token_lists.insert_all.Given as goal
+
+abbrev pub invariant-lists : goal.invariant-lists
+invariant-lists g l = record {
+  sound : (v : List ℕ) → Contains l.own v → Contains l.initial.own v ⊎ Contains (lists_of g.S.IndexStorage.number l.lists) v;
+  steps : PassStep spare (λ own. (k : ℕ) → k < l.place → Contains own (get_or (lists_of g.S.IndexStorage.number l.lists) k [])) l.initial.own l.own l.changed;
+}

@@ -1,0 +1,241 @@
+//! The productions of a grammar.
+
+ghost use Rattle.std.specs.Prelude.{◌≡◌, ℕ, suc, zero, ◌<◌, ◌≤◌, ◌++◌, ◌∷◌, [], Bool, true, length, map, slice_get, option_map, All, IfOk, IfSome, OnOk};
+ghost use Rattle.cfg_theory.specs.Grammar.{Production};
+ghost use Rattle.cfg_read.specs.AstModels.{ast_symbol_of};
+ghost use Rattle.cfg_read.specs.AstModels as views;
+ghost use Rattle.cfg_read.specs.WellFormedAst.{NamesOne, IsWellFormedAst};
+ghost use Rattle.cfgrammar.specs.Symbols.{sym_of, syms_of};
+ghost use Rattle.cfgrammar.specs.Info.{production_of, production_facts};
+ghost use Rattle.cfgrammar.specs.FromAst as tree;
+ghost use Rattle.cfgrammar.specs.AddedProductions.{Adds};
+
+use super::{heads, info, numbers};
+use crate::yacc::grammar::index_of;
+use crate::yacc::info::ProductionInfo;
+use cfg_base::index::IndexStorage;
+use cfg_base::span::Span;
+use cfg_base::symbol::{RIdx, Symbol};
+use cfg_read::yacc::Precedence;
+use cfg_read::yacc::ast::{self, GrammarAST, Production};
+use std::alloc::{AllocError, Global};
+
+fn last_token(symbols: &[ast::Symbol]) -> Option<&str>
+    ensures { option_map (λ s. s.now) result ≡ tree.last_token (map ast_symbol_of symbols.now) }
+{
+    let mut found = None;
+    'symbols: for symbol in symbols {
+        if let ast::Symbol::Token(name, _span) = symbol {
+            found = Some(name.as_str());
+        }
+    }
+    found
+}
+
+fn precedence_of(ast: &GrammarAST, production: &Production) -> Option<Precedence>
+    ensures { result ≡ tree.production_precedence ast.now (views.production_of production.now) }
+{
+    match &production.precedence {
+        Some(name) => info::precedence_of(ast, name.as_str()),
+        None => match last_token(&production.symbols) {
+            Some(name) => info::precedence_of(ast, name),
+            None => None,
+        },
+    }
+}
+
+/// A production of the file, of the rule at this place.
+fn file_part<S: IndexStorage>(
+    alloc: Global,
+    ast: &GrammarAST,
+    implicit: bool,
+    place: usize,
+    production: &Production,
+) -> Result<ProductionInfo<S>, AllocError>
+    requires known { All (NamesOne ast.now) (map ast_symbol_of production.now.symbols.items) }
+    requires place { place < length ast.now.rules }
+    requires rules { length (tree.rules_of implicit ast.now) ≤ S.MAX }
+    requires tokens { length ast.now.tokens ≤ S.MAX }
+    ensures production { IfOk result (λ p. production_of S.number p ≡ record { head = suc place; body = tree.file_body implicit ast.now (views.production_of production.now) }) }
+    ensures facts { IfOk result (λ p. production_facts p ≡ tree.file_production_facts ast.now (views.production_of production.now)) }
+{
+    let symbols = numbers::body(alloc, ast, implicit, &production.symbols)?;
+    let action = info::copy_of(production.action.as_ref())?;
+    Ok(ProductionInfo {
+        rule: RIdx(index_of(place + 1)),
+        symbols,
+        span: production.prod_span,
+        precedence: precedence_of(ast, production),
+        action,
+        action_span: production.action_span,
+    })
+}
+
+/// The productions of the file.
+fn file_parts<S: IndexStorage>(
+    alloc: Global,
+    ast: &GrammarAST,
+    implicit: bool,
+) -> Result<Vec<ProductionInfo<S>>, AllocError>
+    requires sound { IsWellFormedAst ast.now }
+    requires rules { length (tree.rules_of implicit ast.now) ≤ S.MAX }
+    requires tokens { length ast.now.tokens ≤ S.MAX }
+    ensures productions { IfOk result (λ v. map (production_of S.number) v.items ≡ tree.file_productions implicit ast.now zero ast.now.productions) }
+    ensures facts { IfOk result (λ v. map production_facts v.items ≡ map (tree.file_production_facts ast.now) ast.now.productions) }
+{
+    let heads = heads::heads(alloc, ast)?;
+    let prods = ast.prods();
+    let mut made = Vec::new(alloc);
+    'prods: for number in 0..prods.len() {
+        made.push(file_part(alloc, ast, implicit, heads[number], &prods[number])?)?;
+    }
+    Ok(made)
+}
+
+/// Puts an added production behind the others.
+fn push_added<S: IndexStorage>(
+    made: &mut Vec<ProductionInfo<S>>,
+    rule: RIdx<S>,
+    symbols: Vec<Symbol<S>>,
+) -> Result<(), AllocError>
+    ensures { OnOk result (Adds S.number made.old.items made.new.items (record { head = S.number rule.0; body = syms_of S.number symbols.items } ∷ [])) }
+{
+    made.push(ProductionInfo {
+        rule,
+        symbols,
+        span: Span::new(0, 0),
+        precedence: None,
+        action: None,
+        action_span: None,
+    })?;
+    Ok(())
+}
+
+/// The rule of the file that the text is of.
+fn text_rule<S: IndexStorage>(ast: &GrammarAST) -> RIdx<S>
+    requires sound { IsWellFormedAst ast.now }
+    requires fits { suc (length ast.now.rules) ≤ S.MAX }
+    ensures { S.number result.0 ≡ tree.file_start ast.now }
+{
+    let start = ast.start().unwrap();
+    numbers::rule_named(ast, start.0.as_str())
+}
+
+/// The rule under `^`.
+fn rule_below_start<S: IndexStorage>(ast: &GrammarAST, implicit: bool) -> RIdx<S>
+    requires sound { IsWellFormedAst ast.now }
+    requires rules { length (tree.rules_of implicit ast.now) ≤ S.MAX }
+    ensures { S.number result.0 ≡ tree.first_rule implicit ast.now }
+{
+    if implicit {
+        numbers::tilde_start(ast)
+    } else {
+        text_rule(ast)
+    }
+}
+
+fn two<S: IndexStorage>(
+    alloc: Global,
+    before: Symbol<S>,
+    behind: Symbol<S>,
+) -> Result<Vec<Symbol<S>>, AllocError>
+    ensures { IfOk result (λ v. syms_of S.number v.items ≡ sym_of S.number before ∷ sym_of S.number behind ∷ []) }
+{
+    let mut symbols = Vec::new(alloc);
+    symbols.push(before)?;
+    symbols.push(behind)?;
+    Ok(symbols)
+}
+
+/// Puts the production of `^` behind the others.
+fn push_start<S: IndexStorage>(
+    alloc: Global,
+    made: &mut Vec<ProductionInfo<S>>,
+    ast: &GrammarAST,
+    implicit: bool,
+) -> Result<(), AllocError>
+    requires sound { IsWellFormedAst ast.now }
+    requires rules { length (tree.rules_of implicit ast.now) ≤ S.MAX }
+    ensures { OnOk result (Adds S.number made.old.items made.new.items (tree.start_production implicit ast.now ∷ [])) }
+{
+    let mut symbols = Vec::new(alloc);
+    symbols.push(Symbol::Rule(rule_below_start(ast, implicit)))?;
+    push_added(made, RIdx(index_of(0)), symbols)
+}
+
+/// Puts the production of `~` with the implicit token at this place behind the others.
+fn push_implicit<S: IndexStorage>(
+    alloc: Global,
+    made: &mut Vec<ProductionInfo<S>>,
+    ast: &GrammarAST,
+    place: usize,
+) -> Result<(), AllocError>
+    requires sound { IsWellFormedAst ast.now }
+    requires rules { length (tree.rules_of true ast.now) ≤ S.MAX }
+    requires tokens { length ast.now.tokens ≤ S.MAX }
+    requires place { place < length ast.now.implicit_tokens }
+    ensures { OnOk result (IfSome (slice_get ast.now.implicit_tokens place)
+        (λ w. Adds S.number made.old.items made.new.items (tree.implicit_production ast.now w ∷ []))) }
+{
+    let (name, _span) = ast.implicit_tokens().get_index(place).unwrap();
+    let token = Symbol::Token(numbers::token_named(ast, name.as_str()));
+    let rule = numbers::tilde(ast);
+    let symbols = two(alloc, token, Symbol::Rule(rule))?;
+    push_added(made, rule, symbols)
+}
+
+/// Puts the productions of `~` with its tokens behind the others.
+fn push_implicits<S: IndexStorage>(
+    alloc: Global,
+    made: &mut Vec<ProductionInfo<S>>,
+    ast: &GrammarAST,
+) -> Result<(), AllocError>
+    requires sound { IsWellFormedAst ast.now }
+    requires rules { length (tree.rules_of true ast.now) ≤ S.MAX }
+    requires tokens { length ast.now.tokens ≤ S.MAX }
+    ensures { OnOk result (Adds S.number made.old.items made.new.items (map (tree.implicit_production ast.now) ast.now.implicit_tokens)) }
+{
+    'tokens: for place in 0..ast.implicit_tokens().len() {
+        push_implicit(alloc, made, ast, place)?;
+    }
+    Ok(())
+}
+
+/// Puts the productions of `^~` and `~` behind the others.
+fn push_tildes<S: IndexStorage>(
+    alloc: Global,
+    made: &mut Vec<ProductionInfo<S>>,
+    ast: &GrammarAST,
+) -> Result<(), AllocError>
+    requires sound { IsWellFormedAst ast.now }
+    requires rules { length (tree.rules_of true ast.now) ≤ S.MAX }
+    requires tokens { length ast.now.tokens ≤ S.MAX }
+    ensures { OnOk result (Adds S.number made.old.items made.new.items (tree.implicit_productions ast.now)) }
+{
+    let rule = numbers::tilde(ast);
+    let text = Symbol::Rule(text_rule(ast));
+    let symbols = two(alloc, Symbol::Rule(rule), text)?;
+    push_added(made, numbers::tilde_start(ast), symbols)?;
+    push_implicits(alloc, made, ast)?;
+    push_added(made, rule, Vec::new(alloc))
+}
+
+/// The productions.
+pub fn all<S: IndexStorage>(
+    alloc: Global,
+    ast: &GrammarAST,
+    implicit: bool,
+) -> Result<Vec<ProductionInfo<S>>, AllocError>
+    requires sound { IsWellFormedAst ast.now }
+    requires rules { length (tree.rules_of implicit ast.now) ≤ S.MAX }
+    requires tokens { length ast.now.tokens ≤ S.MAX }
+    ensures productions { IfOk result (λ v. map (production_of S.number) v.items ≡ tree.productions_of implicit ast.now) }
+    ensures facts { IfOk result (λ v. map production_facts v.items ≡ tree.production_facts_of implicit ast.now) }
+{
+    let mut made = file_parts(alloc, ast, implicit)?;
+    push_start(alloc, &mut made, ast, implicit)?;
+    if implicit {
+        push_tildes(alloc, &mut made, ast)?;
+    }
+    Ok(made)
+}

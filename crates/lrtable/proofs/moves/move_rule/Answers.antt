@@ -1,0 +1,49 @@
+use Rattle.std.proofs.Common.{◌≡◌, ◌≤◌, ◌<◌, ◌+◌, ℕ, length, map, arith}
+use Rattle.std.specs.Prelude.{IsTrue}
+use Rattle.std.proofs.lemmas.List.{length-map}
+use Rattle.cfgrammar.specs.Sets.{is_set}
+use Rattle.cfgrammar.specs.Value.{productions_of}
+use Rattle.cfgrammar.proofs.RuleLists.{alone}
+use Rattle.lrtable.specs.StateViews.{core_of_set}
+use Rattle.lrtable.proofs.Fronts.{listed_prod, listed_count}
+use Rattle.lrtable.proofs.Moving.{listed_begin, listed_more, listed_end}
+use Rattle.lrtable.proofs.moves.move_rule.Goals as goal
+
+pub prods-init : goal.prods-init
+prods-init g c =
+    let number = g.S.IndexStorage.number in
+    listed_begin c.args.grm.now.grammar (number c.args.ridx.0) (λ t. IsTrue (is_set c.args.looks.now.bits t)) (map (core_of_set number) c.args.sets.now.items) c.requires.good
+
+pub move_over-requires : goal.move_over-requires
+move_over-requires g c =
+    let number = g.S.IndexStorage.number in
+    let G = c.args.grm.now.grammar in
+    let A = number c.args.ridx.0 in
+    let n = listed_prod number c.rule_to_prods-prods.result.now (productions_of G A) c.prods.k c.index-prods-k.result c.rule_to_prods-prods.ensures c.prods-test.true c.index-prods-k.is in
+    let a = length-map c.args.sets.now.items (core_of_set number) in
+    let b = length-map c.prods.sets.items (core_of_set number) in
+    let count = c.requires.count in
+    let same = c.prods.invariant.count in
+    record {
+      production = (alone G A (number c.index-prods-k.result.0) n.1).0;
+      count = omega (arith, a, b, count, same);
+      good = c.prods.invariant.good;
+      width = c.requires.width;
+    }
+
+pub prods-preserved : goal.prods-preserved
+prods-preserved g c =
+    let number = g.S.IndexStorage.number in
+    let G = c.args.grm.now.grammar in
+    let A = number c.args.ridx.0 in
+    let n = listed_prod number c.rule_to_prods-prods.result.now (productions_of G A) c.prods.k c.index-prods-k.result c.rule_to_prods-prods.ensures c.prods-test.true c.index-prods-k.is in
+    listed_more G A c.prods.k (number c.index-prods-k.result.0) c.args.looks.now.bits (map (core_of_set number) c.args.sets.now.items) (map (core_of_set number) c.prods.sets.items) (map (core_of_set number) c.move_over.new.sets.items) n.0 c.prods.invariant c.in_ok-move_over.ensures
+
+pub returns : goal.returns
+returns g c =
+    let number = g.S.IndexStorage.number in
+    let G = c.args.grm.now.grammar in
+    let A = number c.args.ridx.0 in
+    let n = listed_count number c.rule_to_prods-prods.result.now (productions_of G A) c.rule_to_prods-prods.ensures in
+    let done = c.prods-test.false in
+    listed_end G A c.prods.k (λ t. IsTrue (is_set c.args.looks.now.bits t)) (map (core_of_set number) c.args.sets.now.items) (map (core_of_set number) c.prods.sets.items) (omega (arith, n, done)) c.prods.invariant

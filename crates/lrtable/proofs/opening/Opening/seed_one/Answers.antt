@@ -1,0 +1,58 @@
+use Rattle.std.proofs.Common.{◌≡◌, ◌<◌, ℕ, List, Bool, sym, ap, ◌∙◌, subst, arith, length}
+use Rattle.cfg_theory.specs.Grammar.{rule, IsNext}
+use Rattle.lrtable.specs.Adding.{One, OneLooks}
+use Rattle.lrtable.specs.Closes.{Seeds, SeedsLook, IsRest}
+use Rattle.lrtable.specs.Opening.{RuleSets, Follows, Brings}
+use Rattle.lrtable.proofs.Exact.{dot_within}
+use Rattle.lrtable.proofs.Seeding.{seeds_one, seeds_none}
+use Rattle.lrtable.proofs.opening.Opening.seed_one.Goals as goal
+
+pub follow-requires-clause-rules : goal.follow-requires-clause-rules
+follow-requires-clause-rules g c =
+    let number = g.S.IndexStorage.number in
+    let lt = c.start_prod.ensures.well_formed.symbols (number c.args.item.now.pidx.0) c.to_usize-dot.result (rule (number c.in-Some.ridx.0)) c.in-Some.ensures in
+    let n = c.requires.sizes.opened in
+    let e = c.to_usize.ensures.value in
+    omega (arith, lt, n, e)
+
+pub follow-requires-clause-within : goal.follow-requires-clause-within
+follow-requires-clause-within g c =
+    let number = g.S.IndexStorage.number in
+    let lt = c.start_prod.ensures.well_formed.symbols (number c.args.item.now.pidx.0) c.to_usize-dot.result (rule (number c.in-Some.ridx.0)) c.in-Some.ensures in
+    let n = c.requires.sizes.rows in
+    let e = c.to_usize.ensures.value in
+    omega (arith, lt, n, e)
+
+pub follow-requires-clause-first : goal.follow-requires-clause-first
+follow-requires-clause-first g c = c.in_ok-rest-in-Some.ensures.width ∙ sym c.requires.sizes.tokens
+
+pub follow-requires-clause-width : goal.follow-requires-clause-width
+follow-requires-clause-width g c = c.requires.width ∙ sym c.requires.sizes.tokens
+
+pub rest_after-requires-clause-dot : goal.rest_after-requires-clause-dot
+rest_after-requires-clause-dot g c =
+    let number = g.S.IndexStorage.number in
+    dot_within c.args.grm.now.grammar (number c.args.item.now.pidx.0) c.to_usize-dot.result (rule (number c.in-Some.ridx.0)) c.in-Some.ensures
+
+pub returns-in_ok-follow-in-Some : goal.returns-in_ok-follow-in-Some
+returns-in_ok-follow-in-Some g c =
+    let number = g.S.IndexStorage.number in
+    let G = c.args.grm.now.grammar in
+    let p = number c.args.item.now.pidx.0 in
+    let looks = c.args.looks.now.bits in
+    let first = c.in_ok-rest-in-Some.rest.first.bits in
+    let nullable = c.in_ok-rest-in-Some.rest.nullable in
+    let rule_is = c.to_usize.ensures.value in
+    let d_is = c.to_usize-dot.ensures.value in
+    let n = subst (λ A. IsNext G p c.to_usize-dot.result (rule A)) (sym rule_is) c.in-Some.ensures in
+    subst (λ d. Follows (Seeds G (One p d)) (SeedsLook G (One p d) (OneLooks p d looks)) c.args.self.now c.follow.new.self c.args.waiting.now.items c.follow.new.waiting.items) d_is
+    (seeds_one G p c.to_usize-dot.result c.to_usize.result looks first nullable n c.in_ok-rest-in-Some.ensures c.args.self.now c.follow.new.self c.args.waiting.now.items c.follow.new.waiting.items c.in_ok-follow-in-Some.ensures)
+
+pub returns-in-None : goal.returns-in-None
+returns-in-None g c =
+    let number = g.S.IndexStorage.number in
+    let G = c.args.grm.now.grammar in
+    let p = number c.args.item.now.pidx.0 in
+    let looks = c.args.looks.now.bits in
+    subst (λ d. Follows (Seeds G (One p d)) (SeedsLook G (One p d) (OneLooks p d looks)) c.args.self.now c.args.self.now c.args.waiting.now.items c.args.waiting.now.items) c.to_usize-dot.ensures.value
+    (seeds_none G p c.to_usize-dot.result looks c.args.self.now c.args.waiting.now.items c.in-None.ensures)

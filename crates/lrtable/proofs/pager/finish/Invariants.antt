@@ -1,0 +1,18 @@
+use Rattle.std.proofs.Common.{◌≡◌, ℕ, ◌≤◌, length, map}
+use Rattle.std.specs.declared.alloc.Global.{Global}
+use Rattle.std.specs.declared.vec.Vec.{Vec}
+use Rattle.lrtable.specs.Handling.{AreReached, left_in}
+use Rattle.lrtable.specs.States.{AreBuckets}
+use Rattle.lrtable.specs.StateViews.{value_of}
+use Rattle.lrtable.proofs.pager.finish.Given as goal
+
+abbrev pub invariant-steps : goal.invariant-steps
+invariant-steps g l = record {
+  reached : AreReached l.grm.grammar (map (value_of g.S.IndexStorage.number) l.states.items);
+  buckets : AreBuckets (map (value_of g.S.IndexStorage.number) l.states.items) (map (λ (v : Vec ℕ Global). v.items) l.begins.items);
+  lists : length l.begins.items ≡ length l.grm.grammar.productions;
+  few : length l.states.items ≤ g.S.IndexStorage.MAX;
+}
+
+abbrev pub decreases-steps : goal.decreases-steps
+decreases-steps g l = left_in l.grm.grammar g.S.IndexStorage.MAX (map (value_of g.S.IndexStorage.number) l.states.items)

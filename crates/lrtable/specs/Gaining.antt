@@ -1,0 +1,27 @@
+-- The sets to which the items of a closed state move, a set for each symbol by its rank.
+use Rattle.std.specs.Prelude.{◌≡◌, ℕ, ◌<◌, ◌⊎◌, ◌↔◌, List, [], length, get_or}
+use Rattle.cfg_theory.specs.Grammar.{Sym, Grammar, InRange}
+use Rattle.lr_theory.specs.Itemset.{Items, Lookaheads, ItemSet, HasItem, HasLook, Goto, GotoLook}
+use Rattle.lrtable.specs.ItemRows.{Core, map_of, IsCoreOf}
+use Rattle.lrtable.specs.Handling.{rank}
+
+abbrev pub no_core : Core
+no_core = record { items = []; rows = [] }
+
+abbrev pub core_in : List Core → ℕ → Core
+core_in sets n = get_or sets n no_core
+
+-- the set of the symbol X
+abbrev pub moved_by : Grammar → List Core → Sym → ItemSet
+moved_by G sets X = map_of (core_in sets (rank G X))
+
+-- so many tokens have a flag in each row of each set
+abbrev pub AreSets : ℕ → List Core → Type 0
+AreSets tokens sets = (n : ℕ) → n < length sets → IsCoreOf tokens (core_in sets n)
+
+-- the items of I moved into the sets, with the lookaheads of L, and no others
+pub record Gains (G : Grammar) (I : Items) (L : Lookaheads) (old new : List Core) : Type 0 where
+  pub count : length new ≡ length old
+  pub good : AreSets G.tokens new
+  pub items : (X : Sym) → InRange G X → (p d : ℕ) → HasItem (moved_by G new X) p d ↔ (HasItem (moved_by G old X) p d ⊎ Goto G I X p d)
+  pub looks : (X : Sym) → InRange G X → (p d t : ℕ) → HasLook (moved_by G new X) p d t ↔ (HasLook (moved_by G old X) p d t ⊎ GotoLook G L X p d t)

@@ -1,0 +1,59 @@
+-- A set of core items as a program keeps it: the items in ascending order, which states of one core share, and beside
+-- each its lookaheads.
+use Rattle.vob.specs.Bits.{bitwise}
+use Rattle.cfgrammar.specs.Sets.{is_set}
+use Rattle.std.specs.Prelude.{◌≡◌, ℕ, ◌<◌, ◌⊎◌, ◌||◌, Bool, IsTrue, List, [], ◌∷◌, length, get_or}
+use Rattle.std.specs.List.{AllPairs}
+use Rattle.lr_theory.specs.Itemset.{ItemSet}
+
+-- a production with a dot
+pub record Item : Type 0 where
+  pub production : ℕ
+  pub dot : ℕ
+
+-- the order of a map's keys
+abbrev pub ItemBefore : Item → Item → Type 0
+ItemBefore i j = (i.production < j.production) ⊎ ((i.production ≡ j.production) × (i.dot < j.dot))
+
+abbrev pub Ascends : List Item → Type 0
+Ascends items = AllPairs ItemBefore items
+
+-- the item (p, d) stands at the index k
+pub record IsAt (items : List Item) (k p d : ℕ) : Type 0 where
+  pub within : k < length items
+  pub production : (get_or items k (record { production = p; dot = d })).production ≡ p
+  pub dot : (get_or items k (record { production = p; dot = d })).dot ≡ d
+
+-- the map
+abbrev pub set_of : List Item → List (List Bool) → ItemSet
+set_of [] rows = []
+set_of (i ∷ items) [] = []
+set_of (i ∷ items) (row ∷ rows) = record { production = i.production; dot = i.dot; lookaheads = row } ∷ set_of items rows
+
+-- the rows of two maps of the same items joined
+abbrev pub join_rows : List (List Bool) → List (List Bool) → List (List Bool)
+join_rows [] ms = []
+join_rows (l ∷ ls) [] = l ∷ ls
+join_rows (l ∷ ls) (m ∷ ms) = bitwise (λ x y. x || y) l m ∷ join_rows ls ms
+
+-- each lookahead of the second rows is in the first
+abbrev pub CoversRows : List (List Bool) → List (List Bool) → Type 0
+CoversRows ls ms = (k t : ℕ) → IsTrue (is_set (get_or ms k []) t) → IsTrue (is_set (get_or ls k []) t)
+
+-- some isn't
+abbrev pub LacksRows : List (List Bool) → List (List Bool) → Type 0
+LacksRows ls ms = (k : ℕ) × (t : ℕ) × IsTrue (is_set (get_or ms k []) t) × (IsTrue (is_set (get_or ls k []) t) → ⊥)
+
+-- a state's core, and its map
+pub record Core : Type 0 where
+  pub items : List Item
+  pub rows : List (List Bool)
+
+abbrev pub map_of : Core → ItemSet
+map_of c = set_of c.items c.rows
+
+-- so many tokens have a flag in each row
+pub record IsCoreOf (tokens : ℕ) (c : Core) : Type 0 where
+  pub ascends : Ascends c.items
+  pub count : length c.rows ≡ length c.items
+  pub width : (k : ℕ) → k < length c.rows → length (get_or c.rows k []) ≡ tokens

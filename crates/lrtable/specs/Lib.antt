@@ -1,0 +1,12 @@
+pub mod Opening
+pub mod Fronts
+pub mod Closes
+pub mod Meeting
+pub mod ItemRows
+pub mod States
+pub mod StateViews
+pub mod Handling
+pub mod Rows
+pub mod Adding
+pub mod Gaining
+pub mod Stepping

@@ -1,0 +1,132 @@
+//! Items in ascending order, each with its lookaheads: the cores of states, and the sets that become states.
+
+ghost use Rattle.std.specs.Prelude.{◌≡◌, ◌<◌, ◌≤◌, ◌↔◌, ℕ, true, false, length, get_or, IsTrue, OnOk};
+ghost use Rattle.std.specs.List.{insert};
+ghost use Rattle.lrtable.specs.Adding.{Adds};
+ghost use Rattle.lrtable.specs.Gaining.{no_core};
+ghost use Rattle.lrtable.specs.ItemRows.{Item, IsAt, ItemBefore, Ascends, IsCoreOf, map_of};
+ghost use Rattle.lrtable.specs.Meeting.{rows_in};
+ghost use Rattle.lrtable.specs.StateViews.{item_of, items_of, core_of_set};
+
+use cfg_base::index::IndexStorage;
+use cfg_base::symbol::{PIdx, SIdx};
+use std::alloc::{AllocError, Global};
+use vob::Vob;
+
+/// A production with a dot.
+#[derive(Clone, Copy)]
+pub struct CoreItem<S> {
+    pub pidx: PIdx<S>,
+    pub dot: SIdx<S>,
+}
+
+/// Items in ascending order, and the lookaheads of each.
+#[derive(Drop)]
+pub struct CoreSet<S> {
+    pub items: Vec<CoreItem<S>>,
+    pub looks: Vec<Vob>,
+}
+
+/// Tells whether two lists have the same items.
+pub fn same_items<S: IndexStorage>(a: &[CoreItem<S>], b: &[CoreItem<S>]) -> bool
+    ensures { IsTrue result ↔ (items_of S.number a.now ≡ items_of S.number b.now) }
+{
+    if a.len() != b.len() {
+        return false;
+    }
+    'each: for i in 0..a.len() {
+        if !same_item(&a[i], &b[i]) {
+            return false;
+        }
+    }
+    true
+}
+
+fn same_item<S: IndexStorage>(a: &CoreItem<S>, b: &CoreItem<S>) -> bool
+    ensures { IsTrue result ↔ (item_of S.number a.now ≡ item_of S.number b.now) }
+{
+    if a.pidx.0.to_usize() != b.pidx.0.to_usize() {
+        return false;
+    }
+    a.dot.0.to_usize() == b.dot.0.to_usize()
+}
+
+/// Tells whether the first item comes before the second: by production, then by dot.
+fn comes_before<S: IndexStorage>(a: &CoreItem<S>, b: &CoreItem<S>) -> bool
+    ensures { IsTrue result ↔ ItemBefore (item_of S.number a.now) (item_of S.number b.now) }
+{
+    let first = a.pidx.0.to_usize();
+    let second = b.pidx.0.to_usize();
+    if first != second {
+        return first < second;
+    }
+    a.dot.0.to_usize() < b.dot.0.to_usize()
+}
+
+/// The index at which an item stands, or belongs.
+fn index_of<S: IndexStorage>(items: &[CoreItem<S>], item: &CoreItem<S>) -> usize
+    requires { Ascends (items_of S.number items.now) }
+    ensures within { result ≤ length items.now }
+    ensures below { (k : ℕ) (d : Item) → k < result → ItemBefore (get_or (items_of S.number items.now) k d) (item_of S.number item.now) }
+    ensures above { (k : ℕ) (d : Item) → result ≤ k → k < length items.now → ItemBefore (get_or (items_of S.number items.now) k d) (item_of S.number item.now) → ⊥ }
+{
+    'back: for n in 0..items.len() {
+        let last = items.len() - 1 - n;
+        if comes_before(&items[last], item) {
+            return last + 1;
+        }
+    }
+    0
+}
+
+/// Tells whether an item stands at an index.
+fn stands_at<S: IndexStorage>(items: &[CoreItem<S>], index: usize, item: &CoreItem<S>) -> bool
+    ensures here { result ≡ true → IsAt (items_of S.number items.now) index (S.number item.now.pidx.0) (S.number item.now.dot.0) }
+    ensures other { result ≡ false → (d : Item) → index < length items.now → get_or (items_of S.number items.now) index d ≡ item_of S.number item.now → ⊥ }
+{
+    if index >= items.len() {
+        return false;
+    }
+    same_item(&items[index], item)
+}
+
+impl<S: IndexStorage> CoreSet<S> {
+    /// A set without items.
+    pub fn empty(alloc: Global) -> CoreSet<S>
+        ensures { core_of_set S.number result ≡ no_core }
+    {
+        CoreSet {
+            items: Vec::new(alloc),
+            looks: Vec::new(alloc),
+        }
+    }
+
+    /// Adds an item with its lookaheads, or lookaheads to those of the item that is there.
+    pub fn add(&mut self, item: CoreItem<S>, looks: &Vob) -> Result<(), AllocError>
+        requires { (tokens : ℕ) × IsCoreOf tokens (core_of_set S.number self.old) × (length looks.now.bits ≡ tokens) }
+        ensures adds { OnOk result (Adds (map_of (core_of_set S.number self.old)) (S.number item.pidx.0) (S.number item.dot.0) looks.now.bits (map_of (core_of_set S.number self.new))) }
+        ensures fits { OnOk result ((tokens : ℕ) → IsCoreOf tokens (core_of_set S.number self.old) → length looks.now.bits ≡ tokens → IsCoreOf tokens (core_of_set S.number self.new)) }
+    {
+        let index = index_of(self.items.as_slice(), &item);
+        if stands_at(self.items.as_slice(), index, &item) {
+            let row = &mut self.looks[index];
+            row.or(looks);
+            return Ok(());
+        }
+        self.insert(index, item, looks)?;
+        Ok(())
+    }
+
+    /// Puts an item with its lookaheads at an index.
+    fn insert(&mut self, index: usize, item: CoreItem<S>, looks: &Vob) -> Result<(), AllocError>
+        requires items { index ≤ length self.old.items.items }
+        requires looks { index ≤ length self.old.looks.items }
+        ensures items { OnOk result (items_of S.number self.new.items.items ≡ insert (items_of S.number self.old.items.items) index (item_of S.number item)) }
+        ensures looks { OnOk result (rows_in self.new.looks.items ≡ insert (rows_in self.old.looks.items) index looks.now.bits) }
+    {
+        let row = looks.clone()?;
+        self.items.insert(index, item)?;
+        self.looks.insert(index, row)?;
+        Ok(())
+    }
+}

@@ -1,0 +1,86 @@
+//! Tells whether sets of tokens share one, and Pager's test of weak compatibility.
+
+ghost use Rattle.std.specs.Prelude.{◌≡◌, ◌<◌, ◌↔◌, ◌⊎◌, false, true, [], ℕ, length, map, get_or, IsTrue};
+ghost use Rattle.std.specs.List.{flat_map};
+ghost use Rattle.lrtable.specs.Meeting.{Meets, PairFits, PairApart, RowsFit, RowsApart, AreAlike, row, rows_in};
+
+use vob::Vob;
+use vob::block::Block;
+
+/// Tells whether two lists of blocks share a bit.
+fn blocks_meet<T: Block>(a: &[T], b: &[T]) -> bool
+    requires { length a.now ≡ length b.now }
+    ensures { IsTrue result ↔ Meets (flat_map T.bits a.now) (flat_map T.bits b.now) }
+{
+    'each: for k in 0..a.len() {
+        let common = a[k].both(b[k]);
+        if common.zeros_below() < T::BITS {
+            return true;
+        }
+    }
+    false
+}
+
+/// Tells whether two sets of as many tokens share one.
+pub fn meet(a: &Vob, b: &Vob) -> bool
+    requires { length a.now.bits ≡ length b.now.bits }
+    ensures { IsTrue result ↔ Meets a.now.bits b.now.bits }
+{
+    blocks_meet(a.get_storage(), b.get_storage())
+}
+
+/// Tells whether one of two pairs of sets shares a token.
+fn either_meet(a: &Vob, b: &Vob, c: &Vob, d: &Vob) -> bool
+    requires one { length a.now.bits ≡ length b.now.bits }
+    requires other { length c.now.bits ≡ length d.now.bits }
+    ensures { IsTrue result ↔ (Meets a.now.bits b.now.bits ⊎ Meets c.now.bits d.now.bits) }
+{
+    if meet(a, b) {
+        return true;
+    }
+    meet(c, d)
+}
+
+/// Tells whether the lookaheads of two core items, `ai` and `aj` in one set and `bi` and `bj` in another, let the sets be
+/// joined.
+fn pair_fits(ai: &Vob, aj: &Vob, bi: &Vob, bj: &Vob) -> bool
+    requires one { length ai.now.bits ≡ length bj.now.bits }
+    requires other { length bi.now.bits ≡ length aj.now.bits }
+    requires both { length ai.now.bits ≡ length aj.now.bits }
+    ensures fits { result ≡ true → PairFits ai.now.bits aj.now.bits bi.now.bits bj.now.bits }
+    ensures apart { result ≡ false → PairApart ai.now.bits aj.now.bits bi.now.bits bj.now.bits }
+{
+    if !either_meet(ai, bj, bi, aj) {
+        return true;
+    }
+    either_meet(ai, aj, bi, bj)
+}
+
+fn fits_below(a: &[Vob], b: &[Vob], j: usize) -> bool
+    requires alike { AreAlike (rows_in a.now) (rows_in b.now) }
+    requires within { j < length a.now }
+    ensures fits { result ≡ true → (i : ℕ) → i < j → PairFits (row (rows_in a.now) i) (row (rows_in a.now) j) (row (rows_in b.now) i) (row (rows_in b.now) j) }
+    ensures apart { result ≡ false → (i : ℕ) × (i < j) × PairApart (row (rows_in a.now) i) (row (rows_in a.now) j) (row (rows_in b.now) i) (row (rows_in b.now) j) }
+{
+    'each: for i in 0..j {
+        if !pair_fits(&a[i], &a[j], &b[i], &b[j]) {
+            return false;
+        }
+    }
+    true
+}
+
+/// Pager's test of two sets of one core, by their items' lookaheads: for each two items, those of one in one set
+/// don't meet those of the other in the other set, or the two meet in one of the sets.
+pub fn weakly_compatible(a: &[Vob], b: &[Vob]) -> bool
+    requires { AreAlike (rows_in a.now) (rows_in b.now) }
+    ensures fits { result ≡ true → RowsFit (rows_in a.now) (rows_in b.now) }
+    ensures apart { result ≡ false → RowsApart (rows_in a.now) (rows_in b.now) }
+{
+    'each: for j in 0..a.len() {
+        if !fits_below(a, b, j) {
+            return false;
+        }
+    }
+    true
+}

@@ -1,0 +1,194 @@
+//! The sets to which the items of a closed state move: one for each symbol, rules before tokens.
+
+ghost use Rattle.std.specs.Prelude.{◌≡◌, ◌<◌, ◌≤◌, ◌+◌, ℕ, List, length, map, replicate, IfOk, OnOk, IsTrue};
+ghost use Rattle.cfg_theory.specs.Grammar.{InRange, body_of};
+ghost use Rattle.cfgrammar.specs.Sets.{is_set};
+ghost use Rattle.cfgrammar.specs.Symbols.{sym_of};
+ghost use Rattle.lr_theory.specs.Itemset.{HasItem, HasLook, Closure, ClosureLook};
+ghost use Rattle.lrtable.specs.Adding.{One, OneLooks};
+ghost use Rattle.lrtable.specs.Closes.{AreFronts};
+ghost use Rattle.lrtable.specs.Gaining.{no_core, AreSets, Gains};
+ghost use Rattle.lrtable.specs.Handling.{rank};
+ghost use Rattle.lrtable.specs.ItemRows.{map_of};
+ghost use Rattle.lrtable.specs.Opening.{Front};
+ghost use Rattle.lrtable.specs.StateViews.{core_of_set};
+ghost use Rattle.lrtable.specs.Stepping.{FitsCore, IsSized, IsClosureOf, OfRule, OfRuleLooks, OpenAt, OpenLooksAt, OpenBelow, OpenLooksBelow, AreGotos};
+
+use crate::cores::{CoreItem, CoreSet};
+use crate::opening::Opening;
+use crate::rests::symbol_after;
+use cfg_base::index::IndexStorage;
+use cfg_base::symbol::{PIdx, RIdx, SIdx, Symbol};
+use cfgrammar::yacc::YaccGrammar;
+use std::alloc::{AllocError, Global};
+use vob::Vob;
+
+/// The rank of a symbol among all: rules before tokens.
+pub fn rank_of<S: IndexStorage>(grm: &YaccGrammar<S>, symbol: Symbol<S>) -> usize
+    ensures { result ≡ rank grm.now.grammar (sym_of S.number symbol) }
+{
+    match symbol {
+        Symbol::Rule(rule) => rule.0.to_usize(),
+        Symbol::Token(token) => grm.rules_len().0.to_usize() + token.0.to_usize(),
+    }
+}
+
+/// The symbol of a rank.
+pub fn symbol_at<S: IndexStorage>(grm: &YaccGrammar<S>, number: usize) -> Symbol<S>
+    requires { number < grm.now.grammar.rules + grm.now.grammar.tokens }
+    ensures rank { rank grm.now.grammar (sym_of S.number result) ≡ number }
+    ensures range { InRange grm.now.grammar (sym_of S.number result) }
+{
+    let rules = grm.rules_len().0.to_usize();
+    if number < rules {
+        return Symbol::Rule(grm.rule_at(number));
+    }
+    Symbol::Token(grm.token_at(number - rules))
+}
+
+/// The dot behind a symbol of a production.
+fn dot_behind<S: IndexStorage>(grm: &YaccGrammar<S>, pidx: PIdx<S>, dot: usize) -> SIdx<S>
+    requires production { S.number pidx.0 < length grm.now.grammar.productions }
+    requires dot { dot < length (body_of grm.now.grammar (S.number pidx.0)) }
+    ensures { S.number result.0 ≡ dot + 1 }
+{
+    let _len = grm.prod_len(pidx).0.to_usize();
+    SIdx(S::from_usize(dot + 1).unwrap())
+}
+
+/// Moves an item over the symbol behind its dot, if there is one, into the set of that symbol.
+fn move_over<S: IndexStorage>(
+    grm: &YaccGrammar<S>,
+    sets: &mut Vec<CoreSet<S>>,
+    pidx: PIdx<S>,
+    dot: usize,
+    looks: &Vob,
+) -> Result<(), AllocError>
+    requires production { S.number pidx.0 < length grm.now.grammar.productions }
+    requires count { length sets.old.items ≡ grm.now.grammar.rules + grm.now.grammar.tokens }
+    requires good { AreSets grm.now.grammar.tokens (map (core_of_set S.number) sets.old.items) }
+    requires width { length looks.now.bits ≡ grm.now.grammar.tokens }
+    ensures { OnOk result (Gains grm.now.grammar (One (S.number pidx.0) dot) (OneLooks (S.number pidx.0) dot looks.now.bits) (map (core_of_set S.number) sets.old.items) (map (core_of_set S.number) sets.new.items)) }
+{
+    grm.start_prod();
+    match symbol_after(grm, pidx, dot) {
+        Some(symbol) => {
+            let item = CoreItem {
+                pidx,
+                dot: dot_behind(grm, pidx, dot),
+            };
+            let set = &mut sets[rank_of(grm, symbol)];
+            set.add(item, looks)?;
+            Ok(())
+        }
+        None => Ok(()),
+    }
+}
+
+/// Moves the items of a core.
+fn move_core<S: IndexStorage>(
+    grm: &YaccGrammar<S>,
+    sets: &mut Vec<CoreSet<S>>,
+    core: &CoreSet<S>,
+) -> Result<(), AllocError>
+    requires fits { FitsCore grm.now.grammar (core_of_set S.number core.now) }
+    requires count { length sets.old.items ≡ grm.now.grammar.rules + grm.now.grammar.tokens }
+    requires good { AreSets grm.now.grammar.tokens (map (core_of_set S.number) sets.old.items) }
+    ensures { OnOk result (Gains grm.now.grammar (HasItem (map_of (core_of_set S.number core.now))) (HasLook (map_of (core_of_set S.number core.now))) (map (core_of_set S.number) sets.old.items) (map (core_of_set S.number) sets.new.items)) }
+{
+    'items: for k in 0..core.items.len() {
+        let item = &core.items[k];
+        let looks = &core.looks[k];
+        move_over(grm, sets, item.pidx, item.dot.0.to_usize(), looks)?;
+    }
+    Ok(())
+}
+
+/// Moves the productions of a rule from dot nought.
+fn move_rule<S: IndexStorage>(
+    grm: &YaccGrammar<S>,
+    sets: &mut Vec<CoreSet<S>>,
+    ridx: RIdx<S>,
+    looks: &Vob,
+) -> Result<(), AllocError>
+    requires rule { S.number ridx.0 < grm.now.grammar.rules }
+    requires count { length sets.old.items ≡ grm.now.grammar.rules + grm.now.grammar.tokens }
+    requires good { AreSets grm.now.grammar.tokens (map (core_of_set S.number) sets.old.items) }
+    requires width { length looks.now.bits ≡ grm.now.grammar.tokens }
+    ensures { OnOk result (Gains grm.now.grammar (OfRule grm.now.grammar (S.number ridx.0)) (OfRuleLooks grm.now.grammar (S.number ridx.0) (λ t. IsTrue (is_set looks.now.bits t))) (map (core_of_set S.number) sets.old.items) (map (core_of_set S.number) sets.new.items)) }
+{
+    let prods = grm.rule_to_prods(ridx);
+    'prods: for k in 0..prods.len() {
+        move_over(grm, sets, prods[k], 0, looks)?;
+    }
+    Ok(())
+}
+
+/// Moves the productions of a rule from dot nought, if the rule is open.
+fn move_if_open<S: IndexStorage>(
+    grm: &YaccGrammar<S>,
+    sets: &mut Vec<CoreSet<S>>,
+    opening: &Opening,
+    number: usize,
+) -> Result<(), AllocError>
+    requires rule { number < grm.now.grammar.rules }
+    requires sizes { IsSized grm.now.grammar opening.now }
+    requires count { length sets.old.items ≡ grm.now.grammar.rules + grm.now.grammar.tokens }
+    requires good { AreSets grm.now.grammar.tokens (map (core_of_set S.number) sets.old.items) }
+    ensures { OnOk result (Gains grm.now.grammar (OpenAt grm.now.grammar opening.now number) (OpenLooksAt grm.now.grammar opening.now number) (map (core_of_set S.number) sets.old.items) (map (core_of_set S.number) sets.new.items)) }
+{
+    if !opening.is_open(number) {
+        return Ok(());
+    }
+    move_rule(grm, sets, grm.rule_at(number), opening.row(number))?;
+    Ok(())
+}
+
+/// Moves the productions of the open rules from dot nought.
+fn move_open<S: IndexStorage>(
+    grm: &YaccGrammar<S>,
+    sets: &mut Vec<CoreSet<S>>,
+    opening: &Opening,
+) -> Result<(), AllocError>
+    requires sizes { IsSized grm.now.grammar opening.now }
+    requires count { length sets.old.items ≡ grm.now.grammar.rules + grm.now.grammar.tokens }
+    requires good { AreSets grm.now.grammar.tokens (map (core_of_set S.number) sets.old.items) }
+    ensures { OnOk result (Gains grm.now.grammar (OpenBelow grm.now.grammar opening.now grm.now.grammar.rules) (OpenLooksBelow grm.now.grammar opening.now grm.now.grammar.rules) (map (core_of_set S.number) sets.old.items) (map (core_of_set S.number) sets.new.items)) }
+{
+    'rules: for number in 0..grm.rules_len().0.to_usize() {
+        move_if_open(grm, sets, opening, number)?;
+    }
+    Ok(())
+}
+
+/// So many sets without items.
+fn empty_sets<S: IndexStorage>(alloc: Global, count: usize) -> Result<Vec<CoreSet<S>>, AllocError>
+    ensures { IfOk result (λ v. map (core_of_set S.number) v.items ≡ replicate count no_core) }
+{
+    let mut sets = Vec::new(alloc);
+    'sets: for _ in 0..count {
+        sets.push(CoreSet::empty(alloc))?;
+    }
+    Ok(sets)
+}
+
+/// The goto sets of a closed core, one for each symbol.
+pub fn goto_sets<S: IndexStorage>(
+    alloc: Global,
+    grm: &YaccGrammar<S>,
+    core: &CoreSet<S>,
+    opening: &Opening,
+) -> Result<Vec<CoreSet<S>>, AllocError>
+    requires fits { FitsCore grm.now.grammar (core_of_set S.number core.now) }
+    requires sizes { IsSized grm.now.grammar opening.now }
+    requires closed { (fronts : List (List Front)) × AreFronts grm.now.grammar fronts × IsClosureOf grm.now.grammar fronts (core_of_set S.number core.now) opening.now }
+    ensures { IfOk result (λ v. AreGotos grm.now.grammar (Closure grm.now.grammar (HasItem (map_of (core_of_set S.number core.now)))) (ClosureLook grm.now.grammar (HasItem (map_of (core_of_set S.number core.now))) (HasLook (map_of (core_of_set S.number core.now)))) (map (core_of_set S.number) v.items)) }
+{
+    grm.start_prod();
+    let rules = grm.rules_len().0.to_usize();
+    let tokens = grm.tokens_len().0.to_usize();
+    let mut sets = empty_sets(alloc, rules + tokens)?;
+    move_core(grm, &mut sets, core)?;
+    move_open(grm, &mut sets, opening)?;
+    Ok(sets)
+}

@@ -1,0 +1,108 @@
+//! The rules that stand first in productions, with what may follow them there.
+
+ghost use Rattle.std.specs.Prelude.{◌≡◌, ◌<◌, [], length, map, get_or, IfOk, OnOk};
+ghost use Rattle.cfgrammar.specs.Firsts.{AreFirsts};
+ghost use Rattle.cfgrammar.specs.Value.{productions_of};
+ghost use Rattle.lrtable.specs.Closes.{AreFronts, AreFrontsOf, PutsFront};
+ghost use Rattle.lrtable.specs.Fronts.{front_of};
+
+use crate::rests::{Rest, rest_after, rule_after};
+use cfg_base::index::IndexStorage;
+use cfg_base::symbol::{PIdx, RIdx};
+use cfgrammar::yacc::{YaccFirsts, YaccGrammar};
+use std::alloc::{AllocError, Global};
+use std::marker::Model;
+
+/// A rule that stands first in a production, and what follows it there.
+#[derive(Drop)]
+pub struct Opener {
+    pub rule: usize,
+    pub rest: Rest,
+}
+
+/// For each rule, the rules that stand first in its productions.
+#[derive(Drop)]
+pub struct Openers {
+    rules: Vec<Vec<Opener>>,
+}
+
+impl Model for Openers {
+    ghost use Rattle.std.specs.Prelude.{List, map};
+    ghost use Rattle.lrtable.specs.Opening.{Front};
+    ghost use Rattle.lrtable.specs.Fronts.{front_of};
+
+    ghost Value = { List (List Front) };
+
+    ghost view = { λ o. map (λ l. map front_of l.items) o.rules.items };
+}
+
+/// Puts what a production opens with the others, if it begins with a rule.
+fn put_opener<S: IndexStorage>(
+    alloc: Global,
+    grm: &YaccGrammar<S>,
+    firsts: &YaccFirsts<S>,
+    pidx: PIdx<S>,
+    openers: &mut Vec<Opener>,
+) -> Result<(), AllocError>
+    requires production { S.number pidx.0 < length grm.now.grammar.productions }
+    requires firsts { AreFirsts grm.now.grammar firsts.now }
+    ensures { OnOk result (PutsFront grm.now.grammar (S.number pidx.0) (map front_of openers.old.items) (map front_of openers.new.items)) }
+{
+    match rule_after(grm, pidx, 0) {
+        Some(ridx) => {
+            let rest = rest_after(alloc, grm, firsts, pidx, 0)?;
+            openers.push(Opener {
+                rule: ridx.0.to_usize(),
+                rest,
+            })?;
+            Ok(())
+        }
+        None => Ok(()),
+    }
+}
+
+/// The rules that stand first in the productions of a rule.
+fn openers_of<S: IndexStorage>(
+    alloc: Global,
+    grm: &YaccGrammar<S>,
+    firsts: &YaccFirsts<S>,
+    ridx: RIdx<S>,
+) -> Result<Vec<Opener>, AllocError>
+    requires rule { S.number ridx.0 < grm.now.grammar.rules }
+    requires firsts { AreFirsts grm.now.grammar firsts.now }
+    ensures { IfOk result (λ v. AreFrontsOf grm.now.grammar (productions_of grm.now.grammar (S.number ridx.0)) (map front_of v.items)) }
+{
+    let mut openers = Vec::new(alloc);
+    let prods = grm.rule_to_prods(ridx);
+    'prods: for k in 0..prods.len() {
+        put_opener(alloc, grm, firsts, prods[k], &mut openers)?;
+    }
+    Ok(openers)
+}
+
+impl Openers {
+    /// Those of a grammar.
+    pub fn new<S: IndexStorage>(
+        alloc: Global,
+        grm: &YaccGrammar<S>,
+        firsts: &YaccFirsts<S>,
+    ) -> Result<Openers, AllocError>
+        requires { AreFirsts grm.now.grammar firsts.now }
+        ensures { IfOk result (λ o. AreFronts grm.now.grammar o) }
+    {
+        grm.start_prod();
+        let mut rules = Vec::new(alloc);
+        'rules: for number in 0..grm.rules_len().0.to_usize() {
+            rules.push(openers_of(alloc, grm, firsts, grm.rule_at(number))?)?;
+        }
+        Ok(Openers { rules })
+    }
+
+    /// Those of a rule.
+    pub fn of_rule(&self, rule: usize) -> &[Opener]
+        requires { rule < length self.now }
+        ensures { map front_of result.now ≡ get_or self.now rule [] }
+    {
+        self.rules[rule].as_slice()
+    }
+}

@@ -1,0 +1,275 @@
+//! The rules that a closure opens. All productions of a rule that it opens come in at dot nought with the same
+//! lookaheads, so these are kept once for each rule.
+
+ghost use Rattle.std.specs.Prelude.{◌≡◌, ℕ, ◌<◌, true, false, [], length, map, get_or, replicate, slice_set, IfOk, OnOk, IsTrue, ◌↔◌, if◌then◌else◌};
+ghost use Rattle.std.specs.List.{Contains};
+ghost use Rattle.cfgrammar.specs.Passes.{PassStep};
+ghost use Rattle.cfgrammar.specs.Sets.{joined_to, is_set, HasAllOf};
+ghost use Rattle.lrtable.specs.Fronts.{front_of, front_with};
+ghost use Rattle.cfgrammar.specs.Firsts.{AreFirsts};
+ghost use Rattle.lr_theory.specs.Itemset.{HasItem, HasLook};
+ghost use Rattle.lrtable.specs.Adding.{One, OneLooks};
+ghost use Rattle.lrtable.specs.Closes.{Seeds, SeedsLook, AreFronts};
+ghost use Rattle.lrtable.specs.ItemRows.{map_of};
+ghost use Rattle.lrtable.specs.Meeting.{rows_in};
+ghost use Rattle.lrtable.specs.StateViews.{core_of_set};
+ghost use Rattle.lrtable.specs.Stepping.{FitsCore, IsSized, IsClosureOf};
+ghost use Rattle.lrtable.specs.Opening.{Front, RuleSets, IsOpen, HasRuleLook, room, FitsIn, AllFit, Brings, Follows, FrontStep, NamedIn, BroughtBy, SameSizes, Underway, AreOpened};
+
+use crate::cores::{CoreItem, CoreSet};
+use crate::openers::{Opener, Openers};
+use crate::rests::{Rest, rest_after, rule_after};
+use cfg_base::index::IndexStorage;
+use cfgrammar::yacc::sets::TokenSets;
+use cfgrammar::yacc::{YaccFirsts, YaccGrammar};
+use std::alloc::{AllocError, Global};
+use std::marker::Model;
+use vob::Vob;
+
+/// The open rules, and a set of tokens for each rule.
+#[derive(Drop)]
+pub struct Opening {
+    looks: TokenSets,
+    opened: Vob,
+}
+
+impl Model for Opening {
+    ghost use Rattle.std.specs.Prelude.{◌≡◌, length};
+    ghost use Rattle.lrtable.specs.Opening.{RuleSets};
+
+    ghost Value = { RuleSets };
+
+    ghost view = { λ s. record { tokens = s.looks.width; rows = s.looks.rows; opened = s.opened.bits } };
+
+    ghost invariant = { λ s. length s.looks.rows ≡ length s.opened.bits };
+}
+
+impl Opening {
+    /// With no open rule.
+    pub fn empty(alloc: Global, rules: usize, tokens: usize) -> Result<Opening, AllocError>
+        ensures { IfOk result (λ s. s ≡ record { tokens = tokens; rows = replicate rules (replicate tokens false); opened = replicate rules false }) }
+    {
+        let looks = TokenSets::empty(alloc, rules, tokens)?;
+        let opened = Vob::from_elem(alloc, false, rules)?;
+        Ok(Opening { looks, opened })
+    }
+
+    /// Opens a rule.
+    fn open(&mut self, rule: usize) -> bool
+        requires { rule < length self.old.opened }
+        ensures tokens { self.new.tokens ≡ self.old.tokens }
+        ensures rows { self.new.rows ≡ self.old.rows }
+        ensures opened { self.new.opened ≡ slice_set self.old.opened rule true }
+        ensures steps { PassStep room (λ s. IsOpen s rule) self.old self.new result }
+    {
+        self.opened.set(rule, true)
+    }
+
+    /// Tells whether a rule is open.
+    pub fn is_open(&self, rule: usize) -> bool
+        requires { rule < length self.now.opened }
+        ensures { IsTrue result ↔ IsOpen self.now rule }
+    {
+        self.opened.get_unchecked(rule)
+    }
+
+    /// The lookaheads of a rule.
+    pub fn row(&self, rule: usize) -> &Vob
+        requires { rule < length self.now.rows }
+        ensures bits { result.now.bits ≡ get_or self.now.rows rule [] }
+        ensures width { length result.now.bits ≡ self.now.tokens }
+    {
+        self.looks.row(rule)
+    }
+
+    /// Adds lookaheads of a rule.
+    fn join(&mut self, rule: usize, looks: &Vob) -> bool
+        requires within { rule < length self.old.rows }
+        requires width { length looks.now.bits ≡ self.old.tokens }
+        ensures tokens { self.new.tokens ≡ self.old.tokens }
+        ensures rows { self.new.rows ≡ joined_to self.old.rows rule looks.now.bits }
+        ensures opened { self.new.opened ≡ self.old.opened }
+        ensures width { length (get_or self.old.rows rule []) ≡ self.old.tokens }
+        ensures steps { PassStep room (λ s. HasAllOf rule looks.now.bits s.rows) self.old self.new result }
+    {
+        self.looks.join(rule, looks)
+    }
+
+    /// The same where they are to be passed on.
+    fn pass(&mut self, rule: usize, nullable: bool, looks: &Vob) -> bool
+        requires within { rule < length self.old.rows }
+        requires width { length looks.now.bits ≡ self.old.tokens }
+        ensures tokens { self.new.tokens ≡ self.old.tokens }
+        ensures rows { self.new.rows ≡ if nullable then joined_to self.old.rows rule looks.now.bits else self.old.rows }
+        ensures opened { self.new.opened ≡ self.old.opened }
+        ensures width { IsTrue nullable → length (get_or self.old.rows rule []) ≡ self.old.tokens }
+        ensures steps { PassStep room (λ s. IsTrue nullable → HasAllOf rule looks.now.bits s.rows) self.old self.new result }
+    {
+        if !nullable {
+            return false;
+        }
+        self.join(rule, looks)
+    }
+
+    /// Opens a rule with what follows it, where the production in which it stands has these lookaheads, and says whether
+    /// that changed something.
+    fn bring(&mut self, rule: usize, rest: &Rest, looks: &Vob) -> bool
+        requires rules { rule < length self.old.opened }
+        requires within { rule < length self.old.rows }
+        requires first { length rest.now.first.bits ≡ self.old.tokens }
+        requires width { length looks.now.bits ≡ self.old.tokens }
+        ensures { FrontStep looks.now.bits (front_with rule rest.now) self.old self.new result }
+    {
+        let opened = self.open(rule);
+        let grew = self.join(rule, &rest.first);
+        let passed = self.pass(rule, rest.nullable, looks);
+        opened | grew | passed
+    }
+
+    /// The same, and puts the rule with those that wait if something changed.
+    pub fn follow(
+        &mut self,
+        rule: usize,
+        rest: &Rest,
+        looks: &Vob,
+        waiting: &mut Vec<usize>,
+    ) -> Result<(), AllocError>
+        requires rules { rule < length self.old.opened }
+        requires within { rule < length self.old.rows }
+        requires first { length rest.now.first.bits ≡ self.old.tokens }
+        requires width { length looks.now.bits ≡ self.old.tokens }
+        ensures { OnOk result (Follows (λ A. rule ≡ A) (λ A t. (rule ≡ A) × Brings looks.now.bits (front_with rule rest.now) t) self.old self.new waiting.old.items waiting.new.items) }
+    {
+        if self.bring(rule, rest, looks) {
+            waiting.push(rule)?;
+        }
+        Ok(())
+    }
+
+    /// Follows what stands first in the productions of a rule, which has these lookaheads.
+    fn follow_all(
+        &mut self,
+        openers: &[Opener],
+        looks: &Vob,
+        waiting: &mut Vec<usize>,
+    ) -> Result<(), AllocError>
+        requires rows { length self.old.rows ≡ length self.old.opened }
+        requires fit { AllFit (length self.old.opened) self.old.tokens (map front_of openers.now) }
+        requires width { length looks.now.bits ≡ self.old.tokens }
+        ensures { OnOk result (Follows (NamedIn (map front_of openers.now)) (BroughtBy looks.now.bits (map front_of openers.now)) self.old self.new waiting.old.items waiting.new.items) }
+    {
+        'openers: for opener in openers {
+            self.follow(opener.rule, &opener.rest, looks, waiting)?;
+        }
+        Ok(())
+    }
+
+    /// Writes the lookaheads of a rule over a set.
+    fn copy_looks(&self, rule: usize, looks: &mut Vob)
+        requires within { rule < length self.now.rows }
+        requires width { length looks.old.bits ≡ self.now.tokens }
+        ensures width { length looks.new.bits ≡ self.now.tokens }
+        ensures bits { (t : ℕ) → IsTrue (is_set looks.new.bits t) ↔ HasRuleLook self.now rule t }
+    {
+        looks.set_all(false);
+        looks.or(self.looks.row(rule));
+    }
+
+    /// Opens what the open rules lead to: the least sets that hold these and are closed. Each rule that waits is taken,
+    /// and again when something came to it.
+    pub fn close(
+        &mut self,
+        openers: &Openers,
+        looks: &mut Vob,
+        waiting: &mut Vec<usize>,
+    ) -> Result<(), AllocError>
+        requires rows { length self.old.rows ≡ length self.old.opened }
+        requires rules { length openers.now ≡ length self.old.opened }
+        requires fit { (A : ℕ) → AllFit (length self.old.opened) self.old.tokens (get_or openers.now A []) }
+        requires width { length looks.old.bits ≡ self.old.tokens }
+        requires waiting { Underway openers.now self.old self.old waiting.old.items }
+        ensures opened { OnOk result (AreOpened openers.now self.old self.new) }
+        ensures sizes { OnOk result (SameSizes self.old self.new) }
+        ensures width { OnOk result (length looks.new.bits ≡ self.old.tokens) }
+        ensures none_waits { OnOk result (waiting.new.items ≡ []) }
+    {
+        'waiting: while let Some(rule) = waiting.pop() {
+            self.copy_looks(rule, looks);
+            self.follow_all(openers.of_rule(rule), looks, waiting)?;
+        }
+        Ok(())
+    }
+
+    /// Opens the rule behind the dot of an item, if there is one, with what follows it.
+    fn seed_one<S: IndexStorage>(
+        &mut self,
+        alloc: Global,
+        grm: &YaccGrammar<S>,
+        firsts: &YaccFirsts<S>,
+        item: &CoreItem<S>,
+        looks: &Vob,
+        waiting: &mut Vec<usize>,
+    ) -> Result<(), AllocError>
+        requires production { S.number item.now.pidx.0 < length grm.now.grammar.productions }
+        requires firsts { AreFirsts grm.now.grammar firsts.now }
+        requires sizes { IsSized grm.now.grammar self.old }
+        requires width { length looks.now.bits ≡ grm.now.grammar.tokens }
+        ensures { OnOk result (Follows (Seeds grm.now.grammar (One (S.number item.now.pidx.0) (S.number item.now.dot.0))) (SeedsLook grm.now.grammar (One (S.number item.now.pidx.0) (S.number item.now.dot.0)) (OneLooks (S.number item.now.pidx.0) (S.number item.now.dot.0) looks.now.bits)) self.old self.new waiting.old.items waiting.new.items) }
+    {
+        grm.start_prod();
+        let dot = item.dot.0.to_usize();
+        match rule_after(grm, item.pidx, dot) {
+            Some(ridx) => {
+                let rest = rest_after(alloc, grm, firsts, item.pidx, dot)?;
+                self.follow(ridx.0.to_usize(), &rest, looks, waiting)?;
+                Ok(())
+            }
+            None => Ok(()),
+        }
+    }
+
+    /// Opens the rules behind the dots of a core.
+    fn seed<S: IndexStorage>(
+        &mut self,
+        alloc: Global,
+        grm: &YaccGrammar<S>,
+        firsts: &YaccFirsts<S>,
+        set: &CoreSet<S>,
+        waiting: &mut Vec<usize>,
+    ) -> Result<(), AllocError>
+        requires fits { FitsCore grm.now.grammar (core_of_set S.number set.now) }
+        requires firsts { AreFirsts grm.now.grammar firsts.now }
+        requires sizes { IsSized grm.now.grammar self.old }
+        ensures { OnOk result (Follows (Seeds grm.now.grammar (HasItem (map_of (core_of_set S.number set.now)))) (SeedsLook grm.now.grammar (HasItem (map_of (core_of_set S.number set.now))) (HasLook (map_of (core_of_set S.number set.now)))) self.old self.new waiting.old.items waiting.new.items) }
+    {
+        'items: for k in 0..set.items.len() {
+            let item = &set.items[k];
+            let looks = &set.looks[k];
+            self.seed_one(alloc, grm, firsts, item, looks, waiting)?;
+        }
+        Ok(())
+    }
+}
+
+/// The rules that the closure of a core opens, with their lookaheads.
+pub fn close_core<S: IndexStorage>(
+    alloc: Global,
+    grm: &YaccGrammar<S>,
+    firsts: &YaccFirsts<S>,
+    openers: &Openers,
+    set: &CoreSet<S>,
+) -> Result<Opening, AllocError>
+    requires fits { FitsCore grm.now.grammar (core_of_set S.number set.now) }
+    requires firsts { AreFirsts grm.now.grammar firsts.now }
+    requires openers { AreFronts grm.now.grammar openers.now }
+    ensures sizes { IfOk result (λ s. IsSized grm.now.grammar s) }
+    ensures closed { IfOk result (λ s. IsClosureOf grm.now.grammar openers.now (core_of_set S.number set.now) s) }
+{
+    let tokens = grm.tokens_len().0.to_usize();
+    let mut opening = Opening::empty(alloc, grm.rules_len().0.to_usize(), tokens)?;
+    let mut waiting = Vec::new(alloc);
+    opening.seed(alloc, grm, firsts, set, &mut waiting)?;
+    let mut looks = Vob::from_elem(alloc, false, tokens)?;
+    opening.close(openers, &mut looks, &mut waiting)?;
+    Ok(opening)
+}

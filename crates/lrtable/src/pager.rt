@@ -1,0 +1,236 @@
+//! The building of the states, by Pager's merging.
+
+ghost use Rattle.std.specs.Prelude.{◌↔◌, IsTrue, ◌≡◌, ◌<◌, ◌≤◌, ◌+◌, ℕ, true, false, [], ◌∷◌, length, map, replicate, slice_set, IfOk, OnOk, IsErrOf, MatchOption};
+ghost use Rattle.cfgrammar.specs.Firsts.{AreFirsts};
+ghost use Rattle.cfg_theory.specs.Grammar.{IsEnd};
+ghost use Rattle.cfgrammar.specs.Sets.{is_set};
+ghost use Rattle.lr_theory.specs.Building.{Building};
+ghost use Rattle.lr_theory.specs.Itemset.{HasItem, HasLook, Closure, ClosureLook};
+ghost use Rattle.lrtable.specs.Closes.{AreFronts};
+ghost use Rattle.lrtable.specs.Gaining.{no_core, core_in};
+ghost use Rattle.lrtable.specs.Handling.{AreReached, AreHandled, AreBuilt, TooManyStand, left_in};
+ghost use Rattle.lrtable.specs.ItemRows.{map_of};
+ghost use Rattle.lrtable.specs.States.{AreStates, AreBuckets, state_at, first_production};
+ghost use Rattle.lrtable.specs.StateViews.{value_of, core_of_set};
+ghost use Rattle.lrtable.specs.Stepping.{FitsCore, AreGotos, AreGotosOf, IsGotoAt, IsNextTaken, set_off};
+ghost use Rattle.lrtable.specs.declared.states.BuildError.TheVariants as faults;
+
+use crate::cores::{CoreItem, CoreSet};
+use crate::moves::{goto_sets, symbol_at};
+use crate::openers::Openers;
+use crate::opening::close_core;
+use crate::states::{BuildError, State, place};
+use cfg_base::index::IndexStorage;
+use cfg_base::symbol::SIdx;
+use cfgrammar::yacc::{YaccFirsts, YaccGrammar};
+use std::alloc::{AllocError, Global};
+use std::mem;
+use vob::Vob;
+
+/// Places the goto set of the symbol of a rank, if the set has items, and leaves an empty one behind.
+fn place_rank<S: IndexStorage>(
+    alloc: Global,
+    grm: &YaccGrammar<S>,
+    states: &mut Vec<State<S>>,
+    begins: &mut Vec<Vec<usize>>,
+    from: usize,
+    sets: &mut Vec<CoreSet<S>>,
+    number: usize,
+) -> Result<(), BuildError>
+    requires number { number < grm.now.grammar.rules + grm.now.grammar.tokens }
+    requires count { length sets.old.items ≡ grm.now.grammar.rules + grm.now.grammar.tokens }
+    requires from { from < length states.old.items }
+    requires states { AreStates grm.now.grammar.tokens (map (value_of S.number) states.old.items) }
+    requires set { FitsCore grm.now.grammar (core_in (map (core_of_set S.number) sets.old.items) number) }
+    requires buckets { AreBuckets (map (value_of S.number) states.old.items) (map (λ l. l.items) begins.old.items) }
+    requires lists { length begins.old.items ≡ length grm.now.grammar.productions }
+    requires few { length states.old.items ≤ S.MAX }
+    ensures states { OnOk result (AreStates grm.now.grammar.tokens (map (value_of S.number) states.new.items)) }
+    ensures more { OnOk result (length states.old.items ≤ length states.new.items) }
+    ensures buckets { OnOk result (AreBuckets (map (value_of S.number) states.new.items) (map (λ l. l.items) begins.new.items)) }
+    ensures lists { OnOk result (length begins.new.items ≡ length begins.old.items) }
+    ensures few { OnOk result (length states.new.items ≤ S.MAX) }
+    ensures sets { OnOk result (map (core_of_set S.number) sets.new.items ≡ slice_set (map (core_of_set S.number) sets.old.items) number no_core) }
+    ensures handled { OnOk result ((before : Building) → IsGotoAt grm.now.grammar before from number (core_in (map (core_of_set S.number) sets.old.items) number) → AreHandled grm.now.grammar before from number (map (value_of S.number) states.old.items) → AreHandled grm.now.grammar before from (number + 1) (map (value_of S.number) states.new.items)) }
+    ensures many { IsErrOf result faults.TooManyStates → (before : Building) → IsNextTaken grm.now.grammar before from → IsGotoAt grm.now.grammar before from number (core_in (map (core_of_set S.number) sets.old.items) number) → AreHandled grm.now.grammar before from number (map (value_of S.number) states.old.items) → TooManyStand grm.now.grammar S.MAX }
+{
+    let set = mem::replace(&mut sets[number], CoreSet::empty(alloc));
+    if set.items.is_empty() {
+        return Ok(());
+    }
+    place(alloc, states, begins, from, symbol_at(grm, number), set)?;
+    Ok(())
+}
+
+/// Places the goto sets of a state, symbol by symbol.
+fn place_all<S: IndexStorage>(
+    alloc: Global,
+    grm: &YaccGrammar<S>,
+    states: &mut Vec<State<S>>,
+    begins: &mut Vec<Vec<usize>>,
+    from: usize,
+    sets: &mut Vec<CoreSet<S>>,
+) -> Result<(), BuildError>
+    requires count { length sets.old.items ≡ grm.now.grammar.rules + grm.now.grammar.tokens }
+    requires from { from < length states.old.items }
+    requires states { AreStates grm.now.grammar.tokens (map (value_of S.number) states.old.items) }
+    requires sets { (n : ℕ) → n < grm.now.grammar.rules + grm.now.grammar.tokens → FitsCore grm.now.grammar (core_in (map (core_of_set S.number) sets.old.items) n) }
+    requires buckets { AreBuckets (map (value_of S.number) states.old.items) (map (λ l. l.items) begins.old.items) }
+    requires lists { length begins.old.items ≡ length grm.now.grammar.productions }
+    requires few { length states.old.items ≤ S.MAX }
+    ensures buckets { OnOk result (AreBuckets (map (value_of S.number) states.new.items) (map (λ l. l.items) begins.new.items)) }
+    ensures lists { OnOk result (length begins.new.items ≡ length begins.old.items) }
+    ensures few { OnOk result (length states.new.items ≤ S.MAX) }
+    ensures handled { OnOk result ((before : Building) → AreGotosOf grm.now.grammar before from (map (core_of_set S.number) sets.old.items) → AreHandled grm.now.grammar before from 0 (map (value_of S.number) states.old.items) → AreHandled grm.now.grammar before from (grm.now.grammar.rules + grm.now.grammar.tokens) (map (value_of S.number) states.new.items)) }
+    ensures many { IsErrOf result faults.TooManyStates → (before : Building) → IsNextTaken grm.now.grammar before from → AreGotosOf grm.now.grammar before from (map (core_of_set S.number) sets.old.items) → AreHandled grm.now.grammar before from 0 (map (value_of S.number) states.old.items) → TooManyStand grm.now.grammar S.MAX }
+{
+    'ranks: for number in 0..sets.len() {
+        place_rank(alloc, grm, states, begins, from, sets, number)?;
+    }
+    Ok(())
+}
+
+/// The goto sets of a core, one for each symbol.
+fn gotos<S: IndexStorage>(
+    alloc: Global,
+    grm: &YaccGrammar<S>,
+    firsts: &YaccFirsts<S>,
+    openers: &Openers,
+    core: &CoreSet<S>,
+) -> Result<Vec<CoreSet<S>>, AllocError>
+    requires fits { FitsCore grm.now.grammar (core_of_set S.number core.now) }
+    requires firsts { AreFirsts grm.now.grammar firsts.now }
+    requires openers { AreFronts grm.now.grammar openers.now }
+    ensures { IfOk result (λ v. AreGotos grm.now.grammar (Closure grm.now.grammar (HasItem (map_of (core_of_set S.number core.now)))) (ClosureLook grm.now.grammar (HasItem (map_of (core_of_set S.number core.now))) (HasLook (map_of (core_of_set S.number core.now)))) (map (core_of_set S.number) v.items)) }
+{
+    let opening = close_core(alloc, grm, firsts, openers, core)?;
+    let sets = goto_sets(alloc, grm, core, &opening)?;
+    Ok(sets)
+}
+
+/// Notes that a state is taken.
+fn take<S: IndexStorage>(states: &mut Vec<State<S>>, number: usize)
+    requires { number < length states.old.items }
+    ensures { map (value_of S.number) states.new.items ≡ set_off (map (value_of S.number) states.old.items) number }
+{
+    let state = &mut states[number];
+    state.todo = false;
+}
+
+/// A step: takes the first state that is to be taken.
+fn step<S: IndexStorage>(
+    alloc: Global,
+    grm: &YaccGrammar<S>,
+    firsts: &YaccFirsts<S>,
+    openers: &Openers,
+    states: &mut Vec<State<S>>,
+    begins: &mut Vec<Vec<usize>>,
+    number: usize,
+) -> Result<(), BuildError>
+    requires firsts { AreFirsts grm.now.grammar firsts.now }
+    requires openers { AreFronts grm.now.grammar openers.now }
+    requires reached { AreReached grm.now.grammar (map (value_of S.number) states.old.items) }
+    requires number { number < length states.old.items }
+    requires todo { (state_at (map (value_of S.number) states.old.items) number).todo ≡ true }
+    requires lowest { (r : ℕ) → r < number → (state_at (map (value_of S.number) states.old.items) r).todo ≡ false }
+    requires buckets { AreBuckets (map (value_of S.number) states.old.items) (map (λ l. l.items) begins.old.items) }
+    requires lists { length begins.old.items ≡ length grm.now.grammar.productions }
+    requires few { length states.old.items ≤ S.MAX }
+    ensures reached { OnOk result (AreReached grm.now.grammar (map (value_of S.number) states.new.items)) }
+    ensures buckets { OnOk result (AreBuckets (map (value_of S.number) states.new.items) (map (λ l. l.items) begins.new.items)) }
+    ensures lists { OnOk result (length begins.new.items ≡ length begins.old.items) }
+    ensures few { OnOk result (length states.new.items ≤ S.MAX) }
+    ensures less { OnOk result (left_in grm.now.grammar S.MAX (map (value_of S.number) states.new.items) < left_in grm.now.grammar S.MAX (map (value_of S.number) states.old.items)) }
+    ensures many { IsErrOf result faults.TooManyStates → TooManyStand grm.now.grammar S.MAX }
+{
+    grm.start_prod();
+    let mut sets = gotos(alloc, grm, firsts, openers, &states[number].core)?;
+    take(states, number);
+    place_all(alloc, grm, states, begins, number, &mut sets)?;
+    Ok(())
+}
+
+/// The first state that is to be taken, if there is one.
+fn lowest<S: IndexStorage>(states: &[State<S>]) -> Option<usize>
+    ensures { MatchOption result ((s : ℕ) → s < length states.now → (state_at (map (value_of S.number) states.now) s).todo ≡ false) (λ n. (n < length states.now) × ((state_at (map (value_of S.number) states.now) n).todo ≡ true) × ((r : ℕ) → r < n → (state_at (map (value_of S.number) states.now) r).todo ≡ false)) }
+{
+    'each: for number in 0..states.len() {
+        if states[number].todo {
+            return Some(number);
+        }
+    }
+    None
+}
+/// The lookaheads of the start item: the end token.
+fn end_looks<S: IndexStorage>(alloc: Global, grm: &YaccGrammar<S>) -> Result<Vob, AllocError>
+    ensures width { IfOk result (λ v. length v.bits ≡ grm.now.grammar.tokens) }
+    ensures bits { IfOk result (λ v. (t : ℕ) → IsTrue (is_set v.bits t) ↔ IsEnd grm.now.grammar t) }
+{
+    let mut end = Vob::from_elem(alloc, false, grm.tokens_len().0.to_usize())?;
+    end.set(grm.eof_token_idx().0.to_usize(), true);
+    Ok(end)
+}
+
+/// The start state: the start production at dot nought with the end token.
+pub fn start_states<S: IndexStorage>(
+    alloc: Global,
+    grm: &YaccGrammar<S>,
+) -> Result<Vec<State<S>>, AllocError>
+    ensures reached { IfOk result (λ v. AreReached grm.now.grammar (map (value_of S.number) v.items)) }
+    ensures one { IfOk result (λ v. length v.items ≡ 1) }
+    ensures first { IfOk result (λ v. first_production (state_at (map (value_of S.number) v.items) 0).core.items ≡ grm.now.grammar.start) }
+{
+    let mut items = Vec::new(alloc);
+    items.push(CoreItem {
+        pidx: grm.start_prod(),
+        dot: SIdx(S::from_usize(0).unwrap()),
+    })?;
+    let mut looks = Vec::new(alloc);
+    looks.push(end_looks(alloc, grm)?)?;
+    let mut states = Vec::new(alloc);
+    states.push(State {
+        core: CoreSet { items, looks },
+        edges: Vec::new(alloc),
+        todo: true,
+    })?;
+    Ok(states)
+}
+
+/// So many empty lists.
+pub fn empty_lists(alloc: Global, count: usize) -> Result<Vec<Vec<usize>>, AllocError>
+    ensures lists { IfOk result (λ v. map (λ l. l.items) v.items ≡ replicate count []) }
+    ensures count { IfOk result (λ v. length v.items ≡ count) }
+{
+    let mut lists = Vec::new(alloc);
+    'lists: for _ in 0..count {
+        lists.push(Vec::new(alloc))?;
+    }
+    Ok(lists)
+}
+
+/// Makes steps until no state is to be taken.
+pub fn finish<S: IndexStorage>(
+    alloc: Global,
+    grm: &YaccGrammar<S>,
+    firsts: &YaccFirsts<S>,
+    openers: &Openers,
+    states: &mut Vec<State<S>>,
+    begins: &mut Vec<Vec<usize>>,
+) -> Result<(), BuildError>
+    requires firsts { AreFirsts grm.now.grammar firsts.now }
+    requires openers { AreFronts grm.now.grammar openers.now }
+    requires reached { AreReached grm.now.grammar (map (value_of S.number) states.old.items) }
+    requires buckets { AreBuckets (map (value_of S.number) states.old.items) (map (λ l. l.items) begins.old.items) }
+    requires lists { length begins.old.items ≡ length grm.now.grammar.productions }
+    requires few { length states.old.items ≤ S.MAX }
+    ensures built { OnOk result (AreBuilt grm.now.grammar (map (value_of S.number) states.new.items)) }
+    ensures few { OnOk result (length states.new.items ≤ S.MAX) }
+    ensures many { IsErrOf result faults.TooManyStates → TooManyStand grm.now.grammar S.MAX }
+{
+    'steps: loop {
+        match lowest(states.as_slice()) {
+            Some(number) => step(alloc, grm, firsts, openers, states, begins, number)?,
+            None => return Ok(()),
+        }
+    }
+}

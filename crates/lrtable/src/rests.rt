@@ -1,0 +1,74 @@
+//! What follows a symbol in a production.
+
+ghost use Rattle.std.specs.Prelude.{◌≡◌, ◌<◌, ℕ, length, IfOk, MatchOption};
+ghost use Rattle.cfg_theory.specs.Grammar.{Sym, rule, body_of, IsNext};
+ghost use Rattle.cfgrammar.specs.Firsts.{AreFirsts};
+ghost use Rattle.cfgrammar.specs.Symbols.{sym_of};
+ghost use Rattle.lrtable.specs.Closes.{IsRest};
+
+use cfg_base::index::IndexStorage;
+use cfg_base::symbol::{PIdx, RIdx, Symbol};
+use cfgrammar::yacc::{YaccFirsts, YaccGrammar};
+use std::alloc::{AllocError, Global};
+use vob::Vob;
+
+/// What follows a symbol in a production: the tokens that it begins with, and whether it is nullable.
+#[derive(Drop)]
+pub struct Rest {
+    pub first: Vob,
+    pub nullable: bool,
+}
+
+/// The symbol behind a dot, if there is one.
+pub fn symbol_after<S: IndexStorage>(
+    grm: &YaccGrammar<S>,
+    pidx: PIdx<S>,
+    dot: usize,
+) -> Option<Symbol<S>>
+    requires { S.number pidx.0 < length grm.now.grammar.productions }
+    ensures { MatchOption result ((X : Sym) → IsNext grm.now.grammar (S.number pidx.0) dot X → ⊥) (λ x. IsNext grm.now.grammar (S.number pidx.0) dot (sym_of S.number x)) }
+{
+    let symbols = grm.prod(pidx);
+    if dot >= symbols.len() {
+        return None;
+    }
+    Some(symbols[dot])
+}
+
+/// The rule behind a dot, if there is one.
+pub fn rule_after<S: IndexStorage>(
+    grm: &YaccGrammar<S>,
+    pidx: PIdx<S>,
+    dot: usize,
+) -> Option<RIdx<S>>
+    requires { S.number pidx.0 < length grm.now.grammar.productions }
+    ensures { MatchOption result ((A : ℕ) → IsNext grm.now.grammar (S.number pidx.0) dot (rule A) → ⊥) (λ x. IsNext grm.now.grammar (S.number pidx.0) dot (rule (S.number x.0))) }
+{
+    match symbol_after(grm, pidx, dot) {
+        Some(symbol) => match symbol {
+            Symbol::Rule(ridx) => Some(ridx),
+            Symbol::Token(_) => None,
+        },
+        None => None,
+    }
+}
+
+/// What follows the symbol behind a dot.
+pub fn rest_after<S: IndexStorage>(
+    alloc: Global,
+    grm: &YaccGrammar<S>,
+    firsts: &YaccFirsts<S>,
+    pidx: PIdx<S>,
+    dot: usize,
+) -> Result<Rest, AllocError>
+    requires production { S.number pidx.0 < length grm.now.grammar.productions }
+    requires dot { dot < length (body_of grm.now.grammar (S.number pidx.0)) }
+    requires firsts { AreFirsts grm.now.grammar firsts.now }
+    ensures { IfOk result (λ r. IsRest grm.now.grammar (S.number pidx.0) dot r.first.bits r.nullable) }
+{
+    grm.start_prod();
+    let symbols = grm.prod(pidx);
+    let mut first = Vob::from_elem(alloc, false, grm.tokens_len().0.to_usize())?;
+    let nullable = firsts.first_of(&symbols[dot + 1..], &mut first);
+    Ok(Rest { first, nullable })
+}

@@ -1,0 +1,267 @@
+//! The states of a building, and the placing of a set among them.
+
+ghost use Rattle.std.specs.Prelude.{◌≡◌, ◌<◌, ◌↔◌, ℕ, Bool, true, false, [], length, map, get_or, slice_set, ◌≤◌, IsTrue, OnOk, IsErrOf, MatchOption};
+ghost use Rattle.std.specs.List.{Contains, AllPairs};
+ghost use Rattle.cfg_theory.specs.Grammar.{Sym};
+ghost use Rattle.cfgrammar.specs.Symbols.{sym_of};
+ghost use Rattle.lr_theory.specs.Building.{same_symbol};
+ghost use Rattle.lrtable.specs.Meeting.{AreAlike, RowsFit, rows_in};
+ghost use Rattle.lrtable.specs.ItemRows.{Item, Core, join_rows, CoversRows, LacksRows, IsCoreOf};
+ghost use Rattle.lrtable.specs.States.{IsPut, IsLinked, IsPlaced, JoinsAt, JoinsNone, AreStates, ListsCore, IsApartFrom, AreBuckets, KeepsItems, AddsItems, first_production, grown_at, state_at};
+ghost use Rattle.lrtable.specs.declared.states.BuildError.TheVariants as faults;
+ghost use Rattle.lrtable.specs.StateViews.{item_of, items_of, core_of_set, edge_of_pair, edges_of, value_of};
+
+use crate::cores::{CoreSet, same_items};
+use crate::meeting::weakly_compatible;
+use cfg_base::index::IndexStorage;
+use cfg_base::symbol::Symbol;
+use std::alloc::{AllocError, AllocFailed, Global};
+use vob::Vob;
+
+/// An edge on a symbol.
+#[derive(Clone, Copy)]
+pub struct EdgeTo<S> {
+    pub symbol: Symbol<S>,
+    pub target: usize,
+}
+
+/// A state of a building, and whether it is new or has grown since it was taken last.
+#[derive(Drop)]
+pub struct State<S> {
+    pub core: CoreSet<S>,
+    pub edges: Vec<EdgeTo<S>>,
+    pub todo: bool,
+}
+
+/// Out of memory, or more states than the index type has numbers for.
+#[derive(Clone, Copy, Debug, PartialEq, Eq)]
+pub enum BuildError {
+    Memory,
+    TooManyStates,
+}
+
+impl From<AllocError> for BuildError {
+    ghost from_gives = { λ _ e. e ≡ faults.Memory };
+
+    fn from(_e: AllocError) -> BuildError {
+        BuildError::Memory
+    }
+}
+
+impl<T: Drop> From<AllocFailed<T>> for BuildError {
+    ghost from_gives = { λ _ e. e ≡ faults.Memory };
+
+    fn from(_e: AllocFailed<T>) -> BuildError {
+        BuildError::Memory
+    }
+}
+
+/// Adds lookaheads to those of the same items, and says whether some weren't there.
+fn join_looks(looks: &mut Vec<Vob>, new: &[Vob]) -> bool
+    requires { AreAlike (rows_in looks.old.items) (rows_in new.now) }
+    ensures rows { rows_in looks.new.items ≡ join_rows (rows_in looks.old.items) (rows_in new.now) }
+    ensures covered { result ≡ false → CoversRows (rows_in looks.old.items) (rows_in new.now) }
+    ensures still { result ≡ false → rows_in looks.new.items ≡ rows_in looks.old.items }
+    ensures lacked { result ≡ true → LacksRows (rows_in looks.old.items) (rows_in new.now) }
+{
+    let mut grew = false;
+    'each: for i in 0..new.len() {
+        let row = &mut looks[i];
+        grew |= row.or(&new[i]);
+    }
+    grew
+}
+
+fn same_symbols<S: IndexStorage>(a: Symbol<S>, b: Symbol<S>) -> bool
+    ensures { result ≡ same_symbol (sym_of S.number a) (sym_of S.number b) }
+{
+    match (a, b) {
+        (Symbol::Rule(a), Symbol::Rule(b)) => a.0.to_usize() == b.0.to_usize(),
+        (Symbol::Token(a), Symbol::Token(b)) => a.0.to_usize() == b.0.to_usize(),
+        _ => false,
+    }
+}
+
+/// Puts an edge in the place of that on its symbol, or with the others.
+fn put_edge<S: IndexStorage>(edges: &mut Vec<EdgeTo<S>>, edge: EdgeTo<S>) -> Result<(), AllocError>
+    ensures { OnOk result (IsPut (edges_of S.number edges.old.items) (sym_of S.number edge.symbol) edge.target (edges_of S.number edges.new.items)) }
+{
+    'each: for i in 0..edges.len() {
+        if same_symbols(edges[i].symbol, edge.symbol) {
+            edges[i] = edge;
+            return Ok(());
+        }
+    }
+    edges.push(edge)?;
+    Ok(())
+}
+
+/// Tells whether a set joins a state.
+fn joins<S: IndexStorage>(state: &State<S>, set: &CoreSet<S>) -> bool
+    requires state { (tokens : ℕ) × IsCoreOf tokens (core_of_set S.number state.now.core) × IsCoreOf tokens (core_of_set S.number set.now) }
+    ensures fits { result ≡ true → (items_of S.number state.now.core.items.items ≡ items_of S.number set.now.items.items) × RowsFit (rows_in state.now.core.looks.items) (rows_in set.now.looks.items) }
+    ensures apart { result ≡ false → IsApartFrom (core_of_set S.number state.now.core) (core_of_set S.number set.now) }
+{
+    if !same_items(state.core.items.as_slice(), set.items.as_slice()) {
+        return false;
+    }
+    weakly_compatible(state.core.looks.as_slice(), set.looks.as_slice())
+}
+
+/// The first of the states that a set joins; `bucket` lists, ascending, those that may have its core.
+fn first_joined<S: IndexStorage>(
+    states: &[State<S>],
+    bucket: &[usize],
+    set: &CoreSet<S>,
+) -> Option<usize>
+    requires states { (tokens : ℕ) × AreStates tokens (map (value_of S.number) states.now) × IsCoreOf tokens (core_of_set S.number set.now) }
+    requires bucket { ListsCore (map (value_of S.number) states.now) (items_of S.number set.now.items.items) bucket.now }
+    ensures { MatchOption result (JoinsNone (map (value_of S.number) states.now) (core_of_set S.number set.now)) (λ k. JoinsAt (map (value_of S.number) states.now) k (core_of_set S.number set.now)) }
+{
+    'each: for i in 0..bucket.len() {
+        let number = bucket[i];
+        if joins(&states[number], set) {
+            return Some(number);
+        }
+    }
+    None
+}
+
+/// Adds the lookaheads of a set to those of a state of its core, which is to be taken again if some weren't there, and
+/// says whether that was so.
+fn grow<S: IndexStorage>(states: &mut Vec<State<S>>, number: usize, set: &CoreSet<S>) -> bool
+    requires within { number < length states.old.items }
+    requires alike { AreAlike (state_at (map (value_of S.number) states.old.items) number).core.rows (rows_in set.now.looks.items) }
+    ensures covered { result ≡ false → CoversRows (state_at (map (value_of S.number) states.old.items) number).core.rows (rows_in set.now.looks.items) }
+    ensures kept { result ≡ false → map (value_of S.number) states.new.items ≡ map (value_of S.number) states.old.items }
+    ensures lacked { result ≡ true → LacksRows (state_at (map (value_of S.number) states.old.items) number).core.rows (rows_in set.now.looks.items) }
+    ensures grown { result ≡ true → map (value_of S.number) states.new.items ≡ grown_at (map (value_of S.number) states.old.items) number (rows_in set.now.looks.items) }
+{
+    let state = &mut states[number];
+    if join_looks(&mut state.core.looks, set.looks.as_slice()) {
+        state.todo = true;
+        return true;
+    }
+    false
+}
+
+/// Puts an edge to the state `target` with those of the state `number`.
+fn link<S: IndexStorage>(
+    states: &mut Vec<State<S>>,
+    number: usize,
+    symbol: Symbol<S>,
+    target: usize,
+) -> Result<(), AllocError>
+    requires { number < length states.old.items }
+    ensures { OnOk result (IsLinked (map (value_of S.number) states.old.items) number (sym_of S.number symbol) target (map (value_of S.number) states.new.items)) }
+{
+    let state = &mut states[number];
+    put_edge(&mut state.edges, EdgeTo { symbol, target })?;
+    Ok(())
+}
+
+/// Joins a set, made from the state `from` by a symbol, to the state `number`.
+fn join<S: IndexStorage>(
+    states: &mut Vec<State<S>>,
+    from: usize,
+    symbol: Symbol<S>,
+    number: usize,
+    set: &CoreSet<S>,
+) -> Result<(), AllocError>
+    requires from { from < length states.old.items }
+    requires states { (tokens : ℕ) × AreStates tokens (map (value_of S.number) states.old.items) × IsCoreOf tokens (core_of_set S.number set.now) }
+    requires joins { JoinsAt (map (value_of S.number) states.old.items) number (core_of_set S.number set.now) }
+    ensures placed { OnOk result (IsPlaced (map (value_of S.number) states.old.items) from (sym_of S.number symbol) (core_of_set S.number set.now) (map (value_of S.number) states.new.items)) }
+    ensures kept { OnOk result (KeepsItems (map (value_of S.number) states.old.items) (map (value_of S.number) states.new.items)) }
+{
+    grow(states, number, set);
+    link(states, from, symbol, number)?;
+    Ok(())
+}
+
+/// Makes a set, made from the state `from` by a symbol, a state.
+fn add<S: IndexStorage>(
+    alloc: Global,
+    states: &mut Vec<State<S>>,
+    from: usize,
+    symbol: Symbol<S>,
+    set: CoreSet<S>,
+) -> Result<(), AllocError>
+    requires from { from < length states.old.items }
+    requires states { (tokens : ℕ) × AreStates tokens (map (value_of S.number) states.old.items) × IsCoreOf tokens (core_of_set S.number set) }
+    requires joins { JoinsNone (map (value_of S.number) states.old.items) (core_of_set S.number set) }
+    ensures placed { OnOk result (IsPlaced (map (value_of S.number) states.old.items) from (sym_of S.number symbol) (core_of_set S.number set) (map (value_of S.number) states.new.items)) }
+    ensures added { OnOk result (AddsItems (map (value_of S.number) states.old.items) (items_of S.number set.items.items) (map (value_of S.number) states.new.items)) }
+{
+    let number = states.len();
+    states.push(State {
+        core: set,
+        edges: Vec::new(alloc),
+        todo: true,
+    })?;
+    link(states, from, symbol, number)?;
+    Ok(())
+}
+
+/// Makes a set, made from the state `from` by a symbol, a state, and puts it last in the list of its first production.
+fn add_listed<S: IndexStorage>(
+    alloc: Global,
+    states: &mut Vec<State<S>>,
+    begins: &mut Vec<Vec<usize>>,
+    first: usize,
+    from: usize,
+    symbol: Symbol<S>,
+    set: CoreSet<S>,
+) -> Result<(), BuildError>
+    requires from { from < length states.old.items }
+    requires states { (tokens : ℕ) × AreStates tokens (map (value_of S.number) states.old.items) × IsCoreOf tokens (core_of_set S.number set) }
+    requires joins { JoinsNone (map (value_of S.number) states.old.items) (core_of_set S.number set) }
+    requires buckets { AreBuckets (map (value_of S.number) states.old.items) (map (λ l. l.items) begins.old.items) }
+    requires first { first ≡ first_production (items_of S.number set.items.items) }
+    requires listed { first < length begins.old.items }
+    ensures placed { OnOk result (IsPlaced (map (value_of S.number) states.old.items) from (sym_of S.number symbol) (core_of_set S.number set) (map (value_of S.number) states.new.items)) }
+    ensures buckets { OnOk result (AreBuckets (map (value_of S.number) states.new.items) (map (λ l. l.items) begins.new.items)) }
+    ensures lists { OnOk result (length begins.new.items ≡ length begins.old.items) }
+    ensures few { OnOk result (length states.new.items ≤ S.MAX) }
+    ensures full { IsErrOf result faults.TooManyStates → S.MAX ≤ length states.old.items }
+{
+    let number = states.len();
+    if number >= S::MAX {
+        return Err(BuildError::TooManyStates);
+    }
+    add(alloc, states, from, symbol, set)?;
+    let list = &mut begins[first];
+    list.push(number)?;
+    Ok(())
+}
+
+/// Puts a set, made from the state `from` by a symbol, among the states: it joins the first that it may, or becomes one.
+pub fn place<S: IndexStorage>(
+    alloc: Global,
+    states: &mut Vec<State<S>>,
+    begins: &mut Vec<Vec<usize>>,
+    from: usize,
+    symbol: Symbol<S>,
+    set: CoreSet<S>,
+) -> Result<(), BuildError>
+    requires from { from < length states.old.items }
+    requires states { (tokens : ℕ) × AreStates tokens (map (value_of S.number) states.old.items) × IsCoreOf tokens (core_of_set S.number set) }
+    requires buckets { AreBuckets (map (value_of S.number) states.old.items) (map (λ l. l.items) begins.old.items) }
+    requires some { 0 < length set.items.items }
+    requires few { length states.old.items ≤ S.MAX }
+    requires listed { first_production (items_of S.number set.items.items) < length begins.old.items }
+    ensures placed { OnOk result (IsPlaced (map (value_of S.number) states.old.items) from (sym_of S.number symbol) (core_of_set S.number set) (map (value_of S.number) states.new.items)) }
+    ensures buckets { OnOk result (AreBuckets (map (value_of S.number) states.new.items) (map (λ l. l.items) begins.new.items)) }
+    ensures lists { OnOk result (length begins.new.items ≡ length begins.old.items) }
+    ensures few { OnOk result (length states.new.items ≤ S.MAX) }
+    ensures full { IsErrOf result faults.TooManyStates → JoinsNone (map (value_of S.number) states.old.items) (core_of_set S.number set) × (S.MAX ≤ length states.old.items) }
+{
+    let first = set.items[0].pidx.0.to_usize();
+    match first_joined(states.as_slice(), begins[first].as_slice(), &set) {
+        Some(number) => {
+            join(states, from, symbol, number, &set)?;
+            Ok(())
+        }
+        None => add_listed(alloc, states, begins, first, from, symbol, set),
+    }
+}

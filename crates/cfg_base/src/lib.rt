@@ -16,5 +16,6 @@ pub mod index;
 pub mod markmap;
 pub mod newlinecache;
 pub mod span;
+pub mod steps;
 pub mod symbol;
 pub mod text;

@@ -53,7 +53,7 @@ fn push_repeat(
 }
 
 /// Makes an error for each key that stands more than once, in order of their first spans.
-pub fn repeats(alloc: Global, pairs: &[Pair]) -> Result<Vec<HeaderError<Span>>, AllocError>
+pub(crate) fn repeats(alloc: Global, pairs: &[Pair]) -> Result<Vec<HeaderError<Span>>, AllocError>
     ensures { IfOk result (λ errors. map error_text errors.items ≡ map repeat_text (repeats_of (map pair_text pairs.now))) }
 {
     let mut spans = spans_by_key(alloc, pairs)?;

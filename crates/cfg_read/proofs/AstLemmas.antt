@@ -1,4 +1,4 @@
--- A map from names to places, with one more name.
+-- A map from names to indices, with one more name.
 use Rattle.std.proofs.lemmas.List.{append-nil, append_assoc}
 use Rattle.std.proofs.lemmas.List.Sums.{fold-append}
 use Rattle.cfg_read.specs.Asts.{level_precedences, precedences_at, precedences_of, with_precedence_of}

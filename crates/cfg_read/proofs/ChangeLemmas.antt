@@ -72,7 +72,7 @@ pub on_err : {A E : Type 0} (r : Result A E) (P : Type 0) → P → OnErr r P
 on_err (Ok x) P p = tt
 on_err (Err e) P p = p
 
--- the values of a map from names to places
+-- the values of a map from names to indices
 pub places_are : (es : List (String Global × SpanModel)) → values_of es ≡ map (λ (w : WordText). w.span) (map named_span es)
 places_are [] = refl
 places_are (e ∷ es) = ap (λ (l : List SpanModel). e.1 ∷ l) (places_are es)

@@ -1,4 +1,4 @@
--- The places of each name, one word after another.
+-- The spans of each name, one word after another.
 use Rattle.std.proofs.Common.{◌≡◌, ℕ, zero, suc, ◌+◌, ◌<◌, ◌≤◌, Bool, true, false, not, ◌||◌, List, [], ◌∷◌, ◌++◌, map, filter, fold, length, get_or, set, if◌then◌else◌, cond, refl, sym, ap, ◌∙◌, arith, Bor, Vec, true≢false}
 use Rattle.std.specs.declared.alloc.Global.{Global}
 use Rattle.std.specs.List.{position_or_len}
@@ -55,8 +55,8 @@ pub Apart-distinct : (ws : List WordText) → Apart (distinct ws)
 Apart-distinct ws = Apart-all [] ws none
 
 -- where a name stands
-abbrev places : List WordText → WordText → List SpanModel
-places ws v = word_spans (filter (is_named v.text) ws)
+abbrev spans_named : List WordText → WordText → List SpanModel
+spans_named ws v = word_spans (filter (is_named v.text) ws)
 
 filter_push : (p : WordText → Bool) (ws : List WordText) (w : WordText) → filter p (ws ++ w ∷ []) ≡ filter p ws ++ (if p w then w ∷ [] else [])
 filter_push p [] w = refl
@@ -71,44 +71,44 @@ append-nil : {A : Type 0} (xs : List A) → xs ++ [] ≡ xs
 append-nil [] = refl
 append-nil (x ∷ xs) = ap (λ l. x ∷ l) (append-nil xs)
 
-places_same : (ws : List WordText) (v w : WordText) → bytes_eq v.text w.text ≡ true → places (ws ++ w ∷ []) v ≡ places ws v ++ w.span ∷ []
-places_same ws v w h =
+spans_named_same : (ws : List WordText) (v w : WordText) → bytes_eq v.text w.text ≡ true → spans_named (ws ++ w ∷ []) v ≡ spans_named ws v ++ w.span ∷ []
+spans_named_same ws v w h =
     ap word_spans (filter_push (is_named v.text) ws w ∙ ap (λ (b : Bool). filter (is_named v.text) ws ++ (if b then w ∷ [] else [])) h)
     ∙ map-append (λ (u : WordText). u.span) (filter (is_named v.text) ws) (w ∷ [])
 
-places_other : (ws : List WordText) (v w : WordText) → bytes_eq v.text w.text ≡ false → places (ws ++ w ∷ []) v ≡ places ws v
-places_other ws v w h =
+spans_named_other : (ws : List WordText) (v w : WordText) → bytes_eq v.text w.text ≡ false → spans_named (ws ++ w ∷ []) v ≡ spans_named ws v
+spans_named_other ws v w h =
     ap word_spans (filter_push (is_named v.text) ws w ∙ ap (λ (b : Bool). filter (is_named v.text) ws ++ (if b then w ∷ [] else [])) h ∙ append-nil (filter (is_named v.text) ws))
 
 -- those of other names stay
-others_stay : (ws vs : List WordText) (w : WordText) → is_among vs w.text ≡ false → map (places (ws ++ w ∷ [])) vs ≡ map (places ws) vs
+others_stay : (ws vs : List WordText) (w : WordText) → is_among vs w.text ≡ false → map (spans_named (ws ++ w ∷ [])) vs ≡ map (spans_named ws) vs
 others_stay ws [] w h = refl
 others_stay ws (v ∷ vs) w h =
-    let here = places_other ws v w (bytes_sym w.text v.text (or_left (bytes_eq w.text v.text) (is_among vs w.text) h)) in
+    let here = spans_named_other ws v w (bytes_sym w.text v.text (or_left (bytes_eq w.text v.text) (is_among vs w.text) h)) in
     let there = others_stay ws vs w (or_right (bytes_eq w.text v.text) (is_among vs w.text) h) in
-    ap (λ l. l ∷ map (places (ws ++ w ∷ [])) vs) here ∙ ap (λ l. places ws v ∷ l) there
+    ap (λ l. l ∷ map (spans_named (ws ++ w ∷ [])) vs) here ∙ ap (λ l. spans_named ws v ∷ l) there
 
 -- a name that stands there
-known_step : (ws vs : List WordText) (w : WordText) → Apart vs → is_among vs w.text ≡ true → map (places (ws ++ w ∷ [])) vs ≡ with_span (map (places ws) vs) (position_or_len (bytes_eq w.text) (texts vs)) w.span
+known_step : (ws vs : List WordText) (w : WordText) → Apart vs → is_among vs w.text ≡ true → map (spans_named (ws ++ w ∷ [])) vs ≡ with_span (map (spans_named ws) vs) (position_or_len (bytes_eq w.text) (texts vs)) w.span
 known_step ws [] w none h = absurd (true≢false (sym h))
 known_step ws (v ∷ vs) w (more apart rest) h = by (bytes_eq w.text v.text) refl (λ e. known_step ws vs w rest e)
   where
     by : (b : Bool) → bytes_eq w.text v.text ≡ b
-        → (is_among vs w.text ≡ true → map (places (ws ++ w ∷ [])) vs ≡ with_span (map (places ws) vs) (position_or_len (bytes_eq w.text) (texts vs)) w.span)
-        → map (places (ws ++ w ∷ [])) (v ∷ vs) ≡ with_span (map (places ws) (v ∷ vs)) (cond (not b) (1 + position_or_len (bytes_eq w.text) (texts vs)) 0) w.span
+        → (is_among vs w.text ≡ true → map (spans_named (ws ++ w ∷ [])) vs ≡ with_span (map (spans_named ws) vs) (position_or_len (bytes_eq w.text) (texts vs)) w.span)
+        → map (spans_named (ws ++ w ∷ [])) (v ∷ vs) ≡ with_span (map (spans_named ws) (v ∷ vs)) (cond (not b) (1 + position_or_len (bytes_eq w.text) (texts vs)) 0) w.span
     by true e further =
         let same : w.text ≡ v.text = (bytes_eq-Decides w.text v.text).0 e in
-        let here : places (ws ++ w ∷ []) v ≡ places ws v ++ w.span ∷ [] = places_same ws v w ((bytes_eq-Decides v.text w.text).1 (sym same)) in
+        let here : spans_named (ws ++ w ∷ []) v ≡ spans_named ws v ++ w.span ∷ [] = spans_named_same ws v w ((bytes_eq-Decides v.text w.text).1 (sym same)) in
         let gone : is_among vs w.text ≡ false = ap (λ (t : List ℕ). is_among vs t) same ∙ apart in
         let there = others_stay ws vs w gone in
-        ap (λ l. l ∷ map (places (ws ++ w ∷ [])) vs) here ∙ ap (λ l. (places ws v ++ w.span ∷ []) ∷ l) there
+        ap (λ l. l ∷ map (spans_named (ws ++ w ∷ [])) vs) here ∙ ap (λ l. (spans_named ws v ++ w.span ∷ []) ∷ l) there
     by false e further =
-        let here = places_other ws v w (bytes_sym w.text v.text e) in
+        let here = spans_named_other ws v w (bytes_sym w.text v.text e) in
         let next : suc (position_or_len (bytes_eq w.text) (texts vs)) ≡ 1 + position_or_len (bytes_eq w.text) (texts vs) = omega arith in
         let still : is_among vs w.text ≡ true = ap (λ (b : Bool). b || is_among vs w.text) (sym e) ∙ h in
         let there = further still in
-        ap (λ l. l ∷ map (places (ws ++ w ∷ [])) vs) here ∙ ap (λ l. places ws v ∷ l) there
-        ∙ ap (λ (n : ℕ). with_span (map (places ws) (v ∷ vs)) n w.span) next
+        ap (λ l. l ∷ map (spans_named (ws ++ w ∷ [])) vs) here ∙ ap (λ l. spans_named ws v ∷ l) there
+        ∙ ap (λ (n : ℕ). with_span (map (spans_named ws) (v ∷ vs)) n w.span) next
 
 nothing_there : (ws : List WordText) (q : List ℕ) → is_among ws q ≡ false → filter (is_named q) ws ≡ []
 nothing_there [] q h = refl
@@ -132,17 +132,17 @@ length_map f [] = refl
 length_map f (x ∷ xs) = ap suc (length_map f xs)
 
 -- a new name
-new_step : (ws vs : List WordText) (w : WordText) → is_among vs w.text ≡ false → is_among ws w.text ≡ false → map (places (ws ++ w ∷ [])) (vs ++ w ∷ []) ≡ with_span (map (places ws) vs) (position_or_len (bytes_eq w.text) (texts vs)) w.span
+new_step : (ws vs : List WordText) (w : WordText) → is_among vs w.text ≡ false → is_among ws w.text ≡ false → map (spans_named (ws ++ w ∷ [])) (vs ++ w ∷ []) ≡ with_span (map (spans_named ws) vs) (position_or_len (bytes_eq w.text) (texts vs)) w.span
 new_step ws vs w h there =
-    map-append (places (ws ++ w ∷ [])) vs (w ∷ [])
-    ∙ ap (λ l. l ++ places (ws ++ w ∷ []) w ∷ []) (others_stay ws vs w h)
-    ∙ ap (λ l. map (places ws) vs ++ l ∷ []) (places_same ws w w ((bytes_eq-Decides w.text w.text).1 refl) ∙ ap (λ l. word_spans l ++ w.span ∷ []) (nothing_there ws w.text there))
-    ∙ sym (with_place_end (map (places ws) vs) (position_or_len (bytes_eq w.text) (texts vs)) w.span (past_all vs w.text h ∙ sym (length_map (places ws) vs)))
+    map-append (spans_named (ws ++ w ∷ [])) vs (w ∷ [])
+    ∙ ap (λ l. l ++ spans_named (ws ++ w ∷ []) w ∷ []) (others_stay ws vs w h)
+    ∙ ap (λ l. map (spans_named ws) vs ++ l ∷ []) (spans_named_same ws w w ((bytes_eq-Decides w.text w.text).1 refl) ∙ ap (λ l. word_spans l ++ w.span ∷ []) (nothing_there ws w.text there))
+    ∙ sym (with_place_end (map (spans_named ws) vs) (position_or_len (bytes_eq w.text) (texts vs)) w.span (past_all vs w.text h ∙ sym (length_map (spans_named ws) vs)))
 
 pub groups_step : (ws : List WordText) (w : WordText) → groups_of (ws ++ w ∷ []) ≡ with_span (groups_of ws) (position_or_len (bytes_eq w.text) (texts (distinct ws))) w.span
-groups_step ws w = ap (map (places (ws ++ w ∷ []))) (fold_push with_distinct [] ws w) ∙ by (is_among (distinct ws) w.text) refl
+groups_step ws w = ap (map (spans_named (ws ++ w ∷ []))) (fold_push with_distinct [] ws w) ∙ by (is_among (distinct ws) w.text) refl
   where
-    by : (b : Bool) → is_among (distinct ws) w.text ≡ b → map (places (ws ++ w ∷ [])) (if b then distinct ws else distinct ws ++ w ∷ []) ≡ with_span (groups_of ws) (position_or_len (bytes_eq w.text) (texts (distinct ws))) w.span
+    by : (b : Bool) → is_among (distinct ws) w.text ≡ b → map (spans_named (ws ++ w ∷ [])) (if b then distinct ws else distinct ws ++ w ∷ []) ≡ with_span (groups_of ws) (position_or_len (bytes_eq w.text) (texts (distinct ws))) w.span
     by true e = known_step ws (distinct ws) w (Apart-distinct ws) e
     by false e = new_step ws (distinct ws) w e (sym (among_distinct ws w.text) ∙ e)
 
@@ -154,19 +154,19 @@ number_at keys vs q same = by keys ∙ ap (position_or_len (bytes_eq q)) same
     by [] = refl
     by (k ∷ ks) = ap (λ n. cond (not (bytes_eq q k.now)) (1 + n) 0) (by ks)
 
--- as many lists of places as names
+-- as many lists of spans as names
 pub groups_counted : (keys : List (Bor (List ℕ))) (gs : List (Vec SpanModel Global)) (ws : List WordText) → map (λ (k : Bor (List ℕ)). k.now) keys ≡ texts (distinct ws) → span_lists gs ≡ groups_of ws → length keys ≡ length gs
 groups_counted keys gs ws names groups =
     sym (length_map (λ (k : Bor (List ℕ)). k.now) keys) ∙ ap length names ∙ length_map (λ (w : WordText). w.text) (distinct ws)
-    ∙ sym (length_map (places ws) (distinct ws)) ∙ sym (ap length groups) ∙ length_map (λ (g : Vec SpanModel Global). g.items) gs
+    ∙ sym (length_map (spans_named ws) (distinct ws)) ∙ sym (ap length groups) ∙ length_map (λ (g : Vec SpanModel Global). g.items) gs
 
--- a place in a list that is there
+-- an index in a list that is there
 pub with_span_set : (gs : List (Vec SpanModel Global)) (n : ℕ) (d g : Vec SpanModel Global) (at : SpanModel) → n < length gs → g.items ≡ (get_or gs n d).items ++ at ∷ [] → span_lists (set gs n g) ≡ with_span (span_lists gs) n at
 with_span_set [] n d g at within h = absurd (omega arith)
 with_span_set (f ∷ gs) zero d g at within h = ap (λ l. l ∷ span_lists gs) h
 with_span_set (f ∷ gs) (suc n) d g at within h = ap (λ l. f.items ∷ l) (with_span_set gs n d g at (omega arith) h)
 
--- a place in a new list
+-- an index in a new list
 pub with_span_push : (gs : List (Vec SpanModel Global)) (n : ℕ) (g : Vec SpanModel Global) (at : SpanModel) → n ≡ length gs → g.items ≡ at ∷ [] → span_lists (gs ++ g ∷ []) ≡ with_span (span_lists gs) n at
 with_span_push gs n g at e h =
     map-append (λ (f : Vec SpanModel Global). f.items) gs (g ∷ []) ∙ ap (λ l. span_lists gs ++ l ∷ []) h

@@ -49,7 +49,7 @@ flipped : (a : Bool) → not a ≡ true → a ≡ false
 flipped true e = sym e
 flipped false e = refl
 
--- a name of a list and its place
+-- a name of a list and its index
 pub at_gives : (names : List (List ℕ)) (i : ℕ) (q : List ℕ) → slice_get names i ≡ Some q → has names q ≡ true
 at_gives names i q e = gives_any (bytes_eq q) names q (member_at names i q e) (text_same q q refl)
 
@@ -69,7 +69,7 @@ item_there keys items i d same l =
 some_same : (a b : List ℕ) → Some a ≡ Some b → a ≡ b
 some_same a b e = cc
 
--- the place of a name stays where names go behind
+-- the index of a name stays where names go behind
 stays : (names more all : List (List ℕ)) (i : ℕ) → all ≡ names ++ more → i < length names → slice_get all i ≡ slice_get names i
 stays names more all i e l =
     let longer : i < length (names ++ more) = omega (arith, length-append names more) in

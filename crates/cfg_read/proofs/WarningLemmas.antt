@@ -68,7 +68,7 @@ module _ (wanted : SymbolAst → Bool) where
       ∙ ap (λ b. b || list_any (names_it q) ss) (has_symbol names s q)
       ∙ or_assoc (has names q) (names_it q s) (list_any (names_it q) ss)
 
-  -- the names that were there stay in their places
+  -- the names that were there stay at their indices
   kept_symbol : (names : List (List ℕ)) (s : SymbolAst) → (more : List (List ℕ)) × (with_symbol_name wanted names s ≡ names ++ more)
   kept_symbol names s = by (wanted s) (has names s.word.text)
     where

@@ -37,11 +37,11 @@ among_contains (w ∷ ws) q h = by (bytes_eq q w.text) refl h (among_contains ws
     by true e r rest = subst (λ m. Contains (m ∷ texts ws) q) ((bytes_eq-Decides q w.text).0 e) (Contains-head q (texts ws))
     by false e r rest = Contains-cons w.text (texts ws) q (rest r)
 
--- and stands at some place
+-- and stands at some index
 pub index_of_name : {X : Type 0} (xs : List X) (x : X) → Contains xs x → (k : ℕ) × (slice_get xs k ≡ Some x)
 index_of_name xs x h = (h.0, slice_get_read xs (length xs) h.0 x refl h.1 (sym h.2))
 
--- What stands at a place is among them.
+-- What stands at an index is among them.
 pub at_among : (ws : List WordText) (k : ℕ) (q : List ℕ) → slice_get (texts ws) k ≡ Some q → is_among ws q ≡ true
 at_among [] k q e = cc
 at_among (w ∷ ws) zero q e =
@@ -49,7 +49,7 @@ at_among (w ∷ ws) zero q e =
     ap (λ b. b || is_among ws q) ((bytes_eq-Decides q w.text).1 same)
 at_among (w ∷ ws) (suc k) q e = or_true (bytes_eq q w.text) (is_among ws q) (at_among ws k q e)
 
--- words that stand apart are at one place each
+-- words that stand apart are at one index each
 twice : (w : WordText) (ws : List WordText) (k : ℕ) (q : List ℕ) → is_among ws w.text ≡ false → Some w.text ≡ Some q → slice_get (texts ws) k ≡ Some q → ⊥
 twice w ws k q apart here there =
     let same : q ≡ w.text = cc in
@@ -93,7 +93,7 @@ known_themselves (v ∷ ws) =
     All-cons (λ (w : WordText). is_among (v ∷ ws) w.text ≡ true) v ws (named_itself v.text (is_among ws v.text))
     (All-weaker (λ (w : WordText). is_among ws w.text ≡ true) (λ (w : WordText). is_among (v ∷ ws) w.text ≡ true) (λ w k. or_true (bytes_eq w.text v.text) (is_among ws w.text) k) ws (known_themselves ws))
 
--- the second of two lists that are put together by place
+-- the second of two lists that are put together by index
 placed_among : (v : WordText) (rest : List WordText → List WordText) (q : List ℕ) → ((ws : List WordText) → is_among ws q ≡ true → is_among (rest ws) q ≡ true)
     → (ws : List WordText) → is_among ws q ≡ true → is_among (put_by_offset v rest ws) q ≡ true
 placed_among v rest q kept [] h = absurd (true≢false (sym h))

@@ -19,7 +19,7 @@ Contains-cases : {X : Type 0} (y : X) (ys : List X) (x : X) (k : ℕ) → k < su
 Contains-cases y ys x zero below at = inl at
 Contains-cases y ys x (suc k) below at = inr (k, omega (arith, below), at)
 
--- the number of each place of a name is listed
+-- the number of each index of a name is listed
 pub number_listed : (name : List ℕ) (n : ℕ) (hs : List (List ℕ)) (k : ℕ) → slice_get hs k ≡ Some name → Contains (numbers_from name n hs) (n + k)
 number_listed name n [] k e = absurd (none_some name e)
 number_listed name n (h ∷ hs) zero e =
@@ -97,7 +97,7 @@ heads_known (r ∷ rs) =
     (All-map (IsHeading (r ∷ rs)) (λ (a : AlternativeText). r.name.text) r.alternatives (λ k d below. named_itself r.name.text (is_among (map (λ (s : RuleText). s.name) rs) r.name.text)))
     (All-weaker (IsHeading rs) (IsHeading (r ∷ rs)) (λ h k. or_true (bytes_eq h r.name.text) (is_among (map (λ (s : RuleText). s.name) rs) h) k) (flat_map heads_in rs) (heads_known rs))
 
--- what stands at a place of a mapped list
+-- what stands at an index of a mapped list
 map_at : {X Y : Type 0} (f : X → Y) (xs : List X) (k : ℕ) (y : Y) → slice_get (map f xs) k ≡ Some y → (x : X) × (slice_get xs k ≡ Some x) × (f x ≡ y)
 map_at f [] k y e = absurd (none_some y e)
 map_at f (x ∷ xs) zero y e = (x, refl, cc)
@@ -109,7 +109,7 @@ at_map f xs k x e = slice_get-map f xs k ∙ ap (option_map f) e
 pub all_at : {X : Type 0} (P : X → Type 0) (xs : List X) (k : ℕ) (x : X) → All P xs → slice_get xs k ≡ Some x → P x
 all_at P xs k x h e = subst P (get_or_from_slice_get xs k x x e) (h k x (slice_get_within xs k x e))
 
--- the rule at the place A lists the production p
+-- the rule at the index A lists the production p
 abbrev pub Lists : SyntaxText → ℕ → ℕ → Type 0
 Lists x A p = (r : RuleAst) × (slice_get (map (rule_ast x) (distinct (headings x))) A ≡ Some r) × Contains r.productions p
 

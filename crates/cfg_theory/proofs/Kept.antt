@@ -41,7 +41,7 @@ module _ (P : ℕ → Type 0) where
   rules_drop (rule A ∷ a) (suc d) h = rules_drop a d h.1
   rules_drop (token t ∷ a) (suc d) h = rules_drop a d h
 
-  -- from places to the list
+  -- from indices to the list
   pub rules_at : (a : List Sym) → ((d A : ℕ) → slice_get a d ≡ Some (rule A) → P A) → RulesIn P a
   rules_at [] h = tt
   rules_at (rule A ∷ a) h = (h 0 A refl, rules_at a (λ d B e. h (suc d) B e))

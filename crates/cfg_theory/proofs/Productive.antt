@@ -62,7 +62,7 @@ module _ (G : Grammar) (P : ℕ → Type 0) where
 pub productive_tables_exact : ProductiveTablesAreExact
 productive_tables_exact = record { exact = λ G productive h. productive_exact G _ h }
 
--- the rules of a list that stand at its places
+-- the rules of a list that stand at its indices
 rules_at : (P : ℕ → Type 0) (a : List Sym) → ((d A : ℕ) → slice_get a d ≡ Some (rule A) → P A) → RulesIn P a
 rules_at P [] h = tt
 rules_at P (rule A ∷ a) h = (h zero A refl, rules_at P a (λ d. h (suc d)))

@@ -35,7 +35,7 @@ of_each P a b c d e (suc (suc (suc zero))) A o = subst (P 3) o.head d
 of_each P a b c d e (suc (suc (suc (suc zero)))) A o = subst (P 4) o.head e
 of_each P a b c d e (suc (suc (suc (suc (suc p))))) A o = let lt : suc (suc (suc (suc (suc p)))) < 5 = o.in_range in absurd (omega arith)
 
--- the symbols with their places
+-- the symbols with their dots
 pub next_each : (P : ℕ → ℕ → Sym → Type 0) → P 0 0 (token 0) → P 0 1 (rule 1) → P 1 0 (rule 2) → P 2 0 (token 1) → P 4 0 (rule 1) → (p d : ℕ) (X : Sym) → IsNext example p d X → P p d X
 unfolding body_of
 next_each P a b c d e zero zero X n = subst (P 0 0) (some_same (token 0) X n.at) a

@@ -9,7 +9,7 @@ use Rattle.lr_theory.specs.Building.{Building, Joins, Place, Handled, StaysOut, 
 use Rattle.lr_theory.specs.SmallGrammars.{nested, StateGrows}
 use Rattle.lr_theory.proofs.Literal.{some_same, none_some, each_item, each_look, each_set, own_closure, is_closure, goto_set, goto_is, none_moves, no_first, first_of_token, not_nullable, entry_here, stays_out, idle_before, none_left, unpruned}
 
--- the productions with their rules, and the symbols with their places
+-- the productions with their rules, and the symbols with their dots
 of_each : (P : ℕ → ℕ → Type 0) → P 0 1 → P 1 1 → P 2 0 → (p A : ℕ) → IsOf nested p A → P p A
 unfolding head_of
 of_each P x y z zero A o = subst (P 0) o.head x

@@ -9,7 +9,7 @@ use Rattle.lr_theory.specs.Building.{Building, Place, Handled, symbols, with_edg
 use Rattle.lr_theory.specs.SmallGrammars.{single, before_end, single_graph}
 use Rattle.lr_theory.proofs.Literal.{some_same, none_some, each_item, each_look, own_closure, is_closure, goto_set, goto_is, none_moves, no_first, entry_here, stays_out, idle_before, none_left, unpruned}
 
--- the productions with their rules, and the symbols with their places
+-- the productions with their rules, and the symbols with their dots
 pub of_each : (P : ℕ → ℕ → Type 0) → P 0 1 → P 1 0 → (p A : ℕ) → IsOf single p A → P p A
 unfolding head_of
 of_each P x y zero A o = subst (P 0) o.head x

@@ -111,7 +111,7 @@ fn count_indices<T: Block>(blocks: &[T], value: bool, from: usize, to: usize) ->
 }
 
 /// Makes a block in which a bit is set where it has the value here.
-pub fn matching<T: Block>(block: T, value: bool) -> T
+pub(crate) fn matching<T: Block>(block: T, value: bool) -> T
     ensures { T.bits result ≡ (if value then T.bits block else map not (T.bits block)) }
 {
     if value { block } else { block.flipped() }

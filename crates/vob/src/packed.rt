@@ -9,7 +9,7 @@ use crate::block::Block;
 use std::alloc::{AllocError, Global};
 
 /// Tells how many blocks `len` items take.
-pub fn blocks_for<T: Block>(len: usize) -> usize
+pub(crate) fn blocks_for<T: Block>(len: usize) -> usize
     ensures { result ≡ blocks_for T.BITS len }
 {
     let whole = len / T::BITS;
@@ -17,7 +17,11 @@ pub fn blocks_for<T: Block>(len: usize) -> usize
 }
 
 /// Copies the blocks of `len` items. Those of no item take no memory.
-pub fn copied<T: Block>(alloc: Global, blocks: &[T], len: usize) -> Result<Vec<T>, AllocError>
+pub(crate) fn copied<T: Block>(
+    alloc: Global,
+    blocks: &[T],
+    len: usize,
+) -> Result<Vec<T>, AllocError>
     requires { Packs T.BITS len (flat_map T.bits blocks.now) }
     ensures items { IfOk result (λ v. v.items ≡ blocks.now) }
     ensures empty { len ≡ 0 → IsOk result }
@@ -28,7 +32,7 @@ pub fn copied<T: Block>(alloc: Global, blocks: &[T], len: usize) -> Result<Vec<T
 }
 
 /// Reads the bit at `index`.
-pub fn bit_at<T: Block>(blocks: &[T], index: usize) -> bool
+pub(crate) fn bit_at<T: Block>(blocks: &[T], index: usize) -> bool
     requires { index < length (flat_map T.bits blocks.now) }
     ensures { result ≡ slice_index_or (flat_map T.bits blocks.now) index false }
 {
@@ -37,7 +41,7 @@ pub fn bit_at<T: Block>(blocks: &[T], index: usize) -> bool
 }
 
 /// Writes the bit at `index`.
-pub fn put_bit<T: Block>(blocks: &mut Vec<T>, index: usize, value: bool)
+pub(crate) fn put_bit<T: Block>(blocks: &mut Vec<T>, index: usize, value: bool)
     requires { index < length (flat_map T.bits blocks.old.items) }
     ensures bits { flat_map T.bits blocks.new.items ≡ slice_set (flat_map T.bits blocks.old.items) index value }
     ensures capacity { vec_capacity blocks.new ≡ vec_capacity blocks.old }
@@ -48,7 +52,7 @@ pub fn put_bit<T: Block>(blocks: &mut Vec<T>, index: usize, value: bool)
 }
 
 /// Gives the bits from the index `len` up to the end of its block one value.
-pub fn fill_above<T: Block>(blocks: &mut Vec<T>, len: usize, value: bool)
+pub(crate) fn fill_above<T: Block>(blocks: &mut Vec<T>, len: usize, value: bool)
     requires { blocks_for T.BITS len * T.BITS ≤ length (flat_map T.bits blocks.old.items) }
     ensures count { length blocks.new.items ≡ length blocks.old.items }
     ensures bits { flat_map T.bits blocks.new.items ≡ take len (flat_map T.bits blocks.old.items) ++ (replicate (blocks_for T.BITS len * T.BITS - len) value ++ drop (blocks_for T.BITS len * T.BITS) (flat_map T.bits blocks.old.items)) }
@@ -64,7 +68,7 @@ pub fn fill_above<T: Block>(blocks: &mut Vec<T>, len: usize, value: bool)
 }
 
 /// Drops the bits from the index `len` on.
-pub fn cut<T: Block>(blocks: &mut Vec<T>, len: usize)
+pub(crate) fn cut<T: Block>(blocks: &mut Vec<T>, len: usize)
     requires { len ≤ length (flat_map T.bits blocks.old.items) }
     ensures bits { flat_map T.bits blocks.new.items ≡ take len (flat_map T.bits blocks.old.items) ++ replicate (blocks_for T.BITS len * T.BITS - len) false }
     ensures capacity { vec_capacity blocks.new ≡ vec_capacity blocks.old }
@@ -74,7 +78,7 @@ pub fn cut<T: Block>(blocks: &mut Vec<T>, len: usize)
 }
 
 /// Adds items that all are `value` up to `new_len`, and unused bits up to the end of a block.
-pub fn widen<T: Block>(
+pub(crate) fn widen<T: Block>(
     blocks: &mut Vec<T>,
     len: usize,
     new_len: usize,
@@ -94,7 +98,7 @@ pub fn widen<T: Block>(
 }
 
 /// Makes room for one more item.
-pub fn cover<T: Block>(blocks: &mut Vec<T>, len: usize) -> Result<(), AllocError>
+pub(crate) fn cover<T: Block>(blocks: &mut Vec<T>, len: usize) -> Result<(), AllocError>
     requires { Packs T.BITS len (flat_map T.bits blocks.old.items) }
     ensures ok { OnOk result (flat_map T.bits blocks.new.items ≡ take len (flat_map T.bits blocks.old.items) ++ replicate (blocks_for T.BITS (len + 1) * T.BITS - len) false) }
     ensures err { OnErr result (blocks.new.items ≡ blocks.old.items) }
@@ -108,7 +112,7 @@ pub fn cover<T: Block>(blocks: &mut Vec<T>, len: usize) -> Result<(), AllocError
 }
 
 /// Clears the unused bits of as many blocks as the length takes.
-pub fn mask<T: Block>(blocks: &mut Vec<T>, len: usize)
+pub(crate) fn mask<T: Block>(blocks: &mut Vec<T>, len: usize)
     requires { length blocks.old.items ≡ blocks_for T.BITS len }
     ensures count { length blocks.new.items ≡ length blocks.old.items }
     ensures bits { flat_map T.bits blocks.new.items ≡ take len (flat_map T.bits blocks.old.items) ++ replicate (blocks_for T.BITS len * T.BITS - len) false }
@@ -117,7 +121,7 @@ pub fn mask<T: Block>(blocks: &mut Vec<T>, len: usize)
 }
 
 /// Tells whether the blocks spell `len` items, with no unused bit set.
-pub fn spells<T: Block>(blocks: &[T], len: usize) -> bool
+pub(crate) fn spells<T: Block>(blocks: &[T], len: usize) -> bool
     ensures { IsTrue result ↔ Spells T.BITS len (length blocks.now) (flat_map T.bits blocks.now) }
 {
     if blocks.len() != blocks_for::<T>(len) {

@@ -147,7 +147,7 @@ fn fill_blocks<T: Block>(blocks: &mut Vec<T>, with: T)
 }
 
 /// Tells whether as many blocks have the same bits.
-pub fn same_blocks<T: Block>(a: &[T], b: &[T]) -> bool
+pub(crate) fn same_blocks<T: Block>(a: &[T], b: &[T]) -> bool
     requires { length a.now ≡ length b.now }
     ensures { IsTrue result ↔ (flat_map T.bits a.now ≡ flat_map T.bits b.now) }
 {

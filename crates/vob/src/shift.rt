@@ -56,7 +56,7 @@ fn fill_last<T: Block>(blocks: &mut Vec<T>, len: usize, block: T)
 }
 
 /// Adds the items of other blocks behind the items of these, where there is room for them.
-pub fn join<T: Block>(blocks: &mut Vec<T>, len: usize, others: &[T], count: usize)
+pub(crate) fn join<T: Block>(blocks: &mut Vec<T>, len: usize, others: &[T], count: usize)
     requires packs { Packs T.BITS len (flat_map T.bits blocks.old.items) }
     requires others { Packs T.BITS count (flat_map T.bits others.now) }
     requires room { len + count ≤ vec_capacity blocks.old * T.BITS }
@@ -79,7 +79,7 @@ pub fn join<T: Block>(blocks: &mut Vec<T>, len: usize, others: &[T], count: usiz
 }
 
 /// Copies the items from the index `at` on into blocks of their own.
-pub fn part<T: Block>(
+pub(crate) fn part<T: Block>(
     alloc: Global,
     blocks: &[T],
     at: usize,

@@ -97,7 +97,7 @@ fn fault_failure(alloc: Global, e: ReadError) -> YaccGrammarFailure
 }
 
 /// Reads a text's section: answers its header, empty where there is none, and the offset behind it, else 0.
-pub fn read_section(alloc: Global, text: &str) -> YaccGrammarResult<(Header<Span>, usize)>
+pub(crate) fn read_section(alloc: Global, text: &str) -> YaccGrammarResult<(Header<Span>, usize)>
     ensures ok { IfOk result (λ r. ReadsHeader (source text.now) r.0 r.1) }
     ensures within { IfOk result (λ r. r.1 ≤ length text.now) }
     ensures err { IfErr result (λ e. IsFailure (FailsSection text.now) e) }
@@ -109,7 +109,7 @@ pub fn read_section(alloc: Global, text: &str) -> YaccGrammarResult<(Header<Span
 }
 
 /// Reads what a text of a kind says from an offset on, behind its section.
-pub fn read_rest(
+pub(crate) fn read_rest(
     alloc: Global,
     kind: YaccKind,
     text: &str,
@@ -190,7 +190,7 @@ fn told_kind(alloc: Global, value: Option<&HeaderValue<Span>>) -> YaccGrammarRes
 }
 
 /// Answers the kind that a header tells by `yacckind`.
-pub fn kind_in(alloc: Global, header: &Header<Span>) -> YaccGrammarResult<YaccKind>
+pub(crate) fn kind_in(alloc: Global, header: &Header<Span>) -> YaccGrammarResult<YaccKind>
     ensures ok { (pairs : List PairText) → Holds header.now pairs → IfOk result (λ k. told_kind pairs ≡ Some (means k)) }
     ensures err { (pairs : List PairText) → Holds header.now pairs → IfErr result (λ e. IsFailure (FailsKind (told_kind pairs)) e) }
 {

@@ -1,4 +1,4 @@
--- Sets as bits: what joining, emptying and setting do, and how many places are free.
+-- Sets as bits: what joining, emptying and setting do, and how many bits are clear.
 use Rattle.std.proofs.Common.{◌≡◌, ◌≢◌, ℕ, zero, suc, ◌+◌, ◌<◌, ◌≤◌, ◌⊎◌, inl, inr, ◌↔◌, Bool, true, false, not, cond, ◌||◌, List, [], ◌∷◌, length, get_or, set, replicate, refl, sym, ap, ◌∙◌, subst, arith}
 use Rattle.std.specs.Prelude.{IsTrue}
 use Rattle.std.proofs.lemmas.List.{get_or-set_same, get_or-set_other, length-set, get_or_past, length-replicate, get_or-replicate}
@@ -49,12 +49,12 @@ alone n m t lt =
     let h = put_in (replicate m false) n t (subst (λ k. n < k) (sym (length-replicate m false)) lt) in
     (λ x. elim (h.0 x) [ inl y ↦ absurd (none_set m t y) | inr e ↦ e ], λ e. h.1 (inr e))
 
--- ---- free places
+-- ---- clear bits
 
 missing_cons : (x : Bool) (xs : List Bool) → missing (x ∷ xs) ≡ cond (not x) 1 0 + missing xs
 missing_cons x xs = sum_by-cons (λ b. cond (not b) 1 0) x xs
 
--- a list that is joined to is as it was, or has fewer free places
+-- a list that is joined to is as it was, or has fewer clear bits
 pub join_fills : (xs ys : List Bool) → length xs ≡ length ys → (join xs ys ≡ xs) ⊎ (missing (join xs ys) < missing xs)
 join_fills [] [] e = inl refl
 join_fills [] (y ∷ ys) e = cc

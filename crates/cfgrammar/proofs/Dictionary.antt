@@ -68,7 +68,7 @@ tokens_count {S} number xs = length-map xs (λ (t : TIdx S). number t.0)
 pub lists_count : {S : Type 0} (number : S → ℕ) (xs : List (Vec (TIdx S) Global)) → length (lists_of number xs) ≡ length xs
 lists_count {S} number xs = length-map xs (λ (l : Vec (TIdx S) Global). tokens_of number l.items)
 
--- a list by its place
+-- a list by its index
 pub list_at : {S : Type 0} (number : S → ℕ) (xs : List (Vec (TIdx S) Global)) (i : ℕ) (x : Vec (TIdx S) Global) (s : List (TIdx S)) → i < length xs → x ≡ get_or xs i x → s ≡ x.items → tokens_of number s ≡ get_or (lists_of number xs) i []
 list_at {S} number xs i x s lt e is = ap (tokens_of number) is ∙ at_place xs i x lt e
   where

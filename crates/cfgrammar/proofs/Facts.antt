@@ -6,15 +6,6 @@ use Rattle.std.proofs.lemmas.Option.{slice_get-get_or, slice_get-map, same_Some,
 use Rattle.std.proofs.lemmas.Bool.{cases_lt}
 use Rattle.cfg_theory.specs.Grammar.{end_token}
 use Rattle.cfgrammar.specs.Value.{GrammarValue, TokenFacts, IsGrammar, IsRuleNamed, end_facts, shown_text}
-use Rattle.cfgrammar.specs.Info.{token_facts}
-use Rattle.cfgrammar.specs.declared.yacc.info.TokenInfo.{TokenInfo}
-
--- the facts of a token by its parts
-pub token_in : (tokens : List TokenInfo) (facts : List TokenFacts) → map token_facts tokens ≡ facts → (count i t : ℕ) (x : TokenInfo) → length tokens ≡ count → i ≡ t → t < count → x ≡ get_or tokens i x → slice_get facts t ≡ Some (token_facts x)
-token_in tokens facts is count i t x len e lt h =
-    let within : t < length tokens = omega (arith, len, lt) in
-    let here : x ≡ get_or tokens t x = subst (λ k. x ≡ get_or tokens k x) e h in
-    ap (λ l. slice_get l t) (sym is) ∙ slice_get-map token_facts tokens t ∙ ap (option_map token_facts) (slice_get-get_or tokens t x within) ∙ ap (λ y. Some (token_facts y)) (sym here)
 
 -- what every token but the end token has
 module _ (top : ℕ) (v : GrammarValue) (good : IsGrammar top v) (look : TokenFacts → Option (List ℕ)) (of_end : look end_facts ≡ None) (of_named : (k : TokenFacts) (name : List ℕ) → k.name ≡ Some name → look k ≡ None → ⊥) where

@@ -1,18 +1,16 @@
 -- How passes fill FIRST sets.
-use Rattle.std.proofs.Common.{◌≡◌, ℕ, zero, suc, ◌<◌, ◌⊎◌, inl, inr, ◌↔◌, Bool, true, false, ◌&&◌, ◌||◌, List, [], ◌∷◌, length, get_or, set, drop, replicate, refl, sym, ap, ◌∙◌, subst, arith}
+use Rattle.std.proofs.Common.{◌≡◌, ℕ, zero, suc, ◌<◌, ◌⊎◌, inl, inr, ◌↔◌, Bool, true, false, ◌&&◌, ◌||◌, List, [], ◌∷◌, length, get_or, drop, replicate, refl, sym, ap, ◌∙◌, subst, arith}
 use Rattle.std.specs.Prelude.{map, IsTrue, if◌then◌else◌}
-use Rattle.std.proofs.lemmas.List.{length-set, length-replicate}
+use Rattle.std.proofs.lemmas.List.{length-replicate}
 use Rattle.std.proofs.lemmas.Bool.{and_parts, and_from}
-use Rattle.cfg_theory.specs.Grammar.{Sym, rule, token, Grammar, IsOf, WellFormed, InRange, head_of, body_of}
-use Rattle.cfg_theory.specs.Derivation.{Nullable, IsFirst}
+use Rattle.cfg_theory.specs.Grammar.{Sym, rule, token, Grammar, WellFormed, InRange, body_of}
 use Rattle.cfg_theory.specs.First.{AllOf, IsFirstTable, FirstTablesAreExact}
 use Rattle.cfg_theory.proofs.Derivation.{derives_rule, nullable_of, first_of_list}
-use Rattle.cfgrammar.specs.Sets.{is_set, is_set_in, missing, missing_in, joined_to, HasAllOf, AreRows}
+use Rattle.cfgrammar.specs.Sets.{is_set, is_set_in, missing, missing_in, AreRows}
 use Rattle.cfgrammar.specs.Firsts.{FirstSets, HasEpsilon, HasFirst, AreOf, AreFirsts, AreSound, IsClosedAt, IsWithin, AllWithin, IsNullableIn, FirstBefore, FirstsOf, room}
 use Rattle.cfgrammar.specs.Passes.{PassStep}
-use Rattle.cfgrammar.proofs.Bits.{join, length-bitwise, joined, none_set, none_in, put_in, row_set, rows_set, empty_sized}
+use Rattle.cfgrammar.proofs.Bits.{join, length-bitwise, joined, none_set, none_in, empty_sized}
 use Rattle.cfg_theory.proofs.Lists.{get_from_drop}
-use Rattle.cfgrammar.proofs.Passed.{step_and}
 
 never : false ≡ true → ⊥
 never e = cc
@@ -91,42 +89,6 @@ rows_lifted C old new changed tokens epsilons r = record {
   fewer = λ e. let less = r.fewer e in let y = ap missing epsilons in omega (arith, less, y);
 }
 
-pub epsilons_lifted : (C : List Bool → Type 0) (old new : FirstSets) (changed : Bool) → new.tokens ≡ old.tokens → new.rows ≡ old.rows → PassStep missing C old.epsilons new.epsilons changed → PassStep room (λ s. C s.epsilons) old new changed
-epsilons_lifted C old new changed tokens rows r = record {
-  still = λ e. same_sets new old tokens rows (r.still e);
-  closed = r.closed;
-  fewer = λ e. let less = r.fewer e in let y = ap missing_in rows in omega (arith, less, y);
-}
-
--- what one production adds is true
-module _ (G : Grammar) (p : ℕ) (o : IsOf G p (head_of G p)) (old : FirstSets) (sound : AreSound G old) where
-  body_nullable : AllOf (HasEpsilon old) (body_of G p) → Nullable G (rule (head_of G p) ∷ [])
-  body_nullable h = derives_rule G o (nullable_of G (HasEpsilon old) (HasFirst old) sound.nullable sound.first (body_of G p) h)
-
-  body_first : (t : ℕ) → FirstsOf old (body_of G p) t → IsFirst G (rule (head_of G p) ∷ []) t
-  body_first t h = let d = first_of_list G (HasEpsilon old) (HasFirst old) sound.nullable sound.first (body_of G p) t h in (d.0, derives_rule G o d.1)
-
-  pub still_sound : (new : FirstSets) (ys : List Bool) (nullable : Bool) → head_of G p < length old.rows → head_of G p < length old.epsilons → length (get_or old.rows (head_of G p) []) ≡ length ys →
-      new.rows ≡ joined_to old.rows (head_of G p) ys → new.epsilons ≡ (if nullable then set old.epsilons (head_of G p) true else old.epsilons) →
-      IsTrue nullable ↔ AllOf (HasEpsilon old) (body_of G p) → ((t : ℕ) → IsTrue (is_set ys t) ↔ FirstsOf old (body_of G p) t) → AreSound G new
-  still_sound new ys nullable lt lt' len rows epsilons null first = record { nullable = nulls; first = firsts }
-    where
-      by_null : (b : Bool) → nullable ≡ b → (A : ℕ) → IsTrue (is_set (if b then set old.epsilons (head_of G p) true else old.epsilons) A) → Nullable G (rule A ∷ [])
-      by_null false e A h = sound.nullable A h
-      by_null true e A h = elim ((put_in old.epsilons (head_of G p) A lt').0 h) [ inl x ↦ sound.nullable A x | inr q ↦ subst (λ B. Nullable G (rule B ∷ [])) q (body_nullable (null.0 e)) ]
-
-      nulls : (A : ℕ) → HasEpsilon new A → Nullable G (rule A ∷ [])
-      nulls A h = by_null nullable refl A (subst (λ l. IsTrue (is_set l A)) epsilons h)
-
-      firsts : (A t : ℕ) → HasFirst new A t → IsFirst G (rule A ∷ []) t
-      firsts A t h =
-          let row = get_or old.rows (head_of G p) [] in
-          let k : IsTrue (is_set_in (joined_to old.rows (head_of G p) ys) A t) = subst (λ l. IsTrue (is_set_in l A t)) rows h in
-          elim (row_set old.rows (head_of G p) A t (join row ys) lt) [
-            | inl q ↦ subst (λ B. IsFirst G (rule B ∷ []) t) (sym q.0) (elim ((joined row ys t len).0 (sym q.1 ∙ k)) [ inl x ↦ sound.first (head_of G p) t x | inr y ↦ body_first t ((first t).0 y) ])
-            | inr q ↦ sound.first A t (sym q.1 ∙ k)
-          ]
-
 -- closed everywhere and true: exact
 pub table_of : (G : Grammar) (s : FirstSets) → AreSound G s → ((p : ℕ) → p < length G.productions → IsClosedAt G s p) → IsFirstTable G (λ A. IsTrue (is_set s.epsilons A)) (λ A t. IsTrue (is_set_in s.rows A t))
 table_of G s sound closed = record {
@@ -140,33 +102,6 @@ pub exact_firsts : (G : Grammar) (s : FirstSets) → FirstTablesAreExact → Are
 exact_firsts G s law sizes sound closed =
     let e = law.exact G (is_set s.epsilons) (is_set_in s.rows) (table_of G s sound closed) in
     record { sizes = sizes; nullable = e.rule_nullable; first = e.rule_first }
-
--- the rows after a production was taken in
-pub taken_sizes : (G : Grammar) (old new : FirstSets) (A : ℕ) (ys : List Bool) (nullable : Bool) → AreOf G old → A < G.rules → length ys ≡ G.tokens → new.tokens ≡ old.tokens → new.rows ≡ joined_to old.rows A ys → new.epsilons ≡ (if nullable then set old.epsilons A true else old.epsilons) → AreOf G new
-taken_sizes G old new A ys nullable h lt len tokens rows epsilons = record {
-  tokens = tokens ∙ h.tokens;
-  rules = ap length epsilons ∙ kept nullable ∙ h.rules;
-  rows = subst (AreRows G.rules G.tokens) (sym rows) (rows_set G.rules G.tokens old.rows A (join (get_or old.rows A []) ys) h.rows (length-bitwise (λ x y. x || y) (get_or old.rows A []) ys (h.rows.width A lt ∙ sym len) ∙ h.rows.width A lt));
-}
-  where
-    kept : (b : Bool) → length (if b then set old.epsilons A true else old.epsilons) ≡ length old.epsilons
-    kept true = length-set old.epsilons A true
-    kept false = refl
-
--- what one production adds, told
-pub taken_step : (G : Grammar) (p : ℕ) (old mid new : FirstSets) (ys : List Bool) (nullable grew found : Bool) → PassStep room (λ s. HasAllOf (head_of G p) ys s.rows) old mid grew → PassStep room (λ s. IsTrue nullable → HasEpsilon s (head_of G p)) mid new found →
-    IsTrue nullable ↔ AllOf (HasEpsilon old) (body_of G p) → ((t : ℕ) → IsTrue (is_set ys t) ↔ FirstsOf old (body_of G p) t) → PassStep room (λ s. IsClosedAt G s p) old new (grew || found)
-taken_step G p old mid new ys nullable grew found h k null first =
-    let r = step_and room (λ s. HasAllOf (head_of G p) ys s.rows) (λ s. IsTrue nullable → HasEpsilon s (head_of G p)) old mid new grew found h k in
-    record {
-      still = r.still;
-      closed = λ e. let both = r.closed e in record { nullable = λ n. both.1 (null.1 n); first = λ t f. both.0 t ((first t).1 f) };
-      fewer = r.fewer;
-    }
-
--- a rule that is put among the nullable ones only where it is
-pub epsilon_if : (old new : FirstSets) (A : ℕ) (nullable changed : Bool) → nullable ≡ true → PassStep room (λ s. IsTrue (is_set s.epsilons A)) old new changed → PassStep room (λ s. IsTrue nullable → HasEpsilon s A) old new changed
-epsilon_if old new A nullable changed e h = record { still = h.still; closed = λ q _. h.closed q; fewer = h.fewer }
 
 pub none_sound : (G : Grammar) (n m k : ℕ) (s : FirstSets) → s.rows ≡ replicate n (replicate m false) → s.epsilons ≡ replicate k false → AreSound G s
 none_sound G n m k s rows epsilons = record {

@@ -1,22 +1,19 @@
--- How passes fill FOLLOW sets.
+-- What FOLLOW sets tell of productions, and where they begin.
 use Rattle.std.proofs.Common.{◌≡◌, ℕ, zero, suc, ◌+◌, ◌-◌, ◌<◌, ◌≤◌, inl, inr, ◌↔◌, Bool, true, false, ◌||◌, List, [], ◌∷◌, length, get_or, set, drop, replicate, Some, slice_get, refl, sym, ap, ◌∙◌, subst, arith}
 use Rattle.std.specs.Prelude.{map, IsTrue}
-use Rattle.std.proofs.lemmas.Bool.{cases_eq}
 use Rattle.cfg_theory.specs.Grammar.{Sym, rule, token, Grammar, IsNext, IsEnd, WellFormed, InRange, head_of, body_of, end_token}
 use Rattle.cfg_theory.specs.Derivation.{IsFollow}
 use Rattle.cfg_theory.specs.First.{FirstTablesAreExact}
 use Rattle.cfg_theory.specs.Follow.{IsFollowTable, FollowTablesAreExact}
 use Rattle.cfg_theory.proofs.Derivation.{nullable_of, first_of_list}
 use Rattle.cfg_theory.proofs.Follow.{follow_after, follow_passed, follow_end}
-use Rattle.cfgrammar.specs.Sets.{is_set, is_set_in, missing_in, AreRows}
+use Rattle.cfgrammar.specs.Sets.{is_set, is_set_in, AreRows}
 use Rattle.cfgrammar.specs.Firsts.{FirstSets, HasEpsilon, HasFirst, AreFirsts, IsWithin, FirstBefore}
-use Rattle.cfgrammar.specs.Follows.{FollowSets, HasFollow, AreOf, AreFollows, AreSound, Behind, IsClosedFrom, HasSet, HasAll, added, room}
-use Rattle.cfgrammar.specs.Passes.{PassStep}
+use Rattle.cfgrammar.specs.Follows.{FollowSets, HasFollow, AreOf, AreFollows, AreSound, Behind, HoldsAll, HandsOn, HasSet, added}
 use Rattle.std.proofs.lemmas.List.{get_or-set_same, get_or-replicate, length-replicate, length-set}
 use Rattle.cfgrammar.proofs.Bits.{join, length-bitwise, joined, row_set, rows_set, alone, none_in, empty_sized}
 use Rattle.cfgrammar.proofs.FirstSteps.{first_table, within_of}
 use Rattle.cfgrammar.proofs.Backwards.{rest_next, symbol_here}
-use Rattle.cfgrammar.proofs.Passed.{step_and}
 
 -- one symbol more in front
 pub behind_cons : (f : FirstSets) (X : Sym) (a : List Sym) (P Q : ℕ → Type 0) → ((t : ℕ) → Q t ↔ Behind f P a t) → (t : ℕ) → FirstBefore f X Q t ↔ Behind f P (X ∷ a) t
@@ -63,27 +60,8 @@ added_sound G old new (rule A) bits sound rows within len e true_bits = λ R t h
     by : (R t : ℕ) → IsTrue (is_set_in (set old.rows A (join (get_or old.rows A []) bits)) R t) → IsFollow G R t
     by R t h = elim (row_set old.rows A R t (join (get_or old.rows A []) bits) lt) [ inl q ↦ subst (λ B. IsFollow G B t) (sym q.0) (here t (sym q.1 ∙ h)) | inr q ↦ sound R t (sym q.1 ∙ h) ]
 
--- a step of the rows is one of the sets
-pub rows_lifted : (C : List (List Bool) → Type 0) (old new : FollowSets) (changed : Bool) → new.tokens ≡ old.tokens → PassStep missing_in C old.rows new.rows changed → PassStep room (λ s. C s.rows) old new changed
-rows_lifted C old new changed tokens r = record {
-  still = λ e. ap (λ x. record { tokens = x; rows = new.rows }) tokens ∙ ap (λ x. record { tokens = old.tokens; rows = x }) (r.still e);
-  closed = r.closed;
-  fewer = r.fewer;
-}
-
 pub some_same : (X Y : Sym) → Some X ≡ Some Y → X ≡ Y
 some_same X Y e = cc
-
--- one place more is closed
-pub closed_more : (G : Grammar) (f : FirstSets) (p d : ℕ) (X : Sym) (bits : List Bool) (s : FollowSets) → slice_get (body_of G p) d ≡ Some X → ((t : ℕ) → IsTrue (is_set bits t) ↔ Behind f (HasFollow s (head_of G p)) (drop (suc d) (body_of G p)) t) →
-    IsClosedFrom G f p (suc d) s → HasAll s X bits → IsClosedFrom G f p d s
-closed_more G f p d X bits s at tells later here i R t le n b = elim (cases_eq i d) [ inl e ↦ at_place e | inr ne ↦ later i R t (omega (arith, le, ne)) n b ]
-  where
-    at_place : i ≡ d → HasFollow s R t
-    at_place e =
-        let same : X ≡ rule R = some_same X (rule R) (sym at ∙ ap (slice_get (body_of G p)) (sym e) ∙ n.at) in
-        let all : HasAll s (rule R) bits = subst (λ Y. HasAll s Y bits) same here in
-        all t ((tells t).1 (subst (λ k. Behind f (HasFollow s (head_of G p)) (drop (suc k) (body_of G p)) t) e b))
 
 pub none_next : (xs : List Sym) (i : ℕ) (X : Sym) → length xs ≤ i → slice_get xs i ≡ Some X → ⊥
 none_next [] i X le e = cc
@@ -96,18 +74,18 @@ get_some f (y ∷ xs) zero x d lt e = ap (λ z. Some (f z)) (sym e)
 get_some f (y ∷ xs) (suc i) x d lt e = get_some f xs i x d (omega (arith, lt)) e
 
 -- closed everywhere and true: exact
-pub table_of : (G : Grammar) (f : FirstSets) (s : FollowSets) → WellFormed G → AreSound G s → ((t : ℕ) → IsEnd G t → HasFollow s 0 t) → ((p : ℕ) → p < length G.productions → IsClosedFrom G f p 0 s) →
+pub table_of : (G : Grammar) (f : FirstSets) (s : FollowSets) → AreSound G s → HoldsAll G f s → ((p : ℕ) → p < length G.productions → HandsOn G f s p) →
     IsFollowTable G (λ A. IsTrue (is_set f.epsilons A)) (λ A t. IsTrue (is_set_in f.rows A t)) (λ R t. IsTrue (is_set_in s.rows R t))
-table_of G f s good sound end closed = record {
+table_of G f s sound holds hands = record {
   follow = sound;
-  after = λ p A d R t o n h. closed p o.in_range d R t (omega arith) n (inl h);
-  passed = λ p A d R t o n h w. closed p o.in_range d R t (omega arith) n (inr (h, subst (λ B. HasFollow s B t) (sym o.head) w));
-  at_end = end;
+  after = λ p A d R t o n h. holds.firsts p o.in_range d R t n h;
+  passed = λ p A d R t o n h w. hands p o.in_range d R t n h (subst (λ B. HasFollow s B t) (sym o.head) w);
+  at_end = holds.end;
 }
 
-pub exact_follows : (G : Grammar) (f : FirstSets) (s : FollowSets) → FirstTablesAreExact → FollowTablesAreExact → WellFormed G → AreFirsts G f → AreOf G s → AreSound G s → ((t : ℕ) → IsEnd G t → HasFollow s 0 t) → ((p : ℕ) → p < length G.productions → IsClosedFrom G f p 0 s) → AreFollows G s
-exact_follows G f s first_law law good firsts sizes sound end closed =
-    record { sizes = sizes; follow = λ R t. law.exact G (is_set f.epsilons) (is_set_in f.rows) (is_set_in s.rows) (first_table G f firsts) (table_of G f s good sound end closed) R t }
+pub exact_follows : (G : Grammar) (f : FirstSets) (s : FollowSets) → FirstTablesAreExact → FollowTablesAreExact → AreFirsts G f → AreOf G s → AreSound G s → HoldsAll G f s → ((p : ℕ) → p < length G.productions → HandsOn G f s p) → AreFollows G s
+exact_follows G f s first_law law firsts sizes sound holds hands =
+    record { sizes = sizes; follow = λ R t. law.exact G (is_set f.epsilons) (is_set_in f.rows) (is_set_in s.rows) (first_table G f firsts) (table_of G f s sound holds hands) R t }
 
 -- the end token alone
 pub end_sound : (G : Grammar) (n m : ℕ) (s : FollowSets) → 0 < n → end_token G < m → s.rows ≡ set (replicate n (replicate m false)) 0 (set (get_or (replicate n (replicate m false)) 0 []) (end_token G) true) → AreSound G s
@@ -134,9 +112,6 @@ added_keeps n m rows (rule A) bits R t r within len h =
       | inr q ↦ q.1 ∙ h
     ]
 
-pub nothing_behind : (G : Grammar) (f : FirstSets) (p n : ℕ) (s : FollowSets) → length (body_of G p) ≤ n → PassStep room (IsClosedFrom G f p n) s s false
-nothing_behind G f p n s le = record { still = λ e. refl; closed = λ e d R t from next b. absurd (none_next (body_of G p) d (rule R) (omega (arith, le, from)) next.at); fewer = λ e. cc }
-
 pub starts_behind : (f : FirstSets) (P : ℕ → Type 0) (a : List Sym) (k : ℕ) (bits : List Bool) → length a ≤ k → ((t : ℕ) → IsTrue (is_set bits t) ↔ P t) → (t : ℕ) → IsTrue (is_set bits t) ↔ Behind f P (drop k a) t
 starts_behind f P a k bits le h t =
     let n = behind_none f P t in
@@ -149,12 +124,12 @@ starts_behind f P a k bits le h t =
     past (x ∷ l) (suc k) le = past l k (omega (arith, le))
 
 -- one symbol of a body, from its end
-module _ (G : Grammar) (good : WellFormed G) (f : FirstSets) (k : AreFirsts G f) (p : ℕ) (in_range : p < length G.productions) {X : Type 0} (view : X → Sym) (xs : List X) (body : map view xs ≡ body_of G p) (place at : ℕ) (x : X) (e : at + 1 + place ≡ length xs) (is : x ≡ get_or xs at x) where
-  here : slice_get (body_of G p) at ≡ Some (view x)
-  here = subst (λ l. slice_get l at ≡ Some (view x)) body (symbol_here view xs place at x e is)
+module _ (G : Grammar) (good : WellFormed G) (f : FirstSets) (k : AreFirsts G f) (p : ℕ) (in_range : p < length G.productions) {X : Type 0} (view : X → Sym) (xs : List X) (body : map view xs ≡ body_of G p) (index at : ℕ) (x : X) (e : at + 1 + index ≡ length xs) (is : x ≡ get_or xs at x) where
+  pub here : slice_get (body_of G p) at ≡ Some (view x)
+  here = subst (λ l. slice_get l at ≡ Some (view x)) body (symbol_here view xs index at x e is)
 
-  next : drop (length xs - (place + 1)) (body_of G p) ≡ view x ∷ drop (length xs - place) (body_of G p)
-  next = subst (λ l. drop (length xs - (place + 1)) l ≡ view x ∷ drop (length xs - place) l) body (rest_next view xs place at x e is)
+  pub next : drop (length xs - (index + 1)) (body_of G p) ≡ view x ∷ drop (length xs - index) (body_of G p)
+  next = subst (λ l. drop (length xs - (index + 1)) l ≡ view x ∷ drop (length xs - index) l) body (rest_next view xs index at x e is)
 
   ranged : InRange G (view x)
   ranged = good.symbols p at (view x) (record { at = here })
@@ -172,30 +147,19 @@ module _ (G : Grammar) (good : WellFormed G) (f : FirstSets) (k : AreFirsts G f)
   pub in_rules : (A : ℕ) → view x ≡ rule A → A < G.rules
   in_rules A q = subst (InRange G) q ranged
 
-  module _ (start : FollowSets) (bits : List Bool) (tells : (t : ℕ) → IsTrue (is_set bits t) ↔ Behind f (HasFollow start (head_of G p)) (drop (length xs - place) (body_of G p)) t) where
-    told : (t : ℕ) → IsTrue (is_set bits t) ↔ Behind f (HasFollow start (head_of G p)) (drop (suc at) (body_of G p)) t
-    told t = let n : length xs - place ≡ suc at = omega (arith, e) in subst (λ d. IsTrue (is_set bits t) ↔ Behind f (HasFollow start (head_of G p)) (drop d (body_of G p)) t) n (tells t)
+  module _ (start : FollowSets) (bits : List Bool) (tells : (t : ℕ) → IsTrue (is_set bits t) ↔ Behind f (HasFollow start (head_of G p)) (drop (length xs - index) (body_of G p)) t) where
+    pub told : (t : ℕ) → IsTrue (is_set bits t) ↔ Behind f (HasFollow start (head_of G p)) (drop (suc at) (body_of G p)) t
+    told t = let n : length xs - index ≡ suc at = omega (arith, e) in subst (λ d. IsTrue (is_set bits t) ↔ Behind f (HasFollow start (head_of G p)) (drop d (body_of G p)) t) n (tells t)
 
     pub true_bits : AreSound G start → (R t : ℕ) → view x ≡ rule R → IsTrue (is_set bits t) → IsFollow G R t
     true_bits sound R t q h = behind_follows G f start k sound p at R t in_range (record { at = here ∙ ap Some q }) ((told t).0 h)
 
-    pub new_bits : (new : List Bool) → ((t : ℕ) → IsTrue (is_set new t) ↔ FirstBefore f (view x) (λ u. IsTrue (is_set bits u)) t) → (t : ℕ) → IsTrue (is_set new t) ↔ Behind f (HasFollow start (head_of G p)) (drop (length xs - (place + 1)) (body_of G p)) t
+    pub new_bits : (new : List Bool) → ((t : ℕ) → IsTrue (is_set new t) ↔ FirstBefore f (view x) (λ u. IsTrue (is_set bits u)) t) → (t : ℕ) → IsTrue (is_set new t) ↔ Behind f (HasFollow start (head_of G p)) (drop (length xs - (index + 1)) (body_of G p)) t
     new_bits new made t =
-        let h = behind_cons f (view x) (drop (length xs - place) (body_of G p)) (HasFollow start (head_of G p)) (λ u. IsTrue (is_set bits u)) tells t in
+        let h = behind_cons f (view x) (drop (length xs - index) (body_of G p)) (HasFollow start (head_of G p)) (λ u. IsTrue (is_set bits u)) tells t in
         subst (λ l. IsTrue (is_set new t) ↔ Behind f (HasFollow start (head_of G p)) l t) (sym next) ((λ y. h.0 ((made t).0 y)), (λ y. (made t).1 (h.1 y)))
 
-    pub new_steps : (old new : FollowSets) (y z : Bool) → PassStep room (IsClosedFrom G f p (length xs - place)) start old y → PassStep room (λ s. HasAll s (view x) bits) old new z → PassStep room (IsClosedFrom G f p (length xs - (place + 1))) start new (y || z)
-    new_steps old new y z h j =
-        let r = step_and room (IsClosedFrom G f p (length xs - place)) (λ s. HasAll s (view x) bits) start old new y z h j in
-        let a : length xs - place ≡ suc at = omega (arith, e) in
-        let b : at ≡ length xs - (place + 1) = omega (arith, e) in
-        record {
-          still = r.still;
-          closed = λ q. let both = r.closed q in subst (λ d. IsClosedFrom G f p d start) b (closed_more G f p at (view x) bits start here told (subst (λ d. IsClosedFrom G f p d start) a both.0) both.1);
-          fewer = r.fewer;
-        }
-
--- where the passes begin
+-- where takings begin
 pub record Begins (G : Grammar) (s : FollowSets) : Type 0 where
   pub sizes : AreOf G s
   pub sound : AreSound G s

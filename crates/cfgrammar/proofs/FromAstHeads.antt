@@ -26,7 +26,7 @@ length_notes v hs (p ∷ ps) = length_notes v (set hs p v) ps ∙ length-set hs 
 abbrev pub lists : List ℕ → ℕ → Bool
 lists ps n = list_any (λ k. k == n) ps
 
--- what stands at a place afterwards
+-- what stands at an index afterwards
 pub noted : (v : ℕ) (hs ps : List ℕ) (n : ℕ) → n < length hs → get_or (notes v hs ps) n 0 ≡ (if lists ps n then v else get_or hs n 0)
 noted v hs [] n lt = refl
 noted v hs (p ∷ ps) n lt =
@@ -39,7 +39,7 @@ noted v hs (p ∷ ps) n lt =
     by true false e = let at = eqb-true p n e in ap (λ k. get_or (set hs p v) k 0) (sym at) ∙ get_or-set_same hs p v 0 (omega (arith, lt, at))
     by false false e = get_or-set_other hs p n v 0 (λ at. eqb-false p n e (sym at))
 
--- each production that is listed by one of the first k rules has this rule's place
+-- each production that is listed by one of the first k rules has this rule's index
 pub record Noted (ast : Ast) (k : ℕ) (hs : List ℕ) : Type 0 where
   pub count : length hs ≡ length ast.productions
   pub each : (A p : ℕ) → A < k → ListsProduction ast A p → get_or hs p 0 ≡ A
@@ -122,7 +122,7 @@ module _ (ast : Ast) (sound : IsWellFormedAst ast) where
   stands None ps e = cc
   stands (Some r) ps e = (r, refl, same_some r.productions ps e)
 
-  -- the same by the list of the rule at the place
+  -- the same by the list of the rule at the index
   pub noted_next : (k : ℕ) (hs ps : List ℕ) → Noted ast k hs → option_map (λ (r : RuleAst). r.productions) (slice_get ast.rules k) ≡ Some ps → Noted ast (k + 1) (notes k hs ps)
   noted_next k hs ps h at =
       let s = stands (slice_get ast.rules k) ps at in
@@ -136,7 +136,7 @@ module _ (ast : Ast) (sound : IsWellFormedAst ast) where
       let within = sound.in_range k (get_or s.0.productions n d) (record { rule = s.0; at = s.1; listed = Contains-get_or s.0.productions n d lt }) in
       omega (arith, within, c))
 
--- the list of the rule at a place of a map
+-- the list of the rule at an index of a map
 pub rule_list : (es : List (String Global × RuleEntry)) (k : ℕ) (v : RuleEntry) → slice_get (map (λ (e : String Global × RuleEntry). e.1) es) k ≡ Some v → option_map (λ (r : RuleAst). r.productions) (slice_get (map named_rule es) k) ≡ Some v.pidxs.items
 rule_list es k v at =
     ap (option_map (λ (r : RuleAst). r.productions)) (slice_get-map named_rule es k)

@@ -58,7 +58,7 @@ productions_declared b ast =
     (All-map (λ (q : ProductionFacts). IsDeclared ast q.precedence) (file_production_facts ast) ast.productions (λ i d below. of_name_if ast _))
     (All-map (λ (q : ProductionFacts). IsDeclared ast q.precedence) added_production_facts added (λ i d below. none_declared ast))
 
--- and so are those of a list, by their places
+-- and so are those of a list, by their indices
 declared_at : {X : Type 0} (ast : Ast) (precedence : X → Option Precedence) (xs : List X) → All (λ x. IsDeclared ast (precedence x)) xs → (i : ℕ) (r : Precedence) → option_map precedence (slice_get xs i) ≡ Some (Some r) → Declares ast.precedences r
 declared_at {X} ast precedence xs h i r e = by (slice_get xs i) refl e
   where

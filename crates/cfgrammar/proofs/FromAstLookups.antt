@@ -9,8 +9,8 @@ use Rattle.std.specs.declared.string.String.{String}
 use Rattle.std.proofs.lemmas.Bool.{lt-ltb}
 use Rattle.std.proofs.lemmas.List.{length-map, take_more}
 use Rattle.std.proofs.lemmas.Option.{slice_get-get_or, slice_get-map, slice_get_within, get_or_from_slice_get}
-use Rattle.cfgrammar.specs.FromAst.{place}
-use Rattle.cfgrammar.proofs.FromAstNames.{place_within}
+use Rattle.cfgrammar.specs.FromAst.{index_in}
+use Rattle.cfgrammar.proofs.FromAstNames.{index_in_within}
 
 pub map_twice : {A B C : Type 0} (f : A → B) (g : B → C) (xs : List A) → map g (map f xs) ≡ map (λ x. g (f x)) xs
 map_twice f g [] = refl
@@ -25,23 +25,23 @@ module _ {X : Type 0} where
   key_text e = string_bytes e.0
 
   -- where the first key of this name stands
-  key_place : (es : List (String Global × X)) (q : List ℕ) → position_or_len (is_key q) (map (λ (e : String Global × X). e.0) es) ≡ place (map key_text es) q
+  key_place : (es : List (String Global × X)) (q : List ℕ) → position_or_len (is_key q) (map (λ (e : String Global × X). e.0) es) ≡ index_in (map key_text es) q
   key_place [] q = refl
   key_place (e ∷ es) q = by (bytes_eq q (string_bytes e.0)) (key_place es q)
     where
-      by : (b : Bool) → position_or_len (is_key q) (map (λ (e : String Global × X). e.0) es) ≡ place (map key_text es) q
-          → cond (not b) (1 + position_or_len (is_key q) (map (λ (e : String Global × X). e.0) es)) 0 ≡ cond (not b) (1 + place (map key_text es) q) 0
+      by : (b : Bool) → position_or_len (is_key q) (map (λ (e : String Global × X). e.0) es) ≡ index_in (map key_text es) q
+          → cond (not b) (1 + position_or_len (is_key q) (map (λ (e : String Global × X). e.0) es)) 0 ≡ cond (not b) (1 + index_in (map key_text es) q) 0
       by true h = refl
       by false h = ap (λ n. 1 + n) h
 
-  pub found_place : (es : List (String Global × X)) (q : List ℕ) → Contains (map key_text es) q → position (is_key q) (map (λ (e : String Global × X). e.0) es) ≡ Some (place (map key_text es) q)
+  pub found_place : (es : List (String Global × X)) (q : List ℕ) → Contains (map key_text es) q → position (is_key q) (map (λ (e : String Global × X). e.0) es) ≡ Some (index_in (map key_text es) q)
   found_place es q h =
       let key : String Global × X → String Global = λ e. e.0 in
-      let lt = place_within (map key_text es) q h in
+      let lt = index_in_within (map key_text es) q h in
       let in_texts = length-map es key_text in
       let in_keys = length-map es key in
       ap (λ n. cond (ltb n (length (map key es))) (Some n) None) (key_place es q)
-      ∙ ap (λ (b : Bool). cond b (Some (place (map key_text es) q)) None) (lt-ltb (place (map key_text es) q) (length (map key es)) (omega (arith, lt, in_texts, in_keys)))
+      ∙ ap (λ (b : Bool). cond b (Some (index_in (map key_text es) q)) None) (lt-ltb (index_in (map key_text es) q) (length (map key es)) (omega (arith, lt, in_texts, in_keys)))
 
   -- what stands under a name
   pub found_find : {Y Z : Type 0} (f : String Global × X → Y) (name : Y → List ℕ) (g : X → Z) (h : Y → Z) → ((e : String Global × X) → name (f e) ≡ string_bytes e.0) → ((e : String Global × X) → h (f e) ≡ g e.1)

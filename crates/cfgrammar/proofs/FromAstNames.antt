@@ -1,4 +1,4 @@
--- Names by their places, and lists in which no name stands twice.
+-- Names by their indices, and lists in which no name stands twice.
 use Rattle.std.proofs.Common.{◌≡◌, ℕ, zero, suc, ◌+◌, ◌<◌, ◌≤◌, inl, inr, Bool, true, false, List, [], ◌∷◌, ◌++◌, length, get_or, Some, None, Contains, slice_get, refl, sym, ap, ◌∙◌, arith}
 use Rattle.std.specs.List.{list_any, position_or_len}
 use Rattle.std.specs.Str.{bytes_eq}
@@ -7,7 +7,7 @@ use Rattle.std.proofs.lemmas.List.Folds.{list_any_at}
 use Rattle.std.proofs.lemmas.Slice.Eq.{bytes_eq-Decides}
 use Rattle.std.proofs.lemmas.Option.{slice_get_within, get_or_from_slice_get}
 use Rattle.cfg_read.specs.WellFormedAst.{AreDistinct}
-use Rattle.cfgrammar.specs.FromAst.{place}
+use Rattle.cfgrammar.specs.FromAst.{index_in}
 
 module _ {X : Type 0} (p : X → Bool) where
   -- the first that passes stands no later than one that does
@@ -28,9 +28,9 @@ module _ {X : Type 0} (p : X → Bool) where
           let le : position_or_len p xs ≤ k = more k (omega (arith, lt)) e in
           omega (arith, s, le)
 
--- a name of the list has a place in it
-pub place_within : (names : List (List ℕ)) (name : List ℕ) → Contains names name → place names name < length names
-place_within names name h =
+-- a name of the list has an index in it
+pub index_in_within : (names : List (List ℕ)) (name : List ℕ) → Contains names name → index_in names name < length names
+index_in_within names name h =
     let lt = h.1 in
     let le = no_later (bytes_eq name) names h.0 name h.1 ((bytes_eq-Decides name (get_or names h.0 name)).1 (sym h.2)) in
     omega (arith, lt, le)

@@ -11,7 +11,7 @@ use Rattle.cfg_read.specs.SyntaxTexts.{WordText}
 use Rattle.cfg_read.specs.Asts.{Ast, RuleAst, ProductionAst, SymbolAst}
 use Rattle.cfg_read.specs.WellFormedAst.{names_of_rules, names_of_tokens, NamesOne, IsWellFormedAst}
 use Rattle.cfgrammar.specs.FromAst.{rule_number, token_number, implicit_start, implicit_rule, file_start, first_rule, sym_of, syms_of, file_body, file_head, file_productions, implicit_production, implicit_productions}
-use Rattle.cfgrammar.proofs.FromAstNames.{no_later, place_within}
+use Rattle.cfgrammar.proofs.FromAstNames.{no_later, index_in_within}
 
 -- a rule other than the first, a token other than the last
 abbrev pub IsGood : ℕ → ℕ → Sym → Type 0
@@ -31,13 +31,13 @@ under P f xs h = λ k d lt. subst P (get_or-map f xs k d (f d) lt) (h k (f d) (l
 module _ (ast : Ast) (sound : IsWellFormedAst ast) (implicit : Bool) (R T : ℕ) (few : suc (length ast.rules) ≤ R) (more : implicit ≡ true → suc (suc (suc (length ast.rules))) ≤ R) (tokens : suc (length ast.tokens) ≤ T) where
   rule_good : (name : List ℕ) → Contains (names_of_rules ast) name → IsGood R T (rule (rule_number ast name))
   rule_good name h =
-      let lt = place_within (names_of_rules ast) name h in
+      let lt = index_in_within (names_of_rules ast) name h in
       let len = length-map ast.rules (λ (r : RuleAst). r.name.text) in
       (omega arith, omega (arith, lt, len, few))
 
   token_good : (name : List ℕ) → Contains (names_of_tokens ast) name → IsGood R T (token (token_number ast name))
   token_good name h =
-      let lt = place_within (names_of_tokens ast) name h in
+      let lt = index_in_within (names_of_tokens ast) name h in
       let len = length-map ast.tokens (λ (w : WordText). w.text) in
       omega (arith, lt, len, tokens)
 

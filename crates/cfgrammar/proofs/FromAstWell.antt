@@ -63,7 +63,7 @@ module _ (ast : Ast) (sound : IsWellFormedAst ast) (free : NamesNoAdded ast) whe
   start_absent = absent_push start_name implicit_name (names_of_rules ast ++ implicit_start_name ∷ [])
       (absent_push start_name implicit_start_name (names_of_rules ast) (absent start_name (names_of_rules ast) free.start) starts_apart) tilde_apart
 
-  apart_by : (b : Bool) → AreDistinct (map (λ (r : RuleFacts). r.name) (rules_of b ast))
+  pub apart_by : (b : Bool) → AreDistinct (map (λ (r : RuleFacts). r.name) (rules_of b ast))
   apart_by true =
       let names = names_behind ast.rules (added_rule_facts implicit_start_name ∷ added_rule_facts implicit_name ∷ []) ∙ sym (append_assoc (names_of_rules ast) (implicit_start_name ∷ []) (implicit_name ∷ [])) in
       subst (λ l. AreDistinct (start_name ∷ l)) (sym names) (distinct_cons start_name ((names_of_rules ast ++ implicit_start_name ∷ []) ++ implicit_name ∷ []) start_absent two_more)

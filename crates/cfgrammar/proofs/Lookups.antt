@@ -6,6 +6,8 @@ use Rattle.cfg_theory.specs.Grammar.{Production, Grammar, IsOf, WellFormed, head
 use Rattle.cfgrammar.specs.Symbols.{syms_of}
 use Rattle.cfgrammar.specs.Value.{GrammarValue}
 use Rattle.cfgrammar.specs.Info.{value_of, production_of, with_productions}
+use Rattle.std.specs.declared.alloc.Global.{Global}
+use Rattle.std.specs.declared.string.String.{String}
 use Rattle.cfgrammar.specs.declared.yacc.info.RuleInfo.{RuleInfo}
 use Rattle.cfgrammar.specs.declared.yacc.info.TokenInfo.{TokenInfo}
 use Rattle.cfgrammar.specs.declared.yacc.info.ProductionInfo.{ProductionInfo}
@@ -32,18 +34,18 @@ pub some_rule : (G : Grammar) → WellFormed G → 0 < G.rules
 some_rule G good = good.heads G.start 0 good.start_of
 
 -- in a value that is made of parts
-module _ {S : Type 0} (number : S → ℕ) (rules : List RuleInfo) (tokens : List TokenInfo) (prods : List (ProductionInfo S)) (start : ℕ) (kept : KeptInfo S) (v : GrammarValue) (is : value_of number rules tokens prods start kept ≡ v) where
-  place : (i p : ℕ) (x : ProductionInfo S) → i ≡ p → x ≡ get_or prods i x → x ≡ get_or prods p x
-  place i p x e h = subst (λ k. x ≡ get_or prods k x) e h
+module _ {S : Type 0} (number : S → ℕ) (rules : List (String Global × RuleInfo)) (tokens : List (String Global × TokenInfo)) (prods : List (ProductionInfo S)) (start : ℕ) (kept : KeptInfo S) (v : GrammarValue) (is : value_of number rules tokens prods start kept ≡ v) where
+  index : (i p : ℕ) (x : ProductionInfo S) → i ≡ p → x ≡ get_or prods i x → x ≡ get_or prods p x
+  index i p x e h = subst (λ k. x ≡ get_or prods k x) e h
 
   within : (p : ℕ) → p < length v.grammar.productions → p < length prods
   within p lt = let n = ap (λ w. length w.grammar.productions) is in let m = length-map prods (production_of number) in omega (arith, n, m, lt)
 
   pub body_in : (i p : ℕ) (x : ProductionInfo S) → i ≡ p → p < length v.grammar.productions → x ≡ get_or prods i x → body_of v.grammar p ≡ syms_of number x.symbols.items
-  body_in i p x e lt h = sym (ap (λ w. body_of w.grammar p) is) ∙ body_at (production_of number) (value_of number rules tokens prods start kept).grammar prods refl p x x (within p lt) (place i p x e h)
+  body_in i p x e lt h = sym (ap (λ w. body_of w.grammar p) is) ∙ body_at (production_of number) (value_of number rules tokens prods start kept).grammar prods refl p x x (within p lt) (index i p x e h)
 
   pub head_in : (i p : ℕ) (x : ProductionInfo S) → i ≡ p → p < length v.grammar.productions → x ≡ get_or prods i x → head_of v.grammar p ≡ number x.rule.0
-  head_in i p x e lt h = sym (ap (λ w. head_of w.grammar p) is) ∙ head_at (production_of number) (value_of number rules tokens prods start kept).grammar prods refl p x x (within p lt) (place i p x e h)
+  head_in i p x e lt h = sym (ap (λ w. head_of w.grammar p) is) ∙ head_at (production_of number) (value_of number rules tokens prods start kept).grammar prods refl p x x (within p lt) (index i p x e h)
 
 -- only the productions matter
 pub is_of_any : (G : Grammar) (rules : ℕ) (ps : List Production) (p A : ℕ) → ps ≡ G.productions → IsOf (with_productions rules ps) p A → IsOf G p A

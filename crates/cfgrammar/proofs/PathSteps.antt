@@ -1,8 +1,7 @@
--- How passes fill the set of the rules that a rule reaches.
-use Rattle.std.proofs.Common.{◌≡◌, ℕ, ◌+◌, ◌<◌, ◌≤◌, ◌⊎◌, inl, inr, ◌↔◌, Bool, true, false, ◌||◌, List, length, replicate, Some, slice_get, refl, sym, ap, ◌∙◌, subst, arith}
+-- What the set of the rules that a rule reaches tells of productions.
+use Rattle.std.proofs.Common.{◌≡◌, ℕ, ◌+◌, ◌<◌, ◌⊎◌, inl, inr, ◌↔◌, Bool, true, false, ◌||◌, List, length, replicate, Some, slice_get, refl, sym, ap, ◌∙◌, subst, arith}
 use Rattle.std.specs.Prelude.{IsTrue}
 use Rattle.std.proofs.lemmas.List.{length-set}
-use Rattle.std.proofs.lemmas.Option.{slice_get_within}
 use Rattle.std.proofs.lemmas.Bool.{cases_eq}
 use Rattle.cfg_theory.specs.Grammar.{Sym, rule, token, Grammar, IsNext, InRange, head_of, body_of}
 use Rattle.cfg_theory.specs.Derivation.{HasPath}
@@ -32,20 +31,6 @@ named_step G p n X a b c x y at h k =
     let r = step_and missing (NamedBelow G p n) (λ s. IsIn s X) a b c x y h k in
     record { still = r.still; closed = λ e. named_more G p n X a at (r.closed e); fewer = r.fewer }
 
-pub all_named : (G : Grammar) (A p n : ℕ) (a b : List Bool) (x : Bool) → length (body_of G p) ≤ n → PassStep missing (NamedBelow G p n) a b x → PassStep missing (IsReachedFrom G A p) a b x
-all_named G A p n a b x le h = record {
-  still = h.still;
-  closed = λ e _ d R next. h.closed e d R (let lt = slice_get_within (body_of G p) d (rule R) next.at in omega (arith, lt, le)) next;
-  fewer = h.fewer;
-}
-
--- nothing is added where the production's rule isn't reached
-pub not_reached : (G : Grammar) (A p : ℕ) (a : List Bool) → (head_of G p ≡ A → ⊥) → is_set a (head_of G p) ≡ false → PassStep missing (IsReachedFrom G A p) a a false
-not_reached G A p a ne free = record { still = λ e. refl; closed = λ e h. absurd (elim h [ inl q ↦ ne q | inr q ↦ wrong (sym free ∙ q) ]); fewer = λ e. cc }
-  where
-    wrong : false ≡ true → ⊥
-    wrong e = cc
-
 -- what a reached production names is reached
 module _ (G : Grammar) (A p : ℕ) (lt : p < length G.productions) (old : List Bool) (sound : AreReached G A old) (from : (head_of G p ≡ A) ⊎ IsTrue (is_set old (head_of G p))) where
   pub reaches : (d R : ℕ) → IsNext G p d (rule R) → HasPath G A R
@@ -55,8 +40,8 @@ module _ (G : Grammar) (A p : ℕ) (lt : p < length G.productions) (old : List B
   ]
 
   pub with_reached : (d : ℕ) (X : Sym) (bits : List Bool) → slice_get (body_of G p) d ≡ Some X → HasPlace bits X → AreReached G A bits → AreReached G A (with_rule bits X)
-  with_reached d (token t) bits at place h B k = h B k
-  with_reached d (rule R) bits at place h B k = elim ((put_in bits R B place).0 k) [ inl x ↦ h B x | inr e ↦ subst (HasPath G A) e (reaches d R (record { at = at })) ]
+  with_reached d (token t) bits at index h B k = h B k
+  with_reached d (rule R) bits at index h B k = elim ((put_in bits R B index).0 k) [ inl x ↦ h B x | inr e ↦ subst (HasPath G A) e (reaches d R (record { at = at })) ]
 
 pub with_width : (bits : List Bool) (X : Sym) → length (with_rule bits X) ≡ length bits
 with_width bits (rule R) = length-set bits R true

@@ -1,4 +1,4 @@
--- A map from names to their places.
+-- A map from names to their indices.
 use Rattle.std.proofs.Common.{◌≡◌, ℕ, suc, ◌+◌, Bool, false, ◌||◌, List, [], ◌∷◌, ◌++◌, length, take, Option, Some, None, if◌then◌else◌, refl, sym, ap, ◌∙◌, arith, Bor}
 use Rattle.std.specs.Prelude.{map, option_map, slice_get}
 use Rattle.std.specs.List.{list_any, enumerate_from}

@@ -62,8 +62,8 @@ pub kept_on : (a b c : List Bool) → AreKept a b → AreKept b c → AreKept a 
 kept_on a b c h k B x = k B (h B x)
 
 pub kept_with : (bits : List Bool) (X : Sym) (new : List Bool) → HasPlace bits X → new ≡ with_rule bits X → AreKept bits new
-kept_with bits (rule R) new place e B h = subst (λ l. IsTrue (is_set l B)) (sym e) ((put_in bits R B place).1 (inl h))
-kept_with bits (token t) new place e B h = subst (λ l. IsTrue (is_set l B)) (sym e) h
+kept_with bits (rule R) new index e B h = subst (λ l. IsTrue (is_set l B)) (sym e) ((put_in bits R B index).1 (inl h))
+kept_with bits (token t) new index e B h = subst (λ l. IsTrue (is_set l B)) (sym e) h
 
 -- all that is named
 pub all_in : (G : Grammar) (p n : ℕ) (a b : List Bool) (x : Bool) → length (body_of G p) ≤ n → PassStep missing (NamedBelow G p n) a b x → PassStep missing (AreNamedIn G p) a b x

@@ -43,7 +43,7 @@ AreKept old new = (B : ℕ) → IsTrue (is_set old B) → IsTrue (is_set new B)
 abbrev pub lists_in : List (List (List ℕ)) → ℕ → List (List ℕ)
 lists_in table A = get_or table A []
 
--- each rule among the symbols has a place in the table
+-- each rule among the symbols has an entry in the table
 abbrev pub AllHaveLists : List (List (List ℕ)) → List Sym → Type 0
 AllHaveLists table [] = Unit {0}
 AllHaveLists table (rule A ∷ a) = (A < length table) × AllHaveLists table a

@@ -23,7 +23,7 @@ abbrev pub cost_at : List ℕ → List (Option ℕ) → Sym → Option ℕ
 cost_at costs table (rule A) = cost_in table A
 cost_at costs table (token t) = Some (cost_of costs t)
 
--- it has a place in the lists
+-- it has an entry in the lists
 abbrev pub HasCost : List ℕ → List (Option ℕ) → Sym → Type 0
 HasCost costs table (rule A) = A < length table
 HasCost costs table (token t) = t < length costs

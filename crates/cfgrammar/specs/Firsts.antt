@@ -4,6 +4,7 @@ use Rattle.cfg_theory.specs.Grammar.{Sym, rule, token, Grammar, head_of, body_of
 use Rattle.cfg_theory.specs.Derivation.{Nullable, IsFirst}
 use Rattle.cfg_theory.specs.First.{AllOf, FirstOf}
 use Rattle.cfgrammar.specs.Sets.{is_set, is_set_in, missing, missing_in, AreRows}
+use Rattle.cfgrammar.specs.WorkLists.{NamesOne}
 
 pub record FirstSets : Type 0 where
   pub tokens : ℕ
@@ -58,7 +59,7 @@ pub record IsClosedAt (G : Grammar) (s : FirstSets) (p : ℕ) : Type 0 where
   pub nullable : AllOf (HasEpsilon s) (body_of G p) → HasEpsilon s (head_of G p)
   pub first : (t : ℕ) → FirstsOf s (body_of G p) t → HasFirst s (head_of G p) t
 
--- how many places of the sets are free
+-- how many bits of the sets are clear
 abbrev pub room : FirstSets → ℕ
 room s = missing_in s.rows + missing s.epsilons
 
@@ -66,3 +67,31 @@ room s = missing_in s.rows + missing s.epsilons
 abbrev pub AllWithin : FirstSets → List Sym → Type 0
 AllWithin s [] = Unit {0}
 AllWithin s (X ∷ a) = IsWithin s X × AllWithin s a
+
+-- the tokens that a symbol begins with, as the sets tell
+abbrev pub SymbolFirst : FirstSets → Sym → ℕ → Type 0
+SymbolFirst s (rule A) t = HasFirst s A t
+SymbolFirst s (token u) t = u ≡ t
+
+-- the tokens P were added to the set of the rule A, and A to the nullable rules where N holds; nothing else changed
+pub record Adds (A : ℕ) (P : ℕ → Type 0) (N : Type 0) (old new : FirstSets) : Type 0 where
+  pub tokens : new.tokens ≡ old.tokens
+  pub rules : length new.epsilons ≡ length old.epsilons
+  pub count : length new.rows ≡ length old.rows
+  pub rows : (n m : ℕ) → AreRows n m old.rows → AreRows n m new.rows
+  pub first : (B t : ℕ) → HasFirst new B t ↔ (HasFirst old B t ⊎ ((B ≡ A) × P t))
+  pub nullable : (B : ℕ) → HasEpsilon new B ↔ (HasEpsilon old B ⊎ ((B ≡ A) × N))
+
+-- sets of the grammar's rules that hold no more than derivations show, and a further one
+pub record AreSoundOf (G : Grammar) (s : FirstSets) (row : List Bool) : Type 0 where
+  pub sizes : AreOf G s
+  pub sound : AreSound G s
+  pub width : length row ≡ G.tokens
+
+-- the sets are closed under p, or p names a rule of the list
+abbrev pub IsClosedOrWaits : Grammar → FirstSets → List ℕ → ℕ → Type 0
+IsClosedOrWaits G s list p = IsClosedAt G s p ⊎ NamesOne G list p
+
+-- so with each production
+abbrev pub IsClosedBut : Grammar → FirstSets → List ℕ → Type 0
+IsClosedBut G s list = (p : ℕ) → p < length G.productions → IsClosedOrWaits G s list p

@@ -32,9 +32,9 @@ implicit_start_name = 94 ∷ 126 ∷ []
 abbrev pub implicit_name : List ℕ
 implicit_name = 126 ∷ []
 
--- the place of a name in a list
-abbrev pub place : List (List ℕ) → List ℕ → ℕ
-place names name = position_or_len (bytes_eq name) names
+-- the index of a name in a list
+abbrev pub index_in : List (List ℕ) → List ℕ → ℕ
+index_in names name = position_or_len (bytes_eq name) names
 
 abbrev pub is_empty : {A : Type 0} → List A → Bool
 is_empty [] = true
@@ -47,10 +47,10 @@ has_implicit _ ast = false
 
 -- The rules of the file stand behind `^`, in order, then `^~` and `~`; the tokens stand in order.
 abbrev pub rule_number : Ast → List ℕ → ℕ
-rule_number ast name = suc (place (names_of_rules ast) name)
+rule_number ast name = suc (index_in (names_of_rules ast) name)
 
 abbrev pub token_number : Ast → List ℕ → ℕ
-token_number ast name = place (names_of_tokens ast) name
+token_number ast name = index_in (names_of_tokens ast) name
 
 abbrev pub implicit_start : Ast → ℕ
 implicit_start ast = suc (length ast.rules)

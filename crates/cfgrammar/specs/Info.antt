@@ -1,38 +1,49 @@
 -- The parts of a grammar value as contracts see them.
-use Rattle.std.specs.Prelude.{◌≡◌, ℕ, ◌<◌, ◌==◌, List, [], length, map, option_map, get_or, filter, slice_get, Option, Some}
-use Rattle.std.specs.List.{range_with_len, filter_map}
+use Rattle.std.specs.Prelude.{◌≡◌, ℕ, suc, ◌<◌, ◌==◌, List, [], ◌∷◌, ◌++◌, length, map, option_map, get_or, filter, Option, Some, None}
+use Rattle.std.specs.List.{range_with_len}
+use Rattle.std.specs.Borrow.{Bor}
 use Rattle.std.specs.String.{string_bytes}
 use Rattle.std.specs.declared.alloc.Global.{Global}
 use Rattle.std.specs.declared.string.String.{String}
 use Rattle.cfg_theory.specs.Grammar.{Production, Grammar, head_of}
 use Rattle.cfgrammar.specs.Symbols.{syms_of}
-use Rattle.cfgrammar.specs.Value.{RuleFacts, TokenFacts, ProductionFacts, ParamFacts, KeptFacts, GrammarValue, productions_of}
+use Rattle.cfgrammar.specs.Value.{RuleFacts, TokenFacts, ProductionFacts, ParamFacts, KeptFacts, GrammarValue, productions_of, end_facts}
 use Rattle.cfgrammar.specs.declared.yacc.info.RuleInfo.{RuleInfo}
 use Rattle.cfgrammar.specs.declared.yacc.info.TokenInfo.{TokenInfo}
 use Rattle.cfgrammar.specs.declared.yacc.info.ProductionInfo.{ProductionInfo}
 use Rattle.cfgrammar.specs.declared.yacc.info.KeptInfo.{KeptInfo}
 
--- the names of a list
-abbrev pub texts_in : List (String Global) → List (List ℕ)
-texts_in names = map string_bytes names
+-- what stands beside the name of a rule
+abbrev pub rule_beside : List ℕ → RuleInfo → RuleFacts
+rule_beside name r = record { name = name; span = r.span; action_type = option_map string_bytes r.action_type }
 
-abbrev pub part_name : RuleInfo → List ℕ
-part_name r = string_bytes r.name
+abbrev pub rule_facts : String Global × RuleInfo → RuleFacts
+rule_facts e = rule_beside (string_bytes e.0) e.1
 
-abbrev pub token_part_name : TokenInfo → Option (List ℕ)
-token_part_name t = option_map string_bytes t.name
-
-abbrev pub rule_facts : RuleInfo → RuleFacts
-rule_facts r = record { name = string_bytes r.name; span = r.span; action_type = option_map string_bytes r.action_type }
-
-abbrev pub token_facts : TokenInfo → TokenFacts
-token_facts t = record {
-  name = option_map string_bytes t.name;
-  span = t.span;
+-- and beside that of a token
+abbrev pub token_beside : List ℕ → TokenInfo → TokenFacts
+token_beside name t = record {
+  name = Some name;
+  span = Some t.span;
   epp = option_map string_bytes t.epp;
   precedence = t.precedence;
   is_avoided = t.is_avoided;
 }
+
+abbrev pub token_facts : String Global × TokenInfo → TokenFacts
+token_facts e = token_beside (string_bytes e.0) e.1
+
+-- the named tokens, and the end token behind them
+abbrev pub with_end : List (String Global × TokenInfo) → List TokenFacts
+with_end tokens = map token_facts tokens ++ end_facts ∷ []
+
+-- a rule that was looked up, and a token; the end token has no entry
+abbrev pub rule_seen : Bor (List ℕ) × Bor RuleInfo → RuleFacts
+rule_seen e = rule_beside e.0.now e.1.now
+
+abbrev pub token_seen : Option (Bor (List ℕ) × Bor TokenInfo) → TokenFacts
+token_seen (Some e) = token_beside e.0.now e.1.now
+token_seen None = end_facts
 
 abbrev pub production_facts : {S : Type 0} → ProductionInfo S → ProductionFacts
 production_facts p = record {
@@ -59,11 +70,11 @@ abbrev pub production_of : {S : Type 0} → (S → ℕ) → ProductionInfo S →
 production_of number p = record { head = number p.rule.0; body = syms_of number p.symbols.items }
 
 -- the value of these parts
-abbrev pub value_of : {S : Type 0} → (S → ℕ) → List RuleInfo → List TokenInfo → List (ProductionInfo S) → ℕ → KeptInfo S → GrammarValue
+abbrev pub value_of : {S : Type 0} → (S → ℕ) → List (String Global × RuleInfo) → List (String Global × TokenInfo) → List (ProductionInfo S) → ℕ → KeptInfo S → GrammarValue
 value_of number rules tokens prods start kept = record {
-  grammar = record { rules = length rules; tokens = length tokens; productions = map (production_of number) prods; start = start };
+  grammar = record { rules = length rules; tokens = suc (length tokens); productions = map (production_of number) prods; start = start };
   rules = map rule_facts rules;
-  tokens = map token_facts tokens;
+  tokens = with_end tokens;
   productions = map production_facts prods;
   kept = kept_facts number kept;
 }
@@ -81,16 +92,3 @@ pub record ListsProductions (G : Grammar) (lists : List (List ℕ)) : Type 0 whe
 -- a grammar of which only rules and productions are told
 abbrev pub with_productions : ℕ → List Production → Grammar
 with_productions rules productions = record { rules = rules; tokens = 0; productions = productions; start = 0 }
-
--- the rule at a place of these parts has the name
-pub record IsPartNamed (rules : List RuleInfo) (k : ℕ) (name : List ℕ) : Type 0 where
-  pub at : option_map part_name (slice_get rules k) ≡ Some name
-
--- so has the token
-pub record IsTokenPartNamed (tokens : List TokenInfo) (k : ℕ) (name : List ℕ) : Type 0 where
-  pub at : option_map token_part_name (slice_get tokens k) ≡ Some (Some name)
-
--- the names that are kept to be looked up: those of the rules, and of the tokens that have one, in order
-pub record ListsNames (g : GrammarValue) (rules tokens : List (List ℕ)) : Type 0 where
-  pub of_rules : rules ≡ map (λ (r : RuleFacts). r.name) g.rules
-  pub of_tokens : tokens ≡ filter_map (λ (k : TokenFacts). k.name) g.tokens

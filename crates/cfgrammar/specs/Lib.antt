@@ -3,6 +3,7 @@ pub mod Value
 pub mod Info
 pub mod PrettyPrint
 pub mod Sets
+pub mod WorkLists
 pub mod Firsts
 pub mod Follows
 pub mod Paths

@@ -25,7 +25,7 @@ pub record SetRows : Type 0 where
   pub width : ℕ
   pub rows : List (List Bool)
 
--- how many places of all the rows are free
+-- how many bits of all the rows are clear
 abbrev pub missing_in : List (List Bool) → ℕ
 missing_in rows = sum_by missing rows
 

@@ -17,7 +17,7 @@ lists_of number lists = map (λ l. tokens_of number l.items) lists
 abbrev pub joined : List (List ℕ) → List (List ℕ) → List (List ℕ)
 joined us vs = flat_map (λ u. map (λ v. u ++ v) vs) us
 
--- how many lists more a place for lists can hold
+-- how many lists more an entry of lists can hold
 abbrev pub spare : List (List ℕ) → ℕ
 spare lists = 18446744073709551615 - length lists
 

@@ -5,9 +5,11 @@ pub mod follows;
 pub mod from_ast;
 pub mod grammar;
 mod info;
+mod naming;
 mod paths;
 pub mod sentences;
 pub mod sets;
+mod work_list;
 
 pub use cfg_base::span::SpansKind;
 pub use cfg_read::yacc::{

@@ -1,20 +1,24 @@
 //! FIRST sets: the tokens with which a rule's lists begin, and whether it derives the empty list.
 
-ghost use Rattle.std.specs.Prelude.{◌≡◌, ℕ, ◌<◌, ◌↔◌, ◌||◌, Bool, true, false, if◌then◌else◌, IsTrue, IfOk, List, [], length, map, get_or, replicate, slice_set};
-ghost use Rattle.cfg_theory.specs.Grammar.{rule, Grammar, body_of, head_of, WellFormed};
+ghost use Rattle.std.specs.Prelude.{◌≡◌, ℕ, ◌+◌, ◌*◌, ◌<◌, ◌≤◌, ◌↔◌, Bool, true, false, IsTrue, IfOk, OnOk, [], length, get_or, replicate, slice_set};
+ghost use Rattle.cfg_theory.specs.Grammar.{rule, Grammar};
 ghost use Rattle.cfg_theory.specs.First.{AllOf};
 ghost use Rattle.cfgrammar.specs.Symbols.{sym_of, syms_of};
 ghost use Rattle.cfgrammar.specs.Sets.{is_set, joined_to, HasAllOf};
-ghost use Rattle.cfgrammar.specs.Firsts.{FirstSets, HasEpsilon, HasFirst, AreOf, AreFirsts, AreSound, IsClosedAt, IsWithin, IsNullableIn, FirstBefore, FirstsOf, AllWithin, room};
+ghost use Rattle.cfgrammar.specs.Firsts.{FirstSets, HasEpsilon, HasFirst, AreFirsts, AreSoundOf, IsClosedOrWaits, IsClosedBut, IsWithin, IsNullableIn, FirstBefore, SymbolFirst, FirstsOf, AllWithin, Adds, room};
 ghost use Rattle.cfgrammar.specs.Passes.{PassStep, Anything};
 
-use crate::yacc::grammar::{YaccGrammar, index_of};
+use crate::yacc::grammar::YaccGrammar;
+use crate::yacc::naming::Naming;
 use crate::yacc::sets::{TokenSets, clear_unless};
+use crate::yacc::work_list::{WorkList, WorkTable, fill};
 use cfg_base::index::IndexStorage;
-use cfg_base::symbol::{PIdx, RIdx, Symbol, TIdx};
+use cfg_base::steps::Steps;
+use cfg_base::symbol::{RIdx, Symbol, TIdx};
 use cfg_theory::first::first_tables_are_exact;
 use std::alloc::{AllocError, Global};
-use std::marker::{Model, PhantomData};
+use std::marker::{Brand, Model, PhantomData};
+use std::sync::ledger::{Blank, Ledger};
 use vob::Vob;
 
 /// FIRST sets of a grammar's rules.
@@ -104,8 +108,8 @@ impl<S: IndexStorage> YaccFirsts<S> {
     {
         begins.set_all(false);
         let mut nullable = true;
-        'back: for place in 0..symbols.len() {
-            let symbol = symbols[symbols.len() - 1 - place];
+        'back: for index in 0..symbols.len() {
+            let symbol = symbols[symbols.len() - 1 - index];
             self.put_before(symbol, begins);
             nullable &= self.is_nullable(symbol);
         }
@@ -119,22 +123,21 @@ impl<S: IndexStorage> YaccFirsts<S> {
         ensures tokens { self.new.tokens ≡ self.old.tokens }
         ensures rows { self.new.rows ≡ joined_to self.old.rows (S.number rule.0) tokens.now.bits }
         ensures epsilons { self.new.epsilons ≡ self.old.epsilons }
+        ensures width_was { length (get_or self.old.rows (S.number rule.0) []) ≡ self.old.tokens }
         ensures steps { PassStep room (λ s. HasAllOf (S.number rule.0) tokens.now.bits s.rows) self.old self.new result }
     {
         self.firsts.join(rule.0.to_usize(), tokens)
     }
 
-    /// Puts a rule among the nullable ones, if it is one, and says whether that changed the set.
-    fn add_epsilon(&mut self, rule: RIdx<S>, nullable: bool) -> bool
+    /// Puts a rule among the nullable ones, and says whether it wasn't one of them.
+    fn add_epsilon(&mut self, rule: RIdx<S>) -> bool
         requires { S.number rule.0 < length self.old.rows }
         ensures tokens { self.new.tokens ≡ self.old.tokens }
         ensures rows { self.new.rows ≡ self.old.rows }
-        ensures epsilons { self.new.epsilons ≡ if nullable then slice_set self.old.epsilons (S.number rule.0) true else self.old.epsilons }
-        ensures steps { PassStep room (λ s. IsTrue nullable → HasEpsilon s (S.number rule.0)) self.old self.new result }
+        ensures within { S.number rule.0 < length self.old.epsilons }
+        ensures epsilons { self.new.epsilons ≡ slice_set self.old.epsilons (S.number rule.0) true }
+        ensures steps { PassStep room Anything self.old self.new result }
     {
-        if !nullable {
-            return false;
-        }
         self.epsilons.set(rule.0.to_usize(), true)
     }
 }
@@ -144,16 +147,7 @@ impl<S: IndexStorage> YaccFirsts<S> {
     pub fn new(alloc: Global, grm: &YaccGrammar<S>) -> Result<Self, AllocError>
         ensures { IfOk result (λ f. AreFirsts grm.now.grammar f) }
     {
-        let rules = grm.rules_len().0.to_usize();
-        let tokens = grm.tokens_len().0.to_usize();
-        let mut begins = Vob::from_elem(alloc, false, tokens)?;
-        first_tables_are_exact();
-        let mut firsts = YaccFirsts::empty(alloc, rules, tokens)?;
-        'passes: loop {
-            if !firsts.sweep(grm, &mut begins) {
-                return Ok(firsts);
-            }
-        }
+        fill_with_blank::<S, Brand>(alloc, grm, Blank::new(1))
     }
 
     fn empty(alloc: Global, rules: usize, tokens: usize) -> Result<Self, AllocError>
@@ -207,74 +201,211 @@ impl<S: IndexStorage> YaccFirsts<S> {
     {
         self.firsts.put(ridx.0.to_usize(), tidx.0.to_usize())
     }
+}
 
-    /// Takes in one production, and says whether that added something to a set.
-    fn take_prod(&mut self, grm: &YaccGrammar<S>, pidx: PIdx<S>, begins: &mut Vob) -> bool
-        requires production { S.number pidx.0 < length grm.now.grammar.productions }
-        requires sizes { AreOf grm.now.grammar self.old }
-        requires width { length begins.old.bits ≡ grm.now.grammar.tokens }
-        requires sound { AreSound grm.now.grammar self.old }
-        ensures sizes { AreOf grm.now.grammar self.new }
-        ensures width { length begins.new.bits ≡ grm.now.grammar.tokens }
-        ensures sound { AreSound grm.now.grammar self.new }
-        ensures steps { PassStep room (λ s. IsClosedAt grm.now.grammar s (S.number pidx.0)) self.old self.new result }
-    {
-        grm.stays_well_formed();
-        let nullable = self.first_of(grm.prod(pidx), begins);
-        let rule = grm.prod_to_rule(pidx);
-        let grew = self.add_tokens(rule, begins);
-        let found = self.add_epsilon(rule, nullable);
-        grew | found
-    }
-
-    /// Takes in each production once, from the last to the first, and says whether that added something
-    /// to a set.
-    fn pass_back(&mut self, grm: &YaccGrammar<S>, begins: &mut Vob) -> bool
-        requires sizes { AreOf grm.now.grammar self.old }
-        requires width { length begins.old.bits ≡ grm.now.grammar.tokens }
-        requires sound { AreSound grm.now.grammar self.old }
-        ensures sizes { AreOf grm.now.grammar self.new }
-        ensures width { length begins.new.bits ≡ grm.now.grammar.tokens }
-        ensures sound { AreSound grm.now.grammar self.new }
+impl<S: IndexStorage> YaccFirsts<S> {
+    /// Adds the set of one rule to that of another, by way of `row`, and says whether that changed it.
+    fn add_row(&mut self, head: RIdx<S>, rule: RIdx<S>, row: &mut Vob) -> bool
+        requires head { S.number head.0 < length self.old.rows }
+        requires rule { S.number rule.0 < length self.old.rows }
+        requires width { length row.old.bits ≡ self.old.tokens }
+        ensures width { length row.new.bits ≡ self.old.tokens }
+        ensures added { Adds (S.number head.0) (HasFirst self.old (S.number rule.0)) ⊥ self.old self.new }
         ensures steps { PassStep room Anything self.old self.new result }
     {
-        let count = grm.prods_len().0.to_usize();
+        row.set_all(false);
+        row.or(self.firsts.row(rule.0.to_usize()));
+        self.add_tokens(head, row)
+    }
+
+    /// Adds a token to the set of a rule, and says whether that changed it.
+    fn add_token(&mut self, head: RIdx<S>, token: TIdx<S>) -> bool
+        requires head { S.number head.0 < length self.old.rows }
+        requires token { S.number token.0 < self.old.tokens }
+        ensures added { Adds (S.number head.0) (λ t. S.number token.0 ≡ t) ⊥ self.old self.new }
+        ensures steps { PassStep room Anything self.old self.new result }
+    {
+        // Read, so that the proof may use how wide the set is.
+        let _set = self.firsts(head);
+        !self.set(head, token)
+    }
+
+    /// Adds the tokens that a symbol begins with to the set of a rule, and says whether that changed it.
+    fn add_symbol(&mut self, head: RIdx<S>, symbol: Symbol<S>, row: &mut Vob) -> bool
+        requires head { S.number head.0 < length self.old.rows }
+        requires within { IsWithin self.old (sym_of S.number symbol) }
+        requires width { length row.old.bits ≡ self.old.tokens }
+        ensures width { length row.new.bits ≡ self.old.tokens }
+        ensures added { Adds (S.number head.0) (SymbolFirst self.old (sym_of S.number symbol)) ⊥ self.old self.new }
+        ensures steps { PassStep room Anything self.old self.new result }
+    {
+        match symbol {
+            Symbol::Rule(rule) => self.add_row(head, rule, row),
+            Symbol::Token(token) => self.add_token(head, token),
+        }
+    }
+
+    /// Adds to a rule what the symbols begin with, up to the first that isn't nullable, and the rule to the nullable
+    /// ones where there is none. Says whether that changed the sets.
+    fn add_body(&mut self, head: RIdx<S>, symbols: &[Symbol<S>], row: &mut Vob) -> bool
+        requires head { S.number head.0 < length self.old.rows }
+        requires within { AllWithin self.old (syms_of S.number symbols.now) }
+        requires width { length row.old.bits ≡ self.old.tokens }
+        ensures width { length row.new.bits ≡ self.old.tokens }
+        ensures added { Adds (S.number head.0) (FirstsOf self.old (syms_of S.number symbols.now)) (AllOf (HasEpsilon self.old) (syms_of S.number symbols.now)) self.old self.new }
+        ensures steps { PassStep room Anything self.old self.new result }
+    {
         let mut changed = false;
+        'front: for index in 0..symbols.len() {
+            let symbol = symbols[index];
+            changed |= self.add_symbol(head, symbol, row);
+            if !self.is_nullable(symbol) {
+                return changed;
+            }
+        }
+        let found = self.add_epsilon(head);
+        changed | found
+    }
+
+    /// Goes through a production. Where that changes the sets, its rule enters the list.
+    fn take_prod(
+        &mut self,
+        grm: &YaccGrammar<S>,
+        number: usize,
+        row: &mut Vob,
+        work: &mut WorkList,
+    ) -> Result<(), AllocError>
+        requires production { number < length grm.now.grammar.productions }
+        requires sound { AreSoundOf grm.now.grammar self.old row.old.bits }
+        requires work { work.old.rules ≡ grm.now.grammar.rules }
+        ensures sound { OnOk result (AreSoundOf grm.now.grammar self.new row.new.bits) }
+        ensures work { OnOk result (work.new.rules ≡ work.old.rules) }
+        ensures kept { OnOk result ((p : ℕ) → IsClosedOrWaits grm.now.grammar self.old work.old.list p → IsClosedOrWaits grm.now.grammar self.new work.new.list p) }
+        ensures here { OnOk result (IsClosedOrWaits grm.now.grammar self.new work.new.list number) }
+        ensures room { OnOk result (room self.new + length work.new.list ≤ room self.old + length work.old.list) }
+    {
+        grm.stays_well_formed();
+        let pidx = grm.prod_at(number);
+        let head = grm.prod_to_rule(pidx);
+        if !self.add_body(head, grm.prod(pidx), row) {
+            return Ok(());
+        }
+        work.put(head.0.to_usize())?;
+        Ok(())
+    }
+}
+
+/// FIRST sets that are being filled.
+#[derive(Drop)]
+struct Filling<'a, S: IndexStorage> {
+    grm: &'a YaccGrammar<S>,
+    naming: &'a Naming,
+    firsts: YaccFirsts<S>,
+    row: Vob,
+}
+
+impl<'a, S: IndexStorage> WorkTable for Filling<'a, S> {
+    ghost use Rattle.std.specs.Prelude.{◌≡◌, length, refl};
+    ghost use Rattle.std.proofs.Common.{◌∙◌};
+    ghost use Rattle.cfgrammar.specs.Firsts.{AreSoundOf, IsClosedBut, room as firsts_room};
+    ghost use Rattle.cfgrammar.specs.WorkLists.{ListsNaming};
+
+    ghost rules = { λ s. s.grm.now.grammar.rules };
+
+    ghost is_sound = { λ s. AreSoundOf s.grm.now.grammar s.firsts s.row.bits × ListsNaming s.grm.now.grammar (length s.grm.now.grammar.productions) s.naming.now };
+
+    ghost room = { λ s. firsts_room s.firsts };
+
+    ghost is_closed_but = { λ s list. IsClosedBut s.grm.now.grammar s.firsts list };
+
+    ghost is_of_same = { λ s t. t.grm.now ≡ s.grm.now };
+
+    ghost same_refl = { λ s. refl };
+
+    ghost same_trans = { λ s t u h k. k ∙ h };
+
+    fn take(&mut self, rule: usize, work: &mut WorkList) -> Result<(), AllocError> {
+        let named = self.naming.of(rule);
+        'prods: for index in 0..named.len() {
+            self.firsts
+                .take_prod(self.grm, named[index], &mut self.row, work)?;
+        }
+        Ok(())
+    }
+}
+
+impl<'a, S: IndexStorage> Filling<'a, S> {
+    /// Begins with empty sets.
+    fn new(
+        alloc: Global,
+        grm: &'a YaccGrammar<S>,
+        naming: &'a Naming,
+    ) -> Result<Filling<'a, S>, AllocError>
+        ensures grammar { IfOk result (λ f. f.grm.now ≡ grm.now) }
+        ensures naming { IfOk result (λ f. f.naming.now ≡ naming.now) }
+        ensures sound { IfOk result (λ f. AreSoundOf grm.now.grammar f.firsts f.row.bits) }
+        ensures room { IfOk result (λ f. room f.firsts ≡ grm.now.grammar.rules * (grm.now.grammar.tokens + 1)) }
+    {
+        let rules = grm.rules_len().0.to_usize();
+        let tokens = grm.tokens_len().0.to_usize();
+        Ok(Filling {
+            grm,
+            naming,
+            firsts: YaccFirsts::empty(alloc, rules, tokens)?,
+            row: Vob::from_elem(alloc, false, tokens)?,
+        })
+    }
+
+    /// Goes through all productions once, from the last to the first.
+    fn start(&mut self, work: &mut WorkList) -> Result<(), AllocError>
+        requires sound { AreSoundOf self.old.grm.now.grammar self.old.firsts self.old.row.bits }
+        requires work { work.old.rules ≡ self.old.grm.now.grammar.rules }
+        ensures grammar { OnOk result (self.new.grm.now ≡ self.old.grm.now) }
+        ensures naming { OnOk result (self.new.naming.now ≡ self.old.naming.now) }
+        ensures sound { OnOk result (AreSoundOf self.old.grm.now.grammar self.new.firsts self.new.row.bits) }
+        ensures work { OnOk result (work.new.rules ≡ work.old.rules) }
+        ensures closed { OnOk result (IsClosedBut self.old.grm.now.grammar self.new.firsts work.new.list) }
+        ensures room { OnOk result (room self.new.firsts + length work.new.list ≤ room self.old.firsts + length work.old.list) }
+    {
+        let count = self.grm.prods_len().0.to_usize();
         'prods: for number in 0..count {
-            changed |= self.take_prod(grm, PIdx(index_of(count - 1 - number)), begins);
+            self.firsts
+                .take_prod(self.grm, count - 1 - number, &mut self.row, work)?;
         }
-        changed
+        Ok(())
     }
+}
 
-    /// Takes in each production once, and says whether that added something to a set.
-    fn pass(&mut self, grm: &YaccGrammar<S>, begins: &mut Vob) -> bool
-        requires sizes { AreOf grm.now.grammar self.old }
-        requires width { length begins.old.bits ≡ grm.now.grammar.tokens }
-        requires sound { AreSound grm.now.grammar self.old }
-        ensures sizes { AreOf grm.now.grammar self.new }
-        ensures width { length begins.new.bits ≡ grm.now.grammar.tokens }
-        ensures sound { AreSound grm.now.grammar self.new }
-        ensures steps { PassStep room (λ s. (p : ℕ) → p < length grm.now.grammar.productions → IsClosedAt grm.now.grammar s p) self.old self.new result }
-    {
-        let mut changed = false;
-        'prods: for number in 0..grm.prods_len().0.to_usize() {
-            changed |= self.take_prod(grm, PIdx(index_of(number)), begins);
-        }
-        changed
-    }
+/// The FIRST sets of a grammar's rules, as `YaccFirsts::new` makes them. A step is counted for each rule that is taken
+/// from the work list: each is once, and again when its set grew or it was found to be nullable.
+pub fn fill_firsts<S: IndexStorage, L: Ledger>(
+    alloc: Global,
+    grm: &YaccGrammar<S>,
+    steps: &mut Steps<L>,
+) -> Result<YaccFirsts<S>, AllocError>
+    ensures firsts { IfOk result (λ f. AreFirsts grm.now.grammar f) }
+    ensures takings { steps.new ≤ steps.old + grm.now.grammar.rules * (grm.now.grammar.tokens + 2) }
+{
+    first_tables_are_exact();
+    let naming = Naming::new(alloc, grm)?;
+    let mut filling = Filling::new(alloc, grm, &naming)?;
+    let mut work = WorkList::full(alloc, grm.rules_len().0.to_usize())?;
+    filling.start(&mut work)?;
+    fill(&mut filling, &mut work, steps)?;
+    Ok(filling.firsts)
+}
 
-    /// Both: names of later rules, and of earlier ones, are then taken in at once.
-    fn sweep(&mut self, grm: &YaccGrammar<S>, begins: &mut Vob) -> bool
-        requires sizes { AreOf grm.now.grammar self.old }
-        requires width { length begins.old.bits ≡ grm.now.grammar.tokens }
-        requires sound { AreSound grm.now.grammar self.old }
-        ensures sizes { AreOf grm.now.grammar self.new }
-        ensures width { length begins.new.bits ≡ grm.now.grammar.tokens }
-        ensures sound { AreSound grm.now.grammar self.new }
-        ensures steps { PassStep room (λ s. (p : ℕ) → p < length grm.now.grammar.productions → IsClosedAt grm.now.grammar s p) self.old self.new result }
-    {
-        let back = self.pass_back(grm, begins);
-        let on = self.pass(grm, begins);
-        back | on
-    }
+/// The same, where nobody counts.
+fn fill_with_blank<S: IndexStorage, L: Ledger>(
+    alloc: Global,
+    grm: &YaccGrammar<S>,
+    blank: Blank,
+) -> Result<YaccFirsts<S>, AllocError>
+    requires name { blank.name ≡ L.name }
+    requires parts { blank.parts ≡ L.parts }
+    requires one { blank.parts ≡ 1 }
+    ensures { IfOk result (λ f. AreFirsts grm.now.grammar f) }
+{
+    let mut steps = Steps::<L>::new(blank);
+    fill_firsts(alloc, grm, &mut steps)
 }

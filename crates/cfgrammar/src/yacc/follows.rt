@@ -1,21 +1,24 @@
 //! FOLLOW sets: the tokens that come right after a rule in some derived list.
 
-ghost use Rattle.std.specs.Prelude.{◌≡◌, ℕ, ◌<◌, ◌↔◌, ◌||◌, Bool, true, false, IsTrue, IfOk, List, [], length, map, get_or, slice_set, replicate};
-ghost use Rattle.cfg_theory.specs.Grammar.{rule, Grammar, body_of, head_of, WellFormed};
+ghost use Rattle.std.specs.Prelude.{◌≡◌, ℕ, ◌<◌, ◌↔◌, true, false, IsTrue, IfOk, OnOk, [], length, get_or, slice_set, replicate};
+ghost use Rattle.cfg_theory.specs.Grammar.{rule, Grammar, IsEnd};
 ghost use Rattle.cfgrammar.specs.Symbols.{sym_of, syms_of};
 ghost use Rattle.cfgrammar.specs.Sets.{is_set, joined_to, HasAllOf};
 ghost use Rattle.cfgrammar.specs.Firsts.{AreFirsts};
-ghost use Rattle.cfgrammar.specs.Follows.{FollowSets, HasFollow, AreOf, AreFollows, AreSound, IsClosedFrom, HasSet, HasAll, added, room};
+ghost use Rattle.cfgrammar.specs.Follows.{FollowSets, HasFollow, AreFollows, AreSoundOf, HoldsFirsts, HoldsAll, HandsOn, GoesOn, Hands, Adds, HasSet, HasAll, added, room};
 ghost use Rattle.cfgrammar.specs.Passes.{PassStep, Anything};
 
 use crate::yacc::firsts::YaccFirsts;
-use crate::yacc::grammar::{YaccGrammar, index_of};
+use crate::yacc::grammar::YaccGrammar;
 use crate::yacc::sets::TokenSets;
+use crate::yacc::work_list::{WorkList, WorkTable, fill};
 use cfg_base::index::IndexStorage;
+use cfg_base::steps::Steps;
 use cfg_base::symbol::{PIdx, RIdx, Symbol, TIdx};
 use cfg_theory::first::{first_tables_are_exact, follow_tables_are_exact};
 use std::alloc::{AllocError, Global};
-use std::marker::{Model, PhantomData};
+use std::marker::{Brand, Model, PhantomData};
+use std::sync::ledger::{Blank, Ledger};
 use vob::Vob;
 
 /// FOLLOW sets of a grammar's rules.
@@ -48,23 +51,7 @@ impl<S: IndexStorage> YaccFollows<S> {
     pub fn new(alloc: Global, grm: &YaccGrammar<S>) -> Result<Self, AllocError>
         ensures { IfOk result (λ f. AreFollows grm.now.grammar f) }
     {
-        first_tables_are_exact();
-        follow_tables_are_exact();
-        grm.stays_well_formed();
-        let firsts = YaccFirsts::new(alloc, grm)?;
-        let rules = grm.rules_len().0.to_usize();
-        let tokens = grm.tokens_len().0.to_usize();
-        let mut behind = Vob::from_elem(alloc, false, tokens)?;
-        let mut follows = YaccFollows {
-            follows: TokenSets::empty(alloc, rules, tokens)?,
-            storage: PhantomData,
-        };
-        follows.put(grm.start_rule_idx(), grm.eof_token_idx());
-        'passes: loop {
-            if !follows.sweep(grm, &firsts, &mut behind) {
-                return Ok(follows);
-            }
-        }
+        fill_with_blank::<S, Brand>(alloc, grm, Blank::new(1))
     }
 
     /// The set of a rule: a bit for each token.
@@ -111,6 +98,7 @@ impl<S: IndexStorage> YaccFollows<S> {
         requires width { length tokens.now.bits ≡ self.old.tokens }
         ensures tokens { self.new.tokens ≡ self.old.tokens }
         ensures rows { self.new.rows ≡ joined_to self.old.rows (S.number rule.0) tokens.now.bits }
+        ensures width_was { length (get_or self.old.rows (S.number rule.0) []) ≡ self.old.tokens }
         ensures steps { PassStep room (λ s. HasAllOf (S.number rule.0) tokens.now.bits s.rows) self.old self.new result }
     {
         self.follows.join(rule.0.to_usize(), tokens)
@@ -130,91 +118,235 @@ impl<S: IndexStorage> YaccFollows<S> {
         }
     }
 
-    /// Takes in one production, and says whether that added a token to some set.
+    /// Adds what begins behind each rule of a production to that rule's set, and what follows the production's rule
+    /// where all behind the other is nullable.
     fn take_prod(
         &mut self,
         grm: &YaccGrammar<S>,
         firsts: &YaccFirsts<S>,
         pidx: PIdx<S>,
         behind: &mut Vob,
-    ) -> bool
+    )
         requires production { S.number pidx.0 < length grm.now.grammar.productions }
         requires firsts { AreFirsts grm.now.grammar firsts.now }
-        requires sizes { AreOf grm.now.grammar self.old }
-        requires width { length behind.old.bits ≡ grm.now.grammar.tokens }
-        requires sound { AreSound grm.now.grammar self.old }
-        ensures sizes { AreOf grm.now.grammar self.new }
-        ensures width { length behind.new.bits ≡ grm.now.grammar.tokens }
-        ensures sound { AreSound grm.now.grammar self.new }
-        ensures kept { (t : ℕ) → HasFollow self.old 0 t → HasFollow self.new 0 t }
-        ensures steps { PassStep room (IsClosedFrom grm.now.grammar firsts.now (S.number pidx.0) 0) self.old self.new result }
+        requires sound { AreSoundOf grm.now.grammar self.old behind.old.bits }
+        ensures sound { AreSoundOf grm.now.grammar self.new behind.new.bits }
+        ensures kept { (A t : ℕ) → HasFollow self.old A t → HasFollow self.new A t }
+        ensures firsts { HoldsFirsts grm.now.grammar firsts.now self.new (S.number pidx.0) }
     {
         grm.stays_well_formed();
         let symbols = grm.prod(pidx);
         self.copy_set(grm.prod_to_rule(pidx), behind);
-        let mut changed = false;
-        'back: for place in 0..symbols.len() {
-            let symbol = symbols[symbols.len() - 1 - place];
-            changed |= self.add_behind(symbol, behind);
+        'back: for index in 0..symbols.len() {
+            let symbol = symbols[symbols.len() - 1 - index];
+            self.add_behind(symbol, behind);
             firsts.put_before(symbol, behind);
         }
-        changed
     }
 
-    /// Takes in each production once, from the last to the first, and says whether that added a token to
-    /// some set.
-    fn pass_back(&mut self, grm: &YaccGrammar<S>, firsts: &YaccFirsts<S>, behind: &mut Vob) -> bool
-        requires firsts { AreFirsts grm.now.grammar firsts.now }
-        requires sizes { AreOf grm.now.grammar self.old }
-        requires width { length behind.old.bits ≡ grm.now.grammar.tokens }
-        requires sound { AreSound grm.now.grammar self.old }
-        ensures sizes { AreOf grm.now.grammar self.new }
-        ensures width { length behind.new.bits ≡ grm.now.grammar.tokens }
-        ensures sound { AreSound grm.now.grammar self.new }
-        ensures kept { (t : ℕ) → HasFollow self.old 0 t → HasFollow self.new 0 t }
+    /// Adds the set of one rule to that of another, by way of `row`, and says whether that changed it.
+    fn add_row(&mut self, to: RIdx<S>, from: RIdx<S>, row: &mut Vob) -> bool
+        requires to { S.number to.0 < length self.old.rows }
+        requires from { S.number from.0 < length self.old.rows }
+        requires width { length row.old.bits ≡ self.old.tokens }
+        ensures width { length row.new.bits ≡ self.old.tokens }
+        ensures added { Adds (S.number from.0) (S.number to.0) self.old self.new }
         ensures steps { PassStep room Anything self.old self.new result }
     {
-        let count = grm.prods_len().0.to_usize();
-        let mut changed = false;
-        'prods: for number in 0..count {
-            changed |= self.take_prod(grm, firsts, PIdx(index_of(count - 1 - number)), behind);
-        }
-        changed
+        self.copy_set(from, row);
+        self.add_tokens(to, row)
     }
 
-    /// Takes in each production once, and says whether that added a token to some set.
-    fn pass(&mut self, grm: &YaccGrammar<S>, firsts: &YaccFirsts<S>, behind: &mut Vob) -> bool
-        requires firsts { AreFirsts grm.now.grammar firsts.now }
-        requires sizes { AreOf grm.now.grammar self.old }
-        requires width { length behind.old.bits ≡ grm.now.grammar.tokens }
-        requires sound { AreSound grm.now.grammar self.old }
-        ensures sizes { AreOf grm.now.grammar self.new }
-        ensures width { length behind.new.bits ≡ grm.now.grammar.tokens }
-        ensures sound { AreSound grm.now.grammar self.new }
-        ensures kept { (t : ℕ) → HasFollow self.old 0 t → HasFollow self.new 0 t }
-        ensures steps { PassStep room (λ s. (p : ℕ) → p < length grm.now.grammar.productions → IsClosedFrom grm.now.grammar firsts.now p 0 s) self.old self.new result }
+    /// Adds what follows one rule to what follows another, which enters the list where that changed its set.
+    fn hand_to(
+        &mut self,
+        from: RIdx<S>,
+        to: RIdx<S>,
+        row: &mut Vob,
+        work: &mut WorkList,
+    ) -> Result<(), AllocError>
+        requires to { S.number to.0 < length self.old.rows }
+        requires from { S.number from.0 < length self.old.rows }
+        requires width { length row.old.bits ≡ self.old.tokens }
+        requires work { work.old.rules ≡ length self.old.rows }
+        ensures width { OnOk result (length row.new.bits ≡ self.old.tokens) }
+        ensures handed { OnOk result (Hands (S.number from.0) (rule (S.number to.0)) self.old self.new work.old work.new) }
     {
-        let mut changed = false;
-        'prods: for number in 0..grm.prods_len().0.to_usize() {
-            changed |= self.take_prod(grm, firsts, PIdx(index_of(number)), behind);
+        if !self.add_row(to, from, row) {
+            return Ok(());
         }
-        changed
+        work.put(to.0.to_usize())?;
+        Ok(())
     }
 
-    /// Both: names of later rules, and of earlier ones, are then taken in at once.
-    fn sweep(&mut self, grm: &YaccGrammar<S>, firsts: &YaccFirsts<S>, behind: &mut Vob) -> bool
-        requires firsts { AreFirsts grm.now.grammar firsts.now }
-        requires sizes { AreOf grm.now.grammar self.old }
-        requires width { length behind.old.bits ≡ grm.now.grammar.tokens }
-        requires sound { AreSound grm.now.grammar self.old }
-        ensures sizes { AreOf grm.now.grammar self.new }
-        ensures width { length behind.new.bits ≡ grm.now.grammar.tokens }
-        ensures sound { AreSound grm.now.grammar self.new }
-        ensures kept { (t : ℕ) → HasFollow self.old 0 t → HasFollow self.new 0 t }
-        ensures steps { PassStep room (λ s. (p : ℕ) → p < length grm.now.grammar.productions → IsClosedFrom grm.now.grammar firsts.now p 0 s) self.old self.new result }
+    /// The same with a symbol, where that is a rule.
+    fn hand_to_symbol(
+        &mut self,
+        from: RIdx<S>,
+        symbol: Symbol<S>,
+        row: &mut Vob,
+        work: &mut WorkList,
+    ) -> Result<(), AllocError>
+        requires within { HasSet self.old (sym_of S.number symbol) }
+        requires from { S.number from.0 < length self.old.rows }
+        requires width { length row.old.bits ≡ self.old.tokens }
+        requires work { work.old.rules ≡ length self.old.rows }
+        ensures width { OnOk result (length row.new.bits ≡ self.old.tokens) }
+        ensures handed { OnOk result (Hands (S.number from.0) (sym_of S.number symbol) self.old self.new work.old work.new) }
     {
-        let back = self.pass_back(grm, firsts, behind);
-        let on = self.pass(grm, firsts, behind);
-        back | on
+        match symbol {
+            Symbol::Rule(to) => self.hand_to(from, to, row, work),
+            Symbol::Token(_) => Ok(()),
+        }
     }
+
+    /// Hands what follows a production's rule on to the rules behind which all is nullable. Those whose sets that
+    /// changes enter the list.
+    fn hand_on(
+        &mut self,
+        grm: &YaccGrammar<S>,
+        firsts: &YaccFirsts<S>,
+        pidx: PIdx<S>,
+        row: &mut Vob,
+        work: &mut WorkList,
+    ) -> Result<(), AllocError>
+        requires production { S.number pidx.0 < length grm.now.grammar.productions }
+        requires firsts { AreFirsts grm.now.grammar firsts.now }
+        requires sound { AreSoundOf grm.now.grammar self.old row.old.bits }
+        requires work { work.old.rules ≡ grm.now.grammar.rules }
+        ensures sound { OnOk result (AreSoundOf grm.now.grammar self.new row.new.bits) }
+        ensures went_on { OnOk result (GoesOn grm.now.grammar firsts.now self.old self.new work.old work.new) }
+        ensures here { OnOk result (HandsOn grm.now.grammar firsts.now self.new (S.number pidx.0)) }
+    {
+        grm.stays_well_formed();
+        let symbols = grm.prod(pidx);
+        let head = grm.prod_to_rule(pidx);
+        'back: for index in 0..symbols.len() {
+            let symbol = symbols[symbols.len() - 1 - index];
+            self.hand_to_symbol(head, symbol, row, work)?;
+            if !firsts.is_nullable(symbol) {
+                return Ok(());
+            }
+        }
+        Ok(())
+    }
+}
+
+/// FOLLOW sets that are being filled.
+#[derive(Drop)]
+struct Filling<'a, S: IndexStorage> {
+    grm: &'a YaccGrammar<S>,
+    firsts: &'a YaccFirsts<S>,
+    follows: YaccFollows<S>,
+    row: Vob,
+}
+
+impl<'a, S: IndexStorage> WorkTable for Filling<'a, S> {
+    ghost use Rattle.std.specs.Prelude.{◌≡◌, length, refl};
+    ghost use Rattle.std.proofs.Common.{◌∙◌};
+    ghost use Rattle.cfgrammar.specs.Firsts.{AreFirsts};
+    ghost use Rattle.cfgrammar.specs.Follows.{AreSoundOf, HoldsAll, IsClosedBut, room as follows_room};
+
+    ghost rules = { λ s. s.grm.now.grammar.rules };
+
+    ghost is_sound = { λ s. AreSoundOf s.grm.now.grammar s.follows s.row.bits × AreFirsts s.grm.now.grammar s.firsts.now × HoldsAll s.grm.now.grammar s.firsts.now s.follows };
+
+    ghost room = { λ s. follows_room s.follows };
+
+    ghost is_closed_but = { λ s list. IsClosedBut s.grm.now.grammar s.firsts.now s.follows list };
+
+    ghost is_of_same = { λ s t. (t.grm.now ≡ s.grm.now) × (t.firsts.now ≡ s.firsts.now) };
+
+    ghost same_refl = { λ s. (refl, refl) };
+
+    ghost same_trans = { λ s t u h k. (k.0 ∙ h.0, k.1 ∙ h.1) };
+
+    fn take(&mut self, rule: usize, work: &mut WorkList) -> Result<(), AllocError> {
+        let prods = self.grm.rule_to_prods(self.grm.rule_at(rule));
+        'prods: for index in 0..prods.len() {
+            self.follows
+                .hand_on(self.grm, self.firsts, prods[index], &mut self.row, work)?;
+        }
+        Ok(())
+    }
+}
+
+impl<'a, S: IndexStorage> Filling<'a, S> {
+    /// Begins with the end token in the set of the start rule.
+    fn new(
+        alloc: Global,
+        grm: &'a YaccGrammar<S>,
+        firsts: &'a YaccFirsts<S>,
+    ) -> Result<Filling<'a, S>, AllocError>
+        ensures grammar { IfOk result (λ f. f.grm.now ≡ grm.now) }
+        ensures firsts { IfOk result (λ f. f.firsts.now ≡ firsts.now) }
+        ensures sound { IfOk result (λ f. AreSoundOf grm.now.grammar f.follows f.row.bits) }
+        ensures end { IfOk result (λ f. (t : ℕ) → IsEnd grm.now.grammar t → HasFollow f.follows 0 t) }
+    {
+        let rules = grm.rules_len().0.to_usize();
+        let tokens = grm.tokens_len().0.to_usize();
+        let row = Vob::from_elem(alloc, false, tokens)?;
+        let mut follows = YaccFollows {
+            follows: TokenSets::empty(alloc, rules, tokens)?,
+            storage: PhantomData,
+        };
+        follows.put(grm.start_rule_idx(), grm.eof_token_idx());
+        Ok(Filling {
+            grm,
+            firsts,
+            follows,
+            row,
+        })
+    }
+
+    /// Goes through all productions once.
+    fn start(&mut self)
+        requires sound { AreSoundOf self.old.grm.now.grammar self.old.follows self.old.row.bits }
+        requires firsts { AreFirsts self.old.grm.now.grammar self.old.firsts.now }
+        requires end { (t : ℕ) → IsEnd self.old.grm.now.grammar t → HasFollow self.old.follows 0 t }
+        ensures grammar { self.new.grm.now ≡ self.old.grm.now }
+        ensures firsts { self.new.firsts.now ≡ self.old.firsts.now }
+        ensures sound { AreSoundOf self.old.grm.now.grammar self.new.follows self.new.row.bits }
+        ensures holds { HoldsAll self.old.grm.now.grammar self.old.firsts.now self.new.follows }
+    {
+        'prods: for number in 0..self.grm.prods_len().0.to_usize() {
+            let pidx = self.grm.prod_at(number);
+            self.follows
+                .take_prod(self.grm, self.firsts, pidx, &mut self.row);
+        }
+    }
+}
+
+/// The FOLLOW sets of a grammar's rules, with a step for each rule that is taken from the work list.
+fn fill_follows<S: IndexStorage, L: Ledger>(
+    alloc: Global,
+    grm: &YaccGrammar<S>,
+    steps: &mut Steps<L>,
+) -> Result<YaccFollows<S>, AllocError>
+    ensures { IfOk result (λ f. AreFollows grm.now.grammar f) }
+{
+    first_tables_are_exact();
+    follow_tables_are_exact();
+    grm.stays_well_formed();
+    let firsts = YaccFirsts::new(alloc, grm)?;
+    let mut filling = Filling::new(alloc, grm, &firsts)?;
+    let mut work = WorkList::full(alloc, grm.rules_len().0.to_usize())?;
+    filling.start();
+    fill(&mut filling, &mut work, steps)?;
+    Ok(filling.follows)
+}
+
+/// The same, where nobody counts.
+fn fill_with_blank<S: IndexStorage, L: Ledger>(
+    alloc: Global,
+    grm: &YaccGrammar<S>,
+    blank: Blank,
+) -> Result<YaccFollows<S>, AllocError>
+    requires name { blank.name ≡ L.name }
+    requires parts { blank.parts ≡ L.parts }
+    requires one { blank.parts ≡ 1 }
+    ensures { IfOk result (λ f. AreFollows grm.now.grammar f) }
+{
+    let mut steps = Steps::<L>::new(blank);
+    fill_follows(alloc, grm, &mut steps)
 }

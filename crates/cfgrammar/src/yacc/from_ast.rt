@@ -8,6 +8,7 @@ ghost use Rattle.cfg_read.specs.WellFormedAst.{IsWellFormedAst, NamesAreWords};
 ghost use Rattle.cfgrammar.specs.Value.{IsGrammar, HasNoPrecedences};
 ghost use Rattle.cfgrammar.specs.FromAst.{has_implicit, grammar_of, value_by, made, too_many, NamesNoAdded, MakesTree, Refuses};
 
+mod by_name;
 mod counts;
 mod heads;
 mod info;

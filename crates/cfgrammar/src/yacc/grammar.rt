@@ -6,14 +6,13 @@ ghost use Rattle.std.specs.Option.{option_copied};
 ghost use Rattle.std.specs.String.{string_bytes};
 ghost use Rattle.cfg_theory.specs.Grammar.{Grammar, WellFormed, IsOf, head_of, body_of, end_token};
 ghost use Rattle.cfgrammar.specs.Symbols.{syms_of, numbers_of};
-ghost use Rattle.cfgrammar.specs.Value.{GrammarValue, IsGrammar, IsRuleNamed, IsTokenNamed, productions_of};
-ghost use Rattle.cfgrammar.specs.Info.{value_of, production_of, with_productions, texts_in, ListsProductions, ListsNames};
+ghost use Rattle.cfgrammar.specs.Value.{GrammarValue, IsGrammar, GrammarLevelsHaveOneKind, IsRuleNamed, IsTokenNamed, productions_of};
+ghost use Rattle.cfgrammar.specs.Info.{value_of, production_of, with_productions, rule_seen, token_seen, ListsProductions};
 
 mod construct;
 mod indices;
 mod kept;
 pub mod laws;
-mod name_sets;
 mod names;
 mod pretty_print;
 mod tokens_map;
@@ -22,7 +21,7 @@ mod walks;
 use crate::yacc::info::{KeptInfo, ProductionInfo, RuleInfo, TokenInfo};
 use cfg_base::index::IndexStorage;
 use cfg_base::symbol::{PIdx, RIdx, SIdx, Symbol, TIdx};
-use indexmap::IndexSet;
+use indexmap::IndexMap;
 use std::alloc::{AllocError, Global};
 use std::marker::Model;
 pub use walks::{PIdxs, RIdxs, TIdxs};
@@ -30,30 +29,27 @@ pub use walks::{PIdxs, RIdxs, TIdxs};
 /// A grammar whose rules, tokens and productions have numbers of `S`.
 #[derive(Drop)]
 pub struct YaccGrammar<S: IndexStorage> {
-    rules: Vec<RuleInfo>,
+    rules: IndexMap<String, RuleInfo>,
     rule_prods: Vec<Vec<PIdx<S>>>,
-    tokens: Vec<TokenInfo>,
+    tokens: IndexMap<String, TokenInfo>,
     prods: Vec<ProductionInfo<S>>,
     start: PIdx<S>,
     kept: KeptInfo<S>,
-    rule_names: IndexSet<String>,
-    token_names: IndexSet<String>,
 }
 
 impl<S: IndexStorage> Model for YaccGrammar<S> {
     ghost use Rattle.std.specs.Prelude.{map};
     ghost use Rattle.cfgrammar.specs.Symbols.{numbers_of};
     ghost use Rattle.cfgrammar.specs.Value.{GrammarValue, IsGrammar};
-    ghost use Rattle.cfgrammar.specs.Info.{value_of, texts_in, ListsProductions, ListsNames};
+    ghost use Rattle.cfgrammar.specs.Info.{value_of, ListsProductions};
 
     ghost Value = { GrammarValue };
 
-    ghost view = { λ g. value_of S.number g.rules.items g.tokens.items g.prods.items (S.number g.start.0) g.kept };
+    ghost view = { λ g. value_of S.number g.rules.entries g.tokens.entries g.prods.items (S.number g.start.0) g.kept };
 
     ghost invariant = { λ g.
-        IsGrammar S.MAX (value_of S.number g.rules.items g.tokens.items g.prods.items (S.number g.start.0) g.kept) ×
-        ListsProductions (value_of S.number g.rules.items g.tokens.items g.prods.items (S.number g.start.0) g.kept).grammar (map (λ l. numbers_of S.number l.items) g.rule_prods.items) ×
-        ListsNames (value_of S.number g.rules.items g.tokens.items g.prods.items (S.number g.start.0) g.kept) (texts_in g.rule_names.keys) (texts_in g.token_names.keys) };
+        IsGrammar S.MAX (value_of S.number g.rules.entries g.tokens.entries g.prods.items (S.number g.start.0) g.kept) ×
+        ListsProductions (value_of S.number g.rules.entries g.tokens.entries g.prods.items (S.number g.start.0) g.kept).grammar (map (λ l. numbers_of S.number l.items) g.rule_prods.items) };
 }
 
 /// The index of a number that fits.
@@ -62,16 +58,6 @@ pub(crate) fn index_of<S: IndexStorage>(n: usize) -> S
     ensures { S.number result ≡ n }
 {
     S::from_usize(n).unwrap()
-}
-
-/// A kept text as a slice.
-fn text_of(text: &Option<String>) -> Option<&str>
-    ensures { option_map (λ s. s.now) result ≡ option_map string_bytes text.now }
-{
-    match text {
-        Some(text) => Some(text.as_str()),
-        None => None,
-    }
 }
 
 /// The productions of each rule.
@@ -110,18 +96,16 @@ impl<S: IndexStorage> YaccGrammar<S> {
     /// Of parts that make a well-formed grammar, whose counts fit.
     pub(crate) fn of_parts(
         alloc: Global,
-        rules: Vec<RuleInfo>,
-        tokens: Vec<TokenInfo>,
+        rules: IndexMap<String, RuleInfo>,
+        tokens: IndexMap<String, TokenInfo>,
         prods: Vec<ProductionInfo<S>>,
         start: PIdx<S>,
         kept: KeptInfo<S>,
     ) -> Result<Self, AllocError>
-        requires { IsGrammar S.MAX (value_of S.number rules.items tokens.items prods.items (S.number start.0) kept) }
-        ensures { IfOk result (λ g. g ≡ value_of S.number rules.items tokens.items prods.items (S.number start.0) kept) }
+        requires { IsGrammar S.MAX (value_of S.number rules.entries tokens.entries prods.items (S.number start.0) kept) }
+        ensures { IfOk result (λ g. g ≡ value_of S.number rules.entries tokens.entries prods.items (S.number start.0) kept) }
     {
         let rule_prods = list_productions(alloc, rules.len(), prods.as_slice())?;
-        let rule_names = name_sets::rule_names(alloc, rules.as_slice())?;
-        let token_names = name_sets::token_names(alloc, tokens.as_slice())?;
         Ok(YaccGrammar {
             rules,
             rule_prods,
@@ -129,9 +113,29 @@ impl<S: IndexStorage> YaccGrammar<S> {
             prods,
             start,
             kept,
-            rule_names,
-            token_names,
         })
+    }
+
+    /// A rule: its name and what stands beside it.
+    fn rule_info(&self, ridx: RIdx<S>) -> (&str, &RuleInfo)
+        requires { S.number ridx.0 < self.now.grammar.rules }
+        ensures { slice_get self.now.rules (S.number ridx.0) ≡ Some (rule_seen result) }
+    {
+        let (name, rule) = self.rules.get_index(ridx.0.to_usize()).unwrap();
+        (name.as_str(), rule)
+    }
+
+    /// A token: its name and what stands beside it; None of the end token.
+    fn token_info(&self, tidx: TIdx<S>) -> Option<(&str, &TokenInfo)>
+        requires { S.number tidx.0 < self.now.grammar.tokens }
+        ensures value { slice_get self.now.tokens (S.number tidx.0) ≡ Some (token_seen result) }
+        ensures end { MatchOption result (S.number tidx.0 ≡ end_token self.now.grammar) (λ _. S.number tidx.0 < end_token self.now.grammar) }
+        ensures levels { GrammarLevelsHaveOneKind self.now }
+    {
+        match self.tokens.get_index(tidx.0.to_usize()) {
+            Some((name, token)) => Some((name.as_str(), token)),
+            None => None,
+        }
     }
 
     /// A law: what is called with this grammar may rely on its being well formed.
@@ -159,7 +163,7 @@ impl<S: IndexStorage> YaccGrammar<S> {
     pub fn tokens_len(&self) -> TIdx<S>
         ensures { S.number result.0 ≡ self.now.grammar.tokens }
     {
-        TIdx(index_of(self.tokens.len()))
+        TIdx(index_of(self.tokens.len() + 1))
     }
 
     /// The symbols of a production.
@@ -218,6 +222,6 @@ impl<S: IndexStorage> YaccGrammar<S> {
         ensures value { S.number result.0 ≡ end_token self.now.grammar }
         ensures within { S.number result.0 < self.now.grammar.tokens }
     {
-        TIdx(index_of(self.tokens.len() - 1))
+        TIdx(index_of(self.tokens.len()))
     }
 }

@@ -4,18 +4,17 @@ use cfg_base::span::Span;
 use cfg_base::symbol::{RIdx, Symbol};
 use cfg_read::yacc::Precedence;
 
+/// What stands beside the name of a rule.
 #[derive(Drop)]
 pub struct RuleInfo {
-    pub name: String,
     pub span: Span,
     pub action_type: Option<String>,
 }
 
-/// The end token has none of these, and isn't avoided.
+/// What stands beside the name of a token. The end token has no name, and none of these.
 #[derive(Drop)]
 pub struct TokenInfo {
-    pub name: Option<String>,
-    pub span: Option<Span>,
+    pub span: Span,
     pub epp: Option<String>,
     pub precedence: Option<Precedence>,
     pub is_avoided: bool,

@@ -1,18 +1,22 @@
 //! Which rules a rule reaches by references.
 
-ghost use Rattle.std.specs.Prelude.{◌≡◌, ℕ, ◌<◌, ◌↔◌, ◌⊎◌, Bool, true, false, IsTrue, IfOk, length, slice_set};
-ghost use Rattle.cfg_theory.specs.Grammar.{Grammar, head_of, body_of};
+ghost use Rattle.std.specs.Prelude.{◌≡◌, ◌<◌, ◌↔◌, ◌⊎◌, IsTrue, IfOk, OnOk, length};
+ghost use Rattle.cfg_theory.specs.Grammar.{head_of};
 ghost use Rattle.cfg_theory.specs.Derivation.{HasPath};
-ghost use Rattle.cfgrammar.specs.Symbols.{sym_of, syms_of};
+ghost use Rattle.cfgrammar.specs.Symbols.{sym_of};
 ghost use Rattle.cfgrammar.specs.Sets.{is_set, missing};
-ghost use Rattle.cfgrammar.specs.Paths.{AreReached, IsReachedFrom, IsIn, HasPlace, with_rule};
-ghost use Rattle.cfgrammar.specs.Passes.{PassStep, Anything};
+ghost use Rattle.cfgrammar.specs.Paths.{AreReached, IsReachedFrom, IsIn, HasPlace, Reaches, GoesOn, with_rule};
+ghost use Rattle.cfgrammar.specs.Passes.{PassStep};
 
-use crate::yacc::grammar::{YaccGrammar, index_of};
+use crate::yacc::grammar::YaccGrammar;
+use crate::yacc::work_list::{WorkList, WorkTable, fill};
 use cfg_base::index::IndexStorage;
+use cfg_base::steps::Steps;
 use cfg_base::symbol::{PIdx, RIdx, Symbol};
 use cfg_theory::rules::path_tables_are_exact;
 use std::alloc::{AllocError, Global};
+use std::marker::Brand;
+use std::sync::ledger::{Blank, Ledger};
 use vob::Vob;
 
 impl<S: IndexStorage> YaccGrammar<S> {
@@ -22,13 +26,7 @@ impl<S: IndexStorage> YaccGrammar<S> {
         requires to { S.number to.0 < self.now.grammar.rules }
         ensures { IfOk result (λ b. IsTrue b ↔ HasPath self.now.grammar (S.number from.0) (S.number to.0)) }
     {
-        let mut reached = Vob::from_elem(alloc, false, self.rules_len().0.to_usize())?;
-        path_tables_are_exact();
-        'passes: loop {
-            if !sweep(self, from, &mut reached) {
-                return Ok(reached.get_unchecked(to.0.to_usize()));
-            }
-        }
+        find_with_blank::<S, Brand>(alloc, self, from, to, Blank::new(1))
     }
 }
 
@@ -44,95 +42,128 @@ pub(crate) fn add_symbol<S: IndexStorage>(symbol: Symbol<S>, reached: &mut Vob) 
     }
 }
 
-/// Puts the rules that a production names into the set, and says whether that changed the set.
-fn add_named<S: IndexStorage>(
+/// The same, where the rule waits from then on.
+fn reach<S: IndexStorage>(
+    symbol: Symbol<S>,
+    reached: &mut Vob,
+    work: &mut WorkList,
+) -> Result<(), AllocError>
+    requires place { HasPlace reached.old.bits (sym_of S.number symbol) }
+    requires work { work.old.rules ≡ length reached.old.bits }
+    ensures { OnOk result (Reaches (sym_of S.number symbol) reached.old.bits reached.new.bits work.old work.new) }
+{
+    if !add_symbol(symbol, reached) {
+        return Ok(());
+    }
+    match symbol {
+        Symbol::Rule(rule) => {
+            work.put(rule.0.to_usize())?;
+            Ok(())
+        }
+        Symbol::Token(_) => Ok(()),
+    }
+}
+
+/// Puts the rules that a production names into the set. Those that weren't there wait from then on.
+fn reach_named<S: IndexStorage>(
     grm: &YaccGrammar<S>,
     from: RIdx<S>,
     pidx: PIdx<S>,
     reached: &mut Vob,
-) -> bool
+    work: &mut WorkList,
+) -> Result<(), AllocError>
     requires production { S.number pidx.0 < length grm.now.grammar.productions }
     requires width { length reached.old.bits ≡ grm.now.grammar.rules }
     requires sound { AreReached grm.now.grammar (S.number from.0) reached.old.bits }
     requires reached { (head_of grm.now.grammar (S.number pidx.0) ≡ S.number from.0) ⊎ IsTrue (is_set reached.old.bits (head_of grm.now.grammar (S.number pidx.0))) }
-    ensures width { length reached.new.bits ≡ grm.now.grammar.rules }
-    ensures sound { AreReached grm.now.grammar (S.number from.0) reached.new.bits }
-    ensures steps { PassStep missing (IsReachedFrom grm.now.grammar (S.number from.0) (S.number pidx.0)) reached.old.bits reached.new.bits result }
+    requires work { work.old.rules ≡ grm.now.grammar.rules }
+    ensures width { OnOk result (length reached.new.bits ≡ grm.now.grammar.rules) }
+    ensures sound { OnOk result (AreReached grm.now.grammar (S.number from.0) reached.new.bits) }
+    ensures went_on { OnOk result (GoesOn grm.now.grammar (S.number from.0) reached.old.bits reached.new.bits work.old work.new) }
+    ensures here { OnOk result (IsReachedFrom grm.now.grammar (S.number from.0) (S.number pidx.0) reached.new.bits) }
 {
     grm.stays_well_formed();
     let symbols = grm.prod(pidx);
-    let mut changed = false;
-    'symbols: for place in 0..symbols.len() {
-        changed |= add_symbol(symbols[place], reached);
+    'symbols: for index in 0..symbols.len() {
+        reach(symbols[index], reached, work)?;
     }
-    changed
+    Ok(())
 }
 
-/// The same, if the production's rule is the first one or in the set.
-fn take_prod<S: IndexStorage>(
+/// The rules that a rule reaches, as they are found.
+#[derive(Drop)]
+struct Reaching<'a, S: IndexStorage> {
+    grm: &'a YaccGrammar<S>,
+    from: RIdx<S>,
+    reached: Vob,
+}
+
+impl<'a, S: IndexStorage> WorkTable for Reaching<'a, S> {
+    ghost use Rattle.std.specs.Prelude.{◌≡◌, length, refl};
+    ghost use Rattle.std.proofs.Common.{◌∙◌};
+    ghost use Rattle.cfgrammar.specs.Sets.{missing};
+    ghost use Rattle.cfgrammar.specs.Paths.{AreReached, IsClosedBut};
+
+    ghost rules = { λ s. s.grm.now.grammar.rules };
+
+    ghost is_sound = { λ s. (length s.reached.bits ≡ s.grm.now.grammar.rules) × AreReached s.grm.now.grammar (S.number s.from.0) s.reached.bits };
+
+    ghost room = { λ s. missing s.reached.bits };
+
+    ghost is_closed_but = { λ s list. IsClosedBut s.grm.now.grammar (S.number s.from.0) s.reached.bits list };
+
+    ghost is_of_same = { λ s t. (t.grm.now ≡ s.grm.now) × (S.number t.from.0 ≡ S.number s.from.0) };
+
+    ghost same_refl = { λ s. (refl, refl) };
+
+    ghost same_trans = { λ s t u h k. (k.0 ∙ h.0, k.1 ∙ h.1) };
+
+    fn take(&mut self, rule: usize, work: &mut WorkList) -> Result<(), AllocError> {
+        let prods = self.grm.rule_to_prods(self.grm.rule_at(rule));
+        'prods: for index in 0..prods.len() {
+            reach_named(self.grm, self.from, prods[index], &mut self.reached, work)?;
+        }
+        Ok(())
+    }
+}
+
+/// Whether a rule reaches another, with a step for each rule that is taken from the work list.
+fn find_path<S: IndexStorage, L: Ledger>(
+    alloc: Global,
     grm: &YaccGrammar<S>,
     from: RIdx<S>,
-    pidx: PIdx<S>,
-    reached: &mut Vob,
-) -> bool
-    requires production { S.number pidx.0 < length grm.now.grammar.productions }
-    requires width { length reached.old.bits ≡ grm.now.grammar.rules }
-    requires sound { AreReached grm.now.grammar (S.number from.0) reached.old.bits }
-    ensures width { length reached.new.bits ≡ grm.now.grammar.rules }
-    ensures sound { AreReached grm.now.grammar (S.number from.0) reached.new.bits }
-    ensures steps { PassStep missing (IsReachedFrom grm.now.grammar (S.number from.0) (S.number pidx.0)) reached.old.bits reached.new.bits result }
+    to: RIdx<S>,
+    steps: &mut Steps<L>,
+) -> Result<bool, AllocError>
+    requires from { S.number from.0 < grm.now.grammar.rules }
+    requires to { S.number to.0 < grm.now.grammar.rules }
+    ensures { IfOk result (λ b. IsTrue b ↔ HasPath grm.now.grammar (S.number from.0) (S.number to.0)) }
 {
-    let rule = grm.prod_to_rule(pidx).0.to_usize();
-    grm.stays_well_formed();
-    if rule == from.0.to_usize() {
-        return add_named(grm, from, pidx, reached);
-    }
-    if reached.get_unchecked(rule) {
-        return add_named(grm, from, pidx, reached);
-    }
-    false
+    path_tables_are_exact();
+    let rules = grm.rules_len().0.to_usize();
+    let reached = Vob::from_elem(alloc, false, rules)?;
+    let mut work = WorkList::new(alloc, rules)?;
+    work.put(from.0.to_usize())?;
+    let mut reaching = Reaching { grm, from, reached };
+    fill(&mut reaching, &mut work, steps)?;
+    Ok(reaching.reached.get_unchecked(to.0.to_usize()))
 }
 
-/// Takes in each production once, and says whether that changed the set.
-fn pass<S: IndexStorage>(grm: &YaccGrammar<S>, from: RIdx<S>, reached: &mut Vob) -> bool
-    requires width { length reached.old.bits ≡ grm.now.grammar.rules }
-    requires sound { AreReached grm.now.grammar (S.number from.0) reached.old.bits }
-    ensures width { length reached.new.bits ≡ grm.now.grammar.rules }
-    ensures sound { AreReached grm.now.grammar (S.number from.0) reached.new.bits }
-    ensures steps { PassStep missing (λ b. (p : ℕ) → p < length grm.now.grammar.productions → IsReachedFrom grm.now.grammar (S.number from.0) p b) reached.old.bits reached.new.bits result }
+/// The same, where nobody counts.
+fn find_with_blank<S: IndexStorage, L: Ledger>(
+    alloc: Global,
+    grm: &YaccGrammar<S>,
+    from: RIdx<S>,
+    to: RIdx<S>,
+    blank: Blank,
+) -> Result<bool, AllocError>
+    requires from { S.number from.0 < grm.now.grammar.rules }
+    requires to { S.number to.0 < grm.now.grammar.rules }
+    requires name { blank.name ≡ L.name }
+    requires parts { blank.parts ≡ L.parts }
+    requires one { blank.parts ≡ 1 }
+    ensures { IfOk result (λ b. IsTrue b ↔ HasPath grm.now.grammar (S.number from.0) (S.number to.0)) }
 {
-    let mut changed = false;
-    'prods: for number in 0..grm.prods_len().0.to_usize() {
-        changed |= take_prod(grm, from, PIdx(index_of(number)), reached);
-    }
-    changed
-}
-
-/// The same, from the last production to the first.
-fn pass_back<S: IndexStorage>(grm: &YaccGrammar<S>, from: RIdx<S>, reached: &mut Vob) -> bool
-    requires width { length reached.old.bits ≡ grm.now.grammar.rules }
-    requires sound { AreReached grm.now.grammar (S.number from.0) reached.old.bits }
-    ensures width { length reached.new.bits ≡ grm.now.grammar.rules }
-    ensures sound { AreReached grm.now.grammar (S.number from.0) reached.new.bits }
-    ensures steps { PassStep missing Anything reached.old.bits reached.new.bits result }
-{
-    let count = grm.prods_len().0.to_usize();
-    let mut changed = false;
-    'prods: for number in 0..count {
-        changed |= take_prod(grm, from, PIdx(index_of(count - 1 - number)), reached);
-    }
-    changed
-}
-
-/// Both: names of later rules, and of earlier ones, are then taken in at once.
-fn sweep<S: IndexStorage>(grm: &YaccGrammar<S>, from: RIdx<S>, reached: &mut Vob) -> bool
-    requires width { length reached.old.bits ≡ grm.now.grammar.rules }
-    requires sound { AreReached grm.now.grammar (S.number from.0) reached.old.bits }
-    ensures width { length reached.new.bits ≡ grm.now.grammar.rules }
-    ensures sound { AreReached grm.now.grammar (S.number from.0) reached.new.bits }
-    ensures steps { PassStep missing (λ b. (p : ℕ) → p < length grm.now.grammar.productions → IsReachedFrom grm.now.grammar (S.number from.0) p b) reached.old.bits reached.new.bits result }
-{
-    let back = pass_back(grm, from, reached);
-    let on = pass(grm, from, reached);
-    back | on
+    let mut steps = Steps::<L>::new(blank);
+    find_path(alloc, grm, from, to, &mut steps)
 }

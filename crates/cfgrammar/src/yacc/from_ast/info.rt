@@ -1,21 +1,26 @@
 //! What stands beside the numbers of rules and tokens, and what is kept of the whole text.
 
-ghost use Rattle.std.specs.Prelude.{◌≡◌, ℕ, ◌<◌, ◌≤◌, length, map, option_map, slice_get, Some, IfOk, OnOk};
+ghost use Rattle.std.specs.Prelude.{◌≡◌, ◌++◌, ◌∷◌, [], ℕ, ◌<◌, ◌≤◌, false, length, map, option_map, slice_get, Some, IfOk, OnOk};
+ghost use Rattle.std.specs.List.{list_any};
 ghost use Rattle.std.specs.Option.{option_copied};
 ghost use Rattle.std.specs.String.{string_bytes};
+ghost use Rattle.std.specs.Str.{bytes_eq};
+ghost use Rattle.cfg_read.specs.WellFormedAst.{AreDistinct, names_of_tokens};
 ghost use Rattle.cfgrammar.specs.Info.{rule_facts, token_facts, kept_facts, param_facts};
 ghost use Rattle.cfgrammar.specs.FromAst as tree;
 
+use super::by_name::put_last;
 use super::numbers::tilde;
 use crate::yacc::info::{KeptInfo, RuleInfo, TokenInfo};
 use cfg_base::index::IndexStorage;
 use cfg_base::span::Span;
 use cfg_read::yacc::Precedence;
 use cfg_read::yacc::ast::GrammarAST;
+use indexmap::IndexMap;
 use std::alloc::{AllocError, Global};
 
 /// A copy of a text that may be there.
-pub fn copy_of(text: Option<&String>) -> Result<Option<String>, AllocError>
+pub(crate) fn copy_of(text: Option<&String>) -> Result<Option<String>, AllocError>
     ensures { IfOk result (λ copy. option_map string_bytes copy ≡ option_map string_bytes (option_copied text.entry)) }
 {
     match text {
@@ -25,7 +30,7 @@ pub fn copy_of(text: Option<&String>) -> Result<Option<String>, AllocError>
 }
 
 /// The precedence that the text declares for a token.
-pub fn precedence_of(ast: &GrammarAST, name: &str) -> Option<Precedence>
+pub(crate) fn precedence_of(ast: &GrammarAST, name: &str) -> Option<Precedence>
     ensures { result ≡ tree.precedence_of ast.now name.now }
 {
     match ast.precs().get(name) {
@@ -43,78 +48,97 @@ fn epp_of(ast: &GrammarAST, name: &str) -> Result<Option<String>, AllocError>
     }
 }
 
-fn file_rule(ast: &GrammarAST, place: usize) -> Result<RuleInfo, AllocError>
-    requires { place < length ast.now.rules }
-    ensures { IfOk result (λ r. slice_get (map tree.file_rule_facts ast.now.rules) place ≡ Some (rule_facts r)) }
+fn file_rule(ast: &GrammarAST, index: usize) -> Result<(String, RuleInfo), AllocError>
+    requires { index < length ast.now.rules }
+    ensures { IfOk result (λ r. slice_get (map tree.file_rule_facts ast.now.rules) index ≡ Some (rule_facts r)) }
 {
-    let (name, rule) = ast.rules().get_index(place).unwrap();
+    let (name, rule) = ast.rules().get_index(index).unwrap();
     let name = name.clone()?;
     let action_type = copy_of(rule.actiont.as_ref())?;
-    Ok(RuleInfo {
-        name,
+    let rule = RuleInfo {
         span: rule.name.1,
         action_type,
-    })
+    };
+    Ok((name, rule))
 }
 
-fn added_rule(alloc: Global, name: &str) -> Result<RuleInfo, AllocError>
-    ensures { IfOk result (λ r. rule_facts r ≡ tree.added_rule_facts name.now) }
+/// Puts a rule that the text doesn't have behind the others.
+fn add_rule(
+    alloc: Global,
+    rules: &mut IndexMap<String, RuleInfo>,
+    name: &str,
+) -> Result<(), AllocError>
+    requires { list_any (λ e. bytes_eq name.now (string_bytes e.0)) rules.old.entries ≡ false }
+    ensures { OnOk result (map rule_facts rules.new.entries ≡ map rule_facts rules.old.entries ++ tree.added_rule_facts name.now ∷ []) }
 {
     let name = String::from_str(alloc, name)?;
-    Ok(RuleInfo {
-        name,
+    let rule = RuleInfo {
         span: Span::new(0, 0),
         action_type: None,
-    })
+    };
+    put_last(rules, name, rule)
 }
 
-/// The rules.
-pub fn rules(alloc: Global, ast: &GrammarAST, implicit: bool) -> Result<Vec<RuleInfo>, AllocError>
-    ensures { IfOk result (λ v. map rule_facts v.items ≡ tree.rules_of implicit ast.now) }
+/// Puts the two rules that are added for implicit tokens behind the others.
+fn add_implicit(alloc: Global, rules: &mut IndexMap<String, RuleInfo>) -> Result<(), AllocError>
+    requires start { list_any (λ e. bytes_eq tree.implicit_start_name (string_bytes e.0)) rules.old.entries ≡ false }
+    requires rule { list_any (λ e. bytes_eq tree.implicit_name (string_bytes e.0)) rules.old.entries ≡ false }
+    ensures { OnOk result (map rule_facts rules.new.entries ≡ map rule_facts rules.old.entries ++ tree.added_rule_facts tree.implicit_start_name ∷ tree.added_rule_facts tree.implicit_name ∷ []) }
 {
-    let mut rules = Vec::new(alloc);
-    rules.push(added_rule(alloc, "^")?)?;
-    'rules: for place in 0..ast.rules().len() {
-        rules.push(file_rule(ast, place)?)?;
+    add_rule(alloc, rules, "^~")?;
+    add_rule(alloc, rules, "~")
+}
+
+/// The rules by their names.
+pub(crate) fn rules(
+    alloc: Global,
+    ast: &GrammarAST,
+    implicit: bool,
+) -> Result<IndexMap<String, RuleInfo>, AllocError>
+    requires { AreDistinct (map (λ r. r.name) (tree.rules_of implicit ast.now)) }
+    ensures { IfOk result (λ m. map rule_facts m.entries ≡ tree.rules_of implicit ast.now) }
+{
+    let mut rules = IndexMap::new(alloc);
+    add_rule(alloc, &mut rules, "^")?;
+    'rules: for index in 0..ast.rules().len() {
+        let (name, rule) = file_rule(ast, index)?;
+        put_last(&mut rules, name, rule)?;
     }
     if implicit {
-        rules.push(added_rule(alloc, "^~")?)?;
-        rules.push(added_rule(alloc, "~")?)?;
+        add_implicit(alloc, &mut rules)?;
     }
     Ok(rules)
 }
 
-fn file_token(ast: &GrammarAST, place: usize) -> Result<TokenInfo, AllocError>
-    requires { place < length ast.now.tokens }
-    ensures { IfOk result (λ t. slice_get (map (tree.file_token_facts ast.now) ast.now.tokens) place ≡ Some (token_facts t)) }
+fn file_token(ast: &GrammarAST, index: usize) -> Result<(String, TokenInfo), AllocError>
+    requires { index < length ast.now.tokens }
+    ensures { IfOk result (λ t. slice_get (map (tree.file_token_facts ast.now) ast.now.tokens) index ≡ Some (token_facts t)) }
 {
-    let (name, span) = ast.tokens().get_index(place).unwrap();
+    let (name, span) = ast.tokens().get_index(index).unwrap();
     let copy = name.clone()?;
     let epp = epp_of(ast, name.as_str())?;
-    Ok(TokenInfo {
-        name: Some(copy),
-        span: Some(*span),
+    let token = TokenInfo {
+        span: *span,
         epp,
         precedence: precedence_of(ast, name.as_str()),
         is_avoided: ast.avoid_insert().contains_key(name.as_str()),
-    })
+    };
+    Ok((copy, token))
 }
 
-/// The tokens.
-pub fn tokens(alloc: Global, ast: &GrammarAST) -> Result<Vec<TokenInfo>, AllocError>
-    ensures { IfOk result (λ v. map token_facts v.items ≡ tree.tokens_of ast.now) }
+/// The tokens of the text by their names.
+pub(crate) fn tokens(
+    alloc: Global,
+    ast: &GrammarAST,
+) -> Result<IndexMap<String, TokenInfo>, AllocError>
+    requires { AreDistinct (names_of_tokens ast.now) }
+    ensures { IfOk result (λ m. map token_facts m.entries ≡ map (tree.file_token_facts ast.now) ast.now.tokens) }
 {
-    let mut tokens = Vec::new(alloc);
-    'tokens: for place in 0..ast.tokens().len() {
-        tokens.push(file_token(ast, place)?)?;
+    let mut tokens = IndexMap::new(alloc);
+    'tokens: for index in 0..ast.tokens().len() {
+        let (name, token) = file_token(ast, index)?;
+        put_last(&mut tokens, name, token)?;
     }
-    tokens.push(TokenInfo {
-        name: None,
-        span: None,
-        epp: None,
-        precedence: None,
-        is_avoided: false,
-    })?;
     Ok(tokens)
 }
 
@@ -141,7 +165,10 @@ fn number_of(number: Option<(usize, Span)>) -> Option<usize>
 }
 
 /// What is kept of the whole text.
-pub fn kept<S: IndexStorage>(ast: &GrammarAST, implicit: bool) -> Result<KeptInfo<S>, AllocError>
+pub(crate) fn kept<S: IndexStorage>(
+    ast: &GrammarAST,
+    implicit: bool,
+) -> Result<KeptInfo<S>, AllocError>
     requires { length (tree.rules_of implicit ast.now) ≤ S.MAX }
     ensures { IfOk result (λ k. kept_facts S.number k ≡ tree.kept_of implicit ast.now) }
 {

@@ -14,27 +14,27 @@ use cfg_read::yacc::ast::{self, GrammarAST};
 use std::alloc::{AllocError, Global};
 
 /// The rule of a name.
-pub fn rule_named<S: IndexStorage>(ast: &GrammarAST, name: &str) -> RIdx<S>
+pub(crate) fn rule_named<S: IndexStorage>(ast: &GrammarAST, name: &str) -> RIdx<S>
     requires known { Contains (names_of_rules ast.now) name.now }
     requires fits { suc (length ast.now.rules) ≤ S.MAX }
     ensures { S.number result.0 ≡ tree.rule_number ast.now name.now }
 {
-    let place = ast.rules().get_index_of(name).unwrap();
-    RIdx(index_of(place + 1))
+    let index = ast.rules().get_index_of(name).unwrap();
+    RIdx(index_of(index + 1))
 }
 
 /// The token of a name.
-pub fn token_named<S: IndexStorage>(ast: &GrammarAST, name: &str) -> TIdx<S>
+pub(crate) fn token_named<S: IndexStorage>(ast: &GrammarAST, name: &str) -> TIdx<S>
     requires known { Contains (names_of_tokens ast.now) name.now }
     requires fits { length ast.now.tokens ≤ S.MAX }
     ensures { S.number result.0 ≡ tree.token_number ast.now name.now }
 {
-    let place = ast.tokens().get_index_of(name).unwrap();
-    TIdx(index_of(place))
+    let index = ast.tokens().get_index_of(name).unwrap();
+    TIdx(index_of(index))
 }
 
 /// The rule `~`.
-pub fn tilde<S: IndexStorage>(ast: &GrammarAST) -> RIdx<S>
+pub(crate) fn tilde<S: IndexStorage>(ast: &GrammarAST) -> RIdx<S>
     requires { length (tree.rules_of true ast.now) ≤ S.MAX }
     ensures { S.number result.0 ≡ tree.implicit_rule ast.now }
 {
@@ -42,7 +42,7 @@ pub fn tilde<S: IndexStorage>(ast: &GrammarAST) -> RIdx<S>
 }
 
 /// The rule `^~`.
-pub fn tilde_start<S: IndexStorage>(ast: &GrammarAST) -> RIdx<S>
+pub(crate) fn tilde_start<S: IndexStorage>(ast: &GrammarAST) -> RIdx<S>
     requires { length (tree.rules_of true ast.now) ≤ S.MAX }
     ensures { S.number result.0 ≡ tree.implicit_start ast.now }
 {
@@ -90,7 +90,7 @@ fn push_symbol<S: IndexStorage>(
 }
 
 /// The symbols of a production of the file.
-pub fn body<S: IndexStorage>(
+pub(crate) fn body<S: IndexStorage>(
     alloc: Global,
     ast: &GrammarAST,
     implicit: bool,

@@ -44,25 +44,25 @@ fn precedence_of(ast: &GrammarAST, production: &Production) -> Option<Precedence
     }
 }
 
-/// A production of the file, of the rule at this place.
+/// A production of the file, of the rule at this index.
 fn file_part<S: IndexStorage>(
     alloc: Global,
     ast: &GrammarAST,
     implicit: bool,
-    place: usize,
+    index: usize,
     production: &Production,
 ) -> Result<ProductionInfo<S>, AllocError>
     requires known { All (NamesOne ast.now) (map ast_symbol_of production.now.symbols.items) }
-    requires place { place < length ast.now.rules }
+    requires index { index < length ast.now.rules }
     requires rules { length (tree.rules_of implicit ast.now) ≤ S.MAX }
     requires tokens { length ast.now.tokens ≤ S.MAX }
-    ensures production { IfOk result (λ p. production_of S.number p ≡ record { head = suc place; body = tree.file_body implicit ast.now (views.production_of production.now) }) }
+    ensures production { IfOk result (λ p. production_of S.number p ≡ record { head = suc index; body = tree.file_body implicit ast.now (views.production_of production.now) }) }
     ensures facts { IfOk result (λ p. production_facts p ≡ tree.file_production_facts ast.now (views.production_of production.now)) }
 {
     let symbols = numbers::body(alloc, ast, implicit, &production.symbols)?;
     let action = info::copy_of(production.action.as_ref())?;
     Ok(ProductionInfo {
-        rule: RIdx(index_of(place + 1)),
+        rule: RIdx(index_of(index + 1)),
         symbols,
         span: production.prod_span,
         precedence: precedence_of(ast, production),
@@ -163,21 +163,21 @@ fn push_start<S: IndexStorage>(
     push_added(made, RIdx(index_of(0)), symbols)
 }
 
-/// Puts the production of `~` with the implicit token at this place behind the others.
+/// Puts the production of `~` with the implicit token at this index behind the others.
 fn push_implicit<S: IndexStorage>(
     alloc: Global,
     made: &mut Vec<ProductionInfo<S>>,
     ast: &GrammarAST,
-    place: usize,
+    index: usize,
 ) -> Result<(), AllocError>
     requires sound { IsWellFormedAst ast.now }
     requires rules { length (tree.rules_of true ast.now) ≤ S.MAX }
     requires tokens { length ast.now.tokens ≤ S.MAX }
-    requires place { place < length ast.now.implicit_tokens }
-    ensures { OnOk result (IfSome (slice_get ast.now.implicit_tokens place)
+    requires index { index < length ast.now.implicit_tokens }
+    ensures { OnOk result (IfSome (slice_get ast.now.implicit_tokens index)
         (λ w. Adds S.number made.old.items made.new.items (tree.implicit_production ast.now w ∷ []))) }
 {
-    let (name, _span) = ast.implicit_tokens().get_index(place).unwrap();
+    let (name, _span) = ast.implicit_tokens().get_index(index).unwrap();
     let token = Symbol::Token(numbers::token_named(ast, name.as_str()));
     let rule = numbers::tilde(ast);
     let symbols = two(alloc, token, Symbol::Rule(rule))?;
@@ -195,8 +195,8 @@ fn push_implicits<S: IndexStorage>(
     requires tokens { length ast.now.tokens ≤ S.MAX }
     ensures { OnOk result (Adds S.number made.old.items made.new.items (map (tree.implicit_production ast.now) ast.now.implicit_tokens)) }
 {
-    'tokens: for place in 0..ast.implicit_tokens().len() {
-        push_implicit(alloc, made, ast, place)?;
+    'tokens: for index in 0..ast.implicit_tokens().len() {
+        push_implicit(alloc, made, ast, index)?;
     }
     Ok(())
 }
@@ -221,7 +221,7 @@ fn push_tildes<S: IndexStorage>(
 }
 
 /// The productions.
-pub fn all<S: IndexStorage>(
+pub(crate) fn all<S: IndexStorage>(
     alloc: Global,
     ast: &GrammarAST,
     implicit: bool,

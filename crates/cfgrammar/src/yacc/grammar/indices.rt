@@ -53,6 +53,6 @@ impl<S: IndexStorage> YaccGrammar<S> {
     pub fn has_token(&self, tidx: TIdx<S>) -> bool
         ensures { IsTrue result ↔ S.number tidx.0 < self.now.grammar.tokens }
     {
-        tidx.0.to_usize() < self.tokens.len()
+        tidx.0.to_usize() <= self.tokens.len()
     }
 }

@@ -3,10 +3,10 @@
 ghost use Rattle.std.specs.Prelude.{◌≡◌, ◌<◌, ◌∷◌, [], ℕ, length, slice_get, option_map, Some, IfSome, MatchOption};
 ghost use Rattle.std.specs.String.{string_bytes};
 ghost use Rattle.cfg_theory.specs.Grammar.{end_token};
-ghost use Rattle.cfgrammar.specs.Info.{param_facts, token_facts};
+ghost use Rattle.cfgrammar.specs.Info.{param_facts, token_beside};
 ghost use Rattle.cfgrammar.specs.Value.{IsRuleNamed, shown_text};
 
-use super::{YaccGrammar, text_of};
+use super::YaccGrammar;
 use crate::yacc::info::TokenInfo;
 use cfg_base::index::IndexStorage;
 use cfg_base::span::Span;
@@ -19,7 +19,10 @@ impl<S: IndexStorage> YaccGrammar<S> {
         ensures text { option_map shown_text (slice_get self.now.tokens (S.number tidx.0)) ≡ Some (option_map (λ s. s.now) result) }
         ensures end { MatchOption result (S.number tidx.0 ≡ end_token self.now.grammar) (λ _. S.number tidx.0 < end_token self.now.grammar) }
     {
-        shown(&self.tokens[tidx.0.to_usize()])
+        match self.token_info(tidx) {
+            Some((name, token)) => Some(shown(name, token)),
+            None => None,
+        }
     }
 
     /// Whether `%avoid_insert` names a token.
@@ -27,7 +30,10 @@ impl<S: IndexStorage> YaccGrammar<S> {
         requires { S.number tidx.0 < self.now.grammar.tokens }
         ensures { option_map (λ t. t.is_avoided) (slice_get self.now.tokens (S.number tidx.0)) ≡ Some result }
     {
-        self.tokens[tidx.0.to_usize()].is_avoided
+        match self.token_info(tidx) {
+            Some((_, token)) => token.is_avoided,
+            None => false,
+        }
     }
 
     /// The action of a production, without its braces.
@@ -51,7 +57,7 @@ impl<S: IndexStorage> YaccGrammar<S> {
         requires { S.number ridx.0 < self.now.grammar.rules }
         ensures { option_map (λ r. r.action_type) (slice_get self.now.rules (S.number ridx.0)) ≡ Some (option_map string_bytes result.now) }
     {
-        &self.rules[ridx.0.to_usize()].action_type
+        &self.rule_info(ridx).1.action_type
     }
 
     /// The name and the type of `%parse-param`.
@@ -98,11 +104,11 @@ impl<S: IndexStorage> YaccGrammar<S> {
     }
 }
 
-fn shown(token: &TokenInfo) -> Option<&str>
-    ensures { option_map (λ s. s.now) result ≡ shown_text (token_facts token.now) }
+fn shown<'a>(name: &'a str, token: &'a TokenInfo) -> &'a str
+    ensures { shown_text (token_beside name.now token.now) ≡ Some result.now }
 {
     match &token.epp {
-        Some(text) => Some(text.as_str()),
-        None => text_of(&token.name),
+        Some(text) => text.as_str(),
+        None => name,
     }
 }

@@ -1,10 +1,10 @@
-//! What stands beside the numbers: names, places in the text, and precedences.
+//! What stands beside the numbers: names, spans in the text, and precedences.
 
 ghost use Rattle.std.specs.Prelude.{◌≡◌, ◌<◌, ℕ, length, slice_get, option_map, Some, IfSome, IfNone, MatchOption};
 ghost use Rattle.cfg_theory.specs.Grammar.{end_token};
 ghost use Rattle.cfgrammar.specs.Value.{IsRuleNamed, IsTokenNamed, GrammarLevelsHaveOneKind};
 
-use super::{YaccGrammar, index_of, name_sets, text_of};
+use super::{YaccGrammar, index_of};
 use cfg_base::index::IndexStorage;
 use cfg_base::span::Span;
 use cfg_base::symbol::{PIdx, RIdx, TIdx};
@@ -16,7 +16,7 @@ impl<S: IndexStorage> YaccGrammar<S> {
         requires { S.number ridx.0 < self.now.grammar.rules }
         ensures { IsRuleNamed self.now (S.number ridx.0) result.now }
     {
-        self.rules[ridx.0.to_usize()].name.as_str()
+        self.rule_info(ridx).0
     }
 
     /// As `rule_name_str`.
@@ -34,8 +34,8 @@ impl<S: IndexStorage> YaccGrammar<S> {
         ensures none { IfNone result ((A : ℕ) → IsRuleNamed self.now A name.now → ⊥) }
         ensures only { (A B : ℕ) → IsRuleNamed self.now A name.now → IsRuleNamed self.now B name.now → A ≡ B }
     {
-        match name_sets::place_of(&self.rule_names, name) {
-            Some(place) => Some(RIdx(index_of(place))),
+        match self.rules.get_index_of(name) {
+            Some(index) => Some(RIdx(index_of(index))),
             None => None,
         }
     }
@@ -47,8 +47,8 @@ impl<S: IndexStorage> YaccGrammar<S> {
         ensures none { IfNone result ((t : ℕ) → IsTokenNamed self.now t name.now → ⊥) }
         ensures only { (t u : ℕ) → IsTokenNamed self.now t name.now → IsTokenNamed self.now u name.now → t ≡ u }
     {
-        match name_sets::place_of(&self.token_names, name) {
-            Some(place) => Some(TIdx(index_of(place))),
+        match self.tokens.get_index_of(name) {
+            Some(index) => Some(TIdx(index_of(index))),
             None => None,
         }
     }
@@ -59,7 +59,10 @@ impl<S: IndexStorage> YaccGrammar<S> {
         ensures name { option_map (λ t. t.name) (slice_get self.now.tokens (S.number tidx.0)) ≡ Some (option_map (λ s. s.now) result) }
         ensures end { MatchOption result (S.number tidx.0 ≡ end_token self.now.grammar) (λ _. S.number tidx.0 < end_token self.now.grammar) }
     {
-        text_of(&self.tokens[tidx.0.to_usize()].name)
+        match self.token_info(tidx) {
+            Some((name, _)) => Some(name),
+            None => None,
+        }
     }
 
     /// Where the name of a rule stands in the text; (0, 0) of a rule that the text doesn't have.
@@ -67,7 +70,7 @@ impl<S: IndexStorage> YaccGrammar<S> {
         requires { S.number ridx.0 < self.now.grammar.rules }
         ensures { option_map (λ r. r.span) (slice_get self.now.rules (S.number ridx.0)) ≡ Some result }
     {
-        self.rules[ridx.0.to_usize()].span
+        self.rule_info(ridx).1.span
     }
 
     /// Where a token stands first in the text; None of the end token.
@@ -75,7 +78,10 @@ impl<S: IndexStorage> YaccGrammar<S> {
         requires { S.number tidx.0 < self.now.grammar.tokens }
         ensures { option_map (λ t. t.span) (slice_get self.now.tokens (S.number tidx.0)) ≡ Some result }
     {
-        self.tokens[tidx.0.to_usize()].span
+        match self.token_info(tidx) {
+            Some((_, token)) => Some(token.span),
+            None => None,
+        }
     }
 
     /// The precedence that the text declares for a token. Precedences of one level have one kind, those of productions
@@ -85,7 +91,10 @@ impl<S: IndexStorage> YaccGrammar<S> {
         ensures value { option_map (λ t. t.precedence) (slice_get self.now.tokens (S.number tidx.0)) ≡ Some result }
         ensures levels { GrammarLevelsHaveOneKind self.now }
     {
-        self.tokens[tidx.0.to_usize()].precedence
+        match self.token_info(tidx) {
+            Some((_, token)) => token.precedence,
+            None => None,
+        }
     }
 
     /// The precedence of a production. Precedences of one level have one kind, those of tokens too.

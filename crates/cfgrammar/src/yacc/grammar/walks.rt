@@ -146,7 +146,7 @@ impl<S: IndexStorage> YaccGrammar<S> {
     {
         TIdxs {
             next: 0,
-            end: self.tokens.len(),
+            end: self.tokens.len() + 1,
             storage: PhantomData,
         }
     }

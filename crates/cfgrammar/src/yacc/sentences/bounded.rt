@@ -36,8 +36,8 @@ fn is_settled<S: IndexStorage>(costly: &KeptCosts<S>, ridx: RIdx<S>, set: &Vob) 
     ensures { IsTrue result → (p : ℕ) → IsOf costly.now.grammar p (S.number ridx.0) → LeadsOut costly.now.grammar (cost_of costly.now.costs) costly.now.table set.now.bits p }
 {
     let prods = costly.rule_to_prods(ridx);
-    'prods: for place in 0..prods.len() {
-        if !leads_out(costly, prods[place], set) {
+    'prods: for index in 0..prods.len() {
+        if !leads_out(costly, prods[index], set) {
             return false;
         }
     }

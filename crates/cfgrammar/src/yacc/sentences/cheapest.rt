@@ -105,8 +105,8 @@ fn put_together<S: IndexStorage>(
 {
     let mut out = Vec::new(alloc);
     out.push(Vec::new(alloc))?;
-    'back: for place in 0..symbols.len() {
-        let symbol = symbols[symbols.len() - 1 - place];
+    'back: for index in 0..symbols.len() {
+        let symbol = symbols[symbols.len() - 1 - index];
         out = put_symbol(alloc, symbol, table, out.as_slice())?;
     }
     Ok(out)

@@ -102,8 +102,8 @@ fn body_list<S: IndexStorage>(
     ensures { IfOk result (λ o. MatchOption o (GivesNone (found_lists S.number table.now) (syms_of S.number symbols.now)) (λ w. GivesOne (found_lists S.number table.now) (syms_of S.number symbols.now) (tokens_of S.number w.items))) }
 {
     let mut list = Vec::new(alloc);
-    'symbols: for place in 0..symbols.len() {
-        match symbols[place] {
+    'symbols: for index in 0..symbols.len() {
+        match symbols[index] {
             Symbol::Rule(rule) => {
                 let Some(own) = &table[rule.0.to_usize()] else {
                     return Ok(None);

@@ -117,8 +117,8 @@ impl<'t, 'a, S: IndexStorage> KeptCosts<'t, 'a, S> {
     {
         self.stays_well_formed();
         let symbols = self.prod(pidx);
-        'symbols: for place in 0..symbols.len() {
-            if is_among(symbols[place], set) {
+        'symbols: for index in 0..symbols.len() {
+            if is_among(symbols[index], set) {
                 return true;
             }
         }

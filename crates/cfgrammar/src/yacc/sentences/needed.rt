@@ -26,8 +26,8 @@ fn want_named<S: IndexStorage>(least: &LeastCosts<S>, pidx: PIdx<S>, wanted: &mu
     least.stays_well_formed();
     let symbols = least.prod(pidx);
     let mut changed = false;
-    'symbols: for place in 0..symbols.len() {
-        changed |= add_symbol(symbols[place], wanted);
+    'symbols: for index in 0..symbols.len() {
+        changed |= add_symbol(symbols[index], wanted);
     }
     changed
 }
@@ -92,7 +92,7 @@ fn sweep<S: IndexStorage>(least: &LeastCosts<S>, wanted: &mut Vob) -> bool
 }
 
 /// The rule, and each rule that productions of the set's rules name, where they give these the least cost.
-pub fn wanted_rules<S: IndexStorage>(
+pub(crate) fn wanted_rules<S: IndexStorage>(
     alloc: Global,
     least: &LeastCosts<S>,
     ridx: RIdx<S>,

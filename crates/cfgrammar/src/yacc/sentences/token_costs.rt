@@ -143,8 +143,8 @@ fn symbols_cost<S: IndexStorage>(
     ensures { MatchOption result (HasNoCost costs.now least.now (syms_of S.number symbols.now)) (λ k. IsCost costs.now least.now (syms_of S.number symbols.now) k) }
 {
     let mut sum = 0;
-    'back: for place in 0..symbols.len() {
-        let symbol = symbols[symbols.len() - 1 - place];
+    'back: for index in 0..symbols.len() {
+        let symbol = symbols[symbols.len() - 1 - index];
         let Some(cost) = symbol_cost(symbol, costs, least) else {
             return None;
         };

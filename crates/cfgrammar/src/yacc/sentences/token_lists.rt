@@ -56,18 +56,18 @@ impl<S: IndexStorage> TokenLists<S> {
         ensures sound { IfOk result (λ _. (v : List ℕ) → Contains self.new v → Contains self.old v ⊎ (v ≡ tokens_of S.number list.now)) }
         ensures steps { IfOk result (λ b. PassStep spare (λ lists. Contains lists (tokens_of S.number list.now)) self.old self.new b) }
     {
-        let Some(place) = free_place(self.lists.as_slice(), list) else {
+        let Some(index) = free_place(self.lists.as_slice(), list) else {
             return Ok(false);
         };
         let mut copy = Vec::new(alloc);
         append(list, &mut copy)?;
-        self.lists.insert(place, copy)?;
+        self.lists.insert(index, copy)?;
         Ok(true)
     }
 }
 
 /// Puts copies of all the lists in, and says whether one wasn't there.
-pub fn insert_all<S: IndexStorage>(
+pub(crate) fn insert_all<S: IndexStorage>(
     alloc: Global,
     lists: &[Vec<TIdx<S>>],
     own: &mut TokenLists<S>,
@@ -76,8 +76,8 @@ pub fn insert_all<S: IndexStorage>(
     ensures steps { IfOk result (λ b. PassStep spare (λ own. (v : List ℕ) → Contains (lists_of S.number lists.now) v → Contains own v) own.old own.new b) }
 {
     let mut changed = false;
-    'lists: for place in 0..lists.len() {
-        changed |= own.insert(alloc, lists[place].as_slice())?;
+    'lists: for index in 0..lists.len() {
+        changed |= own.insert(alloc, lists[index].as_slice())?;
     }
     Ok(changed)
 }
@@ -107,26 +107,26 @@ fn free_place<S: IndexStorage>(lists: &[Vec<TIdx<S>>], list: &[TIdx<S>]) -> Opti
     requires { AllPairs IsBefore (lists_of S.number lists.now) }
     ensures { MatchOption result (Contains (lists_of S.number lists.now) (tokens_of S.number list.now)) (λ n. BelongsAt (lists_of S.number lists.now) (tokens_of S.number list.now) n) }
 {
-    let place = count_before(lists, list);
-    if lists.len() <= place {
-        return Some(place);
+    let index = count_before(lists, list);
+    if lists.len() <= index {
+        return Some(index);
     }
-    if is_before(list, lists[place].as_slice()) {
-        return Some(place);
+    if is_before(list, lists[index].as_slice()) {
+        return Some(index);
     }
     None
 }
 
 /// Whether a list is before another in the dictionary order of token numbers.
-pub fn is_before<S: IndexStorage>(a: &[TIdx<S>], b: &[TIdx<S>]) -> bool
+pub(crate) fn is_before<S: IndexStorage>(a: &[TIdx<S>], b: &[TIdx<S>]) -> bool
     ensures { IsTrue result ↔ IsBefore (tokens_of S.number a.now) (tokens_of S.number b.now) }
 {
-    'places: for place in 0..a.len() {
-        if b.len() <= place {
+    'indices: for index in 0..a.len() {
+        if b.len() <= index {
             return false;
         }
-        let left = a[place].0.to_usize();
-        let right = b[place].0.to_usize();
+        let left = a[index].0.to_usize();
+        let right = b[index].0.to_usize();
         if left < right {
             return true;
         }
@@ -138,14 +138,14 @@ pub fn is_before<S: IndexStorage>(a: &[TIdx<S>], b: &[TIdx<S>]) -> bool
 }
 
 /// Puts the tokens behind those of a list.
-pub fn append<S: IndexStorage>(
+pub(crate) fn append<S: IndexStorage>(
     tokens: &[TIdx<S>],
     list: &mut Vec<TIdx<S>>,
 ) -> Result<(), AllocError>
     ensures { IfOk result (λ _. list.new.items ≡ list.old.items ++ tokens.now) }
 {
-    'tokens: for place in 0..tokens.len() {
-        list.push(tokens[place])?;
+    'tokens: for index in 0..tokens.len() {
+        list.push(tokens[index])?;
     }
     Ok(())
 }
@@ -165,7 +165,7 @@ fn join<S: IndexStorage>(
 }
 
 /// Puts the tokens before each of the lists, and these behind the others.
-pub fn put_before<S: IndexStorage>(
+pub(crate) fn put_before<S: IndexStorage>(
     alloc: Global,
     u: &[TIdx<S>],
     rests: &[Vec<TIdx<S>>],
@@ -173,14 +173,14 @@ pub fn put_before<S: IndexStorage>(
 ) -> Result<(), AllocError>
     ensures { IfOk result (λ _. lists_of S.number out.new.items ≡ lists_of S.number out.old.items ++ map (λ v. tokens_of S.number u.now ++ v) (lists_of S.number rests.now)) }
 {
-    'rests: for place in 0..rests.len() {
-        out.push(join(alloc, u, rests[place].as_slice())?)?;
+    'rests: for index in 0..rests.len() {
+        out.push(join(alloc, u, rests[index].as_slice())?)?;
     }
     Ok(())
 }
 
 /// Each of the first lists before each of the second ones.
-pub fn join_all<S: IndexStorage>(
+pub(crate) fn join_all<S: IndexStorage>(
     alloc: Global,
     firsts: &[Vec<TIdx<S>>],
     rests: &[Vec<TIdx<S>>],
@@ -188,8 +188,8 @@ pub fn join_all<S: IndexStorage>(
     ensures { IfOk result (λ out. lists_of S.number out.items ≡ joined (lists_of S.number firsts.now) (lists_of S.number rests.now)) }
 {
     let mut out = Vec::new(alloc);
-    'firsts: for place in 0..firsts.len() {
-        put_before(alloc, firsts[place].as_slice(), rests, &mut out)?;
+    'firsts: for index in 0..firsts.len() {
+        put_before(alloc, firsts[index].as_slice(), rests, &mut out)?;
     }
     Ok(out)
 }

@@ -9,24 +9,24 @@ put_before-requires-clause-within g c =
     let n = length c.args.symbols.now in
     let lt = c.back-test.true in
     let x = c.index-symbols-symbols.result in
-    all_at c.args.self.now (sym_of g.S.IndexStorage.number) c.args.symbols.now (n - 1 - c.back.place) x x c.requires.within (omega (arith, lt)) c.index-symbols-symbols.is
+    all_at c.args.self.now (sym_of g.S.IndexStorage.number) c.args.symbols.now (n - 1 - c.back.index) x x c.requires.within (omega (arith, lt)) c.index-symbols-symbols.is
 
 pub is_nullable-nullable-requires : goal.is_nullable-nullable-requires
 is_nullable-nullable-requires g c =
     let n = length c.args.symbols.now in
     let lt = c.back-test.true in
     let x = c.index-symbols-symbols.result in
-    all_at c.args.self.now (sym_of g.S.IndexStorage.number) c.args.symbols.now (n - 1 - c.back.place) x x c.requires.within (omega (arith, lt)) c.index-symbols-symbols.is
+    all_at c.args.self.now (sym_of g.S.IndexStorage.number) c.args.symbols.now (n - 1 - c.back.index) x x c.requires.within (omega (arith, lt)) c.index-symbols-symbols.is
 
 pub back-preserved : goal.back-preserved
 back-preserved g c =
     let n = length c.args.symbols.now in
     let lt = c.back-test.true in
     let x = c.index-symbols-symbols.result in
-    let at = n - 1 - c.back.place in
-    let e : at + 1 + c.back.place ≡ n = omega (arith, lt) in
+    let at = n - 1 - c.back.index in
+    let e : at + 1 + c.back.index ≡ n = omega (arith, lt) in
     record {
       width = c.put_before.ensures.width;
-      nullable = null_next (sym_of g.S.IndexStorage.number) c.args.symbols.now c.back.place at x e c.index-symbols-symbols.is c.args.self.now c.back.begins.bits c.put_before.new.tail.bits c.back.nullable c.is_nullable-nullable.result c.back.invariant.nullable c.back.invariant.first c.is_nullable-nullable.ensures c.put_before.ensures.bits;
-      first = first_next (sym_of g.S.IndexStorage.number) c.args.symbols.now c.back.place at x e c.index-symbols-symbols.is c.args.self.now c.back.begins.bits c.put_before.new.tail.bits c.back.nullable c.is_nullable-nullable.result c.back.invariant.nullable c.back.invariant.first c.is_nullable-nullable.ensures c.put_before.ensures.bits;
+      nullable = null_next (sym_of g.S.IndexStorage.number) c.args.symbols.now c.back.index at x e c.index-symbols-symbols.is c.args.self.now c.back.begins.bits c.put_before.new.tail.bits c.back.nullable c.is_nullable-nullable.result c.back.invariant.nullable c.back.invariant.first c.is_nullable-nullable.ensures c.put_before.ensures.bits;
+      first = first_next (sym_of g.S.IndexStorage.number) c.args.symbols.now c.back.index at x e c.index-symbols-symbols.is c.args.self.now c.back.begins.bits c.put_before.new.tail.bits c.back.nullable c.is_nullable-nullable.result c.back.invariant.nullable c.back.invariant.first c.is_nullable-nullable.ensures c.put_before.ensures.bits;
     }

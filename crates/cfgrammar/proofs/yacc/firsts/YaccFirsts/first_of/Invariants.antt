@@ -9,6 +9,6 @@ use Rattle.cfgrammar.proofs.yacc.firsts.YaccFirsts.first_of.Given as goal
 abbrev pub invariant-back : goal.invariant-back
 invariant-back g l = record {
   width : length l.begins.bits ≡ l.self.tokens;
-  nullable : IsTrue l.nullable ↔ AllOf (HasEpsilon l.self) (drop (length l.symbols - l.place) (syms_of g.S.IndexStorage.number l.symbols));
-  first : (t : ℕ) → IsTrue (is_set l.begins.bits t) ↔ FirstsOf l.self (drop (length l.symbols - l.place) (syms_of g.S.IndexStorage.number l.symbols)) t;
+  nullable : IsTrue l.nullable ↔ AllOf (HasEpsilon l.self) (drop (length l.symbols - l.index) (syms_of g.S.IndexStorage.number l.symbols));
+  first : (t : ℕ) → IsTrue (is_set l.begins.bits t) ↔ FirstsOf l.self (drop (length l.symbols - l.index) (syms_of g.S.IndexStorage.number l.symbols)) t;
 }

@@ -1,44 +1,57 @@
-use Rattle.std.proofs.Common.{◌≡◌, ℕ, ◌<◌, ◌↔◌, Bool, true, List, length, set, refl, sym, ap, ◌∙◌, subst}
-use Rattle.std.specs.Prelude.{IsTrue, if◌then◌else◌}
-use Rattle.cfg_theory.specs.Grammar.{Sym, IsOf, head_of}
+use Rattle.std.proofs.Common.{◌<◌, inl, inr, length, refl, sym, ap, ◌∙◌, subst}
+use Rattle.cfg_theory.specs.Grammar.{IsOf, head_of}
 use Rattle.cfg_theory.specs.First.{AllOf}
-use Rattle.cfgrammar.specs.Sets.{is_set, joined_to}
+use Rattle.std.specs.List.{Contains}
+use Rattle.cfgrammar.specs.Symbols.{syms_of}
 use Rattle.cfgrammar.specs.Firsts.{HasEpsilon, FirstsOf, AllWithin}
-use Rattle.cfgrammar.proofs.FirstSteps.{body_within, taken_sizes, still_sound}
+use Rattle.cfgrammar.proofs.FirstSteps.{body_within}
+use Rattle.cfgrammar.proofs.FirstFills.{closed_same, closed_here, closed_still, waits_still, still_sound, adds_of}
 use Rattle.cfgrammar.proofs.yacc.firsts.YaccFirsts.take_prod.Goals as goal
 
-pub first_of-nullable-requires-clause-within : goal.first_of-nullable-requires-clause-within
-first_of-nullable-requires-clause-within g c =
-    subst (AllWithin c.args.self.now) (sym c.prod.ensures) (body_within c.args.grm.now.grammar c.args.self.now (g.S.IndexStorage.number c.args.pidx.0) c.stays_well_formed.ensures c.requires.sizes)
+pub add_body-requires-clause-within : goal.add_body-requires-clause-within
+add_body-requires-clause-within g c =
+    subst (AllWithin c.args.self.now) (sym c.prod.ensures) (body_within c.args.grm.now.grammar c.args.self.now (g.S.IndexStorage.number c.prod_at-pidx.result.0) c.stays_well_formed.ensures c.requires.sound.sizes)
 
-pub returns-clause-sizes : goal.returns-clause-sizes
-returns-clause-sizes g c =
+pub returns-then-not-add_body-clause-here : goal.returns-then-not-add_body-clause-here
+returns-then-not-add_body-clause-here g c =
     let G = c.args.grm.now.grammar in
-    let p = g.S.IndexStorage.number c.args.pidx.0 in
-    let A = g.S.IndexStorage.number c.prod_to_rule-rule.result.0 in
-    let old = c.args.self.now in
-    let o : IsOf G p A = record { in_range = c.requires.production; head = sym c.prod_to_rule-rule.ensures } in
-    let nullable = c.first_of-nullable.result in
-    taken_sizes G old c.add_epsilon-found.new.self A c.first_of-nullable.new.begins.bits nullable c.requires.sizes (c.stays_well_formed.ensures.heads p A o) (c.first_of-nullable.ensures.width ∙ c.requires.sizes.tokens)
-    (c.add_epsilon-found.ensures.tokens ∙ c.add_tokens-grew.ensures.tokens) (c.add_epsilon-found.ensures.rows ∙ c.add_tokens-grew.ensures.rows)
-    (c.add_epsilon-found.ensures.epsilons ∙ ap (λ (l : List Bool). if nullable then set l A true else l) c.add_tokens-grew.ensures.epsilons)
+    let h = adds_of G c.args.number (g.S.IndexStorage.number c.prod_at-pidx.result.0) (g.S.IndexStorage.number c.prod_to_rule-head.result.0) (syms_of g.S.IndexStorage.number c.prod.result.now) c.args.self.now c.add_body.new.self c.prod_at-pidx.ensures c.prod_to_rule-head.ensures c.prod.ensures c.add_body.ensures.added in
+    inl (closed_same G c.args.number c.args.self.now c.add_body.new.self h (c.add_body.ensures.steps.still c.if-not-add_body.true))
+
+pub put-requires : goal.put-requires
+put-requires g c =
+    let G = c.args.grm.now.grammar in
+    let q = g.S.IndexStorage.number c.prod_at-pidx.result.0 in
+    let o : IsOf G q (head_of G q) = record { in_range = subst (λ n. n < length G.productions) (sym c.prod_at-pidx.ensures) c.requires.production; head = refl } in
+    subst (λ n. c.to_usize.result < n) (sym c.requires.work) (subst (λ n. n < G.rules) (sym (c.to_usize.ensures.value ∙ c.prod_to_rule-head.ensures)) (c.stays_well_formed.ensures.heads q (head_of G q) o))
 
 pub returns-clause-sound : goal.returns-clause-sound
 returns-clause-sound g c =
     let G = c.args.grm.now.grammar in
-    let p = g.S.IndexStorage.number c.args.pidx.0 in
-    let H = head_of G p in
+    let p = c.args.number in
+    let h = adds_of G p (g.S.IndexStorage.number c.prod_at-pidx.result.0) (g.S.IndexStorage.number c.prod_to_rule-head.result.0) (syms_of g.S.IndexStorage.number c.prod.result.now) c.args.self.now c.add_body.new.self c.prod_at-pidx.ensures c.prod_to_rule-head.ensures c.prod.ensures c.add_body.ensures.added in
+    still_sound G p c.args.self.now c.add_body.new.self h (record { in_range = c.requires.production; head = refl }) c.args.row.now.bits c.add_body.new.row.bits c.requires.sound c.add_body.ensures.width
+
+pub returns-clause-kept : goal.returns-clause-kept
+returns-clause-kept g c = λ p was.
+    let G = c.args.grm.now.grammar in
+    let q = c.args.number in
     let old = c.args.self.now in
-    let o : IsOf G p H = record { in_range = c.requires.production; head = refl } in
-    let lt = c.stays_well_formed.ensures.heads p H o in
-    let sizes = c.requires.sizes in
-    let nullable = c.first_of-nullable.result in
-    let ys = c.first_of-nullable.new.begins.bits in
-    let new = c.add_epsilon-found.new.self in
-    let len : length ys ≡ G.tokens = c.first_of-nullable.ensures.width ∙ sizes.tokens in
-    let same = c.prod_to_rule-rule.ensures in
-    let rows : new.rows ≡ joined_to old.rows H ys = c.add_epsilon-found.ensures.rows ∙ c.add_tokens-grew.ensures.rows ∙ ap (λ (A : ℕ). joined_to old.rows A ys) same in
-    let epsilons : new.epsilons ≡ (if nullable then set old.epsilons H true else old.epsilons) = c.add_epsilon-found.ensures.epsilons ∙ ap (λ (l : List Bool). if nullable then set l (g.S.IndexStorage.number c.prod_to_rule-rule.result.0) true else l) c.add_tokens-grew.ensures.epsilons ∙ ap (λ (A : ℕ). if nullable then set old.epsilons A true else old.epsilons) same in
-    let null = subst (λ (a : List Sym). IsTrue nullable ↔ AllOf (HasEpsilon old) a) c.prod.ensures c.first_of-nullable.ensures.nullable in
-    let first = subst (λ (a : List Sym). (t : ℕ) → IsTrue (is_set ys t) ↔ FirstsOf old a t) c.prod.ensures c.first_of-nullable.ensures.first in
-    still_sound G p o old c.requires.sound new ys nullable (subst (λ (n : ℕ). H < n) (sym sizes.rows.count) lt) (subst (λ (n : ℕ). H < n) (sym sizes.rules) lt) (sizes.rows.width H lt ∙ sym len) rows epsilons null first
+    let new = c.add_body.new.self in
+    let A = g.S.IndexStorage.number c.prod_to_rule-head.result.0 in
+    let a = syms_of g.S.IndexStorage.number c.prod.result.now in
+    let waits : Contains c.put.new.self.list A = subst (λ n. Contains c.put.new.self.list n) c.to_usize.ensures.value c.in_ok-put.ensures.waits in
+    elim was [
+      | inl closed ↦ closed_still G A (FirstsOf old a) (AllOf (HasEpsilon old) a) old new c.add_body.ensures.added c.put.new.self.list p waits closed
+      | inr named ↦ inr (waits_still G c.args.work.now.list c.put.new.self.list p c.in_ok-put.ensures.kept named)
+    ]
+
+pub returns-clause-here : goal.returns-clause-here
+returns-clause-here g c =
+    let G = c.args.grm.now.grammar in
+    let p = c.args.number in
+    let q = g.S.IndexStorage.number c.prod_at-pidx.result.0 in
+    let A = g.S.IndexStorage.number c.prod_to_rule-head.result.0 in
+    let h = adds_of G p q A (syms_of g.S.IndexStorage.number c.prod.result.now) c.args.self.now c.add_body.new.self c.prod_at-pidx.ensures c.prod_to_rule-head.ensures c.prod.ensures c.add_body.ensures.added in
+    let waits : Contains c.put.new.self.list (head_of G p) = subst (λ n. Contains c.put.new.self.list n) (c.to_usize.ensures.value ∙ c.prod_to_rule-head.ensures ∙ ap (head_of G) c.prod_at-pidx.ensures) c.in_ok-put.ensures.waits in
+    closed_here G p c.args.self.now c.add_body.new.self h c.put.new.self.list waits

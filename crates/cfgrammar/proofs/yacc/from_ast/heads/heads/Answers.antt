@@ -7,7 +7,7 @@ use Rattle.cfgrammar.proofs.yacc.from_ast.heads.heads.Goals as goal
 
 pub note_all-requires : goal.note_all-requires
 note_all-requires c =
-    let k = c.rules.place in
+    let k = c.rules.index in
     let at : option_map (λ (r : RuleAst). r.productions) (slice_get c.args.ast.now.rules k) ≡ Some c.deref.result.now =
     ap (λ (rs : List RuleAst). option_map (λ (r : RuleAst). r.productions) (slice_get rs k)) (sym c.rules-in-rules.ensures.rules)
     ∙ rule_list c.rules-in-rules.result.now.entries k c.index.result.now c.index.ensures ∙ ap Some (sym c.deref.ensures.value) in
@@ -15,7 +15,7 @@ note_all-requires c =
 
 pub rules-preserved : goal.rules-preserved
 rules-preserved c =
-    let k = c.rules.place in
+    let k = c.rules.index in
     let at : option_map (λ (r : RuleAst). r.productions) (slice_get c.args.ast.now.rules k) ≡ Some c.deref.result.now =
     ap (λ (rs : List RuleAst). option_map (λ (r : RuleAst). r.productions) (slice_get rs k)) (sym c.rules-in-rules.ensures.rules)
     ∙ rule_list c.rules-in-rules.result.now.entries k c.index.result.now c.index.ensures ∙ ap Some (sym c.deref.ensures.value) in
@@ -23,10 +23,10 @@ rules-preserved c =
 
 pub returns-clause-each : goal.returns-clause-each
 returns-clause-each c =
-    let k = c.rules.place in
+    let k = c.rules.index in
     let es = c.rules-2.result.now.entries in
-    let len = c.len-place-end.ensures.len in
-    let low = c.rules.auto.place-end in
+    let len = c.len-index-end.ensures.len in
+    let low = c.rules.auto.index-end in
     let whole = length-map es named_rule in
     let same = ap length c.rules-2.ensures.rules in
     let all : k ≡ length c.args.ast.now.rules = omega (arith, len, low, whole, same) in

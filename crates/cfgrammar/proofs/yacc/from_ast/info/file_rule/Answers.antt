@@ -9,7 +9,7 @@ use Rattle.cfgrammar.proofs.yacc.from_ast.info.file_rule.Goals as goal
 pub returns : goal.returns
 returns c =
     let e = deref_pair c.unwrap.result in
-    let there = entry_at named_rule file_rule_facts c.rules.result.now.entries c.args.ast.now.rules c.args.place (option_map deref_pair c.get_index.result) e c.rules.ensures.rules c.get_index.ensures.entry (ap (option_map deref_pair) c.unwrap.ensures) in
+    let there = entry_at named_rule file_rule_facts c.rules.result.now.entries c.args.ast.now.rules c.args.index (option_map deref_pair c.get_index.result) e c.rules.ensures.rules c.get_index.ensures.entry (ap (option_map deref_pair) c.unwrap.ensures) in
     let name : string_bytes c.in_ok-name.name ≡ string_bytes e.0 = c.in_ok-name.ensures.cases in
     let action = c.in_ok-action_type.ensures ∙ ap (option_map string_bytes) c.as_ref.ensures.value in
     there ∙ (λ i. Some (record {

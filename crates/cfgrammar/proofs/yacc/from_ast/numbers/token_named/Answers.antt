@@ -2,13 +2,13 @@ use Rattle.std.proofs.Common.{◌≡◌, ℕ, List, map, Contains, sym, ap, ◌�
 use Rattle.cfg_read.specs.SyntaxTexts.{WordText}
 use Rattle.cfg_read.specs.AstModels.{named_span}
 use Rattle.cfg_read.specs.WellFormedAst.{names_of_tokens}
-use Rattle.cfgrammar.specs.FromAst.{place}
+use Rattle.cfgrammar.specs.FromAst.{index_in}
 use Rattle.cfgrammar.proofs.FromAstLookups.{map_twice, key_text, found_place, some_of}
 use Rattle.cfgrammar.proofs.FromAstNames.{same_some}
 use Rattle.cfgrammar.proofs.yacc.from_ast.numbers.token_named.Goals as goal
 
-pub unwrap-place-requires : goal.unwrap-place-requires
-unwrap-place-requires g c =
+pub unwrap-index-requires : goal.unwrap-index-requires
+unwrap-index-requires g c =
     let es = c.tokens.result.now.entries in
     let q = c.args.name.now in
     let names : names_of_tokens c.args.ast.now ≡ map key_text es = ap (map (λ (w : WordText). w.text)) (sym c.tokens.ensures) ∙ map_twice named_span (λ (w : WordText). w.text) es in
@@ -21,5 +21,5 @@ returns g c =
     let q = c.args.name.now in
     let names : names_of_tokens c.args.ast.now ≡ map key_text es = ap (map (λ (w : WordText). w.text)) (sym c.tokens.ensures) ∙ map_twice named_span (λ (w : WordText). w.text) es in
     let at = c.get_index_of.ensures.index ∙ found_place es q (subst (λ (ns : List (List ℕ)). Contains ns q) names c.requires.known) in
-    let is : c.unwrap-place.result ≡ place (map key_text es) q = same_some _ _ (sym c.unwrap-place.ensures ∙ at) in
-    c.index_of.ensures ∙ is ∙ ap (λ (ns : List (List ℕ)). place ns q) (sym names)
+    let is : c.unwrap-index.result ≡ index_in (map key_text es) q = same_some _ _ (sym c.unwrap-index.ensures ∙ at) in
+    c.index_of.ensures ∙ is ∙ ap (λ (ns : List (List ℕ)). index_in ns q) (sym names)

@@ -23,8 +23,8 @@ file_part-requires-clause-known g c =
     let all = subst (λ (ps : List ProductionAst). All (λ (p : ProductionAst). All (NamesOne ast) p.symbols) ps) (sym c.prods-prods.ensures) c.requires.sound.symbols in
     subst (λ p. All (NamesOne ast) (views.production_of p).symbols) (sym c.index-prods-number.is) (under (λ (p : ProductionAst). All (NamesOne ast) p.symbols) views.production_of xs all n x (omega arith))
 
-pub file_part-requires-clause-place : goal.file_part-requires-clause-place
-file_part-requires-clause-place g c =
+pub file_part-requires-clause-index : goal.file_part-requires-clause-index
+file_part-requires-clause-index g c =
     let ast = c.args.ast.now in
     let n = c.prods.number in
     let len = length-map c.prods-prods.result.now views.production_of in

@@ -16,8 +16,8 @@ pub token_named-requires-clause-known : goal.token_named-requires-clause-known
 token_named-requires-clause-known g c =
     let ast = c.args.ast.now in
     let e = deref_pair c.unwrap.result in
-    let at = entry_at named_span (λ (w : WordText). w.text) c.implicit_tokens.result.now.entries ast.implicit_tokens c.args.place (option_map deref_pair c.get_index.result) e c.implicit_tokens.ensures c.get_index.ensures.entry (ap (option_map deref_pair) c.unwrap.ensures) in
-    subst (Contains (names_of_tokens ast)) (sym c.as_str.ensures.value) (all_at (Contains (names_of_tokens ast)) (texts ast.implicit_tokens) c.args.place (string_bytes e.0) c.requires.sound.implicit_are_tokens at)
+    let at = entry_at named_span (λ (w : WordText). w.text) c.implicit_tokens.result.now.entries ast.implicit_tokens c.args.index (option_map deref_pair c.get_index.result) e c.implicit_tokens.ensures c.get_index.ensures.entry (ap (option_map deref_pair) c.unwrap.ensures) in
+    subst (Contains (names_of_tokens ast)) (sym c.as_str.ensures.value) (all_at (Contains (names_of_tokens ast)) (texts ast.implicit_tokens) c.args.index (string_bytes e.0) c.requires.sound.implicit_are_tokens at)
 
 pub returns : goal.returns
 returns g c =
@@ -25,7 +25,7 @@ returns g c =
     let number = g.S.IndexStorage.number in
     let e = deref_pair c.unwrap.result in
     let w = named_span e in
-    let at = entry_in named_span c.implicit_tokens.result.now.entries ast.implicit_tokens c.args.place (option_map deref_pair c.get_index.result) e c.implicit_tokens.ensures c.get_index.ensures.entry (ap (option_map deref_pair) c.unwrap.ensures) in
+    let at = entry_in named_span c.implicit_tokens.result.now.entries ast.implicit_tokens c.args.index (option_map deref_pair c.get_index.result) e c.implicit_tokens.ensures c.get_index.ensures.entry (ap (option_map deref_pair) c.unwrap.ensures) in
     let head = c.tilde-rule.ensures in
     let name = c.token_named.ensures ∙ ap (token_number ast) c.as_str.ensures.value in
     let body = c.in_ok-symbols.ensures ∙ (λ i. token (name i) ∷ rule (head i) ∷ []) in

@@ -14,12 +14,12 @@ tokens-preserved g c =
     let ast = c.args.ast.now in
     let number = g.S.IndexStorage.number in
     let ws = ast.implicit_tokens in
-    let k = c.tokens.place in
+    let k = c.tokens.index in
     let old = c.args.made.now.items in
     let mid = c.tokens.made.items in
     let new = c.push_implicit.new.made.items in
     let d : WordText = record { text = []; span = nowhere } in
-    let len = c.len-place-end.ensures.len in
+    let len = c.len-index-end.ensures.len in
     let mapped = length-map c.implicit_tokens.result.now.entries named_span in
     let same = ap length c.implicit_tokens.ensures in
     let at = slice_get-get_or ws k d (omega (arith, len, mapped, same)) in

@@ -10,8 +10,8 @@ leads_out-requires-clause-production g c =
     let number = g.S.IndexStorage.number in
     let G = c.args.costly.now.grammar in
     let A = number c.args.ridx.0 in
-    let at = number_at number c.rule_to_prods-prods.result.now (productions_of G A) c.prods.place c.index-prods-place.result c.rule_to_prods-prods.ensures c.prods-test.true c.index-prods-place.is in
-    let lt = listed_below G A c.prods.place at.0 in
+    let at = number_at number c.rule_to_prods-prods.result.now (productions_of G A) c.prods.index c.index-prods-index.result c.rule_to_prods-prods.ensures c.prods-test.true c.index-prods-index.is in
+    let lt = listed_below G A c.prods.index at.0 in
     let e = at.1 in
     omega (arith, lt, e)
 
@@ -23,9 +23,9 @@ prods-preserved g c =
     let number = g.S.IndexStorage.number in
     let G = c.args.costly.now.grammar in
     let A = number c.args.ridx.0 in
-    let x = c.index-prods-place.result in
-    let at = number_at number c.rule_to_prods-prods.result.now (productions_of G A) c.prods.place x c.rule_to_prods-prods.ensures c.prods-test.true c.index-prods-place.is in
-    out_more G (cost_of c.args.costly.now.costs) c.args.costly.now.table c.args.set.now.bits A c.prods.place (number x.0) at.1 (c.leads_out.ensures c.if-not-leads_out.false) c.prods.invariant
+    let x = c.index-prods-index.result in
+    let at = number_at number c.rule_to_prods-prods.result.now (productions_of G A) c.prods.index x c.rule_to_prods-prods.ensures c.prods-test.true c.index-prods-index.is in
+    out_more G (cost_of c.args.costly.now.costs) c.args.costly.now.table c.args.set.now.bits A c.prods.index (number x.0) at.1 (c.leads_out.ensures c.if-not-leads_out.false) c.prods.invariant
 
 pub returns : goal.returns
 returns g c =
@@ -35,5 +35,5 @@ returns g c =
     let len = ap length c.rule_to_prods-prods.ensures in
     let count = length-map c.rule_to_prods-prods.result.now (λ p. number p.0) in
     let end = c.prods-test.false in
-    let le : length (productions_of G A) ≤ c.prods.place = omega (arith, len, count, end) in
-    λ _ p o. out_all G (cost_of c.args.costly.now.costs) c.args.costly.now.table c.args.set.now.bits A c.prods.place p le c.prods.invariant o
+    let le : length (productions_of G A) ≤ c.prods.index = omega (arith, len, count, end) in
+    λ _ p o. out_all G (cost_of c.args.costly.now.costs) c.args.costly.now.table c.args.set.now.bits A c.prods.index p le c.prods.invariant o

@@ -13,7 +13,7 @@ put_symbol-requires g c =
     let xs = c.args.symbols.now in
     let lt = c.back-test.true in
     let x = c.index-symbols-symbols.result in
-    has_at c.args.table.now (sym_of g.S.IndexStorage.number) xs (length xs - 1 - c.back.place) x x c.requires (omega (arith, lt)) c.index-symbols-symbols.is
+    has_at c.args.table.now (sym_of g.S.IndexStorage.number) xs (length xs - 1 - c.back.index) x x c.requires (omega (arith, lt)) c.index-symbols-symbols.is
 
 pub back-preserved : goal.back-preserved
 back-preserved g c =
@@ -21,16 +21,16 @@ back-preserved g c =
     let view = sym_of number in
     let xs = c.args.symbols.now in
     let lt = c.back-test.true in
-    let place = c.back.place in
-    let at = length xs - 1 - place in
-    let e : at + 1 + place ≡ length xs = omega (arith, lt) in
+    let index = c.back.index in
+    let at = length xs - 1 - index in
+    let e : at + 1 + index ≡ length xs = omega (arith, lt) in
     let x = c.index-symbols-symbols.result in
-    next_lists number c.args.table.now (view x) (drop (length xs - place) (syms_of number xs)) (drop (length xs - (place + 1)) (syms_of number xs)) c.as_slice.result.now c.back.out.items c.in_ok-out.out.items c.as_slice.ensures.value c.in_ok-out.ensures c.back.invariant (rest_next view xs place at x e c.index-symbols-symbols.is)
+    next_lists number c.args.table.now (view x) (drop (length xs - index) (syms_of number xs)) (drop (length xs - (index + 1)) (syms_of number xs)) c.as_slice.result.now c.back.out.items c.in_ok-out.out.items c.as_slice.ensures.value c.in_ok-out.ensures c.back.invariant (rest_next view xs index at x e c.index-symbols-symbols.is)
 
 pub returns : goal.returns
 returns g c w =
     let number = g.S.IndexStorage.number in
     let xs = c.args.symbols.now in
     let end = c.back-test.false in
-    let none_left : length xs - c.back.place ≡ 0 = omega (arith, end) in
+    let none_left : length xs - c.back.index ≡ 0 = omega (arith, end) in
     subst (λ (k : ℕ). Contains (lists_of number c.back.out.items) w ↔ Concatenates (lists_in c.args.table.now) (drop k (syms_of number xs)) w) none_left (c.back.invariant w)

@@ -7,4 +7,4 @@ use Rattle.cfgrammar.specs.CheapestTable.{lists_in}
 use Rattle.cfgrammar.proofs.yacc.sentences.cheapest.put_together.Given as goal
 
 abbrev pub invariant-back : goal.invariant-back
-invariant-back g l = (w : List ℕ) → Contains (lists_of g.S.IndexStorage.number l.out.items) w ↔ Concatenates (lists_in l.table) (drop (length l.symbols - l.place) (syms_of g.S.IndexStorage.number l.symbols)) w
+invariant-back g l = (w : List ℕ) → Contains (lists_of g.S.IndexStorage.number l.out.items) w ↔ Concatenates (lists_in l.table) (drop (length l.symbols - l.index) (syms_of g.S.IndexStorage.number l.symbols)) w

@@ -9,5 +9,5 @@ abbrev pub invariant-symbols : goal.invariant-symbols
 invariant-symbols g l = record {
   width : length l.wanted.bits ≡ l.least.grammar.rules;
   kept : AreKept l.initial.wanted.bits l.wanted.bits;
-  steps : PassStep missing (NamedBelow l.least.grammar (g.S.IndexStorage.number l.fn.pidx.0) l.place) l.initial.wanted.bits l.wanted.bits l.changed;
+  steps : PassStep missing (NamedBelow l.least.grammar (g.S.IndexStorage.number l.fn.pidx.0) l.index) l.initial.wanted.bits l.wanted.bits l.changed;
 }

@@ -4,4 +4,4 @@ use Rattle.cfgrammar.specs.CostTable.{IsCost}
 use Rattle.cfgrammar.proofs.yacc.sentences.token_costs.symbols_cost.Given as goal
 
 abbrev pub invariant-back : goal.invariant-back
-invariant-back g l = IsCost l.costs l.least (drop (length l.symbols - l.place) (syms_of g.S.IndexStorage.number l.symbols)) l.sum
+invariant-back g l = IsCost l.costs l.least (drop (length l.symbols - l.index) (syms_of g.S.IndexStorage.number l.symbols)) l.sum

@@ -10,12 +10,12 @@ pub lists-preserved : goal.lists-preserved
 lists-preserved g c =
     let number = g.S.IndexStorage.number in
     let V = lists_of number c.args.lists.now in
-    let k = c.lists.place in
+    let k = c.lists.index in
     let less : k < length c.args.lists.now = c.lists-test.true in
     let count = lists_count number c.args.lists.now in
     let lt : k < length V = omega (arith, less, count) in
     let w = tokens_of number c.as_slice.result.now in
-    let e : w ≡ get_or V k [] = list_at number c.args.lists.now k c.index-lists-place.result c.as_slice.result.now less c.index-lists-place.is c.as_slice.ensures.value in
+    let e : w ≡ get_or V k [] = list_at number c.args.lists.now k c.index-lists-index.result c.as_slice.result.now less c.index-lists-index.is c.as_slice.ensures.value in
     let there = λ (v : List ℕ) (q : v ≡ w). (let r : Contains V v = (k, lt, any_default V k v [] lt ∙ sym e ∙ sym q) in r) in
     record {
       sound = λ v h. elim (c.in_ok-changed.ensures.sound v h) [ inl old ↦ c.lists.invariant.sound v old | inr q ↦ inr (there v q) ];
@@ -27,5 +27,5 @@ pub returns-clause-steps : goal.returns-clause-steps
 returns-clause-steps g c =
     let number = g.S.IndexStorage.number in
     let count = lists_count number c.args.lists.now in
-    let end : length c.args.lists.now ≤ c.lists.place = c.lists-test.false in
-    all_put (lists_of number c.args.lists.now) c.lists.place c.args.own.now c.lists.own c.lists.changed (omega (arith, count, end)) c.lists.invariant.steps
+    let end : length c.args.lists.now ≤ c.lists.index = c.lists-test.false in
+    all_put (lists_of number c.args.lists.now) c.lists.index c.args.own.now c.lists.own c.lists.changed (omega (arith, count, end)) c.lists.invariant.steps

@@ -7,62 +7,62 @@ use Rattle.cfgrammar.proofs.yacc.sentences.token_lists.is_before.Goals as goal
 wrong : ◌≡◌ {A = Bool} false true → ⊥
 wrong e = cc
 
-pub places-init : goal.places-init
-places-init g c = record { within = omega arith; rests = as_before (tokens_of g.S.IndexStorage.number c.args.a.now) (tokens_of g.S.IndexStorage.number c.args.b.now) }
+pub indices-init : goal.indices-init
+indices-init g c = record { within = omega arith; rests = as_before (tokens_of g.S.IndexStorage.number c.args.a.now) (tokens_of g.S.IndexStorage.number c.args.b.now) }
 
-pub returns-then-b-place : goal.returns-then-b-place
-returns-then-b-place g c =
+pub returns-then-b-index : goal.returns-then-b-index
+returns-then-b-index g c =
     let number = g.S.IndexStorage.number in
     let count = tokens_count number c.args.b.now in
-    let le = c.if-b-place.true in
-    (λ e. absurd (wrong e), λ h. absurd (at_other_end (tokens_of number c.args.a.now) (tokens_of number c.args.b.now) c.places.place (omega (arith, count, le)) c.places.invariant.rests h))
+    let le = c.if-b-index.true in
+    (λ e. absurd (wrong e), λ h. absurd (at_other_end (tokens_of number c.args.a.now) (tokens_of number c.args.b.now) c.indices.index (omega (arith, count, le)) c.indices.invariant.rests h))
 
 pub returns-then-left-right : goal.returns-then-left-right
 returns-then-left-right g c =
     let number = g.S.IndexStorage.number in
-    let i = c.places.place in
-    let a = drop_tokens number c.args.a.now i c.index-a-place.result c.places-test.true c.index-a-place.is in
-    let b = drop_tokens number c.args.b.now i c.index-b-place.result c.if-b-place.false c.index-b-place.is in
-    let x : c.to_usize-left.result ≡ number c.index-a-place.result.0 = read_is number c.to_usize-left.result c.index-a-place.result c.index-a-place.is c.to_usize-left.ensures.value in
-    let y : c.to_usize-right.result ≡ number c.index-b-place.result.0 = read_is number c.to_usize-right.result c.index-b-place.result c.index-b-place.is c.to_usize-right.ensures.value in
+    let i = c.indices.index in
+    let a = drop_tokens number c.args.a.now i c.index-a-index.result c.indices-test.true c.index-a-index.is in
+    let b = drop_tokens number c.args.b.now i c.index-b-index.result c.if-b-index.false c.index-b-index.is in
+    let x : c.to_usize-left.result ≡ number c.index-a-index.result.0 = read_is number c.to_usize-left.result c.index-a-index.result c.index-a-index.is c.to_usize-left.ensures.value in
+    let y : c.to_usize-right.result ≡ number c.index-b-index.result.0 = read_is number c.to_usize-right.result c.index-b-index.result c.index-b-index.is c.to_usize-right.ensures.value in
     let lt : c.to_usize-left.result < c.to_usize-right.result = c.if-left-right.true in
-    (λ e. less_here (tokens_of number c.args.a.now) (tokens_of number c.args.b.now) i (number c.index-a-place.result.0) (number c.index-b-place.result.0) a b c.places.invariant.rests (omega (arith, x, y, lt)), λ h. refl)
+    (λ e. less_here (tokens_of number c.args.a.now) (tokens_of number c.args.b.now) i (number c.index-a-index.result.0) (number c.index-b-index.result.0) a b c.indices.invariant.rests (omega (arith, x, y, lt)), λ h. refl)
 
 pub returns-then-right-left : goal.returns-then-right-left
 returns-then-right-left g c =
     let number = g.S.IndexStorage.number in
-    let i = c.places.place in
-    let a = drop_tokens number c.args.a.now i c.index-a-place.result c.places-test.true c.index-a-place.is in
-    let b = drop_tokens number c.args.b.now i c.index-b-place.result c.if-b-place.false c.index-b-place.is in
-    let x : c.to_usize-left.result ≡ number c.index-a-place.result.0 = read_is number c.to_usize-left.result c.index-a-place.result c.index-a-place.is c.to_usize-left.ensures.value in
-    let y : c.to_usize-right.result ≡ number c.index-b-place.result.0 = read_is number c.to_usize-right.result c.index-b-place.result c.index-b-place.is c.to_usize-right.ensures.value in
+    let i = c.indices.index in
+    let a = drop_tokens number c.args.a.now i c.index-a-index.result c.indices-test.true c.index-a-index.is in
+    let b = drop_tokens number c.args.b.now i c.index-b-index.result c.if-b-index.false c.index-b-index.is in
+    let x : c.to_usize-left.result ≡ number c.index-a-index.result.0 = read_is number c.to_usize-left.result c.index-a-index.result c.index-a-index.is c.to_usize-left.ensures.value in
+    let y : c.to_usize-right.result ≡ number c.index-b-index.result.0 = read_is number c.to_usize-right.result c.index-b-index.result c.index-b-index.is c.to_usize-right.ensures.value in
     let lt : c.to_usize-right.result < c.to_usize-left.result = c.if-right-left.true in
-    (λ e. absurd (wrong e), λ h. absurd (more_here (tokens_of number c.args.a.now) (tokens_of number c.args.b.now) i (number c.index-a-place.result.0) (number c.index-b-place.result.0) a b c.places.invariant.rests (omega (arith, x, y, lt)) h))
+    (λ e. absurd (wrong e), λ h. absurd (more_here (tokens_of number c.args.a.now) (tokens_of number c.args.b.now) i (number c.index-a-index.result.0) (number c.index-b-index.result.0) a b c.indices.invariant.rests (omega (arith, x, y, lt)) h))
 
-pub places-preserved : goal.places-preserved
-places-preserved g c =
+pub indices-preserved : goal.indices-preserved
+indices-preserved g c =
     let number = g.S.IndexStorage.number in
-    let i = c.places.place in
-    let a = drop_tokens number c.args.a.now i c.index-a-place.result c.places-test.true c.index-a-place.is in
-    let b = drop_tokens number c.args.b.now i c.index-b-place.result c.if-b-place.false c.index-b-place.is in
-    let x : c.to_usize-left.result ≡ number c.index-a-place.result.0 = read_is number c.to_usize-left.result c.index-a-place.result c.index-a-place.is c.to_usize-left.ensures.value in
-    let y : c.to_usize-right.result ≡ number c.index-b-place.result.0 = read_is number c.to_usize-right.result c.index-b-place.result c.index-b-place.is c.to_usize-right.ensures.value in
+    let i = c.indices.index in
+    let a = drop_tokens number c.args.a.now i c.index-a-index.result c.indices-test.true c.index-a-index.is in
+    let b = drop_tokens number c.args.b.now i c.index-b-index.result c.if-b-index.false c.index-b-index.is in
+    let x : c.to_usize-left.result ≡ number c.index-a-index.result.0 = read_is number c.to_usize-left.result c.index-a-index.result c.index-a-index.is c.to_usize-left.ensures.value in
+    let y : c.to_usize-right.result ≡ number c.index-b-index.result.0 = read_is number c.to_usize-right.result c.index-b-index.result c.index-b-index.is c.to_usize-right.ensures.value in
     let ge : c.to_usize-right.result ≤ c.to_usize-left.result = c.if-left-right.false in
     let le : c.to_usize-left.result ≤ c.to_usize-right.result = c.if-right-left.false in
-    let within = c.if-b-place.false in
+    let within = c.if-b-index.false in
     record {
       within = omega (arith, within);
-      rests = same_here (tokens_of number c.args.a.now) (tokens_of number c.args.b.now) i (number c.index-a-place.result.0) (number c.index-b-place.result.0) a b c.places.invariant.rests (omega (arith, x, y, ge)) (omega (arith, x, y, le));
+      rests = same_here (tokens_of number c.args.a.now) (tokens_of number c.args.b.now) i (number c.index-a-index.result.0) (number c.index-b-index.result.0) a b c.indices.invariant.rests (omega (arith, x, y, ge)) (omega (arith, x, y, le));
     }
 
 pub returns : goal.returns
 returns g c =
     let number = g.S.IndexStorage.number in
-    let i = c.places.place in
+    let i = c.indices.index in
     let ca = tokens_count number c.args.a.now in
     let cb = tokens_count number c.args.b.now in
-    let done = c.places-test.false in
-    let at = c.places.auto.place-end in
-    let within = c.places.invariant.within in
-    let r = at_end (tokens_of number c.args.a.now) (tokens_of number c.args.b.now) i (omega (arith, ca, done)) c.places.invariant.rests in
+    let done = c.indices-test.false in
+    let at = c.indices.auto.index-end in
+    let within = c.indices.invariant.within in
+    let r = at_end (tokens_of number c.args.a.now) (tokens_of number c.args.b.now) i (omega (arith, ca, done)) c.indices.invariant.rests in
     (λ e. r.0 (let lt = ltb-true (length c.args.a.now) (length c.args.b.now) e in omega (arith, lt, cb, at)), λ h. lt-ltb (length c.args.a.now) (length c.args.b.now) (let lt = r.1 h in omega (arith, lt, cb, done)))

@@ -4,8 +4,8 @@ use Rattle.cfgrammar.specs.TokenLists.{tokens_of}
 use Rattle.cfgrammar.proofs.Dictionary.{Before}
 use Rattle.cfgrammar.proofs.yacc.sentences.token_lists.is_before.Given as goal
 
-abbrev pub invariant-places : goal.invariant-places
-invariant-places g l = record {
-  within : l.place ≤ length l.b;
-  rests : Before (drop l.place (tokens_of g.S.IndexStorage.number l.a)) (drop l.place (tokens_of g.S.IndexStorage.number l.b)) ↔ IsBefore (tokens_of g.S.IndexStorage.number l.a) (tokens_of g.S.IndexStorage.number l.b);
+abbrev pub invariant-indices : goal.invariant-indices
+invariant-indices g l = record {
+  within : l.index ≤ length l.b;
+  rests : Before (drop l.index (tokens_of g.S.IndexStorage.number l.a)) (drop l.index (tokens_of g.S.IndexStorage.number l.b)) ↔ IsBefore (tokens_of g.S.IndexStorage.number l.a) (tokens_of g.S.IndexStorage.number l.b);
 }

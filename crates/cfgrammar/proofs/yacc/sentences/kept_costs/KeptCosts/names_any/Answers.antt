@@ -16,9 +16,9 @@ is_among-requires g c =
     let G = c.args.self.now.grammar in
     let p = number c.args.pidx.0 in
     let xs = c.prod-symbols.result.now in
-    let x = c.index-symbols-place.result in
-    let at : slice_get (body_of G p) c.symbols.place ≡ Some (sym_of number x) = subst (λ (l : List Sym). slice_get l c.symbols.place ≡ Some (sym_of number x)) c.prod-symbols.ensures (get_some (sym_of number) xs c.symbols.place x x c.symbols-test.true c.index-symbols-place.is) in
-    has_place G c.args.set.now.bits (sym_of number x) c.requires.width (c.stays_well_formed.ensures.symbols p c.symbols.place (sym_of number x) (record { at = at }))
+    let x = c.index-symbols-index.result in
+    let at : slice_get (body_of G p) c.symbols.index ≡ Some (sym_of number x) = subst (λ (l : List Sym). slice_get l c.symbols.index ≡ Some (sym_of number x)) c.prod-symbols.ensures (get_some (sym_of number) xs c.symbols.index x x c.symbols-test.true c.index-symbols-index.is) in
+    has_place G c.args.set.now.bits (sym_of number x) c.requires.width (c.stays_well_formed.ensures.symbols p c.symbols.index (sym_of number x) (record { at = at }))
 
 pub symbols-init : goal.symbols-init
 symbols-init g c = none_yet c.args.self.now.grammar (g.S.IndexStorage.number c.args.pidx.0) c.args.set.now.bits
@@ -29,9 +29,9 @@ symbols-preserved g c =
     let G = c.args.self.now.grammar in
     let p = number c.args.pidx.0 in
     let xs = c.prod-symbols.result.now in
-    let x = c.index-symbols-place.result in
-    let at : slice_get (body_of G p) c.symbols.place ≡ Some (sym_of number x) = subst (λ (l : List Sym). slice_get l c.symbols.place ≡ Some (sym_of number x)) c.prod-symbols.ensures (get_some (sym_of number) xs c.symbols.place x x c.symbols-test.true c.index-symbols-place.is) in
-    none_more G p c.symbols.place (sym_of number x) c.args.set.now.bits at (λ h. false_true (sym c.if-is_among.false ∙ c.is_among.ensures.1 h)) c.symbols.invariant
+    let x = c.index-symbols-index.result in
+    let at : slice_get (body_of G p) c.symbols.index ≡ Some (sym_of number x) = subst (λ (l : List Sym). slice_get l c.symbols.index ≡ Some (sym_of number x)) c.prod-symbols.ensures (get_some (sym_of number) xs c.symbols.index x x c.symbols-test.true c.index-symbols-index.is) in
+    none_more G p c.symbols.index (sym_of number x) c.args.set.now.bits at (λ h. false_true (sym c.if-is_among.false ∙ c.is_among.ensures.1 h)) c.symbols.invariant
 
 pub returns-then-is_among-clause-some : goal.returns-then-is_among-clause-some
 returns-then-is_among-clause-some g c =
@@ -39,9 +39,9 @@ returns-then-is_among-clause-some g c =
     let G = c.args.self.now.grammar in
     let p = number c.args.pidx.0 in
     let xs = c.prod-symbols.result.now in
-    let x = c.index-symbols-place.result in
-    let at : slice_get (body_of G p) c.symbols.place ≡ Some (sym_of number x) = subst (λ (l : List Sym). slice_get l c.symbols.place ≡ Some (sym_of number x)) c.prod-symbols.ensures (get_some (sym_of number) xs c.symbols.place x x c.symbols-test.true c.index-symbols-place.is) in
-    λ _. some_named G p c.symbols.place (sym_of number x) c.args.set.now.bits at (c.is_among.ensures.0 c.if-is_among.true)
+    let x = c.index-symbols-index.result in
+    let at : slice_get (body_of G p) c.symbols.index ≡ Some (sym_of number x) = subst (λ (l : List Sym). slice_get l c.symbols.index ≡ Some (sym_of number x)) c.prod-symbols.ensures (get_some (sym_of number) xs c.symbols.index x x c.symbols-test.true c.index-symbols-index.is) in
+    λ _. some_named G p c.symbols.index (sym_of number x) c.args.set.now.bits at (c.is_among.ensures.0 c.if-is_among.true)
 
 pub returns-clause-none : goal.returns-clause-none
 returns-clause-none g c =
@@ -51,5 +51,5 @@ returns-clause-none g c =
     let len = ap length c.prod-symbols.ensures in
     let count = length-map c.prod-symbols.result.now (sym_of number) in
     let end = c.symbols-test.false in
-    let le : length (body_of G p) ≤ c.symbols.place = omega (arith, len, count, end) in
-    λ _. none_named G p c.symbols.place c.args.set.now.bits le c.symbols.invariant
+    let le : length (body_of G p) ≤ c.symbols.index = omega (arith, len, count, end) in
+    λ _. none_named G p c.symbols.index c.args.set.now.bits le c.symbols.invariant

@@ -1,16 +1,16 @@
 -- An item put into a map in its order, or its lookaheads joined to those that it has there.
-use Rattle.std.proofs.Common.{◌≡◌, ℕ, zero, suc, ◌+◌, ◌-◌, ◌<◌, ◌≤◌, ◌⊎◌, inl, inr, ◌↔◌, Bool, List, [], ◌∷◌, length, get_or, set, refl, sym, ap, ◌∙◌, subst, subst₂, arith, length-set, get_or-set_same, get_or-set_other}
+use Rattle.std.proofs.Common.{◌≡◌, ℕ, ◌+◌, ◌-◌, ◌<◌, ◌≤◌, ◌⊎◌, inl, inr, Bool, List, [], length, get_or, set, refl, sym, ap, ◌∙◌, subst, subst₂, arith, length-set, get_or-set_same, get_or-set_other}
 use Rattle.std.specs.Prelude.{IsTrue}
-use Rattle.std.specs.List.{insert}
+use Rattle.std.specs.List.{insert, AllPairs}
 use Rattle.std.proofs.lemmas.Bool.{cases_eq, cases_lt}
 use Rattle.std.proofs.lemmas.List.{get_or_default}
 use Rattle.std.proofs.lemmas.List.Edits.{length-insert, get_or-insert_below, get_or-insert_at, get_or-insert_above}
 use Rattle.cfgrammar.specs.Sets.{is_set}
 use Rattle.lr_theory.specs.Itemset.{HasItem, HasLook}
 use Rattle.lrtable.specs.Meeting.{row}
-use Rattle.lrtable.specs.ItemRows.{Item, IsAt, ItemBefore, Ascends, Core, set_of, map_of, IsCoreOf}
+use Rattle.lrtable.specs.ItemRows.{Item, IsAt, ItemBefore, Ascends, Core, map_of, IsCoreOf}
 use Rattle.lrtable.specs.Adding.{Adds}
-use Rattle.lrtable.proofs.ItemSets.{has_item, has_look, one_place}
+use Rattle.lrtable.proofs.ItemSets.{has_item, has_look}
 use Rattle.cfgrammar.proofs.Bits.{join, joined}
 
 -- ---- the order
@@ -60,26 +60,33 @@ module _ {X : Type 0} (xs : List X) (k : ℕ) (x : X) (le : k ≤ length xs) whe
   pub got_above : (j m : ℕ) (d : X) → m + 1 ≡ j → k ≤ m → get_or (insert xs k x) j d ≡ get_or xs m d
   got_above j m d e ge = ap (λ n. get_or (insert xs k x) n d) (sym e) ∙ get_or-insert_above xs k x d m ge le
 
+  -- what holds of each two elements does so after an insert, where it holds of the new one and those around it
+  pub all_pairs_insert : (R : X → X → Type 0) → AllPairs R xs → ((j : ℕ) (d : X) → j < k → R (get_or xs j d) x) → ((j : ℕ) (d : X) → k ≤ j → j < length xs → R x (get_or xs j d)) → AllPairs R (insert xs k x)
+  all_pairs_insert R a low high = λ j m d lt within. by j m d lt within (inserted k j) (inserted k m)
+    where
+      size : length (insert xs k x) ≡ length xs + 1
+      size = length-insert xs k x le
+
+      new : ℕ → X → X
+      new j d = get_or (insert xs k x) j d
+
+      by : (j m : ℕ) (d : X) → j < m → m < length (insert xs k x) → Inserted k j → Inserted k m → R (new j d) (new m d)
+      by j m d lt within (lower u) (lower v) = subst₂ R (sym (got_below j d u)) (sym (got_below m d v)) (a j m d lt (omega (arith, v, le)))
+      by j m d lt within (lower u) (equal v) = subst₂ R (sym (got_below j d u)) (sym (got_here m d v)) (low j d u)
+      by j m d lt within (lower u) (upper n e v) = subst₂ R (sym (got_below j d u)) (sym (got_above m n d e v)) (a j n d (omega (arith, u, v)) (let c = size in omega (arith, within, e, c)))
+      by j m d lt within (equal u) (lower v) = absurd (omega (arith, lt, u, v))
+      by j m d lt within (equal u) (equal v) = absurd (omega (arith, lt, u, v))
+      by j m d lt within (equal u) (upper n e v) = subst₂ R (sym (got_here j d u)) (sym (got_above m n d e v)) (high n d v (let c = size in omega (arith, within, e, c)))
+      by j m d lt within (upper n e u) (lower v) = absurd (omega (arith, lt, e, u, v))
+      by j m d lt within (upper n e u) (equal v) = absurd (omega (arith, lt, e, u, v))
+      by j m d lt within (upper n e u) (upper o f v) = subst₂ R (sym (got_above j n d e u)) (sym (got_above m o d f v)) (a n o d (omega (arith, lt, e, f)) (let c = size in omega (arith, within, f, c)))
+
 module _ (items : List Item) (k : ℕ) (i : Item) (le : k ≤ length items) where
   count : length (insert items k i) ≡ length items + 1
   count = length-insert items k i le
 
   pub ascends_insert : Ascends items → ((j : ℕ) (d : Item) → j < k → ItemBefore (get_or items j d) i) → ((j : ℕ) (d : Item) → k ≤ j → j < length items → ItemBefore i (get_or items j d)) → Ascends (insert items k i)
-  ascends_insert a low high = λ j m d lt within. by j m d lt within (inserted k j) (inserted k m)
-    where
-      new : ℕ → Item → Item
-      new j d = get_or (insert items k i) j d
-
-      by : (j m : ℕ) (d : Item) → j < m → m < length (insert items k i) → Inserted k j → Inserted k m → ItemBefore (new j d) (new m d)
-      by j m d lt within (lower x) (lower y) = subst₂ ItemBefore (sym (got_below items k i le j d x)) (sym (got_below items k i le m d y)) (a j m d lt (omega (arith, y, le)))
-      by j m d lt within (lower x) (equal y) = subst₂ ItemBefore (sym (got_below items k i le j d x)) (sym (got_here items k i le m d y)) (low j d x)
-      by j m d lt within (lower x) (upper n e y) = subst₂ ItemBefore (sym (got_below items k i le j d x)) (sym (got_above items k i le m n d e y)) (a j n d (omega (arith, x, y)) (let c = count in omega (arith, within, e, c)))
-      by j m d lt within (equal x) (lower y) = absurd (omega (arith, lt, x, y))
-      by j m d lt within (equal x) (equal y) = absurd (omega (arith, lt, x, y))
-      by j m d lt within (equal x) (upper n e y) = subst₂ ItemBefore (sym (got_here items k i le j d x)) (sym (got_above items k i le m n d e y)) (high n d y (let c = count in omega (arith, within, e, c)))
-      by j m d lt within (upper n e x) (lower y) = absurd (omega (arith, lt, e, x, y))
-      by j m d lt within (upper n e x) (equal y) = absurd (omega (arith, lt, e, x, y))
-      by j m d lt within (upper n e x) (upper o f y) = subst₂ ItemBefore (sym (got_above items k i le j n d e x)) (sym (got_above items k i le m o d f y)) (a n o d (omega (arith, lt, e, f)) (let c = count in omega (arith, within, f, c)))
+  ascends_insert a low high = all_pairs_insert items k i le ItemBefore a low high
 
   -- where an item stands afterwards
   pub to_new_below : (j p d : ℕ) → j < k → IsAt items j p d → IsAt (insert items k i) j p d

@@ -1,87 +1,23 @@
 -- Cores: when two are the same, and what their union is.
-use Rattle.std.proofs.Common.{◌≡◌, ℕ, zero, suc, ◌<◌, ◌≤◌, ◌⊎◌, inl, inr, ◌↔◌, Bool, true, false, ◌||◌, List, [], ◌∷◌, length, get_or, refl, sym, ap, ap₂, ◌∙◌, subst, arith}
+use Rattle.std.proofs.Common.{◌≡◌, ℕ, zero, suc, ◌<◌, ◌≤◌, ◌⊎◌, inl, inr, ◌↔◌, Bool, true, false, ◌||◌, List, [], ◌∷◌, length, get_or, refl, sym, ap, ◌∙◌, subst, arith}
 use Rattle.std.specs.Prelude.{IsTrue}
 use Rattle.std.proofs.lemmas.Bool.{cases_lt}
 use Rattle.std.proofs.lemmas.List.{get_or_past}
-use Rattle.vob.specs.Bits.{bitwise}
+use Rattle.vob.specs.Bits.{bitwise, Meets}
 use Rattle.cfgrammar.specs.Sets.{is_set}
 use Rattle.lr_theory.specs.Itemset.{HasItem, HasLook, SameItems, Is, Union}
-use Rattle.lrtable.specs.Meeting.{Meets, PairFits, RowsFit, row}
-use Rattle.lrtable.specs.ItemRows.{Item, IsAt, Ascends, set_of, join_rows, CoversRows, LacksRows}
+use Rattle.lrtable.specs.Meeting.{PairFits, RowsFit, row}
+use Rattle.lrtable.specs.ItemRows.{Item, Ascends, set_of, join_rows, CoversRows, LacksRows}
 use Rattle.cfgrammar.proofs.Bits.{joined}
-use Rattle.lrtable.proofs.ItemSets.{has_item, has_look, one_place, tail, nought, at_own}
+use Rattle.lr_theory.proofs.ItemLists.{one_list}
+use Rattle.lrtable.proofs.ItemSets.{has_item, has_look, one_place, nought, at_own}
 
 never : false ≡ true → ⊥
 never e = cc
 
-abbrev Holds : List Item → ℕ → ℕ → Type 0
-Holds items p d = (k : ℕ) × IsAt items k p d
-
-abbrev SameHeld : List Item → List Item → Type 0
-SameHeld xs ys = (p d : ℕ) → Holds xs p d ↔ Holds ys p d
-
-up : (i : Item) (items : List Item) (k p d : ℕ) → IsAt items k p d → IsAt (i ∷ items) (suc k) p d
-up i items k p d h = record { within = (let lt = h.within in omega (arith, lt)); production = h.production; dot = h.dot }
-
-down : (i : Item) (items : List Item) (k p d : ℕ) → IsAt (i ∷ items) (suc k) p d → IsAt items k p d
-down i items k p d h = record { within = (let lt = h.within in omega (arith, lt)); production = h.production; dot = h.dot }
-
-first_at : (i : Item) (items : List Item) → IsAt (i ∷ items) zero i.production i.dot
-first_at i items = record { within = omega arith; production = refl; dot = refl }
-
-same_item : (i j : Item) → i.production ≡ j.production → i.dot ≡ j.dot → i ≡ j
-same_item i j e f = ap₂ (λ (p d : ℕ). record { production = p; dot = d }) e f
-
-before_first : (i : Item) (items : List Item) → Ascends (i ∷ items) → (k p d : ℕ) → IsAt items k p d → (i.production < p) ⊎ ((i.production ≡ p) × (i.dot < d))
-before_first i items a k p d h =
-    let b = a zero (suc k) (record { production = p; dot = d }) (omega arith) (let lt = h.within in omega (arith, lt)) in
-    let x = h.production in
-    let y = h.dot in
-    elim b [ inl lt ↦ inl (omega (arith, lt, x)) | inr q ↦ inr (q.0 ∙ x, (let lt = q.1 in omega (arith, lt, y))) ]
-
-heads_same : (i j : Item) (xs ys : List Item) → Ascends (i ∷ xs) → Ascends (j ∷ ys) → SameHeld (i ∷ xs) (j ∷ ys) → i ≡ j
-heads_same i j xs ys a b h = by ((h i.production i.dot).0 (zero, first_at i xs)) ((h j.production j.dot).1 (zero, first_at j ys))
-  where
-    clash : (i.production < j.production) ⊎ ((i.production ≡ j.production) × (i.dot < j.dot)) → (j.production < i.production) ⊎ ((j.production ≡ i.production) × (j.dot < i.dot)) → ⊥
-    clash (inl x) (inl y) = omega (arith, x, y)
-    clash (inl x) (inr y) = let e = y.0 in omega (arith, x, e)
-    clash (inr x) (inl y) = let e = x.0 in omega (arith, y, e)
-    clash (inr x) (inr y) = let e = x.1 in let f = y.1 in omega (arith, e, f)
-
-    by : Holds (j ∷ ys) i.production i.dot → Holds (i ∷ xs) j.production j.dot → i ≡ j
-    by (zero, x) other = same_item i j (sym x.production) (sym x.dot)
-    by (suc k, x) (zero, y) = same_item i j y.production y.dot
-    by (suc k, x) (suc m, y) = absurd (clash (before_first i xs a m j.production j.dot (down i xs m j.production j.dot y)) (before_first j ys b k i.production i.dot (down j ys k i.production i.dot x)))
-
-tails_held : (i : Item) (xs ys : List Item) → Ascends (i ∷ xs) → ((p d : ℕ) → Holds (i ∷ xs) p d → Holds (i ∷ ys) p d) → (p d : ℕ) → Holds xs p d → Holds ys p d
-tails_held i xs ys a h p d (k, x) = by (h p d (suc k, up i xs k p d x))
-  where
-    zero_later : (k : ℕ) → zero ≡ suc k → ⊥
-    zero_later k e = omega (arith, e)
-
-    by : Holds (i ∷ ys) p d → Holds ys p d
-    by (zero, y) = absurd (zero_later k (one_place (i ∷ xs) a zero (suc k) p d (record { within = omega arith; production = y.production; dot = y.dot }) (up i xs k p d x)))
-    by (suc m, y) = (m, down i ys m p d y)
-
--- ascending lists of the same items are one
-pub same_lists : (xs ys : List Item) → Ascends xs → Ascends ys → SameHeld xs ys → xs ≡ ys
-same_lists [] [] a b h = refl
-same_lists [] (j ∷ ys) a b h = absurd (none ((h j.production j.dot).1 (zero, first_at j ys)))
-  where
-    none : Holds [] j.production j.dot → ⊥
-    none (k, x) = let lt = x.within in omega (arith, lt)
-same_lists (i ∷ xs) [] a b h = absurd (none ((h i.production i.dot).0 (zero, first_at i xs)))
-  where
-    none : Holds [] i.production i.dot → ⊥
-    none (k, x) = let lt = x.within in omega (arith, lt)
-same_lists (i ∷ xs) (j ∷ ys) a b h =
-    let e : i ≡ j = heads_same i j xs ys a b h in
-    let b' : Ascends (i ∷ ys) = subst (λ z. Ascends (z ∷ ys)) (sym e) b in
-    let h' : SameHeld (i ∷ xs) (i ∷ ys) = subst (λ z. SameHeld (i ∷ xs) (z ∷ ys)) (sym e) h in
-    ap₂ (λ (z : Item) (zs : List Item). z ∷ zs) e (same_lists xs ys (tail i xs a) (tail i ys b') (λ p d. (tails_held i xs ys a (λ q f. (h' q f).0) p d, tails_held i ys xs b' (λ q f. (h' q f).1) p d)))
-
+-- maps that hold the same items have one list of items
 pub same_cores : (xs ys : List Item) (ls ms : List (List Bool)) → Ascends xs → Ascends ys → length ls ≡ length xs → length ms ≡ length ys → SameItems (HasItem (set_of xs ls)) (HasItem (set_of ys ms)) → xs ≡ ys
-same_cores xs ys ls ms a b n m h = same_lists xs ys a b (λ p d. (
+same_cores xs ys ls ms a b n m h = one_list xs ys a b (λ p d. (
   λ x. (has_item ys ms b m p d).0 ((h p d).0 ((has_item xs ls a n p d).1 x)),
   λ x. (has_item xs ls a n p d).0 ((h p d).1 ((has_item ys ms b m p d).1 x)),
 ))

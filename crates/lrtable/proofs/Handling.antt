@@ -2,72 +2,19 @@
 use Rattle.std.proofs.Common.{◌≡◌, ℕ, zero, suc, ◌+◌, ◌<◌, ◌≤◌, inl, inr, Bool, true, false, None, map, List, [], ◌∷◌, ◌++◌, length, get_or, take, drop, refl, sym, ap, ◌∙◌, subst, arith, length-append, ap₂, ◌-◌, ◌*◌}
 use Rattle.std.proofs.lemmas.List.{take_more, take_all, take-append-drop, get_or_past, get_or-map, length-map}
 use Rattle.cfg_theory.specs.Grammar.{Sym, Grammar, IsNext, WellFormed}
-use Rattle.lr_theory.specs.Itemset.{Items, Lookaheads, ItemSet, HasItem, HasLook, SameItems, SameLooks, Closure, ClosureLook, Goto, GotoLook, StartItem, StartLook, Is}
-use Rattle.lr_theory.specs.Graph.{Graph, CoreItem, core_of}
-use Rattle.lr_theory.specs.Building.{Building, Place, Joins, StaysOut, Handled, Reached, Underway, IsTodo, taken, symbols, Step}
+use Rattle.lr_theory.specs.Itemset.{ItemSet, HasItem, HasLook, Closure, ClosureLook, Goto, GotoLook, StartItem, StartLook, Is}
+use Rattle.lr_theory.specs.Graph.{core_of}
+use Rattle.lr_theory.specs.Building.{Building, Place, Handled, Reached, Underway, IsTodo, taken, symbols, Step}
 use Rattle.lrtable.specs.ItemRows.{Core, IsCoreOf, map_of}
-use Rattle.lrtable.specs.States.{StateValue, no_state, state_at, edge_of, Matches, IsPlaced, JoinsNone}
+use Rattle.lrtable.specs.States.{StateValue, no_state, state_at, edge_of, AscendEdges, Matches, IsPlaced, JoinsNone}
 use Rattle.lrtable.proofs.Placing.{edged, added_place, count_is}
 use Rattle.std.proofs.lemmas.Bool.{cases_lt}
 use Rattle.lr_theory.specs.BuildingMeasure.{look_limit, progress, todo_count, left_to_do}
 use Rattle.lr_theory.proofs.BuildingMeasure.{steps_lessen}
+use Rattle.lr_theory.proofs.BuildingSteps.{place_as, handled_on}
 use Rattle.lrtable.specs.Handling.{AreReached, AreHandled, AreBuilt, TooManyStand, left_in}
 
--- a set with the same items and lookaheads is placed alike
-module _ (J K : Items) (M N : Lookaheads) (same : SameItems J K) (looks : SameLooks M N) where
-  items_as : (I : Items) → SameItems I J → SameItems I K
-  items_as I h = λ p d. (λ x. (same p d).0 ((h p d).0 x), λ x. (h p d).1 ((same p d).1 x))
-
-  stays_out_as : (g : Graph) (k : ℕ) → StaysOut g k J M → StaysOut g k K N
-  stays_out_as g k (inl h) = inl (λ x. h (λ p d. (λ y. (same p d).1 ((x p d).0 y), λ y. (x p d).1 ((same p d).0 y))))
-  stays_out_as g k (inr c) = inr (record {
-    production = c.production;
-    dot = c.dot;
-    other_production = c.other_production;
-    other_dot = c.other_dot;
-    item = c.item;
-    other_item = c.other_item;
-    differ = c.differ;
-    cross = (c.cross.0, c.cross.1, (looks _ _ _).0 c.cross.2);
-    apart = c.apart;
-    other_apart = λ x. c.other_apart (x.0, (looks _ _ _).1 x.1, (looks _ _ _).1 x.2);
-  })
-
-  joins_as : (g : Graph) (k : ℕ) → Joins g k J M → Joins g k K N
-  joins_as g k h = record {
-    state = h.state;
-    same = items_as (CoreItem g k) h.same;
-    fits = λ p d q e x y differ. elim (h.fits p d q e x y differ) [
-      | inl u ↦ inl ((λ z. u.0 (z.0, z.1, (looks _ _ _).1 z.2)), (λ z. u.1 (z.0, (looks _ _ _).1 z.1, z.2)))
-      | inr v ↦ inr (elim v [ inl w ↦ inl w | inr w ↦ inr (w.0, (looks _ _ _).0 w.1, (looks _ _ _).0 w.2) ])
-    ];
-    first = λ j lt. stays_out_as g j (h.first j lt);
-  }
-
-  pub place_as : (b : Building) (s : ℕ) (X : Sym) (c : Building) → Place b s X J M c → Place b s X K N c
-  place_as b s X c (Place.kept k h l) = Place.kept k (joins_as b.graph k h) (λ p d t x. l p d t ((looks p d t).1 x))
-  place_as b s X c (Place.grown k p d t union h x absent is) = Place.grown k p d t union (joins_as b.graph k h) ((looks p d t).0 x) absent (record {
-    items = λ q e. (λ y. (is.items q e).0 ((same q e).1 y), λ y. (same q e).0 ((is.items q e).1 y));
-    looks = λ q e u. (
-      λ y. (is.looks q e u).0 (elim y [ inl z ↦ inl z | inr z ↦ inr ((looks q e u).1 z) ]),
-      λ y. elim ((is.looks q e u).1 y) [ inl z ↦ inl z | inr z ↦ inr ((looks q e u).0 z) ],
-    );
-  })
-  place_as b s X c (Place.added new h is) = Place.added new (λ k lt. stays_out_as b.graph k (h k lt)) (record {
-    items = λ q e. (λ y. (is.items q e).0 ((same q e).1 y), λ y. (same q e).0 ((is.items q e).1 y));
-    looks = λ q e u. (λ y. (is.looks q e u).0 ((looks q e u).1 y), λ y. (looks q e u).0 ((is.looks q e u).1 y));
-  })
-
--- symbols handled one after another
-pub handled_on : (G : Grammar) (s : ℕ) (core : ItemSet) (xs ys : List Sym) (b c e : Building) → Handled G s core xs b c → Handled G s core ys c e → Handled G s core (xs ++ ys) b e
-handled_on G s core xs ys b c e h k = go h
-  where
-    go : {xs : List Sym} {b : Building} → Handled G s core xs b c → Handled G s core (xs ++ ys) b e
-    go Handled.done = k
-    go (Handled.absent n r) = Handled.absent n (go r)
-    go (Handled.placed p d i n pl r) = Handled.placed p d i n pl (go r)
-
--- the symbol at the place `count` isn't after a dot, or its set was placed
+-- the symbol at the index `count` isn't after a dot, or its set was placed
 module _ (G : Grammar) (before : Building) (s count : ℕ) (states : List StateValue) (h : AreHandled G before s count states) (X : Sym) (lt : count < length (symbols G)) (at : get_or (symbols G) count X ≡ X) where
   next : take (count + 1) (symbols G) ≡ take count (symbols G) ++ X ∷ []
   next = take_more (symbols G) count X lt ∙ ap (λ Y. take count (symbols G) ++ Y ∷ []) at
@@ -130,8 +77,8 @@ too_many G before s states count X given p d limit reached todo lowest h lt at i
     let place : Place b s X I L c = added_place G.tokens states b h.matches h.cores I L given good is s X none in
     let more = take_more (symbols G) count X lt ∙ ap (λ Y. take count (symbols G) ++ Y ∷ []) at in
     record {
-      building = c;
-      moment = record {
+      moment = c;
+      underway = record {
         before = before;
         reached = reached;
         state = s;
@@ -142,7 +89,7 @@ too_many G before s states count X given p d limit reached todo lowest h lt at i
         in_order = take-append-drop (count + 1) (symbols G);
         handled = subst (λ l. Handled G s (core_of before.graph s) l (taken before s) c) (sym more) (handled_on G s (core_of before.graph s) (take count (symbols G)) (X ∷ []) (taken before s) b c h.handled (Handled.placed p d item is_next place Handled.done));
       };
-      more = (let n = length-append b.graph.cores (map_of given ∷ []) in let m = count_is states b h.matches in omega (arith, n, m, full));
+      past = (let n = length-append b.graph.cores (map_of given ∷ []) in let m = count_is states b h.matches in omega (arith, n, m, full));
     }
 
 -- the start state alone
@@ -151,7 +98,7 @@ begun G start good is = record {
   building = record { graph = record { cores = map_of start ∷ []; start = 0; edge = λ s X. None }; todo = true ∷ [] };
   reached = Reached.begin (record { core = map_of start; cores = refl; is = is; start = refl; no_edge = λ s X. refl; todo = refl });
   matches = record { cores = refl; start = refl; edges = λ s X. no_edge s X; todo = refl };
-  cores = record { cores = λ s lt. one s lt };
+  cores = record { cores = λ s lt. one s lt; edges = λ s lt. unlinked s };
 }
   where
     states : List StateValue
@@ -160,6 +107,10 @@ begun G start good is = record {
     no_edge : (s : ℕ) (X : Sym) → None ≡ edge_of states s X
     no_edge zero X = refl
     no_edge (suc s) X = refl
+
+    unlinked : (s : ℕ) → AscendEdges (state_at states s).edges
+    unlinked zero = λ i j d lt within. absurd (omega (arith, within))
+    unlinked (suc s) = λ i j d lt within. absurd (omega (arith, within))
 
     one : (s : ℕ) → s < length states → IsCoreOf G.tokens (state_at states s).core
     one zero lt = good

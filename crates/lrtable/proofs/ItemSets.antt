@@ -1,78 +1,19 @@
 -- Sets of core items with rows of lookaheads, as maps.
-use Rattle.std.proofs.Common.{◌≡◌, ℕ, zero, suc, ◌<◌, ◌⊎◌, inl, inr, ◌↔◌, Bool, true, false, ◌&&◌, cond, List, [], ◌∷◌, length, get_or, Some, nat_eq, slice_get, refl, sym, ap, ◌∙◌, subst, subst₂, arith, eqb-true}
+use Rattle.std.proofs.Common.{◌≡◌, ℕ, zero, suc, ◌<◌, ◌⊎◌, inl, inr, ◌↔◌, Bool, true, false, List, [], ◌∷◌, length, get_or, Some, slice_get, refl, sym, ap, ◌∙◌, subst, subst₂, arith}
 use Rattle.std.specs.Prelude.{IsTrue}
 use Rattle.std.proofs.lemmas.Bool.{cases_eq, cases_lt}
 use Rattle.cfgrammar.specs.Sets.{is_set}
-use Rattle.lr_theory.specs.Itemset.{entry_at, HasItem, HasLook, WeaklyCompatible, Cross, Meet}
+use Rattle.lr_theory.specs.Itemset.{HasItem, HasLook, WeaklyCompatible, Cross, Meet}
 use Rattle.lr_theory.specs.Building.{Incompatible}
-use Rattle.lrtable.specs.Meeting.{Meets, PairFits, RowsFit, RowsApart, row}
-use Rattle.lrtable.specs.ItemRows.{Item, IsAt, ItemBefore, Ascends, set_of}
+use Rattle.vob.specs.Bits.{Meets}
+use Rattle.lrtable.specs.Meeting.{PairFits, RowsFit, RowsApart, row}
+use Rattle.lrtable.specs.ItemRows.{Item, IsAt, Ascends, set_of}
+pub use Rattle.lr_theory.proofs.ItemLists.{tail, found, stands, has_item, one_index as one_place}
 
 never : false ≡ true → ⊥
 never e = cc
 
-at_next : (i : Item) (items : List Item) (k p d : ℕ) → IsAt items k p d → IsAt (i ∷ items) (suc k) p d
-at_next i items k p d h = record { within = (let lt = h.within in omega (arith, lt)); production = h.production; dot = h.dot }
-
-at_rest : (i : Item) (items : List Item) (k p d : ℕ) → IsAt (i ∷ items) (suc k) p d → IsAt items k p d
-at_rest i items k p d h = record { within = (let lt = h.within in omega (arith, lt)); production = h.production; dot = h.dot }
-
--- the key test
-keys_same : (i : Item) (p d : ℕ) → (nat_eq i.production p && nat_eq i.dot d) ≡ true → (i.production ≡ p) × (i.dot ≡ d)
-keys_same i p d e = (eqb-true i.production p (left (nat_eq i.production p) (nat_eq i.dot d) e), eqb-true i.dot d (right (nat_eq i.production p) (nat_eq i.dot d) e))
-  where
-    left : (a b : Bool) → (a && b) ≡ true → a ≡ true
-    left true b e = refl
-    left false b e = e
-
-    right : (a b : Bool) → (a && b) ≡ true → b ≡ true
-    right true b e = e
-    right false b e = absurd (never e)
-
-keys_match : (i : Item) (p d : ℕ) → i.production ≡ p → i.dot ≡ d → (nat_eq i.production p && nat_eq i.dot d) ≡ true
-keys_match i p d e f = grind arith
-
-pub tail : (i : Item) (items : List Item) → Ascends (i ∷ items) → Ascends items
-tail i items a = λ j k d lt within. a (suc j) (suc k) d (omega (arith, lt)) (omega (arith, within))
-
--- what the map has at an item stands in the row beside it
-abbrev Found : List Item → List (List Bool) → ℕ → ℕ → List Bool → Type 0
-Found items rows p d l = (k : ℕ) × IsAt items k p d × (row rows k ≡ l)
-
-found_by : (i : Item) (items : List Item) (r : List Bool) (rows : List (List Bool)) (p d : ℕ) (l : List Bool) → (entry_at (set_of items rows) p d ≡ Some l → Found items rows p d l) →
-    (b : Bool) → (nat_eq i.production p && nat_eq i.dot d) ≡ b → cond b (Some r) (entry_at (set_of items rows) p d) ≡ Some l → Found (i ∷ items) (r ∷ rows) p d l
-found_by i items r rows p d l rest true q h = let s = keys_same i p d q in (zero, record { within = omega arith; production = s.0; dot = s.1 }, cc)
-found_by i items r rows p d l rest false q h = let (k, x, y) = rest h in (suc k, at_next i items k p d x, y)
-
-pub found : (items : List Item) (rows : List (List Bool)) (p d : ℕ) (l : List Bool) → length rows ≡ length items → entry_at (set_of items rows) p d ≡ Some l → Found items rows p d l
-unfolding entry_at
-found [] rows p d l n e = cc
-found (i ∷ items) [] p d l n e = absurd (omega (arith, n))
-found (i ∷ items) (r ∷ rows) p d l n e = found_by i items r rows p d l (found items rows p d l (omega (arith, n))) (nat_eq i.production p && nat_eq i.dot d) refl e
-
--- an item that stands further on is another one
-later_differs : (i : Item) (items : List Item) (k p d : ℕ) → Ascends (i ∷ items) → IsAt items k p d → (b : Bool) → (nat_eq i.production p && nat_eq i.dot d) ≡ b → b ≡ false
-later_differs i items k p d a h false q = refl
-later_differs i items k p d a h true q = absurd (apart (a zero (suc k) (record { production = p; dot = d }) (omega arith) (let lt = h.within in omega (arith, lt))))
-  where
-    apart : ItemBefore i (get_or items k (record { production = p; dot = d })) → ⊥
-    apart (inl lt) = let s = keys_same i p d q in let x = s.0 in let y = h.production in omega (arith, lt, x, y)
-    apart (inr e) = let s = keys_same i p d q in let x = s.1 in let y = h.dot in let lt = e.1 in omega (arith, lt, x, y)
-
--- and each item stands in it once
-pub stands : (items : List Item) (rows : List (List Bool)) (k p d : ℕ) → Ascends items → length rows ≡ length items → IsAt items k p d → entry_at (set_of items rows) p d ≡ Some (row rows k)
-unfolding entry_at
-stands [] rows k p d a n h = let lt = h.within in absurd (omega (arith, lt))
-stands (i ∷ items) [] k p d a n h = absurd (omega (arith, n))
-stands (i ∷ items) (r ∷ rows) zero p d a n h = ap (λ b. cond b (Some r) (entry_at (set_of items rows) p d)) (keys_match i p d h.production h.dot)
-stands (i ∷ items) (r ∷ rows) (suc k) p d a n h =
-    ap (λ b. cond b (Some r) (entry_at (set_of items rows) p d)) (later_differs i items k p d a (at_rest i items k p d h) (nat_eq i.production p && nat_eq i.dot d) refl) ∙
-    stands items rows k p d (tail i items a) (omega (arith, n)) (at_rest i items k p d h)
-
 module _ (items : List Item) (rows : List (List Bool)) (a : Ascends items) (n : length rows ≡ length items) where
-  pub has_item : (p d : ℕ) → HasItem (set_of items rows) p d ↔ ((k : ℕ) × IsAt items k p d)
-  has_item p d = (λ h. (let f = found items rows p d h.lookaheads n h.at in (f.0, f.1)), λ h. record { lookaheads = row rows h.0; at = stands items rows h.0 p d a n h.1 })
-
   pub has_look : (p d t : ℕ) → HasLook (set_of items rows) p d t ↔ ((k : ℕ) × IsAt items k p d × IsTrue (is_set (row rows k) t))
   has_look p d t = (to, λ h. record { lookaheads = row rows h.0; at = stands items rows h.0 p d a n h.1; set = got_back (row rows h.0) t h.2 })
     where
@@ -88,19 +29,6 @@ module _ (items : List Item) (rows : List (List Bool)) (a : Ascends items) (n : 
 
       to : HasLook (set_of items rows) p d t → (k : ℕ) × IsAt items k p d × IsTrue (is_set (row rows k) t)
       to h = let f = found items rows p d h.lookaheads n h.at in (f.0, f.1, subst (λ l. IsTrue (is_set l t)) (sym f.2) (got h.lookaheads t h.set))
-
--- an item stands at one place
-pub one_place : (items : List Item) → Ascends items → (j k p d : ℕ) → IsAt items j p d → IsAt items k p d → j ≡ k
-one_place items a j k p d x y = elim (cases_lt j k) [ inl lt ↦ absurd (two j k lt x y) | inr ge ↦ elim (cases_eq j k) [ inl e ↦ e | inr ne ↦ absurd (two k j (omega (arith, ge, ne)) y x) ] ]
-  where
-    apart : (i j : Item) → ItemBefore i j → i.production ≡ j.production → i.dot ≡ j.dot → ⊥
-    apart i j (inl lt) e f = omega (arith, lt, e)
-    apart i j (inr q) e f = let lt = q.1 in omega (arith, lt, f)
-
-    two : (j k : ℕ) → j < k → IsAt items j p d → IsAt items k p d → ⊥
-    two j k lt x y =
-        let u : Item = record { production = p; dot = d } in
-        apart (get_or items j u) (get_or items k u) (a j k u lt y.within) (x.production ∙ sym y.production) (x.dot ∙ sym y.dot)
 
 any_default : {X : Type 0} (xs : List X) (i : ℕ) (x y : X) → i < length xs → get_or xs i x ≡ get_or xs i y
 any_default [] i x y lt = absurd (omega (arith, lt))

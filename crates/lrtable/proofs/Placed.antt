@@ -8,7 +8,7 @@ use Rattle.lr_theory.specs.Itemset.{HasItem, HasLook, Is}
 use Rattle.lr_theory.specs.Building.{Building}
 use Rattle.lrtable.specs.ItemRows.{Core, IsCoreOf, map_of, set_of, join_rows, CoversRows, LacksRows}
 use Rattle.lrtable.specs.Meeting.{row}
-use Rattle.lrtable.specs.States.{StateValue, no_state, state_at, Matches, AreStates, IsLinked, IsPlaced, JoinsAt, JoinsNone, grown_at}
+use Rattle.lrtable.specs.States.{Edge, StateValue, no_state, state_at, AscendEdges, Matches, AreStates, IsLinked, IsPlaced, JoinsAt, JoinsNone, grown_at}
 use Rattle.cfgrammar.proofs.Bits.{length-bitwise}
 use Rattle.lrtable.proofs.CoreSets.{length_join, row_join}
 use Rattle.lrtable.proofs.Placing.{edged, edge_put, grown_matches, added_matches, kept_place, grown_place, added_place, count_is}
@@ -16,12 +16,24 @@ use Rattle.lrtable.proofs.Placing.{edged, edge_put, grown_matches, added_matches
 own_map : (c : Core) → Is (map_of c) (HasItem (map_of c)) (HasLook (map_of c))
 own_map c = record { items = λ p d. (λ x. x, λ x. x); looks = λ p d t. (λ x. x, λ x. x) }
 
+no_edges : AscendEdges []
+no_edges i j d lt within = absurd (omega (arith, within))
+
 -- an edge leaves the cores as they are
 linked_states : (tokens : ℕ) (states new : List StateValue) (s : ℕ) (X : Sym) (k : ℕ) → s < length states → AreStates tokens states → IsLinked states s X k new → AreStates tokens new
-linked_states tokens states new s X k lt all l = subst (AreStates tokens) (sym l.value) (record { cores = λ r lr. core r (omega (arith, lr, length-set states s (record { core = (state_at states s).core; edges = l.edges; todo = (state_at states s).todo }))) })
+linked_states tokens states new s X k lt all l = subst (AreStates tokens) (sym l.value) (record { cores = λ r lr. core r (within r lr); edges = λ r lr. in_order r (within r lr) })
   where
     put : List StateValue
     put = set states s (record { core = (state_at states s).core; edges = l.edges; todo = (state_at states s).todo })
+
+    within : (r : ℕ) → r < length put → r < length states
+    within r lr = omega (arith, lr, length-set states s (record { core = (state_at states s).core; edges = l.edges; todo = (state_at states s).todo }))
+
+    in_order : (r : ℕ) → r < length states → AscendEdges (state_at put r).edges
+    in_order r lr = elim (cases_eq r s) [
+      | inl e ↦ subst (λ (es : List Edge). AscendEdges es) (sym (ap (λ n. (state_at put n).edges) e ∙ ap (λ (x : StateValue). x.edges) (get_or-set_same states s (record { core = (state_at states s).core; edges = l.edges; todo = (state_at states s).todo }) no_state lt))) (l.put.ascends (all.edges s lt))
+      | inr ne ↦ subst (λ (es : List Edge). AscendEdges es) (sym (ap (λ (x : StateValue). x.edges) (get_or-set_other states s r (record { core = (state_at states s).core; edges = l.edges; todo = (state_at states s).todo }) no_state ne))) (all.edges r lr)
+    ]
 
     core : (r : ℕ) → r < length states → IsCoreOf tokens (state_at put r).core
     core r lr = elim (cases_eq r s) [
@@ -50,10 +62,16 @@ joined_core tokens c d h k e = record {
     width i lt = ap length (row_join c.rows d.rows i many lt) ∙ length-bitwise (λ x y. x || y) (row c.rows i) (row d.rows i) (h.width i lt ∙ sym (k.width i (let m = many in omega (arith, m, lt)))) ∙ h.width i lt
 
 grown_states : (tokens : ℕ) (states : List StateValue) (k : ℕ) (given : Core) → AreStates tokens states → IsCoreOf tokens given → JoinsAt states k given → AreStates tokens (grown_at states k given.rows)
-grown_states tokens states k given all good h = record { cores = λ r lr. core r (omega (arith, lr, length-set states k new)) }
+grown_states tokens states k given all good h = record { cores = λ r lr. core r (omega (arith, lr, length-set states k new)); edges = λ r lr. in_order r (omega (arith, lr, length-set states k new)) }
   where
     new : StateValue
     new = record { core = record { items = (state_at states k).core.items; rows = join_rows (state_at states k).core.rows given.rows }; edges = (state_at states k).edges; todo = true }
+
+    in_order : (r : ℕ) → r < length states → AscendEdges (state_at (set states k new) r).edges
+    in_order r lr = elim (cases_eq r k) [
+      | inl e ↦ subst (λ (es : List Edge). AscendEdges es) (sym (ap (λ n. (state_at (set states k new) n).edges) e ∙ ap (λ (x : StateValue). x.edges) (get_or-set_same states k new no_state h.state))) (all.edges k h.state)
+      | inr ne ↦ subst (λ (es : List Edge). AscendEdges es) (sym (ap (λ (x : StateValue). x.edges) (get_or-set_other states k r new no_state ne))) (all.edges r lr)
+    ]
 
     core : (r : ℕ) → r < length states → IsCoreOf tokens (state_at (set states k new) r).core
     core r lr = elim (cases_eq r k) [
@@ -104,7 +122,7 @@ module _ (tokens : ℕ) (states : List StateValue) (s : ℕ) (X : Sym) (given : 
       subst (λ n. Matches new (edged (record { graph = record { cores = b.graph.cores ++ map_of given ∷ []; start = b.graph.start; edge = b.graph.edge }; todo = b.todo ++ true ∷ [] }) s X n)) (q ∙ sym (count_is states b m))
           (linked_matches more_states new _ s X k in_more (added_matches states b given m) l),
     );
-    states_stay = λ n a g. linked_states n more_states new s X k in_more (record { cores = λ r lr. core n a g r lr }) l;
+    states_stay = λ n a g. linked_states n more_states new s X k in_more (record { cores = λ r lr. core n a g r lr; edges = λ r lr. in_order n a r lr }) l;
     more = (let n = linked_length more_states new s X k l in let z = size in omega (arith, n, z));
   }
     where
@@ -122,6 +140,12 @@ module _ (tokens : ℕ) (states : List StateValue) (s : ℕ) (X : Sym) (given : 
 
       l : IsLinked more_states s X k new
       l = subst (λ u. IsLinked u s X k new) e linked
+
+      in_order : (n : ℕ) → AreStates n states → (r : ℕ) → r < length more_states → AscendEdges (state_at more_states r).edges
+      in_order n a r lr = elim (cases_lt r (length states)) [
+        | inl x ↦ subst (λ (v : StateValue). AscendEdges v.edges) (sym (get_or_append_left states (last ∷ []) no_state r x)) (a.edges r x)
+        | inr ge ↦ subst (λ (v : StateValue). AscendEdges v.edges) (sym (ap (state_at more_states) (let z = size in omega (arith, ge, lr, z)) ∙ get_or-append_seam states last [] no_state)) no_edges
+      ]
 
       core : (n : ℕ) → AreStates n states → IsCoreOf n given → (r : ℕ) → r < length more_states → IsCoreOf n (state_at more_states r).core
       core n a g r lr = elim (cases_lt r (length states)) [

@@ -1,13 +1,13 @@
 -- Where the building begins: the start state alone.
-use Rattle.std.proofs.Common.{◌≡◌, ℕ, zero, suc, ◌+◌, ◌<◌, ◌⊎◌, inl, inr, ◌↔◌, Bool, true, false, List, [], ◌∷◌, ◌++◌, length, get_or, map, set, replicate, refl, sym, ap, ap₂, ◌∙◌, subst, subst₂, arith}
+use Rattle.std.proofs.Common.{◌≡◌, ℕ, zero, suc, ◌<◌, ◌⊎◌, inl, inr, ◌↔◌, Bool, true, false, List, [], ◌∷◌, ◌++◌, length, get_or, map, set, replicate, refl, sym, ap, ap₂, ◌∙◌, subst, arith}
 use Rattle.std.specs.Prelude.{IsTrue}
 use Rattle.std.specs.List.{Contains, AllPairs}
 use Rattle.std.proofs.lemmas.Bool.{cases_eq}
-use Rattle.std.proofs.lemmas.List.{length-replicate, length-set, length-map}
+use Rattle.std.proofs.lemmas.List.{length-replicate, length-set, length-map, get_or-set_same, get_or-set_other}
 use Rattle.cfg_theory.specs.Grammar.{Grammar, IsEnd, end_token}
 use Rattle.cfgrammar.specs.Sets.{is_set}
 use Rattle.cfgrammar.proofs.Bits.{none_set, put_in}
-use Rattle.lr_theory.specs.Itemset.{HasItem, HasLook, StartItem, StartLook, Is}
+use Rattle.lr_theory.specs.Itemset.{HasItem, HasLook, StartItem, StartLook}
 use Rattle.lrtable.specs.Handling.{AreReached}
 use Rattle.lrtable.specs.ItemRows.{Item, IsAt, Core, IsCoreOf, map_of}
 use Rattle.lrtable.specs.Meeting.{row, rows_in}
@@ -15,7 +15,7 @@ use Rattle.vob.specs.Packed.{Contents}
 use Rattle.lrtable.specs.StateViews.{items_of, edges_of, core_of_set, value_of}
 use Rattle.lrtable.specs.declared.cores.CoreItem.{CoreItem}
 use Rattle.lrtable.specs.declared.states.State.{State}
-use Rattle.lrtable.specs.States.{StateValue, Edge, state_at}
+use Rattle.lrtable.specs.States.{StateValue, Edge, state_at, AreBuckets, first_production}
 use Rattle.lrtable.proofs.Handling.{begun}
 use Rattle.lrtable.proofs.ItemSets.{has_item, has_look}
 
@@ -84,3 +84,56 @@ start_seen G number st no_items no_looks x y states none n e ni ei nl el edges t
 pub none_due : {S : Type 0} (number : S → ℕ) (states slice : List (State S)) → slice ≡ states → ((s : ℕ) → s < length slice → (state_at (map (value_of number) slice) s).todo ≡ false) →
     (s : ℕ) → s < length (map (value_of number) states) → (state_at (map (value_of number) states) s).todo ≡ false
 none_due number states slice e h s lt = subst (λ l. (s : ℕ) → s < length l → (state_at (map (value_of number) l) s).todo ≡ false) e h s (let n = length-map states (value_of number) in omega (arith, n, lt))
+
+-- ---- the lists by first production
+
+abbrev pub no_numbers : List ℕ
+no_numbers = []
+
+pub empty_at : (n p : ℕ) → get_or (replicate n no_numbers) p [] ≡ []
+empty_at zero p = refl
+empty_at (suc n) zero = refl
+empty_at (suc n) (suc p) = empty_at n p
+
+-- those where the start state stands alone
+module _ (states : List StateValue) (n p : ℕ) (one : length states ≡ 1) (first : first_production (state_at states 0).core.items ≡ p) (lt : p < n) where
+  abbrev lists : List (List ℕ)
+  lists = set (replicate n no_numbers) p (0 ∷ [])
+
+  at_p : get_or (set (replicate n no_numbers) p (0 ∷ [])) p [] ≡ 0 ∷ []
+  at_p = get_or-set_same (replicate n no_numbers) p (0 ∷ []) [] (let e : length (replicate n no_numbers) ≡ n = length-replicate n no_numbers in omega (arith, e, lt))
+
+  elsewhere : (q : ℕ) → (q ≡ p → ⊥) → get_or (set (replicate n no_numbers) p (0 ∷ [])) q [] ≡ []
+  elsewhere q ne = get_or-set_other (replicate n no_numbers) p q (0 ∷ []) [] ne ∙ empty_at n q
+
+  -- each has the start state or nothing
+  each_is : (q : ℕ) → (get_or lists q [] ≡ 0 ∷ []) ⊎ (get_or lists q [] ≡ [])
+  each_is q = elim (cases_eq q p) [ inl e ↦ inl (ap (λ k. get_or lists k []) e ∙ at_p) | inr ne ↦ inr (elsewhere q ne) ]
+
+  none_in : (k : ℕ) → Contains no_numbers k → ⊥
+  none_in k (i, l, e) = omega (arith, l)
+
+  only_nought : (k : ℕ) → Contains (0 ∷ no_numbers) k → k ≡ 0
+  only_nought k (zero, l, e) = sym e
+  only_nought k (suc i, l, e) = absurd (omega (arith, l))
+
+  ascends : (q : ℕ) → AllPairs (λ j k. j < k) (get_or lists q [])
+  ascends q = elim (each_is q) [
+    | inl e ↦ subst (λ (l : List ℕ). AllPairs (λ j k. j < k) l) (sym e) (λ i j d x within. absurd (omega (arith, x, within)))
+    | inr e ↦ subst (λ (l : List ℕ). AllPairs (λ j k. j < k) l) (sym e) (λ i j d x within. absurd (omega (arith, within)))
+  ]
+
+  within : (q k : ℕ) → Contains (get_or lists q []) k → k < length states
+  within q k h = elim (each_is q) [
+    | inl e ↦ (let z = only_nought k (subst (λ (l : List ℕ). Contains l k) e h) in omega (arith, z, one))
+    | inr e ↦ absurd (none_in k (subst (λ (l : List ℕ). Contains l k) e h))
+  ]
+
+  has : (k : ℕ) → k < length states → Contains (get_or lists (first_production (state_at states k).core.items) []) k
+  has k l =
+      let z : 0 ≡ k = omega (arith, l, one) in
+      subst (λ m. Contains (get_or lists (first_production (state_at states m).core.items) []) m) z
+      (subst (λ m. Contains (get_or lists m []) 0) (sym first) (subst (λ (u : List ℕ). Contains u 0) (sym at_p) (0, omega arith, refl)))
+
+  pub start_buckets : AreBuckets states (set (replicate n no_numbers) p (0 ∷ []))
+  start_buckets = record { ascends = ascends; within = within; has = has }

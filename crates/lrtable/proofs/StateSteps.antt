@@ -1,24 +1,22 @@
 -- Steps of placing a set.
-use Rattle.std.proofs.Common.{◌≡◌, ◌≢◌, ℕ, zero, suc, ◌+◌, ◌<◌, ◌≤◌, inl, inr, ◌↔◌, Bool, true, false, cond, List, [], ◌∷◌, ◌++◌, length, get_or, set, map, Some, refl, sym, ap, ap₂, ◌∙◌, subst, arith, add-one}
+use Rattle.std.proofs.Common.{◌≡◌, ◌≢◌, ℕ, zero, suc, ◌+◌, ◌<◌, ◌≤◌, inl, inr, ◌↔◌, Bool, true, false, List, [], ◌∷◌, ◌++◌, length, get_or, set, map, refl, sym, ap, ap₂, ◌∙◌, subst, arith, add-one}
 use Rattle.std.specs.Prelude.{IsTrue}
 use Rattle.std.proofs.lemmas.Bool.{cases_eq, cases_lt}
 use Rattle.std.proofs.lemmas.List.{get_or-map, length-map, map-set, map-append}
 use Rattle.vob.specs.Packed.{Contents}
 use Rattle.cfg_theory.specs.Grammar.{Sym}
 use Rattle.cfgrammar.specs.Sets.{is_set, missing}
-use Rattle.lr_theory.specs.Building.{same_symbol}
-use Rattle.lr_theory.proofs.Place.{same_symbol_true}
 use Rattle.lrtable.specs.Meeting.{row, rows_in, AreAlike, RowsFit}
 use Rattle.std.proofs.Math.Decide.{ℕ_discrete}
 use Rattle.std.proofs.lemmas.List.Elements.{Contains-get_or}
 use Rattle.lrtable.specs.ItemRows.{Item, Core, join_rows, LacksRows}
-use Rattle.lrtable.specs.States.{Edge, StateValue, state_at, edge_in, IsPut, IsLinked, grown_at, no_state, StaysApart, IsApartFrom, JoinsAt, JoinsNone, ListsCore}
+use Rattle.lrtable.specs.States.{Edge, StateValue, state_at, IsPut, IsLinked, grown_at, no_state, StaysApart, IsApartFrom, JoinsAt, JoinsNone, ListsCore}
 use Rattle.cfgrammar.proofs.Bits.{join, joined, join_fills, set_same}
 
 never : false ≡ true → ⊥
 never e = cc
 
--- mapped lists that differ at a place
+-- mapped lists that differ at an index
 pub differ_at : {X Y : Type 0} (f : X → Y) (xs ys : List X) (i : ℕ) (x y : X) → i < length xs → i < length ys → x ≡ get_or xs i x → y ≡ get_or ys i y → (f x ≡ f y → ⊥) → map f xs ≡ map f ys → ⊥
 differ_at {X = X} f xs ys i x y li lj ex ey ne e = ne (ap f ex ∙ sym (get_or-map f xs i x (f x) li) ∙ ap (λ l. get_or l i (f x)) e ∙ get_or-map f ys i x (f x) lj ∙ ap f (same ys i x y lj) ∙ ap f (sym ey))
   where
@@ -26,38 +24,6 @@ differ_at {X = X} f xs ys i x y li lj ex ey ne e = ne (ap f ex ∙ sym (get_or-m
     same [] i x y lt = absurd (omega (arith, lt))
     same (z ∷ l) zero x y lt = refl
     same (z ∷ l) (suc i) x y lt = same l i x y (omega (arith, lt))
-
--- ---- edges
-
-put_here : (Y X : Sym) (k : ℕ) (x e : Edge) (es : List Edge) → same_symbol x.symbol X ≡ true → e.symbol ≡ X → e.target ≡ k → (b : Bool) → same_symbol Y X ≡ b →
-    edge_in (e ∷ es) Y ≡ cond (same_symbol Y X) (Some k) (edge_in (x ∷ es) Y)
-put_here Y X k x e es h s t true q = ap₂ (λ u v. cond (same_symbol Y u) (Some v) (edge_in es Y)) s t ∙ ap (λ b. cond b (Some k) (edge_in es Y)) q ∙ sym (ap (λ b. cond b (Some k) (edge_in (x ∷ es) Y)) q)
-put_here Y X k x e es h s t false q =
-    let other : same_symbol Y x.symbol ≡ false = ap (same_symbol Y) (same_symbol_true x.symbol X h) ∙ q in
-    ap₂ (λ u v. cond (same_symbol Y u) (Some v) (edge_in es Y)) s t ∙ ap (λ b. cond b (Some k) (edge_in es Y)) q ∙ sym (ap (λ b. cond b (Some k) (edge_in (x ∷ es) Y)) q ∙ ap (λ b. cond b (Some x.target) (edge_in es Y)) other)
-
-put_later : (Y X : Sym) (k : ℕ) (x : Edge) (es fs : List Edge) → same_symbol x.symbol X ≡ false → edge_in fs Y ≡ cond (same_symbol Y X) (Some k) (edge_in es Y) → (b : Bool) → same_symbol Y x.symbol ≡ b →
-    edge_in (x ∷ fs) Y ≡ cond (same_symbol Y X) (Some k) (edge_in (x ∷ es) Y)
-put_later Y X k x es fs h r true q =
-    let other : same_symbol Y X ≡ false = ap (λ u. same_symbol u X) (same_symbol_true Y x.symbol q) ∙ h in
-    ap (λ b. cond b (Some x.target) (edge_in fs Y)) q ∙ sym (ap (λ b. cond b (Some k) (edge_in (x ∷ es) Y)) other ∙ ap (λ b. cond b (Some x.target) (edge_in es Y)) q)
-put_later Y X k x es fs h r false q =
-    ap (λ b. cond b (Some x.target) (edge_in fs Y)) q ∙ r ∙ sym (ap (λ u. cond (same_symbol Y X) (Some k) u) (ap (λ b. cond b (Some x.target) (edge_in es Y)) q))
-
--- an edge in the place of the first on its symbol
-pub put_found : (es : List Edge) (i : ℕ) (X : Sym) (k : ℕ) (e d : Edge) → i < length es → ((j : ℕ) → j < i → same_symbol (get_or es j d).symbol X ≡ false) → same_symbol (get_or es i d).symbol X ≡ true →
-    e.symbol ≡ X → e.target ≡ k → (Y : Sym) → edge_in (set es i e) Y ≡ cond (same_symbol Y X) (Some k) (edge_in es Y)
-put_found [] i X k e d lt before h s t Y = absurd (omega (arith, lt))
-put_found (x ∷ es) zero X k e d lt before h s t Y = put_here Y X k x e es h s t (same_symbol Y X) refl
-put_found (x ∷ es) (suc i) X k e d lt before h s t Y =
-    put_later Y X k x es (set es i e) (before zero (omega arith)) (put_found es i X k e d (omega (arith, lt)) (λ j l. before (suc j) (omega (arith, l))) h s t Y) (same_symbol Y x.symbol) refl
-
--- with the others, where none is on its symbol
-pub put_pushed : (es : List Edge) (X : Sym) (k : ℕ) (e d : Edge) → ((j : ℕ) → j < length es → same_symbol (get_or es j d).symbol X ≡ false) → e.symbol ≡ X → e.target ≡ k →
-    (Y : Sym) → edge_in (es ++ e ∷ []) Y ≡ cond (same_symbol Y X) (Some k) (edge_in es Y)
-put_pushed [] X k e d h s t Y = ap₂ (λ u v. cond (same_symbol Y u) (Some v) (edge_in [] Y)) s t
-put_pushed (x ∷ es) X k e d h s t Y =
-    put_later Y X k x es (es ++ e ∷ []) (h zero (omega arith)) (put_pushed es X k e d (λ j l. h (suc j) (omega (arith, l))) s t Y) (same_symbol Y x.symbol) refl
 
 -- ---- rows
 
@@ -106,24 +72,6 @@ stays_same xs ys changed e tells q = elim (join_fills xs ys e) [ inl s ↦ s | i
   where
     less : join xs ys ≡ xs → missing (join xs ys) < missing xs → ⊥
     less s fewer = let n = ap missing s in omega (arith, n, fewer)
-
--- the same over a list that is mapped
-module _ {E : Type 0} (f : E → Edge) (xs : List E) (X : Sym) (k : ℕ) (e : E) (on : (f e).symbol ≡ X) (to : (f e).target ≡ k) where
-  mapped_at : (j : ℕ) → j < length xs → get_or (map f xs) j (f e) ≡ f (get_or xs j e)
-  mapped_at j lt = get_or-map f xs j e (f e) lt
-
-  pub put_mapped : (i : ℕ) (x : E) → i < length xs → ((j : ℕ) → j < i → same_symbol (f (get_or xs j e)).symbol X ≡ false) → x ≡ get_or xs i x → same_symbol (f x).symbol X ≡ true → IsPut (map f xs) X k (map f (set xs i e))
-  put_mapped i x lt before is here = record {
-    at = λ Y. ap (λ l. edge_in l Y) (map-set f xs i e) ∙ put_found (map f xs) i X k (f e) (f e) (let n = length-map xs f in omega (arith, n, lt))
-        (λ j l. ap (λ (u : Edge). same_symbol u.symbol X) (mapped_at j (omega (arith, l, lt))) ∙ before j l)
-        (ap (λ (u : Edge). same_symbol u.symbol X) (get_or-map f xs i x (f e) lt ∙ ap f (sym is)) ∙ here) on to Y;
-  }
-
-  pub push_mapped : ((j : ℕ) → j < length xs → same_symbol (f (get_or xs j e)).symbol X ≡ false) → IsPut (map f xs) X k (map f (xs ++ e ∷ []))
-  push_mapped none = record {
-    at = λ Y. ap (λ l. edge_in l Y) (map-append f xs (e ∷ [])) ∙ put_pushed (map f xs) X k (f e) (f e)
-        (λ j l. (let lt : j < length xs = (let n = length-map xs f in omega (arith, n, l)) in ap (λ (u : Edge). same_symbol u.symbol X) (mapped_at j lt) ∙ none j lt)) on to Y;
-  }
 
 -- ---- one row joined
 

@@ -1,18 +1,18 @@
 -- A step of the building: what its loop over ranks keeps.
-use Rattle.std.proofs.Common.{◌≡◌, ℕ, zero, suc, ◌+◌, ◌-◌, ◌<◌, ◌≤◌, inl, inr, ◌↔◌, Bool, true, false, List, [], ◌∷◌, length, get_or, set, map, take, Some, refl, sym, ap, ◌∙◌, subst, subst₂, arith, length-set, get_or-set_same, get_or-set_other}
+use Rattle.std.proofs.Common.{◌≡◌, ℕ, suc, ◌+◌, ◌-◌, ◌<◌, ◌≤◌, inl, inr, Bool, true, false, List, [], ◌∷◌, length, get_or, set, map, Some, refl, sym, ap, ◌∙◌, subst, arith, length-set, get_or-set_same, get_or-set_other}
 use Rattle.std.specs.Prelude.{slice_get}
 use Rattle.std.proofs.lemmas.Bool.{cases_eq, cases_lt}
 use Rattle.std.proofs.lemmas.List.{get_or_past, get_or-map, length-map, map-set, get_or_default}
 use Rattle.cfg_theory.specs.Grammar.{Sym, rule, token, Grammar, InRange, IsNext, WellFormed, Production, body_of}
 use Rattle.lr_theory.specs.Canonical.{Present}
 use Rattle.lr_theory.specs.Itemset.{Items, Lookaheads, ItemSet, HasItem, HasLook, Closure, ClosureLook, Goto, GotoLook, Is}
-use Rattle.lr_theory.specs.Graph.{core_of, IsState}
-use Rattle.lr_theory.specs.Building.{Building, Handled, Reached, IsTodo, taken, symbols}
+use Rattle.lr_theory.specs.Graph.{core_of}
+use Rattle.lr_theory.specs.Building.{Building, Handled, taken, symbols}
 use Rattle.lr_theory.proofs.GraphLaws.{building_law}
-use Rattle.lrtable.specs.Gaining.{no_core, core_in, moved_by, AreSets}
+use Rattle.lrtable.specs.Gaining.{no_core, core_in}
 use Rattle.lrtable.specs.Handling.{rank, AreReached, AreHandled, TooManyStand, left_in}
-use Rattle.lrtable.specs.ItemRows.{Item, IsAt, Core, IsCoreOf, map_of}
-use Rattle.lrtable.specs.States.{StateValue, no_state, state_at, edge_in, edge_of, Matches, AreStates, IsPlaced, JoinsNone, AreBuckets, first_production}
+use Rattle.lrtable.specs.ItemRows.{Item, Core, IsCoreOf, map_of}
+use Rattle.lrtable.specs.States.{StateValue, no_state, state_at, edge_in, edge_of, AscendEdges, Matches, AreStates, IsPlaced, JoinsNone, AreBuckets, first_production}
 use Rattle.lrtable.proofs.Buckets.{buckets_kept}
 use Rattle.lrtable.specs.Stepping.{FitsCore, AreGotos, AreGotosOf, IsGotoAt, IsNextTaken, set_off}
 use Rattle.cfgrammar.proofs.Bits.{set_same}
@@ -142,6 +142,10 @@ module _ (states : List StateValue) (b : Building) (s : ℕ) (m : Matches states
     cores = λ k l. elim (cases_eq k s) [
       | inl e ↦ subst (λ (x : StateValue). IsCoreOf tokens x.core) (sym (ap (λ n. state_at (set_off states s) n) e ∙ get_or-set_same states s off no_state lt)) (h.cores s lt)
       | inr ne ↦ subst (λ (x : StateValue). IsCoreOf tokens x.core) (sym (get_or-set_other states s k off no_state ne)) (h.cores k (let n = length-set states s off in omega (arith, l, n)))
+    ];
+    edges = λ k l. elim (cases_eq k s) [
+      | inl e ↦ subst (λ (x : StateValue). AscendEdges x.edges) (sym (ap (λ n. state_at (set_off states s) n) e ∙ get_or-set_same states s off no_state lt)) (h.edges s lt)
+      | inr ne ↦ subst (λ (x : StateValue). AscendEdges x.edges) (sym (get_or-set_other states s k off no_state ne)) (h.edges k (let n = length-set states s off in omega (arith, l, n)))
     ];
   }
 

@@ -1,13 +1,14 @@
 -- One step of the building over the states: the symbols in order, and how far they are handled.
-use Rattle.std.specs.Prelude.{◌≡◌, ℕ, suc, ◌<◌, ◌+◌, ◌-◌, ◌*◌, List, take, length, map}
+use Rattle.std.specs.Prelude.{ℕ, suc, ◌+◌, ◌-◌, ◌*◌, List, take, map}
 use Rattle.cfg_theory.specs.Grammar.{Sym, rule, token, Grammar}
 use Rattle.lr_theory.specs.Graph.{core_of}
-use Rattle.lr_theory.specs.Building.{Building, Handled, Reached, Underway, Built, symbols, taken}
+use Rattle.lr_theory.specs.Building.{Building, Handled, Reached, Built, symbols, taken}
+use Rattle.lr_theory.specs.Sizes.{GrowsPast}
 use Rattle.lr_theory.specs.BuildingMeasure.{look_limit, progress, todo_count}
 use Rattle.lrtable.specs.ItemRows.{map_of}
 use Rattle.lrtable.specs.States.{StateValue, Matches, AreStates}
 
--- a symbol's place among all: rules before tokens
+-- a symbol's index among all: rules before tokens
 abbrev pub rank : Grammar → Sym → ℕ
 rank G (rule A) = A
 rank G (token t) = G.rules + t
@@ -34,10 +35,8 @@ pub record AreBuilt (G : Grammar) (states : List StateValue) : Type 0 where
   pub cores : AreStates G.tokens states
 
 -- more states stand at some moment than a limit
-pub record TooManyStand (G : Grammar) (limit : ℕ) : Type 0 where
-  pub building : Building
-  pub moment : Underway G building
-  pub more : limit < length building.graph.cores
+abbrev pub TooManyStand : Grammar → ℕ → Type 0
+TooManyStand G limit = GrowsPast G limit
 
 -- what is left, up to a limit of states: the measure of the loop over steps
 abbrev pub left_in : Grammar → ℕ → List StateValue → ℕ

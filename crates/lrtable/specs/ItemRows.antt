@@ -2,33 +2,9 @@
 -- each its lookaheads.
 use Rattle.vob.specs.Bits.{bitwise}
 use Rattle.cfgrammar.specs.Sets.{is_set}
-use Rattle.std.specs.Prelude.{◌≡◌, ℕ, ◌<◌, ◌⊎◌, ◌||◌, Bool, IsTrue, List, [], ◌∷◌, length, get_or}
-use Rattle.std.specs.List.{AllPairs}
+use Rattle.std.specs.Prelude.{◌≡◌, ℕ, ◌<◌, ◌||◌, Bool, IsTrue, List, [], ◌∷◌, length, get_or}
 use Rattle.lr_theory.specs.Itemset.{ItemSet}
-
--- a production with a dot
-pub record Item : Type 0 where
-  pub production : ℕ
-  pub dot : ℕ
-
--- the order of a map's keys
-abbrev pub ItemBefore : Item → Item → Type 0
-ItemBefore i j = (i.production < j.production) ⊎ ((i.production ≡ j.production) × (i.dot < j.dot))
-
-abbrev pub Ascends : List Item → Type 0
-Ascends items = AllPairs ItemBefore items
-
--- the item (p, d) stands at the index k
-pub record IsAt (items : List Item) (k p d : ℕ) : Type 0 where
-  pub within : k < length items
-  pub production : (get_or items k (record { production = p; dot = d })).production ≡ p
-  pub dot : (get_or items k (record { production = p; dot = d })).dot ≡ d
-
--- the map
-abbrev pub set_of : List Item → List (List Bool) → ItemSet
-set_of [] rows = []
-set_of (i ∷ items) [] = []
-set_of (i ∷ items) (row ∷ rows) = record { production = i.production; dot = i.dot; lookaheads = row } ∷ set_of items rows
+pub use Rattle.lr_theory.specs.ItemLists.{Item, Precedes as ItemBefore, Ascends, IsAt, set_of}
 
 -- the rows of two maps of the same items joined
 abbrev pub join_rows : List (List Bool) → List (List Bool) → List (List Bool)

@@ -10,3 +10,17 @@ pub mod Rows
 pub mod Adding
 pub mod Gaining
 pub mod Stepping
+pub mod Pruning
+pub mod CellRows
+pub mod CellViews
+pub mod Cursors
+pub mod TableValues
+pub mod SparseRows
+pub mod TableViews
+pub mod ConflictTexts
+pub mod TableRows
+pub mod Itemsets
+pub mod Sharing
+pub mod LeastReduced
+pub mod Graphs
+pub mod GraphViews

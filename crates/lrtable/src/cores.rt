@@ -42,7 +42,8 @@ pub fn same_items<S: IndexStorage>(a: &[CoreItem<S>], b: &[CoreItem<S>]) -> bool
     true
 }
 
-fn same_item<S: IndexStorage>(a: &CoreItem<S>, b: &CoreItem<S>) -> bool
+/// Tells whether two items are one.
+pub fn same_item<S: IndexStorage>(a: &CoreItem<S>, b: &CoreItem<S>) -> bool
     ensures { IsTrue result ↔ (item_of S.number a.now ≡ item_of S.number b.now) }
 {
     if a.pidx.0.to_usize() != b.pidx.0.to_usize() {
@@ -52,7 +53,7 @@ fn same_item<S: IndexStorage>(a: &CoreItem<S>, b: &CoreItem<S>) -> bool
 }
 
 /// Tells whether the first item comes before the second: by production, then by dot.
-fn comes_before<S: IndexStorage>(a: &CoreItem<S>, b: &CoreItem<S>) -> bool
+pub fn comes_before<S: IndexStorage>(a: &CoreItem<S>, b: &CoreItem<S>) -> bool
     ensures { IsTrue result ↔ ItemBefore (item_of S.number a.now) (item_of S.number b.now) }
 {
     let first = a.pidx.0.to_usize();

@@ -1,33 +1,11 @@
-//! Tells whether sets of tokens share one, and Pager's test of weak compatibility.
+//! Whether the lookaheads of a set are all held, and Pager's test of weak compatibility.
 
 ghost use Rattle.std.specs.Prelude.{◌≡◌, ◌<◌, ◌↔◌, ◌⊎◌, false, true, [], ℕ, length, map, get_or, IsTrue};
-ghost use Rattle.std.specs.List.{flat_map};
-ghost use Rattle.lrtable.specs.Meeting.{Meets, PairFits, PairApart, RowsFit, RowsApart, AreAlike, row, rows_in};
+ghost use Rattle.vob.specs.Bits.{Meets};
+ghost use Rattle.lrtable.specs.ItemRows.{CoversRows, LacksRows};
+ghost use Rattle.lrtable.specs.Meeting.{PairFits, PairApart, RowsFit, RowsApart, AreAlike, row, rows_in};
 
 use vob::Vob;
-use vob::block::Block;
-
-/// Tells whether two lists of blocks share a bit.
-fn blocks_meet<T: Block>(a: &[T], b: &[T]) -> bool
-    requires { length a.now ≡ length b.now }
-    ensures { IsTrue result ↔ Meets (flat_map T.bits a.now) (flat_map T.bits b.now) }
-{
-    'each: for k in 0..a.len() {
-        let common = a[k].both(b[k]);
-        if common.zeros_below() < T::BITS {
-            return true;
-        }
-    }
-    false
-}
-
-/// Tells whether two sets of as many tokens share one.
-pub fn meet(a: &Vob, b: &Vob) -> bool
-    requires { length a.now.bits ≡ length b.now.bits }
-    ensures { IsTrue result ↔ Meets a.now.bits b.now.bits }
-{
-    blocks_meet(a.get_storage(), b.get_storage())
-}
 
 /// Tells whether one of two pairs of sets shares a token.
 fn either_meet(a: &Vob, b: &Vob, c: &Vob, d: &Vob) -> bool
@@ -35,10 +13,10 @@ fn either_meet(a: &Vob, b: &Vob, c: &Vob, d: &Vob) -> bool
     requires other { length c.now.bits ≡ length d.now.bits }
     ensures { IsTrue result ↔ (Meets a.now.bits b.now.bits ⊎ Meets c.now.bits d.now.bits) }
 {
-    if meet(a, b) {
+    if a.meets(b) {
         return true;
     }
-    meet(c, d)
+    c.meets(d)
 }
 
 /// Tells whether the lookaheads of two core items, `ai` and `aj` in one set and `bi` and `bj` in another, let the sets be
@@ -79,6 +57,20 @@ pub fn weakly_compatible(a: &[Vob], b: &[Vob]) -> bool
 {
     'each: for j in 0..a.len() {
         if !fits_below(a, b, j) {
+            return false;
+        }
+    }
+    true
+}
+
+/// Tells whether each set of the first list holds that of the second beside it.
+pub fn hold_all(a: &[Vob], b: &[Vob]) -> bool
+    requires { AreAlike (rows_in a.now) (rows_in b.now) }
+    ensures covered { result ≡ true → CoversRows (rows_in a.now) (rows_in b.now) }
+    ensures lacked { result ≡ false → LacksRows (rows_in a.now) (rows_in b.now) }
+{
+    'each: for i in 0..a.len() {
+        if !a[i].holds(&b[i]) {
             return false;
         }
     }

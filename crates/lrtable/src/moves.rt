@@ -47,7 +47,7 @@ pub fn symbol_at<S: IndexStorage>(grm: &YaccGrammar<S>, number: usize) -> Symbol
 }
 
 /// The dot behind a symbol of a production.
-fn dot_behind<S: IndexStorage>(grm: &YaccGrammar<S>, pidx: PIdx<S>, dot: usize) -> SIdx<S>
+pub fn dot_behind<S: IndexStorage>(grm: &YaccGrammar<S>, pidx: PIdx<S>, dot: usize) -> SIdx<S>
     requires production { S.number pidx.0 < length grm.now.grammar.productions }
     requires dot { dot < length (body_of grm.now.grammar (S.number pidx.0)) }
     ensures { S.number result.0 ≡ dot + 1 }

@@ -4,13 +4,15 @@ ghost use Rattle.std.specs.Prelude.{◌↔◌, IsTrue, ◌≡◌, ◌<◌, ◌�
 ghost use Rattle.cfgrammar.specs.Firsts.{AreFirsts};
 ghost use Rattle.cfg_theory.specs.Grammar.{IsEnd};
 ghost use Rattle.cfgrammar.specs.Sets.{is_set};
-ghost use Rattle.lr_theory.specs.Building.{Building};
+ghost use Rattle.lr_theory.specs.Building.{Building, IsGraph};
+ghost use Rattle.lr_theory.specs.Sizes.{StaysWithin};
 ghost use Rattle.lr_theory.specs.Itemset.{HasItem, HasLook, Closure, ClosureLook};
 ghost use Rattle.lrtable.specs.Closes.{AreFronts};
 ghost use Rattle.lrtable.specs.Gaining.{no_core, core_in};
 ghost use Rattle.lrtable.specs.Handling.{AreReached, AreHandled, AreBuilt, TooManyStand, left_in};
 ghost use Rattle.lrtable.specs.ItemRows.{map_of};
-ghost use Rattle.lrtable.specs.States.{AreStates, AreBuckets, state_at, first_production};
+ghost use Rattle.lrtable.specs.Pruning.{AreLinked, graph_of_states};
+ghost use Rattle.lrtable.specs.States.{AreStates, AreBuckets, AreQuiet, state_at, first_production};
 ghost use Rattle.lrtable.specs.StateViews.{value_of, core_of_set};
 ghost use Rattle.lrtable.specs.Stepping.{FitsCore, AreGotos, AreGotosOf, IsGotoAt, IsNextTaken, set_off};
 ghost use Rattle.lrtable.specs.declared.states.BuildError.TheVariants as faults;
@@ -19,6 +21,7 @@ use crate::cores::{CoreItem, CoreSet};
 use crate::moves::{goto_sets, symbol_at};
 use crate::openers::Openers;
 use crate::opening::close_core;
+use crate::pruning::prune;
 use crate::states::{BuildError, State, place};
 use cfg_base::index::IndexStorage;
 use cfg_base::symbol::SIdx;
@@ -33,6 +36,7 @@ fn place_rank<S: IndexStorage>(
     grm: &YaccGrammar<S>,
     states: &mut Vec<State<S>>,
     begins: &mut Vec<Vec<usize>>,
+    cursor: &mut usize,
     from: usize,
     sets: &mut Vec<CoreSet<S>>,
     number: usize,
@@ -45,11 +49,14 @@ fn place_rank<S: IndexStorage>(
     requires buckets { AreBuckets (map (value_of S.number) states.old.items) (map (λ l. l.items) begins.old.items) }
     requires lists { length begins.old.items ≡ length grm.now.grammar.productions }
     requires few { length states.old.items ≤ S.MAX }
+    requires cursor { cursor.old ≤ length states.old.items }
     ensures states { OnOk result (AreStates grm.now.grammar.tokens (map (value_of S.number) states.new.items)) }
     ensures more { OnOk result (length states.old.items ≤ length states.new.items) }
     ensures buckets { OnOk result (AreBuckets (map (value_of S.number) states.new.items) (map (λ l. l.items) begins.new.items)) }
     ensures lists { OnOk result (length begins.new.items ≡ length begins.old.items) }
     ensures few { OnOk result (length states.new.items ≤ S.MAX) }
+    ensures less { OnOk result (cursor.new ≤ cursor.old) }
+    ensures quiet { OnOk result (AreQuiet (map (value_of S.number) states.old.items) cursor.old → AreQuiet (map (value_of S.number) states.new.items) cursor.new) }
     ensures sets { OnOk result (map (core_of_set S.number) sets.new.items ≡ slice_set (map (core_of_set S.number) sets.old.items) number no_core) }
     ensures handled { OnOk result ((before : Building) → IsGotoAt grm.now.grammar before from number (core_in (map (core_of_set S.number) sets.old.items) number) → AreHandled grm.now.grammar before from number (map (value_of S.number) states.old.items) → AreHandled grm.now.grammar before from (number + 1) (map (value_of S.number) states.new.items)) }
     ensures many { IsErrOf result faults.TooManyStates → (before : Building) → IsNextTaken grm.now.grammar before from → IsGotoAt grm.now.grammar before from number (core_in (map (core_of_set S.number) sets.old.items) number) → AreHandled grm.now.grammar before from number (map (value_of S.number) states.old.items) → TooManyStand grm.now.grammar S.MAX }
@@ -58,7 +65,15 @@ fn place_rank<S: IndexStorage>(
     if set.items.is_empty() {
         return Ok(());
     }
-    place(alloc, states, begins, from, symbol_at(grm, number), set)?;
+    place(
+        alloc,
+        states,
+        begins,
+        cursor,
+        from,
+        symbol_at(grm, number),
+        set,
+    )?;
     Ok(())
 }
 
@@ -68,6 +83,7 @@ fn place_all<S: IndexStorage>(
     grm: &YaccGrammar<S>,
     states: &mut Vec<State<S>>,
     begins: &mut Vec<Vec<usize>>,
+    cursor: &mut usize,
     from: usize,
     sets: &mut Vec<CoreSet<S>>,
 ) -> Result<(), BuildError>
@@ -78,14 +94,17 @@ fn place_all<S: IndexStorage>(
     requires buckets { AreBuckets (map (value_of S.number) states.old.items) (map (λ l. l.items) begins.old.items) }
     requires lists { length begins.old.items ≡ length grm.now.grammar.productions }
     requires few { length states.old.items ≤ S.MAX }
+    requires cursor { cursor.old ≤ length states.old.items }
     ensures buckets { OnOk result (AreBuckets (map (value_of S.number) states.new.items) (map (λ l. l.items) begins.new.items)) }
     ensures lists { OnOk result (length begins.new.items ≡ length begins.old.items) }
     ensures few { OnOk result (length states.new.items ≤ S.MAX) }
+    ensures less { OnOk result (cursor.new ≤ cursor.old) }
+    ensures quiet { OnOk result (AreQuiet (map (value_of S.number) states.old.items) cursor.old → AreQuiet (map (value_of S.number) states.new.items) cursor.new) }
     ensures handled { OnOk result ((before : Building) → AreGotosOf grm.now.grammar before from (map (core_of_set S.number) sets.old.items) → AreHandled grm.now.grammar before from 0 (map (value_of S.number) states.old.items) → AreHandled grm.now.grammar before from (grm.now.grammar.rules + grm.now.grammar.tokens) (map (value_of S.number) states.new.items)) }
     ensures many { IsErrOf result faults.TooManyStates → (before : Building) → IsNextTaken grm.now.grammar before from → AreGotosOf grm.now.grammar before from (map (core_of_set S.number) sets.old.items) → AreHandled grm.now.grammar before from 0 (map (value_of S.number) states.old.items) → TooManyStand grm.now.grammar S.MAX }
 {
     'ranks: for number in 0..sets.len() {
-        place_rank(alloc, grm, states, begins, from, sets, number)?;
+        place_rank(alloc, grm, states, begins, cursor, from, sets, number)?;
     }
     Ok(())
 }
@@ -117,7 +136,7 @@ fn take<S: IndexStorage>(states: &mut Vec<State<S>>, number: usize)
     state.todo = false;
 }
 
-/// A step: takes the first state that is to be taken.
+/// A step: takes the first state that is to be taken, and gives a number below which none is then.
 fn step<S: IndexStorage>(
     alloc: Global,
     grm: &YaccGrammar<S>,
@@ -126,7 +145,7 @@ fn step<S: IndexStorage>(
     states: &mut Vec<State<S>>,
     begins: &mut Vec<Vec<usize>>,
     number: usize,
-) -> Result<(), BuildError>
+) -> Result<usize, BuildError>
     requires firsts { AreFirsts grm.now.grammar firsts.now }
     requires openers { AreFronts grm.now.grammar openers.now }
     requires reached { AreReached grm.now.grammar (map (value_of S.number) states.old.items) }
@@ -140,27 +159,31 @@ fn step<S: IndexStorage>(
     ensures buckets { OnOk result (AreBuckets (map (value_of S.number) states.new.items) (map (λ l. l.items) begins.new.items)) }
     ensures lists { OnOk result (length begins.new.items ≡ length begins.old.items) }
     ensures few { OnOk result (length states.new.items ≤ S.MAX) }
+    ensures quiet { IfOk result (λ n. AreQuiet (map (value_of S.number) states.new.items) n) }
     ensures less { OnOk result (left_in grm.now.grammar S.MAX (map (value_of S.number) states.new.items) < left_in grm.now.grammar S.MAX (map (value_of S.number) states.old.items)) }
     ensures many { IsErrOf result faults.TooManyStates → TooManyStand grm.now.grammar S.MAX }
 {
     grm.start_prod();
     let mut sets = gotos(alloc, grm, firsts, openers, &states[number].core)?;
     take(states, number);
-    place_all(alloc, grm, states, begins, number, &mut sets)?;
-    Ok(())
+    let mut cursor = number;
+    place_all(alloc, grm, states, begins, &mut cursor, number, &mut sets)?;
+    Ok(cursor)
 }
 
-/// The first state that is to be taken, if there is one.
-fn lowest<S: IndexStorage>(states: &[State<S>]) -> Option<usize>
+/// The first state that is to be taken, if there is one; below the cursor there is none.
+fn lowest<S: IndexStorage>(states: &[State<S>], cursor: usize) -> Option<usize>
+    requires { AreQuiet (map (value_of S.number) states.now) cursor }
     ensures { MatchOption result ((s : ℕ) → s < length states.now → (state_at (map (value_of S.number) states.now) s).todo ≡ false) (λ n. (n < length states.now) × ((state_at (map (value_of S.number) states.now) n).todo ≡ true) × ((r : ℕ) → r < n → (state_at (map (value_of S.number) states.now) r).todo ≡ false)) }
 {
-    'each: for number in 0..states.len() {
+    'each: for number in cursor..states.len() {
         if states[number].todo {
             return Some(number);
         }
     }
     None
 }
+
 /// The lookaheads of the start item: the end token.
 fn end_looks<S: IndexStorage>(alloc: Global, grm: &YaccGrammar<S>) -> Result<Vob, AllocError>
     ensures width { IfOk result (λ v. length v.bits ≡ grm.now.grammar.tokens) }
@@ -208,6 +231,18 @@ pub fn empty_lists(alloc: Global, count: usize) -> Result<Vec<Vec<usize>>, Alloc
     Ok(lists)
 }
 
+/// Lists of states by first production, so many, where the first state alone stands, in one of them.
+fn start_lists(alloc: Global, count: usize, first: usize) -> Result<Vec<Vec<usize>>, AllocError>
+    requires { first < count }
+    ensures lists { IfOk result (λ v. map (λ l. l.items) v.items ≡ slice_set (replicate count []) first (0 ∷ [])) }
+    ensures count { IfOk result (λ v. length v.items ≡ count) }
+{
+    let mut lists = empty_lists(alloc, count)?;
+    let list = &mut lists[first];
+    list.push(0)?;
+    Ok(lists)
+}
+
 /// Makes steps until no state is to be taken.
 pub fn finish<S: IndexStorage>(
     alloc: Global,
@@ -227,10 +262,52 @@ pub fn finish<S: IndexStorage>(
     ensures few { OnOk result (length states.new.items ≤ S.MAX) }
     ensures many { IsErrOf result faults.TooManyStates → TooManyStand grm.now.grammar S.MAX }
 {
+    let mut cursor = 0;
     'steps: loop {
-        match lowest(states.as_slice()) {
-            Some(number) => step(alloc, grm, firsts, openers, states, begins, number)?,
+        match lowest(states.as_slice(), cursor) {
+            Some(number) => cursor = step(alloc, grm, firsts, openers, states, begins, number)?,
             None => return Ok(()),
         }
     }
+}
+
+/// The states of the building at its end.
+fn build<S: IndexStorage>(
+    alloc: Global,
+    grm: &YaccGrammar<S>,
+    firsts: &YaccFirsts<S>,
+) -> Result<Vec<State<S>>, BuildError>
+    requires { AreFirsts grm.now.grammar firsts.now }
+    ensures built { IfOk result (λ v. AreBuilt grm.now.grammar (map (value_of S.number) v.items)) }
+    ensures few { IfOk result (λ v. length v.items ≤ S.MAX) }
+    ensures within { OnOk result (StaysWithin grm.now.grammar S.MAX) }
+    ensures many { IsErrOf result faults.TooManyStates → TooManyStand grm.now.grammar S.MAX }
+{
+    let first = grm.start_prod().0.to_usize();
+    let openers = Openers::new(alloc, grm, firsts)?;
+    let mut begins = start_lists(alloc, grm.prods_len().0.to_usize(), first)?;
+    let mut states = start_states(alloc, grm)?;
+    finish(alloc, grm, firsts, &openers, &mut states, &mut begins)?;
+    Ok(states)
+}
+
+/// The states of a grammar's graph, in order: those of the building at its end that edges lead to.
+pub fn states<S: IndexStorage>(
+    alloc: Global,
+    grm: &YaccGrammar<S>,
+    firsts: &YaccFirsts<S>,
+) -> Result<Vec<State<S>>, BuildError>
+    requires { AreFirsts grm.now.grammar firsts.now }
+    ensures graph { IfOk result (λ v. IsGraph grm.now.grammar (graph_of_states (map (value_of S.number) v.items))) }
+    ensures linked { IfOk result (λ v. AreLinked (map (value_of S.number) v.items)) }
+    ensures cores { IfOk result (λ v. (s : ℕ) → s < length v.items → FitsCore grm.now.grammar (state_at (map (value_of S.number) v.items) s).core) }
+    ensures some { IfOk result (λ v. 0 < length v.items) }
+    ensures few { IfOk result (λ v. length v.items ≤ S.MAX) }
+    ensures within { OnOk result (StaysWithin grm.now.grammar S.MAX) }
+    ensures many { IsErrOf result faults.TooManyStates → TooManyStand grm.now.grammar S.MAX }
+{
+    grm.start_prod();
+    let mut states = build(alloc, grm, firsts)?;
+    let kept = prune(alloc, &mut states)?;
+    Ok(kept)
 }

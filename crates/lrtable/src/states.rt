@@ -1,18 +1,18 @@
 //! The states of a building, and the placing of a set among them.
 
-ghost use Rattle.std.specs.Prelude.{◌≡◌, ◌<◌, ◌↔◌, ℕ, Bool, true, false, [], length, map, get_or, slice_set, ◌≤◌, IsTrue, OnOk, IsErrOf, MatchOption};
+ghost use Rattle.std.specs.Prelude.{◌≡◌, ◌<◌, ◌↔◌, ℕ, Bool, true, false, [], length, map, get_or, slice_set, ◌≤◌, IsTrue, OnOk, IsErrOf, MatchOption, alloc_error};
 ghost use Rattle.std.specs.List.{Contains, AllPairs};
 ghost use Rattle.cfg_theory.specs.Grammar.{Sym};
 ghost use Rattle.cfgrammar.specs.Symbols.{sym_of};
 ghost use Rattle.lr_theory.specs.Building.{same_symbol};
 ghost use Rattle.lrtable.specs.Meeting.{AreAlike, RowsFit, rows_in};
 ghost use Rattle.lrtable.specs.ItemRows.{Item, Core, join_rows, CoversRows, LacksRows, IsCoreOf};
-ghost use Rattle.lrtable.specs.States.{IsPut, IsLinked, IsPlaced, JoinsAt, JoinsNone, AreStates, ListsCore, IsApartFrom, AreBuckets, KeepsItems, AddsItems, first_production, grown_at, state_at};
+ghost use Rattle.lrtable.specs.States.{IsPut, IsLinked, IsPlaced, JoinsAt, JoinsNone, AreStates, ListsCore, IsApartFrom, AreBuckets, AreQuiet, KeepsItems, AddsItems, Edge, SymBefore, first_production, grown_at, state_at};
 ghost use Rattle.lrtable.specs.declared.states.BuildError.TheVariants as faults;
 ghost use Rattle.lrtable.specs.StateViews.{item_of, items_of, core_of_set, edge_of_pair, edges_of, value_of};
 
 use crate::cores::{CoreSet, same_items};
-use crate::meeting::weakly_compatible;
+use crate::meeting::{hold_all, weakly_compatible};
 use cfg_base::index::IndexStorage;
 use cfg_base::symbol::Symbol;
 use std::alloc::{AllocError, AllocFailed, Global};
@@ -33,26 +33,37 @@ pub struct State<S> {
     pub todo: bool,
 }
 
+impl<S: IndexStorage> State<S> {
+    /// A state without items and edges.
+    pub fn empty(alloc: Global) -> State<S> {
+        State {
+            core: CoreSet::empty(alloc),
+            edges: Vec::new(alloc),
+            todo: false,
+        }
+    }
+}
+
 /// Out of memory, or more states than the index type has numbers for.
 #[derive(Clone, Copy, Debug, PartialEq, Eq)]
 pub enum BuildError {
-    Memory,
+    Memory(AllocError),
     TooManyStates,
 }
 
 impl From<AllocError> for BuildError {
-    ghost from_gives = { λ _ e. e ≡ faults.Memory };
+    ghost from_gives = { λ x e. e ≡ faults.Memory x };
 
-    fn from(_e: AllocError) -> BuildError {
-        BuildError::Memory
+    fn from(e: AllocError) -> BuildError {
+        BuildError::Memory(e)
     }
 }
 
 impl<T: Drop> From<AllocFailed<T>> for BuildError {
-    ghost from_gives = { λ _ e. e ≡ faults.Memory };
+    ghost from_gives = { λ _ e. e ≡ faults.Memory alloc_error };
 
-    fn from(_e: AllocFailed<T>) -> BuildError {
-        BuildError::Memory
+    fn from(e: AllocFailed<T>) -> BuildError {
+        BuildError::Memory(AllocError::from(e))
     }
 }
 
@@ -82,21 +93,57 @@ fn same_symbols<S: IndexStorage>(a: Symbol<S>, b: Symbol<S>) -> bool
     }
 }
 
-/// Puts an edge in the place of that on its symbol, or with the others.
+/// Tells whether a symbol comes before another: rules before tokens, each by their indices.
+fn comes_before<S: IndexStorage>(a: Symbol<S>, b: Symbol<S>) -> bool
+    ensures { IsTrue result ↔ SymBefore (sym_of S.number a) (sym_of S.number b) }
+{
+    match (a, b) {
+        (Symbol::Rule(a), Symbol::Rule(b)) => a.0.to_usize() < b.0.to_usize(),
+        (Symbol::Rule(_), Symbol::Token(_)) => true,
+        (Symbol::Token(_), Symbol::Rule(_)) => false,
+        (Symbol::Token(a), Symbol::Token(b)) => a.0.to_usize() < b.0.to_usize(),
+    }
+}
+
+/// The index of the first edge whose symbol doesn't come before this one.
+fn edge_index<S: IndexStorage>(edges: &[EdgeTo<S>], symbol: Symbol<S>) -> usize
+    ensures within { result ≤ length edges.now }
+    ensures before { (k : ℕ) → k < result → (d : Edge) → SymBefore (get_or (edges_of S.number edges.now) k d).symbol (sym_of S.number symbol) }
+    ensures stop { (d : Edge) → result < length edges.now → SymBefore (get_or (edges_of S.number edges.now) result d).symbol (sym_of S.number symbol) → ⊥ }
+{
+    'each: for i in 0..edges.len() {
+        if !comes_before(edges[i].symbol, symbol) {
+            return i;
+        }
+    }
+    edges.len()
+}
+
+/// Tells whether the edge at an index is on a symbol.
+fn is_on<S: IndexStorage>(edges: &[EdgeTo<S>], index: usize, symbol: Symbol<S>) -> bool
+    ensures here { result ≡ true → (index < length edges.now) × ((d : Edge) → same_symbol (get_or (edges_of S.number edges.now) index d).symbol (sym_of S.number symbol) ≡ true) }
+    ensures other { result ≡ false → (d : Edge) → index < length edges.now → same_symbol (get_or (edges_of S.number edges.now) index d).symbol (sym_of S.number symbol) ≡ false }
+{
+    if index >= edges.len() {
+        return false;
+    }
+    same_symbols(edges[index].symbol, symbol)
+}
+
+/// Puts an edge in the place of that on its symbol, or before those on later symbols.
 fn put_edge<S: IndexStorage>(edges: &mut Vec<EdgeTo<S>>, edge: EdgeTo<S>) -> Result<(), AllocError>
     ensures { OnOk result (IsPut (edges_of S.number edges.old.items) (sym_of S.number edge.symbol) edge.target (edges_of S.number edges.new.items)) }
 {
-    'each: for i in 0..edges.len() {
-        if same_symbols(edges[i].symbol, edge.symbol) {
-            edges[i] = edge;
-            return Ok(());
-        }
+    let index = edge_index(edges.as_slice(), edge.symbol);
+    if is_on(edges.as_slice(), index, edge.symbol) {
+        edges[index] = edge;
+        return Ok(());
     }
-    edges.push(edge)?;
+    edges.insert(index, edge)?;
     Ok(())
 }
 
-/// Tells whether a set joins a state.
+/// Tells whether a set joins a state. Where the state holds all its lookaheads, no pair of items is compared.
 fn joins<S: IndexStorage>(state: &State<S>, set: &CoreSet<S>) -> bool
     requires state { (tokens : ℕ) × IsCoreOf tokens (core_of_set S.number state.now.core) × IsCoreOf tokens (core_of_set S.number set.now) }
     ensures fits { result ≡ true → (items_of S.number state.now.core.items.items ≡ items_of S.number set.now.items.items) × RowsFit (rows_in state.now.core.looks.items) (rows_in set.now.looks.items) }
@@ -104,6 +151,9 @@ fn joins<S: IndexStorage>(state: &State<S>, set: &CoreSet<S>) -> bool
 {
     if !same_items(state.core.items.as_slice(), set.items.as_slice()) {
         return false;
+    }
+    if hold_all(state.core.looks.as_slice(), set.looks.as_slice()) {
+        return true;
     }
     weakly_compatible(state.core.looks.as_slice(), set.looks.as_slice())
 }
@@ -160,9 +210,23 @@ fn link<S: IndexStorage>(
     Ok(())
 }
 
-/// Joins a set, made from the state `from` by a symbol, to the state `number`.
+/// Moves a cursor down to a state that grew.
+fn lower(cursor: &mut usize, grew: bool, number: usize)
+    ensures less { cursor.new ≤ cursor.old }
+    ensures low { grew ≡ true → cursor.new ≤ number }
+{
+    if !grew {
+        return;
+    }
+    if number < *cursor {
+        *cursor = number;
+    }
+}
+
+/// Joins a set, made from the state `from` by a symbol, to the state `number`. No state below the cursor is to be taken.
 fn join<S: IndexStorage>(
     states: &mut Vec<State<S>>,
+    cursor: &mut usize,
     from: usize,
     symbol: Symbol<S>,
     number: usize,
@@ -173,8 +237,11 @@ fn join<S: IndexStorage>(
     requires joins { JoinsAt (map (value_of S.number) states.old.items) number (core_of_set S.number set.now) }
     ensures placed { OnOk result (IsPlaced (map (value_of S.number) states.old.items) from (sym_of S.number symbol) (core_of_set S.number set.now) (map (value_of S.number) states.new.items)) }
     ensures kept { OnOk result (KeepsItems (map (value_of S.number) states.old.items) (map (value_of S.number) states.new.items)) }
+    ensures less { OnOk result (cursor.new ≤ cursor.old) }
+    ensures quiet { OnOk result (AreQuiet (map (value_of S.number) states.old.items) cursor.old → AreQuiet (map (value_of S.number) states.new.items) cursor.new) }
 {
-    grow(states, number, set);
+    let grew = grow(states, number, set);
+    lower(cursor, grew, number);
     link(states, from, symbol, number)?;
     Ok(())
 }
@@ -192,6 +259,7 @@ fn add<S: IndexStorage>(
     requires joins { JoinsNone (map (value_of S.number) states.old.items) (core_of_set S.number set) }
     ensures placed { OnOk result (IsPlaced (map (value_of S.number) states.old.items) from (sym_of S.number symbol) (core_of_set S.number set) (map (value_of S.number) states.new.items)) }
     ensures added { OnOk result (AddsItems (map (value_of S.number) states.old.items) (items_of S.number set.items.items) (map (value_of S.number) states.new.items)) }
+    ensures quiet { OnOk result ((n : ℕ) → n ≤ length states.old.items → AreQuiet (map (value_of S.number) states.old.items) n → AreQuiet (map (value_of S.number) states.new.items) n) }
 {
     let number = states.len();
     states.push(State {
@@ -223,6 +291,7 @@ fn add_listed<S: IndexStorage>(
     ensures buckets { OnOk result (AreBuckets (map (value_of S.number) states.new.items) (map (λ l. l.items) begins.new.items)) }
     ensures lists { OnOk result (length begins.new.items ≡ length begins.old.items) }
     ensures few { OnOk result (length states.new.items ≤ S.MAX) }
+    ensures quiet { OnOk result ((n : ℕ) → n ≤ length states.old.items → AreQuiet (map (value_of S.number) states.old.items) n → AreQuiet (map (value_of S.number) states.new.items) n) }
     ensures full { IsErrOf result faults.TooManyStates → S.MAX ≤ length states.old.items }
 {
     let number = states.len();
@@ -236,10 +305,12 @@ fn add_listed<S: IndexStorage>(
 }
 
 /// Puts a set, made from the state `from` by a symbol, among the states: it joins the first that it may, or becomes one.
+/// No state below the cursor is to be taken.
 pub fn place<S: IndexStorage>(
     alloc: Global,
     states: &mut Vec<State<S>>,
     begins: &mut Vec<Vec<usize>>,
+    cursor: &mut usize,
     from: usize,
     symbol: Symbol<S>,
     set: CoreSet<S>,
@@ -247,6 +318,7 @@ pub fn place<S: IndexStorage>(
     requires from { from < length states.old.items }
     requires states { (tokens : ℕ) × AreStates tokens (map (value_of S.number) states.old.items) × IsCoreOf tokens (core_of_set S.number set) }
     requires buckets { AreBuckets (map (value_of S.number) states.old.items) (map (λ l. l.items) begins.old.items) }
+    requires cursor { cursor.old ≤ length states.old.items }
     requires some { 0 < length set.items.items }
     requires few { length states.old.items ≤ S.MAX }
     requires listed { first_production (items_of S.number set.items.items) < length begins.old.items }
@@ -254,12 +326,14 @@ pub fn place<S: IndexStorage>(
     ensures buckets { OnOk result (AreBuckets (map (value_of S.number) states.new.items) (map (λ l. l.items) begins.new.items)) }
     ensures lists { OnOk result (length begins.new.items ≡ length begins.old.items) }
     ensures few { OnOk result (length states.new.items ≤ S.MAX) }
+    ensures less { OnOk result (cursor.new ≤ cursor.old) }
+    ensures quiet { OnOk result (AreQuiet (map (value_of S.number) states.old.items) cursor.old → AreQuiet (map (value_of S.number) states.new.items) cursor.new) }
     ensures full { IsErrOf result faults.TooManyStates → JoinsNone (map (value_of S.number) states.old.items) (core_of_set S.number set) × (S.MAX ≤ length states.old.items) }
 {
     let first = set.items[0].pidx.0.to_usize();
     match first_joined(states.as_slice(), begins[first].as_slice(), &set) {
         Some(number) => {
-            join(states, from, symbol, number, &set)?;
+            join(states, cursor, from, symbol, number, &set)?;
             Ok(())
         }
         None => add_listed(alloc, states, begins, first, from, symbol, set),

@@ -2,7 +2,7 @@ use Rattle.std.proofs.Common.{◌≡◌, ℕ, ◌≤◌, length, map}
 use Rattle.std.specs.declared.alloc.Global.{Global}
 use Rattle.std.specs.declared.vec.Vec.{Vec}
 use Rattle.lrtable.specs.Handling.{AreReached, left_in}
-use Rattle.lrtable.specs.States.{AreBuckets}
+use Rattle.lrtable.specs.States.{AreBuckets, AreQuiet}
 use Rattle.lrtable.specs.StateViews.{value_of}
 use Rattle.lrtable.proofs.pager.finish.Given as goal
 
@@ -12,6 +12,7 @@ invariant-steps g l = record {
   buckets : AreBuckets (map (value_of g.S.IndexStorage.number) l.states.items) (map (λ (v : Vec ℕ Global). v.items) l.begins.items);
   lists : length l.begins.items ≡ length l.grm.grammar.productions;
   few : length l.states.items ≤ g.S.IndexStorage.MAX;
+  quiet : AreQuiet (map (value_of g.S.IndexStorage.number) l.states.items) l.cursor;
 }
 
 abbrev pub decreases-steps : goal.decreases-steps

@@ -1,10 +1,8 @@
-use Rattle.std.proofs.Common.{◌≡◌, ℕ, ◌+◌, ◌<◌, ◌≤◌, length, map, refl, sym, ap, ◌∙◌, subst, arith, rules, length-set}
+use Rattle.std.proofs.Common.{length, map, refl, sym, ap, ◌∙◌, subst, arith, rules, length-set}
 use Rattle.std.proofs.lemmas.List.{length-map}
-use Rattle.lr_theory.specs.Building.{Building}
-use Rattle.lrtable.specs.Gaining.{no_core, core_in}
-use Rattle.lrtable.specs.Handling.{AreHandled}
+use Rattle.lrtable.specs.Gaining.{no_core}
 use Rattle.lrtable.specs.StateViews.{value_of, core_of_set}
-use Rattle.lrtable.specs.Stepping.{FitsCore, AreGotosOf, IsGotoAt}
+use Rattle.lrtable.specs.Stepping.{FitsCore, IsGotoAt}
 use Rattle.lrtable.proofs.Stepping.{rest_next, next_handled, goto_at}
 use Rattle.lrtable.proofs.pager.place_all.Goals as goal
 
@@ -16,6 +14,8 @@ ranks-init g c = record {
   buckets = c.requires.buckets;
   lists = refl;
   few = c.requires.few;
+  less = omega arith;
+  quiet = λ h. h;
   rest = λ n le. refl;
   handled = λ before sets h. h;
 }
@@ -46,6 +46,8 @@ ranks-preserved g c =
       buckets = e.buckets;
       lists = e.lists ∙ v.lists;
       few = e.few;
+      less = (let p = e.less in let q = v.less in omega (arith, p, q));
+      quiet = λ h. e.quiet (v.quiet h);
       rest = rest_next first sets new c.ranks.number e.sets v.rest;
       handled = λ before gotos h. next_handled G before c.args.from c.ranks.number first sets (map (value_of number) c.ranks.states.items) (map (value_of number) c.place_rank.new.states.items) v.rest e.handled gotos (v.handled before gotos h);
     }
@@ -56,3 +58,10 @@ returns-in_err-place_rank-clause-many g c = λ e before next gotos h.
     let v = c.ranks.invariant in
     let first = map (core_of_set number) c.args.sets.now.items in
     c.place_rank.ensures.many (search rules) before next (subst (IsGotoAt c.args.grm.now.grammar before c.args.from c.ranks.number) (sym (v.rest c.ranks.number (omega arith))) (goto_at c.args.grm.now.grammar before c.args.from first gotos c.ranks.number)) (v.handled before gotos h)
+
+pub place_rank-requires-clause-cursor : goal.place_rank-requires-clause-cursor
+place_rank-requires-clause-cursor g c =
+    let less = c.ranks.invariant.less in
+    let more = c.ranks.invariant.more in
+    let le = c.requires.cursor in
+    omega (arith, less, more, le)

@@ -4,7 +4,7 @@ use Rattle.std.specs.declared.vec.Vec.{Vec}
 use Rattle.lr_theory.specs.Building.{Building}
 use Rattle.lrtable.specs.Gaining.{core_in}
 use Rattle.lrtable.specs.Handling.{AreHandled}
-use Rattle.lrtable.specs.States.{AreStates, AreBuckets}
+use Rattle.lrtable.specs.States.{AreStates, AreBuckets, AreQuiet}
 use Rattle.lrtable.specs.StateViews.{value_of, core_of_set}
 use Rattle.lrtable.specs.Stepping.{AreGotosOf}
 use Rattle.lrtable.proofs.pager.place_all.Given as goal
@@ -19,6 +19,8 @@ invariant-ranks g l =
       buckets : AreBuckets (map (value_of number) l.states.items) (map (λ (v : Vec ℕ Global). v.items) l.begins.items);
       lists : length l.begins.items ≡ length l.initial.begins.items;
       few : length l.states.items ≤ g.S.IndexStorage.MAX;
+      less : l.cursor ≤ l.initial.cursor;
+      quiet : AreQuiet (map (value_of number) l.initial.states.items) l.initial.cursor → AreQuiet (map (value_of number) l.states.items) l.cursor;
       rest : (n : ℕ) → l.number ≤ n → core_in (map (core_of_set number) l.sets.items) n ≡ core_in (map (core_of_set number) l.initial.sets.items) n;
       handled : (before : Building) → AreGotosOf l.grm.grammar before l.from (map (core_of_set number) l.initial.sets.items) → AreHandled l.grm.grammar before l.from 0 (map (value_of number) l.initial.states.items) →
           AreHandled l.grm.grammar before l.from l.number (map (value_of number) l.states.items);

@@ -1,11 +1,12 @@
-use Rattle.std.proofs.Common.{◌≡◌, ◌<◌, ◌≤◌, ◌+◌, ℕ, List, length, map, sym, subst, arith, rules}
+use Rattle.std.proofs.Common.{ℕ, List, false, length, map, sym, ap, subst, arith, rules, length-set}
 use Rattle.std.proofs.lemmas.List.{length-map}
 use Rattle.std.specs.declared.alloc.Global.{Global}
 use Rattle.std.specs.declared.vec.Vec.{Vec}
 use Rattle.lr_theory.specs.Itemset.{HasItem, HasLook, Closure, ClosureLook}
 use Rattle.lrtable.specs.Handling.{AreHandled}
 use Rattle.lrtable.specs.ItemRows.{map_of}
-use Rattle.lrtable.specs.States.{StateValue, no_state, AreStates, AreBuckets}
+use Rattle.lrtable.specs.States.{StateValue, no_state, state_at, AreStates, AreBuckets, AreQuiet}
+use Rattle.lrtable.proofs.Quiet.{quiet_off}
 use Rattle.lrtable.specs.StateViews.{value_of, core_of_set}
 use Rattle.lrtable.specs.Stepping.{FitsCore, AreGotos}
 use Rattle.lrtable.proofs.CoreSteps.{map_at}
@@ -90,3 +91,20 @@ returns-clause-less g c =
     let m = length-map c.place_all.new.states.items (value_of number) in
     let few = c.in_ok-place_all.ensures.few in
     step_less G g.S.IndexStorage.MAX states (map (value_of number) c.place_all.new.states.items) c.args.number h c.start_prod.ensures.well_formed c.requires.todo c.requires.lowest (c.in_ok-place_all.ensures.handled h.building gotos begun) (omega (arith, m, few))
+
+pub place_all-requires-clause-cursor : goal.place_all-requires-clause-cursor
+place_all-requires-clause-cursor g c =
+    let number = g.S.IndexStorage.number in
+    let states = map (value_of number) c.args.states.now.items in
+    let n = length-map c.args.states.now.items (value_of number) in
+    let m = length-map c.take.new.states.items (value_of number) in
+    let e = ap length c.take.ensures in
+    let k = length-set states c.args.number (record { core = (state_at states c.args.number).core; edges = (state_at states c.args.number).edges; todo = false }) in
+    let low = c.requires.number in
+    omega (arith, n, m, e, k, low)
+
+pub returns-clause-quiet : goal.returns-clause-quiet
+returns-clause-quiet g c =
+    let number = g.S.IndexStorage.number in
+    let states = map (value_of number) c.args.states.now.items in
+    c.in_ok-place_all.ensures.quiet (subst (λ (l : List StateValue). AreQuiet l c.args.number) (sym c.take.ensures) (quiet_off states c.args.number c.args.number c.requires.lowest (omega arith)))

@@ -1,0 +1,221 @@
+-- The states of a finished building as a state graph.
+use Rattle.std.proofs.Common.{◌≡◌, ℕ, zero, suc, ◌+◌, ◌<◌, ◌≤◌, inl, inr, false, cond, List, [], ◌∷◌, ◌++◌, length, get_or, map, take, Option, Some, refl, sym, ap, ◌∙◌, subst, subst₂, arith}
+use Rattle.std.specs.Prelude.{All}
+use Rattle.std.proofs.lemmas.Bool.{cases_eq, cases_lt}
+use Rattle.std.proofs.lemmas.List.{get_or_past, map_push, take_more, get_or-map, get_or_default, get_or_append_left, get_or_push, length-map, length_push}
+use Rattle.std.proofs.lemmas.List.Elements.{All-push}
+use Rattle.cfg_theory.specs.Grammar.{Sym, rule, token, Grammar, body_of, WellFormed}
+use Rattle.lr_theory.specs.Building.{Pruned, IsGraph, same_symbol}
+use Rattle.lr_theory.specs.Canonical.{Present}
+use Rattle.lr_theory.specs.Graph.{Graph}
+use Rattle.lr_theory.specs.Itemset.{ItemSet, HasItem, HasLook, Closure, ClosureLook, Is, FitsGrammar}
+use Rattle.lr_theory.proofs.GraphLaws.{finished_law}
+use Rattle.lr_theory.proofs.Place.{same_symbol_refl}
+use Rattle.lrtable.specs.Graphs.{GraphValue, target_in, graph_of, SymbolBefore, AreInOrder, EdgesAscend, IsGraphValue, IsGraphOf, AreClosures, AreFinal, graph_of_values, pair_of_edge, pairs_of}
+use Rattle.vob.specs.Packed.{Contents}
+use Rattle.lrtable.specs.declared.cores.CoreSet.{CoreSet}
+use Rattle.lrtable.specs.declared.shared_sets.SharedSets.{SharedSets}
+use Rattle.lrtable.specs.declared.states.EdgeTo.{EdgeTo}
+use Rattle.lrtable.specs.declared.states.State.{State}
+use Rattle.lrtable.specs.ItemRows.{Item, Core, Ascends, IsCoreOf, map_of}
+use Rattle.lrtable.specs.Meeting.{rows_in}
+use Rattle.lrtable.specs.Sharing.{shared_core, PointIn, IsShared}
+use Rattle.lrtable.specs.StateViews.{item_of, core_of_set, edge_of_pair, edges_of, value_of}
+use Rattle.lrtable.specs.States.{Edge, StateValue, edge_in, edge_of, state_at, no_state}
+use Rattle.lrtable.specs.Stepping.{FitsCore}
+use Rattle.lrtable.proofs.Exact.{dot_within}
+use Rattle.lrtable.proofs.Fitting.{fits_by}
+use Rattle.lrtable.proofs.ItemSets.{has_item, nought, at_own}
+
+-- ---- edges
+
+target_is : (es : List Edge) (X : Sym) → target_in (map pair_of_edge es) X ≡ edge_in es X
+target_is [] X = refl
+target_is (e ∷ es) X = ap (λ (o : Option ℕ). cond (same_symbol X e.symbol) (Some e.target) o) (target_is es X)
+
+map_any : {X Y : Type 0} (f : X → Y) (xs : List X) (i : ℕ) (d : X) → get_or (map f xs) i (f d) ≡ f (get_or xs i d)
+map_any f [] i d = refl
+map_any f (x ∷ xs) zero d = refl
+map_any f (x ∷ xs) (suc i) d = map_any f xs i d
+
+pub edge_is : (states : List StateValue) (s : ℕ) (X : Sym) → target_in (get_or (map pairs_of states) s []) X ≡ edge_of states s X
+edge_is states s X = ap (λ (l : List (Sym × ℕ)). target_in l X) (map_any pairs_of states s no_state) ∙ target_is (state_at states s).edges X
+
+symbols_differ : (X Y : Sym) → SymbolBefore Y X → same_symbol X Y ≡ false
+symbols_differ (rule A) (rule B) lt = grind (arith, lt)
+symbols_differ (rule A) (token t) h = absurd h
+symbols_differ (token t) (rule A) h = refl
+symbols_differ (token t) (token u) lt = grind (arith, lt)
+
+-- each edge of a list in order is the one on its symbol
+found_at : (es : List (Sym × ℕ)) (i : ℕ) (d : Sym × ℕ) → AreInOrder es → i < length es → target_in es (get_or es i d).0 ≡ Some (get_or es i d).1
+found_at [] i d a lt = absurd (omega (arith, lt))
+found_at (e ∷ es) zero d a lt = ap (λ b. cond b (Some e.1) (target_in es e.0)) (same_symbol_refl e.0)
+found_at (e ∷ es) (suc i) d a lt =
+    ap (λ b. cond b (Some e.1) (target_in es (get_or es i d).0)) (symbols_differ (get_or es i d).0 e.0 (a zero (suc i) d (omega arith) lt)) ∙
+    found_at es i d (λ j k x l w. a (suc j) (suc k) x (omega (arith, l)) (omega (arith, w))) (omega (arith, lt))
+
+pairs_ascend : (es : List Edge) → EdgesAscend es → AreInOrder (map pair_of_edge es)
+pairs_ascend es a = λ i j d lt within.
+    (let n = length-map es pair_of_edge in
+    let x : Edge = record { symbol = d.0; target = d.1 } in
+    subst₂ (λ (e f : Sym × ℕ). SymbolBefore e.0 f.0) (sym (map_any pair_of_edge es i x)) (sym (map_any pair_of_edge es j x)) (a i j x lt (omega (arith, within, n))))
+
+module _ (G : Grammar) (states : List StateValue) (final : AreFinal G states) (s : ℕ) where
+  pub final_ascend : AreInOrder (get_or (map pairs_of states) s [])
+  final_ascend = subst AreInOrder (sym (map_any pairs_of states s no_state)) (elim (cases_lt s (length states)) [
+    | inl lt ↦ pairs_ascend (state_at states s).edges (final.ascend s lt)
+    | inr ge ↦ subst (λ (x : StateValue). AreInOrder (map pair_of_edge x.edges)) (sym (get_or_past states s no_state ge)) (λ i j d lt within. absurd (omega (arith, within)))
+  ])
+
+  pub final_targets : All (λ e. e.1 < length states) (get_or (map pairs_of states) s [])
+  final_targets = λ k d lt. final.targets s (get_or (get_or (map pairs_of states) s []) k d).1 (get_or (get_or (map pairs_of states) s []) k d).0 (sym (edge_is states s (get_or (get_or (map pairs_of states) s []) k d).0) ∙ found_at (get_or (map pairs_of states) s []) k d final_ascend lt)
+
+-- ---- a graph with the same cores and edges is the grammar's too
+
+pruned_as : (old new other : Graph) → other.cores ≡ new.cores → other.start ≡ new.start → ((s : ℕ) (X : Sym) → other.edge s X ≡ new.edge s X) → Pruned old new → Pruned old other
+pruned_as old new other cores start edge h = record {
+  kept = h.kept;
+  size = h.size ∙ ap length (sym cores);
+  in_order = h.in_order;
+  led_to = h.led_to;
+  all = h.all;
+  start = subst (λ s. (s < length h.kept) × (get_or h.kept s 0 ≡ old.start)) (sym start) h.start;
+  cores = λ i lt. ap (λ (l : List ItemSet). get_or l i []) cores ∙ h.cores i lt;
+  edges = λ i j X li lj. (λ q. (h.edges i j X li lj).0 (sym (edge i X) ∙ q), λ q. edge i X ∙ (h.edges i j X li lj).1 q);
+  targets = λ i j X li q. h.targets i j X li (sym (edge i X) ∙ q);
+  outside = λ i j X q. h.outside i j X (sym (edge i X) ∙ q);
+}
+
+graph_as : (G : Grammar) (new other : Graph) → other.cores ≡ new.cores → other.start ≡ new.start → ((s : ℕ) (X : Sym) → other.edge s X ≡ new.edge s X) → IsGraph G new → IsGraph G other
+graph_as G new other cores start edge h = record { building = h.building; built = h.built; pruned = pruned_as h.building.graph new other cores start edge h.pruned }
+
+-- ---- items of a finished graph are the grammar's
+
+module _ (G : Grammar) (good : WellFormed G) where
+  present_in_range : {w : List Sym} {p d : ℕ} → Present G w p d → p < length G.productions
+  present_in_range (Present.start e) = let lt = good.start_of.in_range in omega (arith, lt, e)
+  present_in_range (Present.moved h n) = present_in_range h
+  present_in_range (Present.opened h n o) = o.in_range
+
+  present_dot : {w : List Sym} {p d : ℕ} → Present G w p d → d ≤ length (body_of G p)
+  present_dot (Present.start e) = omega arith
+  present_dot (Present.moved {p = p} {d = d} {X = X} h n) = let lt = dot_within G p d X n in omega (arith, lt)
+  present_dot (Present.opened h n o) = omega arith
+
+  module _ (states : List StateValue) (final : AreFinal G states) (s : ℕ) (lt : s < length states) where
+    item_present : (p d : ℕ) → HasItem (map_of (state_at states s).core) p d → (w : List Sym) × Present G w p d
+    item_present p d h =
+        let n = length-map states (λ (x : StateValue). map_of x.core) in
+        let tied = (finished_law.finished G (graph_of_values states) good final.graph).ties s (omega (arith, lt, n)) in
+        let is : get_or (map (λ (x : StateValue). map_of x.core) states) s [] ≡ map_of (state_at states s).core = map_any (λ (x : StateValue). map_of x.core) states s no_state in
+        (tied.reached.0, tied.reached.1.present p d (subst (λ (m : ItemSet). HasItem m p d) (sym is) h))
+
+    pub final_core : FitsCore G (state_at states s).core
+    final_core = record {
+      good = final.cores s lt;
+      productions = λ k d within.
+          let good' = final.cores s lt in
+          let at = at_own (state_at states s).core.items k within in
+          let i = get_or (state_at states s).core.items k nought in
+          let h = (has_item (state_at states s).core.items (state_at states s).core.rows good'.ascends good'.count i.production i.dot).1 (k, at) in
+          subst (λ (x : Item). x.production < length G.productions) (get_or_default (state_at states s).core.items k nought d within) (present_in_range (item_present i.production i.dot h).1);
+    }
+
+    pub final_fits : FitsGrammar G (map_of (state_at states s).core)
+    final_fits = fits_by G (state_at states s).core (final.cores s lt) (λ p d h. present_in_range (item_present p d h).1) (λ p d h. present_dot (item_present p d h).1)
+
+  -- ---- the whole graph
+
+  pub final_graph : (states : List StateValue) (g : GraphValue) → AreFinal G states → g.cores ≡ map (λ s. map_of s.core) states → g.start ≡ 0 → g.edges ≡ map pairs_of states → AreClosures G g.cores g.closed → IsGraphOf G g
+  final_graph states g final cores start edges closed = record {
+    graph = graph_as G (graph_of_values states) (graph_of g) cores start (λ s X. ap (λ (l : List (List (Sym × ℕ))). target_in (get_or l s []) X) edges ∙ edge_is states s X) final.graph;
+    closes = closed.count;
+    closed = closed.each;
+    fits = (
+      λ s d lt. (
+          let n = length-map states (λ (x : StateValue). map_of x.core) in
+          let m = ap length cores in
+          let within : s < length states = omega (arith, lt, m, n) in
+          let is : get_or g.cores s d ≡ map_of (state_at states s).core = get_or_default g.cores s d [] lt ∙ ap (λ (l : List ItemSet). get_or l s []) cores ∙ map_any (λ (x : StateValue). map_of x.core) states s no_state in
+          subst (FitsGrammar G) (sym is) (final_fits states final s within)),
+      closed.fit,
+    );
+    lists = ap length edges ∙ length-map states pairs_of ∙ sym (ap length cores ∙ length-map states (λ (x : StateValue). map_of x.core));
+    ascend = λ s. subst (λ (l : List (List (Sym × ℕ))). AreInOrder (get_or l s [])) (sym edges) (final_ascend G states final s);
+    start = start;
+  }
+
+  pub final_value : (top : ℕ) (states : List StateValue) (g : GraphValue) → length states ≤ top → AreFinal G states → g.cores ≡ map (λ s. map_of s.core) states → g.start ≡ 0 → g.edges ≡ map pairs_of states → AreClosures G g.cores g.closed → IsGraphValue top g
+  final_value top states g few final cores start edges closed =
+      let n = ap length cores ∙ length-map states (λ (x : StateValue). map_of x.core) in
+      let some = final.some in
+      record {
+        closed = closed.count;
+        edges = ap length edges ∙ length-map states pairs_of ∙ sym n;
+        few = omega (arith, few, n);
+        start = omega (arith, start, n, some);
+        targets = λ s. subst₂ (λ (l : List (List (Sym × ℕ))) (m : ℕ). All (λ e. e.1 < m) (get_or l s [])) (sym edges) (sym n) (final_targets G states final s);
+        ascend = λ s. subst (λ (l : List (List (Sym × ℕ))). AreInOrder (get_or l s [])) (sym edges) (final_ascend G states final s);
+      }
+
+-- ---- closures, one after another
+
+-- those of the first n states
+pub record ClosesFirst (G : Grammar) (states : List StateValue) (n : ℕ) (closed : List ItemSet) : Type 0 where
+  pub count : length closed ≡ n
+  pub each : (s : ℕ) → s < n → Is (get_or closed s []) (Closure G (HasItem (map_of (state_at states s).core))) (ClosureLook G (HasItem (map_of (state_at states s).core)) (HasLook (map_of (state_at states s).core)))
+  pub fit : All (FitsGrammar G) closed
+
+pub closes_next : (G : Grammar) (states : List StateValue) (n : ℕ) (old new : List ItemSet) (c : Core) (set : ItemSet) → ClosesFirst G states n old → new ≡ old ++ set ∷ [] → (state_at states n).core ≡ c → Is set (Closure G (HasItem (map_of c))) (ClosureLook G (HasItem (map_of c)) (HasLook (map_of c))) → FitsGrammar G set → ClosesFirst G states (n + 1) new
+closes_next G states n old new c set h e core is fit = record {
+  count = ap length e ∙ length_push old set ∙ ap (λ m. m + 1) h.count;
+  each = λ s lt. elim (cases_eq s n) [
+    | inl q ↦ subst (λ m. Is (get_or new m []) (Closure G (HasItem (map_of (state_at states m).core))) (ClosureLook G (HasItem (map_of (state_at states m).core)) (HasLook (map_of (state_at states m).core)))) (sym q)
+        (subst₂ (λ (x : ItemSet) (d : Core). Is x (Closure G (HasItem (map_of d))) (ClosureLook G (HasItem (map_of d)) (HasLook (map_of d)))) (sym (ap (λ (l : List ItemSet). get_or l n []) e ∙ get_or_push old set [] n h.count)) (sym core) is)
+    | inr ne ↦ subst (λ (x : ItemSet). Is x (Closure G (HasItem (map_of (state_at states s).core))) (ClosureLook G (HasItem (map_of (state_at states s).core)) (HasLook (map_of (state_at states s).core))))
+        (sym (ap (λ (l : List ItemSet). get_or l s []) e ∙ get_or_append_left old (set ∷ []) [] s (let k = h.count in omega (arith, lt, ne, k)))) (h.each s (omega (arith, lt, ne)))
+  ];
+  fit = subst (λ (l : List ItemSet). All (FitsGrammar G) l) (sym e) (All-push (FitsGrammar G) old set h.fit fit);
+}
+
+pub closes_all : (G : Grammar) (states : List StateValue) (n : ℕ) (closed : List ItemSet) → ClosesFirst G states n closed → n ≡ length states → AreClosures G (map (λ s. map_of s.core) states) closed
+closes_all G states n closed h e =
+    let m = length-map states (λ (x : StateValue). map_of x.core) in
+    record {
+      count = h.count ∙ e ∙ sym m;
+      each = λ s lt. subst (λ (x : ItemSet). Is (get_or closed s []) (Closure G (HasItem x)) (ClosureLook G (HasItem x) (HasLook x))) (sym (map_any (λ (x : StateValue). map_of x.core) states s no_state)) (h.each s (omega (arith, lt, m, e)));
+      fit = h.fit;
+    }
+
+-- ---- states as a program keeps them
+
+module _ {S : Type 0} (number : S → ℕ) (xs : List (State S)) (k : ℕ) (x : State S) (lt : k < length xs) where
+  pub state_is : state_at (map (value_of number) xs) k ≡ value_of number (get_or xs k x)
+  state_is = get_or-map (value_of number) xs k x no_state lt
+
+  pub core_is : (state_at (map (value_of number) xs) k).core ≡ core_of_set number (get_or xs k x).core
+  core_is = ap (λ (s : StateValue). s.core) state_is
+
+  pub edges_fit : (top : ℕ) (slice : List (EdgeTo S)) → slice ≡ (get_or xs k x).edges.items → All (λ e. e.1 ≤ top) (get_or (map pairs_of (map (value_of number) xs)) k []) → All (λ e. e.1 ≤ top) (map pair_of_edge (edges_of number slice))
+  edges_fit top slice e h = subst (λ (l : List (Sym × ℕ)). All (λ e. e.1 ≤ top) l) (map_any pairs_of (map (value_of number) xs) k no_state ∙ ap pairs_of state_is ∙ ap (λ (l : List (EdgeTo S)). map pair_of_edge (edges_of number l)) (sym e)) h
+
+pub target_fits : {S : Type 0} (number : S → ℕ) (es : List (EdgeTo S)) (k top : ℕ) (x : EdgeTo S) → k < length es → All (λ e. e.1 ≤ top) (map pair_of_edge (edges_of number es)) → (get_or es k x).target ≤ top
+target_fits number es k top x lt h =
+    let n = length-map es (edge_of_pair number) in
+    let m = length-map (edges_of number es) pair_of_edge in
+    let e = edge_of_pair number x in
+    let is = get_or-map pair_of_edge (edges_of number es) k e (pair_of_edge e) (omega (arith, lt, n)) ∙ ap pair_of_edge (get_or-map (edge_of_pair number) es k x e lt) in
+    subst (λ (p : Sym × ℕ). p.1 ≤ top) is (h k (pair_of_edge e) (omega (arith, lt, n, m)))
+
+pub core_counts : {S : Type 0} (number : S → ℕ) (tokens : ℕ) (c : CoreSet S) → IsCoreOf tokens (core_of_set number c) → length c.looks.items ≡ length c.items.items
+core_counts number tokens c good = sym (length-map c.looks.items (λ (v : Contents). v.bits)) ∙ good.count ∙ length-map c.items.items (item_of number)
+
+pub core_shared : {S : Type 0} (number : S → ℕ) (tokens : ℕ) (c : Core) (s : SharedSets S) → IsCoreOf tokens c → shared_core number s ≡ c → PointIn (rows_in s.sets.items) s.entries.items → IsShared number s
+core_shared number tokens c s good e within = record { ascends = subst (λ (x : Core). Ascends x.items) (sym e) good.ascends; within = within }
+
+pub mapped_next : {X Y Z : Type 0} (f : Y → Z) (h : X → Y) (xs : List X) (k : ℕ) (x : X) → k < length xs → map f (map h (take (k + 1) xs)) ≡ map f (map h (take k xs)) ++ f (h (get_or xs k x)) ∷ []
+mapped_next f h xs k x lt = ap (λ l. map f (map h l)) (take_more xs k x lt) ∙ ap (map f) (map_push h (take k xs) (get_or xs k x)) ∙ map_push f (map h (take k xs)) (h (get_or xs k x))
+
+pub targets_fit : (n top : ℕ) (es : List (Sym × ℕ)) → n ≤ top → All (λ e. e.1 < n) es → All (λ e. e.1 ≤ top) es
+targets_fit n top es le h = λ k d lt. (let b = h k d lt in omega (arith, b, le))

@@ -1,0 +1,26 @@
+use Rattle.std.proofs.Common.{◌≡◌, refl, sym, ◌∙◌, subst}
+use Rattle.lrtable.specs.Meeting.{rows_in, row}
+use Rattle.lrtable.specs.Sharing.{TakesIn}
+use Rattle.lrtable.specs.StateViews.{item_of}
+use Rattle.lrtable.specs.declared.shared_sets.SharedItem.{SharedItem}
+use Rattle.lrtable.specs.declared.shared_sets.SharedSets.{SharedSets}
+use Rattle.lrtable.proofs.CoreSteps.{row_at}
+use Rattle.lrtable.proofs.Sharing.{belongs, put_shares}
+use Rattle.lrtable.proofs.shared_sets.SharedSets.share.Goals as goal
+
+pub returns-then-is_at : goal.returns-then-is_at
+returns-then-is_at g c =
+    let number = g.S.IndexStorage.number in
+    let s = c.args.self.now in
+    let e : c.in_ok-looks.looks.bits ≡ row (rows_in s.sets.items) c.args.set = c.in_ok-looks.ensures.cases ∙ sym (row_at s.sets.items c.args.set c.index.result.now c.requires.set c.index.ensures) in
+    subst (λ b. TakesIn number (number c.args.item.pidx.0) (number c.args.item.dot.0) b s c.grow.new.self) e c.in_ok-grow.ensures.added
+
+pub returns : goal.returns
+returns g c =
+    let number = g.S.IndexStorage.number in
+    let s = c.args.self.now in
+    let e : SharedItem g.row.S.Denot = record { item = c.args.item; set = c.args.set } in
+    let new : SharedSets g.row.S.Denot = record { entries = c.insert.new.self; sets = s.sets } in
+    let at = belongs (λ (e : SharedItem g.row.S.Denot). item_of number e.item) s.entries.items c.as_slice.result.now c.as_slice-2.result.now c.index_in-index.result (item_of number c.args.item) c.requires.core.ascends
+    c.as_slice.ensures.value c.as_slice-2.ensures.value c.index_in-index.ensures.within c.index_in-index.ensures.below c.index_in-index.ensures.above (c.is_at.ensures.other c.if-is_at.false) in
+    put_shares number s new c.index_in-index.result e c.requires.core c.requires.within at c.requires.set refl c.in_ok-insert.ensures.items

@@ -1,0 +1,54 @@
+use Rattle.std.proofs.Common.{◌<◌, length, sym, arith}
+use Rattle.lrtable.specs.CellViews.{targets_of}
+use Rattle.lrtable.proofs.Cursors.{past_end, other_number, same_number, target_at, targets_length}
+use Rattle.lrtable.proofs.state_rows.take_edge.Goals as goal
+
+pub returns-then-index-shifts-clause-edge : goal.returns-then-index-shifts-clause-edge
+returns-then-index-shifts-clause-edge g c =
+    let number = g.S.IndexStorage.number in
+    let n = targets_length number c.args.shifts.now in
+    let t = c.if-index-shifts.true in
+    sym (past_end (targets_of number c.args.shifts.now) c.args.next.now c.args.number c.requires.next (omega (arith, n, t))).0
+
+pub returns-then-index-shifts-clause-next : goal.returns-then-index-shifts-clause-next
+returns-then-index-shifts-clause-next g c =
+    let number = g.S.IndexStorage.number in
+    let n = targets_length number c.args.shifts.now in
+    let t = c.if-index-shifts.true in
+    (past_end (targets_of number c.args.shifts.now) c.args.next.now c.args.number c.requires.next (omega (arith, n, t))).1
+
+pub returns-then-edge-number-clause-edge : goal.returns-then-edge-number-clause-edge
+returns-then-edge-number-clause-edge g c =
+    let number = g.S.IndexStorage.number in
+    let n = targets_length number c.args.shifts.now in
+    let t = c.if-index-shifts.false in
+    let x = c.index-shifts-index.result in
+    let lt : c.args.next.now < length c.args.shifts.now = omega (arith, t) in
+    sym (other_number (targets_of number c.args.shifts.now) c.args.next.now c.args.number (x.0, number x.1.0) c.requires.rises c.requires.next (omega (arith, n, lt)) (target_at number c.args.shifts.now c.args.next.now x lt c.index-shifts-index.is) c.if-edge-number.true).0
+
+pub returns-then-edge-number-clause-next : goal.returns-then-edge-number-clause-next
+returns-then-edge-number-clause-next g c =
+    let number = g.S.IndexStorage.number in
+    let n = targets_length number c.args.shifts.now in
+    let t = c.if-index-shifts.false in
+    let x = c.index-shifts-index.result in
+    let lt : c.args.next.now < length c.args.shifts.now = omega (arith, t) in
+    (other_number (targets_of number c.args.shifts.now) c.args.next.now c.args.number (x.0, number x.1.0) c.requires.rises c.requires.next (omega (arith, n, lt)) (target_at number c.args.shifts.now c.args.next.now x lt c.index-shifts-index.is) c.if-edge-number.true).1
+
+pub returns-clause-edge : goal.returns-clause-edge
+returns-clause-edge g c =
+    let number = g.S.IndexStorage.number in
+    let n = targets_length number c.args.shifts.now in
+    let t = c.if-index-shifts.false in
+    let x = c.index-shifts-index.result in
+    let lt : c.args.next.now < length c.args.shifts.now = omega (arith, t) in
+    sym (same_number (targets_of number c.args.shifts.now) c.args.next.now c.args.number (x.0, number x.1.0) c.requires.rises c.requires.next (omega (arith, n, lt)) (target_at number c.args.shifts.now c.args.next.now x lt c.index-shifts-index.is) c.if-edge-number.false).0
+
+pub returns-clause-next : goal.returns-clause-next
+returns-clause-next g c =
+    let number = g.S.IndexStorage.number in
+    let n = targets_length number c.args.shifts.now in
+    let t = c.if-index-shifts.false in
+    let x = c.index-shifts-index.result in
+    let lt : c.args.next.now < length c.args.shifts.now = omega (arith, t) in
+    (same_number (targets_of number c.args.shifts.now) c.args.next.now c.args.number (x.0, number x.1.0) c.requires.rises c.requires.next (omega (arith, n, lt)) (target_at number c.args.shifts.now c.args.next.now x lt c.index-shifts-index.is) c.if-edge-number.false).1

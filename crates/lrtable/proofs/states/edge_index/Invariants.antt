@@ -1,0 +1,8 @@
+use Rattle.std.proofs.Common.{ℕ, ◌<◌, get_or}
+use Rattle.cfgrammar.specs.Symbols.{sym_of}
+use Rattle.lrtable.specs.States.{Edge, SymBefore}
+use Rattle.lrtable.specs.StateViews.{edges_of}
+use Rattle.lrtable.proofs.states.edge_index.Given as goal
+
+abbrev pub invariant-each : goal.invariant-each
+invariant-each g l = (k : ℕ) → k < l.i → (d : Edge) → SymBefore (get_or (edges_of g.S.IndexStorage.number l.edges) k d).symbol (sym_of g.S.IndexStorage.number l.symbol)

@@ -1,0 +1,114 @@
+//! Closures and goto sets as items that share their sets of lookaheads.
+
+ghost use Rattle.std.specs.Prelude.{◌≡◌, ◌<◌, ℕ, length, IfOk, OnOk};
+ghost use Rattle.cfgrammar.specs.Firsts.{AreFirsts};
+ghost use Rattle.cfgrammar.specs.Symbols.{sym_of};
+ghost use Rattle.lr_theory.specs.Building.{same_symbol};
+ghost use Rattle.lr_theory.specs.Itemset.{HasItem, HasLook, Closure, ClosureLook, Goto, GotoLook, Is};
+ghost use Rattle.lrtable.specs.Adding.{One, OneLooks};
+ghost use Rattle.lrtable.specs.Closes.{AreFronts};
+ghost use Rattle.lrtable.specs.ItemRows.{IsCoreOf, map_of};
+ghost use Rattle.lrtable.specs.Meeting.{rows_in};
+ghost use Rattle.lrtable.specs.Sharing.{shared_core, shared_map, PointIn, GrowsBy};
+ghost use Rattle.lrtable.specs.StateViews.{core_of_set};
+ghost use Rattle.lrtable.specs.Stepping.{FitsCore};
+
+use crate::cores::{CoreItem, CoreSet};
+use crate::moves::dot_behind;
+use crate::openers::Openers;
+use crate::opening::close_core;
+use crate::rests::symbol_after;
+use crate::shared_sets::SharedSets;
+use cfg_base::index::IndexStorage;
+use cfg_base::symbol::{PIdx, Symbol};
+use cfgrammar::yacc::{YaccFirsts, YaccGrammar};
+use std::alloc::{AllocError, Global};
+use vob::Vob;
+
+/// The closure of a core: its items, each with a set of its own, and the productions of the rules that it opens, with one
+/// set for each rule.
+pub fn closed_set<S: IndexStorage>(
+    alloc: Global,
+    grm: &YaccGrammar<S>,
+    firsts: &YaccFirsts<S>,
+    openers: &Openers,
+    core: &CoreSet<S>,
+) -> Result<SharedSets<S>, AllocError>
+    requires fits { FitsCore grm.now.grammar (core_of_set S.number core.now) }
+    requires firsts { AreFirsts grm.now.grammar firsts.now }
+    requires openers { AreFronts grm.now.grammar openers.now }
+    ensures is { IfOk result (λ s. Is (shared_map S.number s) (Closure grm.now.grammar (HasItem (map_of (core_of_set S.number core.now)))) (ClosureLook grm.now.grammar (HasItem (map_of (core_of_set S.number core.now))) (HasLook (map_of (core_of_set S.number core.now))))) }
+    ensures core { IfOk result (λ s. IsCoreOf grm.now.grammar.tokens (shared_core S.number s)) }
+    ensures within { IfOk result (λ s. PointIn (rows_in s.sets.items) s.entries.items) }
+{
+    grm.start_prod();
+    let opening = close_core(alloc, grm, firsts, openers, core)?;
+    let mut set = SharedSets::of_core(alloc, core)?;
+    set.open_rules(grm, &opening)?;
+    Ok(set)
+}
+
+/// Tells whether two symbols are one.
+pub fn same_symbols<S: IndexStorage>(a: Symbol<S>, b: Symbol<S>) -> bool
+    ensures { result ≡ same_symbol (sym_of S.number a) (sym_of S.number b) }
+{
+    match (a, b) {
+        (Symbol::Rule(a), Symbol::Rule(b)) => a.0.to_usize() == b.0.to_usize(),
+        (Symbol::Token(a), Symbol::Token(b)) => a.0.to_usize() == b.0.to_usize(),
+        _ => false,
+    }
+}
+
+/// Moves an item into a set, if the symbol stands behind its dot.
+fn move_one<S: IndexStorage>(
+    grm: &YaccGrammar<S>,
+    moved: &mut SharedSets<S>,
+    pidx: PIdx<S>,
+    dot: usize,
+    looks: &Vob,
+    symbol: Symbol<S>,
+) -> Result<(), AllocError>
+    requires production { S.number pidx.0 < length grm.now.grammar.productions }
+    requires core { IsCoreOf (length looks.now.bits) (shared_core S.number moved.old) }
+    requires within { PointIn (rows_in moved.old.sets.items) moved.old.entries.items }
+    ensures { OnOk result (GrowsBy S.number (length looks.now.bits) (Goto grm.now.grammar (One (S.number pidx.0) dot) (sym_of S.number symbol)) (GotoLook grm.now.grammar (OneLooks (S.number pidx.0) dot looks.now.bits) (sym_of S.number symbol)) moved.old moved.new) }
+{
+    match symbol_after(grm, pidx, dot) {
+        Some(next) => {
+            if !same_symbols(next, symbol) {
+                return Ok(());
+            }
+            let item = CoreItem {
+                pidx,
+                dot: dot_behind(grm, pidx, dot),
+            };
+            moved.add(item, looks)?;
+            Ok(())
+        }
+        None => Ok(()),
+    }
+}
+
+/// The goto set of a symbol.
+pub fn moved_set<S: IndexStorage>(
+    alloc: Global,
+    grm: &YaccGrammar<S>,
+    set: &SharedSets<S>,
+    symbol: &Symbol<S>,
+) -> Result<SharedSets<S>, AllocError>
+    requires fits { FitsCore grm.now.grammar (shared_core S.number set.now) }
+    requires within { PointIn (rows_in set.now.sets.items) set.now.entries.items }
+    ensures is { IfOk result (λ s. Is (shared_map S.number s) (Goto grm.now.grammar (HasItem (shared_map S.number set.now)) (sym_of S.number symbol.now)) (GotoLook grm.now.grammar (HasLook (shared_map S.number set.now)) (sym_of S.number symbol.now))) }
+    ensures core { IfOk result (λ s. IsCoreOf grm.now.grammar.tokens (shared_core S.number s)) }
+    ensures within { IfOk result (λ s. PointIn (rows_in s.sets.items) s.entries.items) }
+{
+    let symbol = *symbol;
+    let mut moved = SharedSets::empty(alloc);
+    'items: for k in 0..set.entries.len() {
+        let entry = &set.entries[k];
+        let looks = &set.sets[entry.set];
+        let dot = entry.item.dot.0.to_usize();
+        move_one(grm, &mut moved, entry.item.pidx, dot, looks, symbol)?;
+    }
+    Ok(moved)
+}

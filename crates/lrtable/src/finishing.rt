@@ -1,0 +1,111 @@
+//! The state graph of a finished building.
+
+ghost use Rattle.std.specs.Prelude.{◌≡◌, ◌<◌, ◌≤◌, ℕ, [], length, map, get_or, IfOk, All};
+ghost use Rattle.cfgrammar.specs.Firsts.{AreFirsts};
+ghost use Rattle.lr_theory.specs.Itemset.{FitsGrammar};
+ghost use Rattle.lrtable.specs.Graphs.{AreClosures, AreFinal, IsGraphOf, pair_of_edge, pairs_of};
+ghost use Rattle.lrtable.specs.GraphViews.{edges_seen};
+ghost use Rattle.lrtable.specs.ItemRows.{IsCoreOf, map_of};
+ghost use Rattle.lrtable.specs.States.{state_at};
+ghost use Rattle.lrtable.specs.StateViews.{edges_of, value_of};
+ghost use Rattle.lrtable.specs.Stepping.{FitsCore};
+
+use crate::closures::closed_set;
+use crate::itemset::{Itemset, of_shared};
+use crate::openers::Openers;
+use crate::shared_sets::SharedSets;
+use crate::stategraph::{StateGraph, of_lists};
+use crate::states::{EdgeTo, State};
+use crate::stidx::StIdx;
+use cfg_base::index::IndexStorage;
+use cfg_base::symbol::Symbol;
+use cfgrammar::yacc::{YaccFirsts, YaccGrammar};
+use std::alloc::{AllocError, Global};
+
+/// The edges of a state with the indices of their targets.
+fn edge_list<S: IndexStorage>(
+    alloc: Global,
+    edges: &[EdgeTo<S>],
+) -> Result<Vec<(Symbol<S>, StIdx<S>)>, AllocError>
+    requires { All (λ e. e.1 ≤ S.MAX) (map pair_of_edge (edges_of S.number edges.now)) }
+    ensures { IfOk result (λ v. edges_seen S.number v.items ≡ map pair_of_edge (edges_of S.number edges.now)) }
+{
+    let mut list = Vec::with_capacity(alloc, edges.len())?;
+    'edges: for i in 0..edges.len() {
+        let target = StIdx(S::from_usize(edges[i].target).unwrap());
+        list.push((edges[i].symbol, target))?;
+    }
+    Ok(list)
+}
+
+/// The edges of each state.
+fn edge_lists<S: IndexStorage>(
+    alloc: Global,
+    states: &[State<S>],
+) -> Result<Vec<Vec<(Symbol<S>, StIdx<S>)>>, AllocError>
+    requires { (s : ℕ) → All (λ e. e.1 ≤ S.MAX) (get_or (map pairs_of (map (value_of S.number) states.now)) s []) }
+    ensures { IfOk result (λ v. map (λ l. edges_seen S.number l.items) v.items ≡ map pairs_of (map (value_of S.number) states.now)) }
+{
+    let mut lists = Vec::with_capacity(alloc, states.len())?;
+    'states: for number in 0..states.len() {
+        lists.push(edge_list(alloc, states[number].edges.as_slice())?)?;
+    }
+    Ok(lists)
+}
+
+/// The cores of the states as item sets.
+fn core_sets<S: IndexStorage>(
+    alloc: Global,
+    states: &[State<S>],
+) -> Result<Vec<Itemset<S>>, AllocError>
+    requires { (tokens : ℕ) × ((s : ℕ) → s < length states.now → IsCoreOf tokens (state_at (map (value_of S.number) states.now) s).core) }
+    ensures { IfOk result (λ v. v.items ≡ map (λ s. map_of s.core) (map (value_of S.number) states.now)) }
+{
+    let mut sets = Vec::with_capacity(alloc, states.len())?;
+    'states: for number in 0..states.len() {
+        sets.push(of_shared(SharedSets::of_core(alloc, &states[number].core)?))?;
+    }
+    Ok(sets)
+}
+
+/// The closures of the states.
+fn closed_sets<S: IndexStorage>(
+    alloc: Global,
+    grm: &YaccGrammar<S>,
+    firsts: &YaccFirsts<S>,
+    states: &[State<S>],
+) -> Result<Vec<Itemset<S>>, AllocError>
+    requires firsts { AreFirsts grm.now.grammar firsts.now }
+    requires fit { (s : ℕ) → s < length states.now → FitsCore grm.now.grammar (state_at (map (value_of S.number) states.now) s).core }
+    requires dots { (s : ℕ) → s < length states.now → FitsGrammar grm.now.grammar (map_of (state_at (map (value_of S.number) states.now) s).core) }
+    ensures { IfOk result (λ v. AreClosures grm.now.grammar (map (λ s. map_of s.core) (map (value_of S.number) states.now)) v.items) }
+{
+    let openers = Openers::new(alloc, grm, firsts)?;
+    let mut sets = Vec::with_capacity(alloc, states.len())?;
+    'states: for number in 0..states.len() {
+        let core = &states[number].core;
+        sets.push(of_shared(closed_set(alloc, grm, firsts, &openers, core)?))?;
+    }
+    Ok(sets)
+}
+
+/// The graph of the states of a finished building.
+pub(crate) fn from_states<S: IndexStorage>(
+    alloc: Global,
+    grm: &YaccGrammar<S>,
+    firsts: &YaccFirsts<S>,
+    states: &[State<S>],
+) -> Result<StateGraph<S>, AllocError>
+    requires firsts { AreFirsts grm.now.grammar firsts.now }
+    requires few { length states.now ≤ S.MAX }
+    requires ready { AreFinal grm.now.grammar (map (value_of S.number) states.now) }
+    ensures graph { IfOk result (λ g. IsGraphOf grm.now.grammar g) }
+    ensures cores { IfOk result (λ g. g.cores ≡ map (λ s. map_of s.core) (map (value_of S.number) states.now)) }
+    ensures edges { IfOk result (λ g. g.edges ≡ map pairs_of (map (value_of S.number) states.now)) }
+{
+    grm.start_prod();
+    let cores = core_sets(alloc, states)?;
+    let closed = closed_sets(alloc, grm, firsts, states)?;
+    let edges = edge_lists(alloc, states)?;
+    Ok(of_lists(cores, closed, edges))
+}

@@ -1,0 +1,151 @@
+//! The states that edges lead to from the first, in order and with new numbers.
+
+ghost use Rattle.std.specs.Prelude.{◌≡◌, ℕ, ◌+◌, ◌<◌, ◌↔◌, IsTrue, length, map, IfOk, OnOk};
+ghost use Rattle.std.specs.List.{Contains, AllPairs};
+ghost use Rattle.cfgrammar.specs.Sets.{is_set};
+ghost use Rattle.lrtable.specs.Pruning.{AreLinked, IsLed, IsTargetOf, Marks, AreNumbered, IsCut, renumbered, renumbered_state};
+ghost use Rattle.lrtable.specs.States.{Edge, state_at};
+ghost use Rattle.lrtable.specs.StateViews.{edges_of, value_of};
+
+use crate::states::{EdgeTo, State};
+use cfg_base::index::IndexStorage;
+use std::alloc::{AllocError, Global};
+use std::mem;
+use vob::Vob;
+
+/// Marks a state, and puts it with those that wait if it wasn't marked.
+fn mark(marked: &mut Vob, waiting: &mut Vec<usize>, number: usize) -> Result<(), AllocError>
+    requires { number < length marked.old.bits }
+    ensures { OnOk result (Marks (λ s. number ≡ s) marked.old.bits marked.new.bits waiting.old.items waiting.new.items) }
+{
+    if marked.set(number, true) {
+        waiting.push(number)?;
+    }
+    Ok(())
+}
+
+/// Marks the targets of edges.
+fn mark_targets<S: IndexStorage>(
+    edges: &[EdgeTo<S>],
+    marked: &mut Vob,
+    waiting: &mut Vec<usize>,
+) -> Result<(), AllocError>
+    requires { (e : Edge) → Contains (edges_of S.number edges.now) e → e.target < length marked.old.bits }
+    ensures { OnOk result (Marks (IsTargetOf (edges_of S.number edges.now)) marked.old.bits marked.new.bits waiting.old.items waiting.new.items) }
+{
+    'edges: for edge in edges {
+        mark(marked, waiting, edge.target)?;
+    }
+    Ok(())
+}
+
+/// Marks the states that edges lead to from the first.
+fn marks<S: IndexStorage>(alloc: Global, states: &[State<S>]) -> Result<Vob, AllocError>
+    requires some { 0 < length states.now }
+    requires linked { AreLinked (map (value_of S.number) states.now) }
+    ensures width { IfOk result (λ v. length v.bits ≡ length states.now) }
+    ensures marks { IfOk result (λ v. (s : ℕ) → IsTrue (is_set v.bits s) ↔ IsLed (map (value_of S.number) states.now) s) }
+{
+    let mut marked = Vob::from_elem(alloc, false, states.len())?;
+    let mut waiting = Vec::new(alloc);
+    mark(&mut marked, &mut waiting, 0)?;
+    'waiting: while let Some(number) = waiting.pop() {
+        mark_targets(states[number].edges.as_slice(), &mut marked, &mut waiting)?;
+    }
+    Ok(marked)
+}
+
+/// Puts down how many kept states stand before a state, and the state with these if it is marked.
+fn number_one(
+    marked: &Vob,
+    number: usize,
+    kept: &mut Vec<usize>,
+    numbers: &mut Vec<usize>,
+) -> Result<(), AllocError>
+    requires number { number < length marked.now.bits }
+    requires before { AreNumbered marked.now.bits number kept.old.items numbers.old.items }
+    ensures { OnOk result (AreNumbered marked.now.bits (number + 1) kept.new.items numbers.new.items) }
+{
+    numbers.push(kept.len())?;
+    if marked.get_unchecked(number) {
+        kept.push(number)?;
+    }
+    Ok(())
+}
+
+/// The marked states in order, and for each state how many of these stand before it.
+fn number_all(alloc: Global, marked: &Vob) -> Result<(Vec<usize>, Vec<usize>), AllocError>
+    ensures { IfOk result (λ r. AreNumbered marked.now.bits (length marked.now.bits) r.0.items r.1.items) }
+{
+    let mut kept = Vec::new(alloc);
+    let mut numbers = Vec::new(alloc);
+    'states: for number in 0..marked.len() {
+        number_one(marked, number, &mut kept, &mut numbers)?;
+    }
+    Ok((kept, numbers))
+}
+
+/// Gives edges the new numbers of their targets.
+fn renumber<S: IndexStorage>(edges: &mut Vec<EdgeTo<S>>, numbers: &[usize])
+    requires { (e : Edge) → Contains (edges_of S.number edges.old.items) e → e.target < length numbers.now }
+    ensures { edges_of S.number edges.new.items ≡ map (renumbered numbers.now) (edges_of S.number edges.old.items) }
+{
+    'each: for i in 0..edges.len() {
+        let edge = &mut edges[i];
+        edge.target = numbers[edge.target];
+    }
+}
+
+/// Takes a state out, with edges to the new numbers of their targets.
+fn take_out<S: IndexStorage>(
+    alloc: Global,
+    states: &mut Vec<State<S>>,
+    number: usize,
+    numbers: &[usize],
+) -> State<S>
+    requires number { number < length states.old.items }
+    requires targets { (e : Edge) → Contains (state_at (map (value_of S.number) states.old.items) number).edges e → e.target < length numbers.now }
+    ensures state { value_of S.number result ≡ renumbered_state numbers.now (state_at (map (value_of S.number) states.old.items) number) }
+    ensures left { (r : ℕ) → (r ≡ number → ⊥) → state_at (map (value_of S.number) states.new.items) r ≡ state_at (map (value_of S.number) states.old.items) r }
+    ensures count { length states.new.items ≡ length states.old.items }
+{
+    let mut state = mem::replace(&mut states[number], State::empty(alloc));
+    renumber(&mut state.edges, numbers);
+    state
+}
+
+/// The states of these numbers, taken out in order.
+fn take_all<S: IndexStorage>(
+    alloc: Global,
+    states: &mut Vec<State<S>>,
+    kept: &[usize],
+    numbers: &[usize],
+) -> Result<Vec<State<S>>, AllocError>
+    requires ascends { AllPairs (λ j k. j < k) kept.now }
+    requires within { (k : ℕ) → Contains kept.now k → k < length states.old.items }
+    requires targets { (k : ℕ) (e : Edge) → Contains kept.now k → Contains (state_at (map (value_of S.number) states.old.items) k).edges e → e.target < length numbers.now }
+    ensures { IfOk result (λ v. map (value_of S.number) v.items ≡ map (λ k. renumbered_state numbers.now (state_at (map (value_of S.number) states.old.items) k)) kept.now) }
+{
+    let mut new = Vec::new(alloc);
+    'kept: for i in 0..kept.len() {
+        let number = kept[i];
+        let state = take_out(alloc, states, number, numbers);
+        new.push(state)?;
+    }
+    Ok(new)
+}
+
+/// The states that edges lead to from the first, in order and with new numbers.
+pub fn prune<S: IndexStorage>(
+    alloc: Global,
+    states: &mut Vec<State<S>>,
+) -> Result<Vec<State<S>>, AllocError>
+    requires some { 0 < length states.old.items }
+    requires linked { AreLinked (map (value_of S.number) states.old.items) }
+    ensures { IfOk result (λ v. IsCut (map (value_of S.number) states.old.items) (map (value_of S.number) v.items)) }
+{
+    let marked = marks(alloc, states.as_slice())?;
+    let numbered = number_all(alloc, &marked)?;
+    let new = take_all(alloc, states, numbered.0.as_slice(), numbered.1.as_slice())?;
+    Ok(new)
+}

@@ -1,0 +1,222 @@
+//! The row of cells of a state, and the conflicts that are listed of it.
+
+ghost use Rattle.std.specs.Prelude.{◌≡◌, ◌<◌, ◌+◌, ◌++◌, ◌&&◌, [], ℕ, nat_eq, get_or, Some, IfOk, OnOk, MatchOption};
+ghost use Rattle.std.specs.Option.{option_or};
+ghost use Rattle.table_theory.specs.Cells.{pairs_at};
+ghost use Rattle.cfg_theory.specs.Grammar.{end_token};
+ghost use Rattle.cfgrammar.specs.Sets.{is_set};
+ghost use Rattle.lrtable.specs.CellRows.{FitsParts, IsContested, cells_by, filled, filled_row, first_of, pair_with, pairs_in, pairs_on, reductions_on, shifts_in, shifts_on};
+ghost use Rattle.lrtable.specs.CellViews.{cells_of, pairs_of, parts_of, precedences_of, production_of, reductions_of, shifts_of, state_of, targets_of};
+ghost use Rattle.lrtable.specs.Meeting.{rows_in};
+ghost use Rattle.lrtable.specs.Cursors.{IsCursor};
+ghost use Rattle.lrtable.specs.Rows.{Rises, at_of};
+
+use crate::cells::{Action, cell_on, list_shift, put_cell};
+use crate::stidx::StIdx;
+use cfg_base::index::IndexStorage;
+use cfg_base::symbol::{PIdx, TIdx};
+use cfgrammar::yacc::YaccGrammar;
+use std::alloc::{AllocError, Global};
+use vob::Vob;
+
+/// A listed pair of reductions: the token, the two productions, and the state.
+pub type ReduceReduce<S> = (TIdx<S>, PIdx<S>, PIdx<S>, StIdx<S>);
+
+/// A listed shift against a reduction: the token, the production, and the state.
+pub type ShiftReduce<S> = (TIdx<S>, PIdx<S>, StIdx<S>);
+
+/// A complete item: its production, and the index of its lookaheads in a list of sets.
+#[derive(Clone, Copy)]
+pub struct Reduction<S> {
+    pub pidx: PIdx<S>,
+    pub set: usize,
+}
+
+/// What a state has for its row: the complete items of other productions than the start's, by production, its edges on
+/// tokens, and whether it has the complete start production.
+#[derive(Drop)]
+pub struct StateParts<S> {
+    pub reductions: Vec<Reduction<S>>,
+    pub shifts: Vec<(usize, StIdx<S>)>,
+    pub accepts: bool,
+}
+
+/// Tells whether a token is in a set.
+#[tactic(auto, using(crate::proofs::TokenReductions::flag_at))]
+fn is_in(tokens: &Vob, number: usize) -> bool
+    ensures { result ≡ is_set tokens.now.bits number }
+{
+    tokens.get(number).unwrap_or(false)
+}
+
+/// Tells whether a token is in the set of an index; past the last set none is.
+fn has_token(sets: &[Vob], set: usize, number: usize) -> bool
+    ensures { result ≡ is_set (get_or (rows_in sets.now) set []) number }
+{
+    if set >= sets.len() {
+        return false;
+    }
+    is_in(&sets[set], number)
+}
+
+/// The first production that reduces on a token.
+fn first_reduction<S: IndexStorage>(
+    reductions: &[Reduction<S>],
+    sets: &[Vob],
+    number: usize,
+) -> Option<PIdx<S>>
+    ensures { production_of S.number result ≡ first_of (reductions_on (reductions_of S.number (rows_in sets.now) reductions.now) number) }
+{
+    'each: for i in 0..reductions.len() {
+        let reduction = reductions[i];
+        if has_token(sets, reduction.set, number) {
+            return Some(reduction.pidx);
+        }
+    }
+    None
+}
+
+/// Notes a production that reduces: the first one is kept, and each other one listed with it.
+fn note_reduction<S: IndexStorage>(
+    tidx: TIdx<S>,
+    stidx: StIdx<S>,
+    pidx: PIdx<S>,
+    first: &mut Option<PIdx<S>>,
+    listed: &mut Vec<ReduceReduce<S>>,
+) -> Result<(), AllocError>
+    ensures first { OnOk result (production_of S.number first.new ≡ option_or (production_of S.number first.old) (Some (S.number pidx.0))) }
+    ensures listed { OnOk result (pairs_of S.number listed.new.items ≡ pairs_of S.number listed.old.items ++ pair_with (production_of S.number first.old) (S.number stidx.0) (S.number tidx.0) (S.number pidx.0)) }
+{
+    match *first {
+        None => {
+            *first = Some(pidx);
+            Ok(())
+        }
+        Some(least) => {
+            listed.push((tidx, least, pidx, stidx))?;
+            Ok(())
+        }
+    }
+}
+
+/// The first production that reduces on a token; each other one is listed with it.
+fn list_reductions<S: IndexStorage>(
+    reductions: &[Reduction<S>],
+    sets: &[Vob],
+    tidx: TIdx<S>,
+    stidx: StIdx<S>,
+    listed: &mut Vec<ReduceReduce<S>>,
+) -> Result<Option<PIdx<S>>, AllocError>
+    ensures first { IfOk result (λ r. production_of S.number r ≡ first_of (reductions_on (reductions_of S.number (rows_in sets.now) reductions.now) (S.number tidx.0))) }
+    ensures listed { OnOk result (pairs_of S.number listed.new.items ≡ pairs_of S.number listed.old.items ++ pairs_at (S.number stidx.0) (S.number tidx.0) (reductions_on (reductions_of S.number (rows_in sets.now) reductions.now) (S.number tidx.0))) }
+{
+    let number = tidx.0.to_usize();
+    let mut first = None;
+    'each: for i in 0..reductions.len() {
+        let reduction = reductions[i];
+        if has_token(sets, reduction.set, number) {
+            note_reduction(tidx, stidx, reduction.pidx, &mut first, listed)?;
+        }
+    }
+    Ok(first)
+}
+
+/// Tells whether a state accepts on a token: on the end token, if it has the complete start production.
+fn accepts_on<S: IndexStorage>(grm: &YaccGrammar<S>, has_complete: bool, tidx: TIdx<S>) -> bool
+    ensures { result ≡ (nat_eq (S.number tidx.0) (end_token grm.now.grammar) && has_complete) }
+{
+    if tidx.0.to_usize() == grm.eof_token_idx().0.to_usize() {
+        return has_complete;
+    }
+    false
+}
+
+/// Puts the cell of a token and its listed conflicts behind those of the tokens before.
+fn put_token<S: IndexStorage>(
+    grm: &YaccGrammar<S>,
+    stidx: StIdx<S>,
+    parts: &StateParts<S>,
+    sets: &[Vob],
+    tidx: TIdx<S>,
+    edge: Option<StIdx<S>>,
+    row: &mut Vec<(usize, Action<S>)>,
+    pairs: &mut Vec<ReduceReduce<S>>,
+    shifts: &mut Vec<ShiftReduce<S>>,
+) -> Result<(), AllocError>
+    requires token { S.number tidx.0 < grm.now.grammar.tokens }
+    requires fits { FitsParts grm.now.grammar (parts_of S.number (rows_in sets.now) parts.now) }
+    requires edge { state_of S.number edge ≡ at_of (targets_of S.number parts.now.shifts.items) (S.number tidx.0) }
+    ensures row { OnOk result (cells_of S.number row.new.items ≡ cells_of S.number row.old.items ++ filled (S.number tidx.0) (cells_by grm.now.grammar (precedences_of grm.now) (parts_of S.number (rows_in sets.now) parts.now) (S.number tidx.0))) }
+    ensures pairs { OnOk result (pairs_of S.number pairs.new.items ≡ pairs_of S.number pairs.old.items ++ pairs_on (S.number stidx.0) (parts_of S.number (rows_in sets.now) parts.now) (S.number tidx.0)) }
+    ensures shifts { OnOk result (shifts_of S.number shifts.new.items ≡ shifts_of S.number shifts.old.items ++ shifts_on (precedences_of grm.now) (S.number stidx.0) (parts_of S.number (rows_in sets.now) parts.now) (S.number tidx.0)) }
+{
+    let first = list_reductions(parts.reductions.as_slice(), sets, tidx, stidx, pairs)?;
+    list_shift(grm, tidx, first, edge, stidx, shifts)?;
+    let accepts = accepts_on(grm, parts.accepts, tidx);
+    let cell = cell_on(grm, tidx, accepts, first, edge);
+    put_cell(row, tidx.0.to_usize(), cell)?;
+    Ok(())
+}
+
+/// The target of the edge on a token, of a row of which all edges on tokens before were taken.
+fn take_edge<S: IndexStorage>(
+    shifts: &[(usize, StIdx<S>)],
+    next: &mut usize,
+    number: usize,
+) -> Option<StIdx<S>>
+    requires rises { Rises (targets_of S.number shifts.now) }
+    requires next { IsCursor (targets_of S.number shifts.now) next.old number }
+    ensures edge { state_of S.number result ≡ at_of (targets_of S.number shifts.now) number }
+    ensures next { IsCursor (targets_of S.number shifts.now) next.new (number + 1) }
+{
+    let index = *next;
+    if index >= shifts.len() {
+        return None;
+    }
+    let edge = shifts[index];
+    if edge.0 != number {
+        return None;
+    }
+    *next = index + 1;
+    Some(edge.1)
+}
+
+/// The row of a state; its conflicts are listed behind those of the states before.
+pub fn state_row<S: IndexStorage>(
+    alloc: Global,
+    grm: &YaccGrammar<S>,
+    stidx: StIdx<S>,
+    parts: &StateParts<S>,
+    sets: &[Vob],
+    pairs: &mut Vec<ReduceReduce<S>>,
+    shifts: &mut Vec<ShiftReduce<S>>,
+) -> Result<Vec<(usize, Action<S>)>, AllocError>
+    requires { FitsParts grm.now.grammar (parts_of S.number (rows_in sets.now) parts.now) }
+    ensures row { IfOk result (λ r. cells_of S.number r.items ≡ filled_row (cells_by grm.now.grammar (precedences_of grm.now) (parts_of S.number (rows_in sets.now) parts.now)) grm.now.grammar.tokens) }
+    ensures pairs { OnOk result (pairs_of S.number pairs.new.items ≡ pairs_of S.number pairs.old.items ++ pairs_in (S.number stidx.0) (parts_of S.number (rows_in sets.now) parts.now) grm.now.grammar.tokens) }
+    ensures shifts { OnOk result (shifts_of S.number shifts.new.items ≡ shifts_of S.number shifts.old.items ++ shifts_in (precedences_of grm.now) (S.number stidx.0) (parts_of S.number (rows_in sets.now) parts.now) grm.now.grammar.tokens) }
+{
+    let mut row = Vec::new(alloc);
+    let mut next = 0;
+    'tokens: for number in 0..grm.tokens_len().0.to_usize() {
+        let edge = take_edge(parts.shifts.as_slice(), &mut next, number);
+        let tidx = grm.token_at(number);
+        put_token(grm, stidx, parts, sets, tidx, edge, &mut row, pairs, shifts)?;
+    }
+    Ok(row)
+}
+
+/// The production that contests accept, if the state accepts and reduces on the end token.
+pub fn contesting<S: IndexStorage>(
+    grm: &YaccGrammar<S>,
+    parts: &StateParts<S>,
+    sets: &[Vob],
+) -> Option<PIdx<S>>
+    ensures { MatchOption result ((p : ℕ) → IsContested grm.now.grammar (parts_of S.number (rows_in sets.now) parts.now) p → ⊥) (λ p. IsContested grm.now.grammar (parts_of S.number (rows_in sets.now) parts.now) (S.number p.0)) }
+{
+    if !parts.accepts {
+        return None;
+    }
+    let end = grm.eof_token_idx().0.to_usize();
+    first_reduction(parts.reductions.as_slice(), sets, end)
+}

@@ -1,0 +1,289 @@
+//! The table: what each state does on each token, and where it goes after each rule.
+
+ghost use Rattle.std.specs.Prelude.{◌≡◌, ◌+◌, ◌*◌, ◌^◌, ◌<◌, ◌≤◌, ◌↔◌, ℕ, IsTrue, List, [], length, option_map, slice_index_or};
+ghost use Rattle.std.specs.List.{sum_by};
+ghost use Rattle.table_theory.specs.Cells.{some_conflicts};
+ghost use Rattle.lrtable.specs.CellRows.{PartsValue};
+ghost use Rattle.lrtable.specs.CellViews.{action_of, cells_of, pairs_of, precedences_of, shifts_of, state_of};
+ghost use Rattle.lrtable.specs.SparseRows.{AllReduce, IsCellRow, IsTargetRow, RowReduces, full_cells};
+ghost use Rattle.lrtable.specs.TableRows.{AreRowsOf, IsTableBy, rows_of};
+ghost use Rattle.lrtable.specs.TableValues.{ReducesOnly, action_at, filled_count, filled_tokens, goto_at, reduced_productions, shifted_tokens};
+
+use crate::cells::{Action, reduced_by, reduces_by};
+use crate::conflicts::{Conflicts, of_lists};
+use crate::rows::look_up;
+use crate::state_rows::{ReduceReduce, ShiftReduce};
+use crate::stidx::StIdx;
+use crate::table_iterators::{
+    CoreReducesIterator, StateActionsIterator, productions_of_row, tokens_of_row,
+};
+use crate::table_rows::TableRows;
+use cfg_base::index::IndexStorage;
+use cfg_base::symbol::{PIdx, RIdx, TIdx};
+use cfgrammar::yacc::YaccGrammar;
+use std::error::Error;
+use std::fmt;
+use std::fmt::{Debug, Display, Formatter, Write};
+use std::marker::Model;
+
+/// A table of a grammar. It keeps of each state the filled cells and the gotos that there are, in rows that ascend;
+/// contracts see full rows.
+#[derive(Drop)]
+pub struct StateTable<S: IndexStorage> {
+    actions: Vec<Vec<(usize, Action<S>)>>,
+    gotos: Vec<Vec<(usize, StIdx<S>)>>,
+    start: StIdx<S>,
+    states: S,
+    tokens: S,
+    rules: S,
+    prods: S,
+    conflicts: Option<Conflicts<S>>,
+}
+
+impl<S: IndexStorage> Model for StateTable<S> {
+    ghost use Rattle.lrtable.specs.TableValues.{TableValue};
+
+    ghost Value = { TableValue };
+
+    ghost use Rattle.lrtable.specs.SparseRows.{IsSparse, full};
+    ghost use Rattle.lrtable.specs.TableViews.{sparse_of};
+
+    ghost view = { λ s. full (sparse_of S.number s.states s.tokens s.rules s.prods s.start s.actions.items s.gotos.items s.conflicts) };
+
+    ghost invariant = { λ s. IsSparse (sparse_of S.number s.states s.tokens s.rules s.prods s.start s.actions.items s.gotos.items s.conflicts) };
+}
+
+impl<S: IndexStorage> StateTable<S> {
+    /// What the state does on the token.
+    pub fn action(&self, stidx: StIdx<S>, tidx: TIdx<S>) -> Action<S>
+        requires state { S.number stidx.0 < self.now.states }
+        requires token { S.number tidx.0 < self.now.tokens }
+        ensures { action_of S.number result ≡ action_at self.now (S.number stidx.0) (S.number tidx.0) }
+    {
+        let row = self.actions[stidx.0.to_usize()].as_slice();
+        match look_up(row, tidx.0.to_usize()) {
+            Some(action) => action,
+            None => Action::Error,
+        }
+    }
+
+    /// The state after the rule.
+    pub fn goto(&self, stidx: StIdx<S>, ridx: RIdx<S>) -> Option<StIdx<S>>
+        requires state { S.number stidx.0 < self.now.states }
+        requires rule { S.number ridx.0 < self.now.rules }
+        ensures { state_of S.number result ≡ goto_at self.now (S.number stidx.0) (S.number ridx.0) }
+    {
+        let row = self.gotos[stidx.0.to_usize()].as_slice();
+        look_up(row, ridx.0.to_usize())
+    }
+
+    /// The cells of a state that are kept.
+    fn row(&self, stidx: StIdx<S>) -> &[(usize, Action<S>)]
+        requires { S.number stidx.0 < self.now.states }
+        ensures cells { IsCellRow self.now.tokens (cells_of S.number result.now) }
+        ensures whole { slice_index_or self.now.actions (S.number stidx.0) [] ≡ full_cells self.now.tokens (cells_of S.number result.now) }
+        ensures tokens { self.now.tokens ≤ S.MAX }
+    {
+        self.tokens.to_usize();
+        self.actions[stidx.0.to_usize()].as_slice()
+    }
+
+    /// Iterates over the tokens on which a state does something, ascending.
+    pub fn state_actions(&self, stidx: StIdx<S>) -> StateActionsIterator<'_, S>
+        requires { S.number stidx.0 < self.now.states }
+        ensures { result ≡ filled_tokens self.now (S.number stidx.0) }
+    {
+        tokens_of_row(self.row(stidx), false)
+    }
+
+    /// Iterates over the tokens that a state shifts, ascending.
+    pub fn state_shifts(&self, stidx: StIdx<S>) -> StateActionsIterator<'_, S>
+        requires { S.number stidx.0 < self.now.states }
+        ensures { result ≡ shifted_tokens self.now (S.number stidx.0) }
+    {
+        tokens_of_row(self.row(stidx), true)
+    }
+
+    /// Iterates over the productions by which the cells of a state reduce, ascending.
+    pub fn core_reduces(&self, stidx: StIdx<S>) -> CoreReducesIterator<'_, S>
+        requires { S.number stidx.0 < self.now.states }
+        ensures { result ≡ reduced_productions self.now (S.number stidx.0) }
+    {
+        productions_of_row(self.row(stidx), self.prods_len().0.to_usize())
+    }
+
+    /// Tells whether a state only reduces, by one production: some cell is filled, and each filled one reduces by it.
+    pub fn reduce_only_state(&self, stidx: StIdx<S>) -> bool
+        requires { S.number stidx.0 < self.now.states }
+        ensures { IsTrue result ↔ ((p : ℕ) × ReducesOnly self.now (S.number stidx.0) p) }
+    {
+        reduces_only(self.row(stidx))
+    }
+
+    /// The state that a run begins in.
+    pub fn start_state(&self) -> StIdx<S>
+        ensures { S.number result.0 ≡ self.now.start }
+    {
+        self.start
+    }
+
+    /// Counts the states.
+    pub fn states_len(&self) -> StIdx<S>
+        ensures { S.number result.0 ≡ self.now.states }
+    {
+        StIdx(self.states)
+    }
+
+    /// Counts the tokens, the end token among them.
+    pub fn tokens_len(&self) -> TIdx<S>
+        ensures { S.number result.0 ≡ self.now.tokens }
+    {
+        TIdx(self.tokens)
+    }
+
+    /// Counts the rules.
+    pub fn rules_len(&self) -> RIdx<S>
+        ensures { S.number result.0 ≡ self.now.rules }
+    {
+        RIdx(self.rules)
+    }
+
+    /// Counts the productions.
+    pub fn prods_len(&self) -> PIdx<S>
+        ensures { S.number result.0 ≡ self.now.productions }
+    {
+        PIdx(self.prods)
+    }
+
+    /// Counts the cells that aren't errors and the gotos.
+    pub fn filled_len(&self) -> usize
+        ensures { result ≡ filled_count self.now }
+    {
+        let cells = count_entries(self.actions.as_slice());
+        let gotos = count_entries(self.gotos.as_slice());
+        cells + gotos
+    }
+
+    /// The conflicts that no precedence settles, if there are any.
+    pub fn conflicts(&self) -> Option<&Conflicts<S>>
+        ensures { option_map (λ c. c.now) result ≡ self.now.conflicts }
+    {
+        match &self.conflicts {
+            Some(conflicts) => Some(conflicts),
+            None => None,
+        }
+    }
+}
+
+/// Counts the entries of rows.
+fn count_entries<V>(rows: &[Vec<(usize, V)>]) -> usize
+    requires { sum_by (λ row. length row.items) rows.now < 2 ^ 64 }
+    ensures { result ≡ sum_by (λ row. length row.items) rows.now }
+{
+    rows.iter().map(|row| row.len()).sum()
+}
+
+/// Tells whether each cell of a row reduces by a production.
+fn all_reduce<S: IndexStorage>(row: &[(usize, Action<S>)], pidx: PIdx<S>) -> bool
+    ensures { IsTrue result ↔ AllReduce (cells_of S.number row.now) (S.number pidx.0) }
+{
+    'each: for i in 0..row.len() {
+        let cell = row[i];
+        if !reduces_by(cell.1, pidx) {
+            return false;
+        }
+    }
+    true
+}
+
+/// Tells whether a row has a cell, and each reduces by one production.
+fn reduces_only<S: IndexStorage>(row: &[(usize, Action<S>)]) -> bool
+    ensures { IsTrue result ↔ ((p : ℕ) × RowReduces (cells_of S.number row.now) p) }
+{
+    if row.is_empty() {
+        return false;
+    }
+    let first = row[0];
+    match reduced_by(first.1) {
+        Some(pidx) => all_reduce(row, pidx),
+        None => false,
+    }
+}
+
+/// The conflicts of the lists, if one of them has an entry.
+fn listed<S: IndexStorage>(
+    pairs: Vec<ReduceReduce<S>>,
+    shifts: Vec<ShiftReduce<S>>,
+) -> Option<Conflicts<S>>
+    ensures { result ≡ some_conflicts (pairs_of S.number pairs.items) (shifts_of S.number shifts.items) }
+{
+    if pairs.is_empty() && shifts.is_empty() {
+        return None;
+    }
+    Some(of_lists(pairs, shifts))
+}
+
+/// The table of the rows of all states.
+pub(crate) fn of_rows<S: IndexStorage>(
+    grm: &YaccGrammar<S>,
+    rows: TableRows<S>,
+    states: StIdx<S>,
+    start: StIdx<S>,
+) -> StateTable<S>
+    requires start { S.number start.0 < S.number states.0 }
+    requires actions { length rows.actions.items ≡ S.number states.0 }
+    requires gotos { length rows.gotos.items ≡ S.number states.0 }
+    requires cells { (s : ℕ) → s < S.number states.0 → IsCellRow grm.now.grammar.tokens (slice_index_or (rows_of S.number rows).actions s []) }
+    requires targets { (s : ℕ) → s < S.number states.0 → IsTargetRow grm.now.grammar.rules (slice_index_or (rows_of S.number rows).gotos s []) }
+    requires room { S.number states.0 * (grm.now.grammar.tokens + grm.now.grammar.rules) < 2 ^ 64 }
+    ensures states { result.states ≡ S.number states.0 }
+    ensures tokens { result.tokens ≡ grm.now.grammar.tokens }
+    ensures rules { result.rules ≡ grm.now.grammar.rules }
+    ensures productions { result.productions ≡ length grm.now.grammar.productions }
+    ensures start { result.start ≡ S.number start.0 }
+    ensures table { (parts : ℕ → PartsValue) (gotos : ℕ → List (ℕ × ℕ)) → AreRowsOf grm.now.grammar (precedences_of grm.now) parts gotos (S.number states.0) (rows_of S.number rows) → IsTableBy grm.now.grammar (precedences_of grm.now) parts gotos (S.number states.0) result }
+{
+    let TableRows {
+        actions,
+        gotos,
+        pairs,
+        shifts,
+    } = rows;
+    StateTable {
+        actions,
+        gotos,
+        start,
+        states: states.0,
+        tokens: grm.tokens_len().0,
+        rules: grm.rules_len().0,
+        prods: grm.prods_len().0,
+        conflicts: listed(pairs, shifts),
+    }
+}
+
+/// What is wrong with a grammar of which no table is made.
+#[derive(Clone, Copy, Debug, PartialEq, Eq)]
+pub enum StateTableErrorKind {
+    /// Where a text has ended, a production reduces too.
+    AcceptReduceConflict,
+}
+
+/// Why no table is made of a grammar.
+#[derive(Clone, Copy, Debug, PartialEq, Eq)]
+pub struct StateTableError<S> {
+    pub kind: StateTableErrorKind,
+    /// The least production that reduces where a text has ended.
+    pub pidx: PIdx<S>,
+}
+
+impl<S> Display for StateTableError<S> {
+    ghost use Rattle.std.specs.Prelude.{Some, codes};
+
+    ghost output = { λ e. Some (codes "Accept/reduce conflict") };
+
+    fn fmt<W: Write>(&self, f: &mut Formatter<W>) -> fmt::Result {
+        write!(f, "Accept/reduce conflict")
+    }
+}
+
+impl<S: Debug + Drop> Error for StateTableError<S> {}

@@ -9,8 +9,8 @@ use Rattle.std.proofs.lemmas.Slice.Eq.{bytes_eq-Decides}
 use Rattle.indexmap.specs.IndexMap.{set_value_at, insert_entry}
 use Rattle.cfg_read.specs.declared.yacc.ast.Rule.{Rule}
 use Rattle.cfg_base.specs.SpanModel.{SpanModel}
-use Rattle.cfg_read.specs.SyntaxTexts.{WordText}
-use Rattle.cfg_read.specs.Asts.{Ast, PrecedenceAst}
+use Rattle.cfg_read.specs.SyntaxTexts.{WordText, EppText}
+use Rattle.cfg_read.specs.Asts.{Ast, ProductionAst, PrecedenceAst}
 use Rattle.cfg_read.specs.AstChanges.{put_rule, rule_named}
 use Rattle.cfg_read.specs.AstModels.{named_span, named_rule, rule_entry_of}
 use Rattle.cfg_read.proofs.RuleLemmas.{with_text}
@@ -78,6 +78,14 @@ places_are [] = refl
 places_are (e ∷ es) = ap (λ (l : List SpanModel). e.1 ∷ l) (places_are es)
 
 -- equal parts make equal trees
+pub spans_put : (ast : Ast) {ts us : List WordText} {ps qs : List PrecedenceAst} {is js : List WordText} → ts ≡ us → ps ≡ qs → is ≡ js
+    → record ast { tokens = ts; precedences = ps; implicit_tokens = is } ≡ record ast { tokens = us; precedences = qs; implicit_tokens = js }
+spans_put ast e f h = λ i. record ast { tokens = e i; precedences = f i; implicit_tokens = h i }
+
+pub words_put : (ast : Ast) {ps qs : List ProductionAst} {vs ws : List WordText} {es fs : List EppText} → ps ≡ qs → vs ≡ ws → es ≡ fs
+    → record ast { productions = ps; avoid_insert = vs; epp = es } ≡ record ast { productions = qs; avoid_insert = ws; epp = fs }
+words_put ast e f h = λ i. record ast { productions = e i; avoid_insert = f i; epp = h i }
+
 pub tokens_put : (ast : Ast) {ts us : List WordText} {ps qs : List PrecedenceAst} {vs ws : List WordText} {is js : List WordText} → ts ≡ us → ps ≡ qs → vs ≡ ws → is ≡ js
     → record ast { tokens = ts; precedences = ps; avoid_insert = vs; implicit_tokens = is } ≡ record ast { tokens = us; precedences = qs; avoid_insert = ws; implicit_tokens = js }
 tokens_put ast e f g h = λ i. record ast { tokens = e i; precedences = f i; avoid_insert = g i; implicit_tokens = h i }

@@ -1,7 +1,7 @@
 -- The spans of each name, one word after another.
 use Rattle.std.proofs.Common.{◌≡◌, ℕ, zero, suc, ◌+◌, ◌<◌, ◌≤◌, Bool, true, false, not, ◌||◌, List, [], ◌∷◌, ◌++◌, map, filter, fold, length, get_or, set, if◌then◌else◌, cond, refl, sym, ap, ◌∙◌, arith, Bor, Vec, true≢false}
 use Rattle.std.specs.declared.alloc.Global.{Global}
-use Rattle.std.specs.List.{position_or_len}
+use Rattle.std.specs.List.{flat_map, position_or_len}
 use Rattle.std.specs.Str.{bytes_eq}
 use Rattle.std.proofs.lemmas.List.{map-append}
 use Rattle.std.proofs.lemmas.List.Folds.{list_any-append}
@@ -10,7 +10,7 @@ use Rattle.std.proofs.lemmas.Slice.Eq.{bytes_eq-Decides}
 use Rattle.cfg_base.specs.SpanModel.{SpanModel}
 use Rattle.cfg_read.specs.SyntaxTexts.{WordText}
 use Rattle.cfg_read.specs.Names.{is_named, is_among, with_distinct, distinct, texts}
-use Rattle.cfg_read.specs.Validity.{groups_of, word_spans}
+use Rattle.cfg_read.specs.Validity.{FailureKind, repeated, repeated_names, groups_of, word_spans}
 use Rattle.cfg_read.specs.ErrorModels.{span_lists, with_span}
 use Rattle.cfg_read.proofs.NameLemmas.{or_false, among_distinct}
 
@@ -67,7 +67,7 @@ filter_push p (v ∷ ws) w = by (p v) (filter_push p ws w)
     by true rest = ap (λ l. v ∷ l) rest
     by false rest = rest
 
-append-nil : {A : Type 0} (xs : List A) → xs ++ [] ≡ xs
+pub append-nil : {A : Type 0} (xs : List A) → xs ++ [] ≡ xs
 append-nil [] = refl
 append-nil (x ∷ xs) = ap (λ l. x ∷ l) (append-nil xs)
 
@@ -179,3 +179,20 @@ position_le p (x ∷ xs) = by (not (p x)) (position_le p xs)
     by : (b : Bool) → position_or_len p xs ≤ length xs → cond b (1 + position_or_len p xs) 0 ≤ suc (length xs)
     by true h = omega (arith, h)
     by false h = omega arith
+
+pub not_true : (b : Bool) → not b ≡ true → b ≡ false
+not_true true h = sym h
+not_true false h = refl
+
+-- as long as names are new no list of spans has two
+repeated_last : (k : FailureKind) (gs : List (List SpanModel)) (at : SpanModel) → flat_map (repeated k) (gs ++ (at ∷ []) ∷ []) ≡ flat_map (repeated k) gs
+repeated_last k [] at = refl
+repeated_last k (g ∷ gs) at = ap (λ l. repeated k g ++ l) (repeated_last k gs at)
+
+pub new_names_once : (k : FailureKind) (ws : List WordText) (w : WordText) → is_among ws w.text ≡ false → repeated_names k ws ≡ [] → repeated_names k (ws ++ w ∷ []) ≡ []
+new_names_once k ws w new once =
+    let there : is_among (distinct ws) w.text ≡ false = among_distinct ws w.text ∙ new in
+    ap (flat_map (repeated k)) (groups_step ws w)
+    ∙ ap (flat_map (repeated k)) (with_place_end (groups_of ws) (position_or_len (bytes_eq w.text) (texts (distinct ws))) w.span (past_all (distinct ws) w.text there ∙ sym (length_map (spans_named ws) (distinct ws))))
+    ∙ repeated_last k (groups_of ws) w.span
+    ∙ once

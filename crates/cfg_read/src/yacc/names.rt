@@ -282,7 +282,10 @@ fn words_by_offset<'a>(
 }
 
 /// Collects the names that `%token` declares.
-fn declared_names<'a>(alloc: Global, x: &'a Syntax) -> Result<IndexSet<&'a str>, AllocError>
+pub(crate) fn declared_names<'a>(
+    alloc: Global,
+    x: &'a Syntax,
+) -> Result<IndexSet<&'a str>, AllocError>
     ensures { IfOk result (λ s. has_name s ≡ is_among (declared_tokens (syntax_of x.now))) }
 {
     let tokens = words(alloc, &x.tokens)?;

@@ -5,7 +5,9 @@ ghost use Rattle.cfg_base.specs.Sections.{PairText};
 ghost use Rattle.cfg_read.specs.declared.yacc.YaccKind.{YaccKind};
 ghost use Rattle.cfg_read.specs.SyntaxModels.{syntax_of};
 ghost use Rattle.cfg_read.specs.AstModels.{named_rules};
-ghost use Rattle.cfg_read.specs.Validity.{FailureText};
+ghost use Rattle.cfg_read.specs.Asts.{no_ast, ast_of};
+ghost use Rattle.cfg_read.specs.AstBuild.{with_words_of};
+ghost use Rattle.cfg_read.specs.Validity.{FailureText, failures};
 ghost use Rattle.cfg_read.specs.ErrorModels.{failures_in};
 ghost use Rattle.cfg_read.specs.Files.{HasSection, FailsFile, TellsKind, LacksKind, IsFailure};
 ghost use Rattle.cfg_read.specs.WellFormedAst.{IsWellFormedAst, NamesAreWords};
@@ -88,19 +90,29 @@ impl Model for ASTWithValidityInfo {
     ghost invariant = { λ c. IsWellMade (record { kind = c.yacc_kind; ast = c.ast; errors = failures_in c.errors.items }) };
 }
 
+/// Makes the tree of a text that reads, but for what `take_words` puts in, and lists its failures.
+fn judge(alloc: Global, x: &Syntax) -> Result<(GrammarAST, Vec<YaccGrammarError>), AllocError>
+    ensures errors { IfOk result (λ r. failures_in r.1.items ≡ failures (syntax_of x.now)) }
+    ensures ast { IfOk result (λ r. r.0 ≡ with_words_of no_ast (ast_of (is_valid (failures_in r.1.items)) (syntax_of x.now))) }
+{
+    let names = Names::of(alloc, x)?;
+    let errors = failures_by(alloc, &names)?;
+    let ast = GrammarAST::of_syntax(alloc, &names, none_of(&errors))?;
+    Ok((ast, errors))
+}
+
 impl ASTWithValidityInfo {
     /// Makes the tree of a text that reads, with its failures.
     fn of_syntax(
         alloc: Global,
         yacc_kind: YaccKind,
-        x: &Syntax,
+        x: Syntax,
     ) -> Result<ASTWithValidityInfo, AllocError>
-        requires { HeadingsAreWords (syntax_of x.now) }
-        ensures { IfOk result (λ c. c ≡ read_as yacc_kind (syntax_of x.now)) }
+        requires { HeadingsAreWords (syntax_of x) }
+        ensures { IfOk result (λ c. c ≡ read_as yacc_kind (syntax_of x)) }
     {
-        let names = Names::of(alloc, x)?;
-        let errors = failures_by(alloc, &names)?;
-        let ast = GrammarAST::of_syntax(alloc, &names, none_of(&errors))?;
+        let (mut ast, errors) = judge(alloc, &x)?;
+        ast.take_words(alloc, x)?;
         Ok(ASTWithValidityInfo {
             yacc_kind,
             ast,
@@ -137,7 +149,7 @@ impl ASTWithValidityInfo {
     {
         match read_rest(alloc, yacc_kind, text, start) {
             Ok(x) => {
-                let checked = ASTWithValidityInfo::of_syntax(alloc, yacc_kind, &x)?;
+                let checked = ASTWithValidityInfo::of_syntax(alloc, yacc_kind, x)?;
                 Ok(checked)
             }
             Err(YaccGrammarFailure::Memory(e)) => Err(e),

@@ -4,13 +4,13 @@ ghost use Rattle.std.specs.Prelude.{◌≡◌, true, ◌++◌, [], map, fold, op
 ghost use Rattle.std.specs.List.{flat_map};
 ghost use Rattle.std.specs.Option.{option_or};
 ghost use Rattle.std.specs.String.{string_bytes};
-ghost use Rattle.cfg_read.specs.Asts.{first_item, last_text, text_of, param_texts, expected_ast, heads_in, productions_in, start_of, rule_ast, ast_of};
+ghost use Rattle.cfg_read.specs.Asts.{first_item, last_text, text_of, param_texts, expected_ast, heads_in, productions_in, start_of, rule_ast, no_ast, ast_of};
 ghost use Rattle.cfg_read.specs.AstModels.{ast_symbol_of, production_of, named_span, named_spans, named_rules, rule_entry_of, rule_keys, own_names, number_with_span, param_pair};
 ghost use Rattle.cfg_read.specs.Names.{is_among, distinct, headings, words_in, declared_tokens, tokens_of};
 ghost use Rattle.cfg_read.specs.Validity.{expected_symbols};
 ghost use Rattle.cfg_read.specs.SyntaxModels.{word_of, words_of, symbol_of, line_of, param_of, rule_of, number_text, syntax_of};
 ghost use Rattle.cfg_read.specs.NameModels.{symbols_at};
-ghost use Rattle.cfg_read.specs.AstBuild.{headed, with_first, with_numbers, names_at, with_rules_of, with_tokens_of, with_texts_of, with_expected_of};
+ghost use Rattle.cfg_read.specs.AstBuild.{headed, with_first, with_numbers, names_at, with_heads_of, with_spans_of, with_parts_of, with_words_of, with_expected_of};
 ghost use Rattle.cfg_read.specs.AstChanges.{with_number};
 
 use super::{GrammarAST, Production, Rule, Symbol, parts};
@@ -19,6 +19,7 @@ use crate::yacc::parser::syntax::{self, Line, Number, Param, Syntax, Word};
 use cfg_base::span::Span;
 use indexmap::IndexMap;
 use std::alloc::{AllocError, Global};
+use std::mem;
 
 /// A word's text, with its span.
 fn to_named(word: Option<&Word>) -> Result<Option<(String, Span)>, AllocError>
@@ -117,13 +118,14 @@ fn tokens(alloc: Global, names: &Names) -> Result<IndexMap<String, Span>, AllocE
     parts::first_spans(alloc, names.token_words())
 }
 
-/// The productions, in the order of the text.
-fn prods(alloc: Global, names: &Names) -> Result<Vec<Production>, AllocError>
+/// The productions of these rules, in the order of the text, where a text declares tokens.
+fn prods(alloc: Global, x: &Syntax, rules: Vec<syntax::Rule>) -> Result<Vec<Production>, AllocError>
     ensures { IfOk result (λ made. map production_of made.items
-        ≡ flat_map (productions_in (is_among (declared_tokens names.now))) names.now.rules) }
+        ≡ flat_map (productions_in (is_among (declared_tokens (syntax_of x.now)))) (map rule_of rules.items)) }
 {
-    let x = names.syntax();
-    parts::productions(alloc, &x.rules, names.declared())
+    let declared = names::declared_names(alloc, x)?;
+    let made = parts::productions(alloc, rules, &declared)?;
+    Ok(made)
 }
 
 /// The type of a rule's actions: its own, else the one for all rules.
@@ -265,45 +267,55 @@ fn rules(alloc: Global, x: &Syntax) -> Result<IndexMap<String, Rule>, AllocError
 }
 
 impl GrammarAST {
-    /// Puts in the start rule, the rules and the productions of a text.
+    /// Puts in the start rule and the rules of a text.
     fn fill_rules(&mut self, alloc: Global, names: &Names) -> Result<(), AllocError>
-        ensures { OnOk result (self.new ≡ with_rules_of (ast_of true names.now) self.old) }
+        ensures { OnOk result (self.new ≡ with_heads_of (ast_of true names.now) self.old) }
     {
         let x = names.syntax();
         let start = to_named(start_word(x))?;
         let rules = rules(alloc, x)?;
-        let prods = prods(alloc, names)?;
         self.start = start;
         self.rules = rules;
-        self.prods = prods;
         Ok(())
     }
 
-    /// Puts in the tokens of a text and what its declarations say of them.
+    /// Takes over the words of a text for the productions, the tokens of `%avoid_insert` and the printed texts.
+    pub(crate) fn take_words(&mut self, alloc: Global, mut x: Syntax) -> Result<(), AllocError>
+        ensures { OnOk result (self.new ≡ with_words_of (ast_of true (syntax_of x)) self.old) }
+    {
+        let rules = mem::replace(&mut x.rules, Vec::new(alloc));
+        let lines = mem::replace(&mut x.avoid_insert, Vec::new(alloc));
+        let texts = mem::replace(&mut x.epp, Vec::new(alloc));
+        let prods = prods(alloc, &x, rules)?;
+        let avoid_insert = parts::take_spans(alloc, lines)?;
+        let epp = parts::first_epps(alloc, texts)?;
+        self.prods = prods;
+        self.avoid_insert = avoid_insert;
+        self.epp = epp;
+        Ok(())
+    }
+
+    /// Puts in the tokens of a text, their precedences, and those that are implicit.
     fn fill_tokens(&mut self, alloc: Global, names: &Names) -> Result<(), AllocError>
-        ensures { OnOk result (self.new ≡ with_tokens_of (ast_of true names.now) self.old) }
+        ensures { OnOk result (self.new ≡ with_spans_of (ast_of true names.now) self.old) }
     {
         let x = names.syntax();
         let tokens = tokens(alloc, names)?;
         let precs = parts::first_precedences(alloc, &x.levels)?;
-        let avoid_insert = line_spans(alloc, &x.avoid_insert)?;
         let implicit_tokens = line_spans(alloc, &x.implicit_tokens)?;
         self.tokens = tokens;
         self.precs = precs;
-        self.avoid_insert = avoid_insert;
         self.implicit_tokens = implicit_tokens;
         Ok(())
     }
 
-    /// Puts in what a text hands on: printed texts, the parameter, the generics and the programs.
+    /// Puts in what a text hands on: the parameter, the generics and the programs.
     fn fill_texts(&mut self, alloc: Global, x: &Syntax) -> Result<(), AllocError>
-        ensures { OnOk result (self.new ≡ with_texts_of (ast_of true (syntax_of x.now)) self.old) }
+        ensures { OnOk result (self.new ≡ with_parts_of (ast_of true (syntax_of x.now)) self.old) }
     {
-        let epp = parts::first_epps(alloc, &x.epp)?;
         let parse_param = to_param(&x.parse_param)?;
         let parse_generics = parts::to_text(&x.parse_generics)?;
         let programs = parts::to_text(&x.programs)?;
-        self.epp = epp;
         self.parse_param = parse_param;
         self.parse_generics = parse_generics;
         self.programs = programs;
@@ -321,9 +333,9 @@ impl GrammarAST {
         Ok(())
     }
 
-    /// Puts in all that a text says.
+    /// Puts in all that a text says, but for what `take_words` puts in.
     fn fill(&mut self, alloc: Global, names: &Names) -> Result<(), AllocError>
-        ensures { OnOk result (self.new ≡ ast_of self.old.is_valid names.now) }
+        ensures { OnOk result (self.new ≡ with_words_of self.old (ast_of self.old.is_valid names.now)) }
     {
         let x = names.syntax();
         self.fill_rules(alloc, names)?;
@@ -333,13 +345,14 @@ impl GrammarAST {
         Ok(())
     }
 
-    /// Makes the tree of what a text says, by its names. `is_valid` tells whether the text is valid.
+    /// Makes the tree of what a text says, by its names, but for what `take_words` puts in. `is_valid` tells whether the
+    /// text is valid.
     pub(crate) fn of_syntax(
         alloc: Global,
         names: &Names,
         is_valid: bool,
     ) -> Result<GrammarAST, AllocError>
-        ensures { IfOk result (λ a. a ≡ ast_of is_valid names.now) }
+        ensures { IfOk result (λ a. a ≡ with_words_of no_ast (ast_of is_valid names.now)) }
     {
         let mut tree = GrammarAST::empty(alloc, is_valid);
         tree.fill(alloc, names)?;

@@ -5,43 +5,43 @@ ghost use Rattle.std.specs.List.{flat_map};
 ghost use Rattle.std.specs.String.{string_bytes};
 ghost use Rattle.cfg_read.specs.Asts.{symbol_ast, text_of, production_ast, productions_in, with_epp_of, with_precedence_of, precedence_ast, level_precedences, precedences_of};
 ghost use Rattle.cfg_read.specs.AstModels.{ast_symbol_of, production_of, named_spans, named_epps, named_precedences};
-ghost use Rattle.cfg_read.specs.Names.{with_distinct, distinct};
-ghost use Rattle.cfg_read.specs.SyntaxModels.{word_of, symbol_of, symbols_of, alternative_of, rule_of, epp_of, level_of};
+ghost use Rattle.cfg_read.specs.Names.{with_distinct, distinct, words_in};
+ghost use Rattle.cfg_read.specs.SyntaxModels.{word_of, symbol_of, symbols_of, alternative_of, rule_of, line_of, epp_of, level_of};
 ghost use Rattle.cfg_read.specs.NameModels.{has_name, words_at};
 
 use super::{Production, Symbol};
-use crate::yacc::parser::syntax::{self, Alternative, Epp, Level, Word};
+use crate::yacc::parser::syntax::{self, Alternative, Epp, Level, Line, Word};
 use crate::yacc::{Precedence, PrecedenceLevel, names};
 use cfg_base::span::Span;
 use indexmap::{IndexMap, IndexSet};
 use std::alloc::{AllocError, Global};
 
 /// A symbol of a production: a token or a rule, where these names are declared as tokens.
-fn to_symbol(symbol: &syntax::Symbol, declared: &IndexSet<&str>) -> Result<Symbol, AllocError>
-    ensures { IfOk result (λ s. ast_symbol_of s ≡ symbol_ast (has_name declared.now) (symbol_of symbol.now)) }
+fn to_symbol(symbol: syntax::Symbol, declared: &IndexSet<&str>) -> Symbol
+    ensures { ast_symbol_of result ≡ symbol_ast (has_name declared.now) (symbol_of symbol) }
 {
-    let text = symbol.word.text.clone()?;
-    let span = symbol.word.span;
-    if names::is_token(symbol, declared) {
-        Ok(Symbol::Token(text, span))
+    let is_token = names::is_token(&symbol, declared);
+    let syntax::Symbol { is_quoted: _, word } = symbol;
+    let Word { text, span } = word;
+    if is_token {
+        Symbol::Token(text, span)
     } else {
-        Ok(Symbol::Rule(text, span))
+        Symbol::Rule(text, span)
     }
 }
 
 /// The symbols of a production.
 fn to_symbols(
     alloc: Global,
-    symbols: &[syntax::Symbol],
+    symbols: Vec<syntax::Symbol>,
     declared: &IndexSet<&str>,
 ) -> Result<Vec<Symbol>, AllocError>
     ensures { IfOk result (λ made. map ast_symbol_of made.items
-        ≡ map (symbol_ast (has_name declared.now)) (symbols_of symbols.now)) }
+        ≡ map (symbol_ast (has_name declared.now)) (symbols_of symbols.items)) }
 {
-    let mut made = Vec::new(alloc);
+    let mut made = Vec::with_capacity(alloc, symbols.len())?;
     'symbols: for one in symbols {
-        let new = to_symbol(one, declared)?;
-        made.push(new)?;
+        made.push(to_symbol(one, declared))?;
     }
     Ok(made)
 }
@@ -56,45 +56,53 @@ pub(super) fn to_text(word: &Option<Word>) -> Result<Option<String>, AllocError>
     }
 }
 
-/// A word's span, if there is a word.
-fn to_span(word: &Option<Word>) -> Option<Span>
-    ensures { result ≡ option_map (λ w. w.span) (option_map word_of word.now) }
+/// A word's text and its span, if there is a word.
+fn split(word: Option<Word>) -> (Option<String>, Option<Span>)
+    ensures text { option_map string_bytes result.0 ≡ text_of (option_map word_of word) }
+    ensures span { result.1 ≡ option_map (λ w. w.span) (option_map word_of word) }
 {
     match word {
-        Some(word) => Some(word.span),
-        None => None,
+        Some(Word { text, span }) => (Some(text), Some(span)),
+        None => (None, None),
     }
 }
 
 /// The production of an alternative.
 fn to_production(
     alloc: Global,
-    alternative: &Alternative,
+    alternative: Alternative,
     declared: &IndexSet<&str>,
 ) -> Result<Production, AllocError>
-    ensures { IfOk result (λ p. production_of p ≡ production_ast (has_name declared.now) (alternative_of alternative.now)) }
+    ensures { IfOk result (λ p. production_of p ≡ production_ast (has_name declared.now) (alternative_of alternative)) }
 {
-    let symbols = to_symbols(alloc, &alternative.symbols, declared)?;
-    let precedence = to_text(&alternative.precedence)?;
-    let action = to_text(&alternative.action)?;
-    let action_span = to_span(&alternative.action);
+    let Alternative {
+        symbols,
+        is_empty: _,
+        precedence,
+        action,
+        span,
+    } = alternative;
+    let symbols = to_symbols(alloc, symbols, declared)?;
+    let (precedence, _) = split(precedence);
+    let (action, action_span) = split(action);
     Ok(Production {
         symbols,
         precedence,
         action,
         action_span,
-        prod_span: alternative.span,
+        prod_span: span,
     })
 }
 
+/// Puts the productions of these alternatives behind the others.
 fn push_productions(
     alloc: Global,
     made: &mut Vec<Production>,
-    alternatives: &[Alternative],
+    alternatives: Vec<Alternative>,
     declared: &IndexSet<&str>,
 ) -> Result<(), AllocError>
     ensures { OnOk result (map production_of made.new.items
-        ≡ map production_of made.old.items ++ map (production_ast (has_name declared.now)) (map alternative_of alternatives.now)) }
+        ≡ map production_of made.old.items ++ map (production_ast (has_name declared.now)) (map alternative_of alternatives.items)) }
 {
     'alternatives: for alternative in alternatives {
         let new = to_production(alloc, alternative, declared)?;
@@ -106,15 +114,20 @@ fn push_productions(
 /// The productions of these rules, in the order of the text.
 pub(super) fn productions(
     alloc: Global,
-    rules: &[syntax::Rule],
+    rules: Vec<syntax::Rule>,
     declared: &IndexSet<&str>,
 ) -> Result<Vec<Production>, AllocError>
     ensures { IfOk result (λ made. map production_of made.items
-        ≡ flat_map (productions_in (has_name declared.now)) (map rule_of rules.now)) }
+        ≡ flat_map (productions_in (has_name declared.now)) (map rule_of rules.items)) }
 {
     let mut made = Vec::new(alloc);
     'rules: for rule in rules {
-        push_productions(alloc, &mut made, &rule.alternatives, declared)?;
+        let syntax::Rule {
+            name: _,
+            action_type: _,
+            alternatives,
+        } = rule;
+        push_productions(alloc, &mut made, alternatives, declared)?;
     }
     Ok(made)
 }
@@ -144,17 +157,64 @@ pub(super) fn first_spans(
     Ok(spans)
 }
 
+/// Puts a name with its span behind the others, where it isn't there yet.
+fn take_first(spans: &mut IndexMap<String, Span>, word: Word) -> Result<(), AllocError>
+    ensures { OnOk result (named_spans spans.new ≡ with_distinct (named_spans spans.old) (word_of word)) }
+{
+    let Word { text, span } = word;
+    if !spans.contains_key(text.as_str()) {
+        spans.insert(text, span)?;
+    }
+    Ok(())
+}
+
+/// Puts the names of these symbols with their spans behind the others, where they aren't there yet.
+fn take_all_first(
+    spans: &mut IndexMap<String, Span>,
+    symbols: Vec<syntax::Symbol>,
+) -> Result<(), AllocError>
+    ensures { OnOk result (named_spans spans.new ≡ fold with_distinct (named_spans spans.old) (words_in (symbols_of symbols.items))) }
+{
+    'symbols: for symbol in symbols {
+        let syntax::Symbol { is_quoted: _, word } = symbol;
+        take_first(spans, word)?;
+    }
+    Ok(())
+}
+
+/// Each name of these lines with its first span, in the order of these.
+pub(super) fn take_spans(
+    alloc: Global,
+    lines: Vec<Line>,
+) -> Result<IndexMap<String, Span>, AllocError>
+    ensures { IfOk result (λ spans. named_spans spans ≡ distinct (flat_map words_in (map line_of lines.items))) }
+{
+    let mut spans = IndexMap::new(alloc);
+    'lines: for line in lines {
+        let Line { items } = line;
+        take_all_first(&mut spans, items)?;
+    }
+    Ok(spans)
+}
+
 /// Puts a token's printed text behind the others, where it has none yet.
 fn insert_epp(
     epps: &mut IndexMap<String, (Span, (String, Span))>,
-    epp: &Epp,
+    epp: Epp,
 ) -> Result<(), AllocError>
-    ensures { OnOk result (named_epps epps.new ≡ with_epp_of (named_epps epps.old) (epp_of epp.now)) }
+    ensures { OnOk result (named_epps epps.new ≡ with_epp_of (named_epps epps.old) (epp_of epp)) }
 {
-    if !epps.contains_key(epp.token.text.as_str()) {
-        let name = epp.token.text.clone()?;
-        let text = epp.text.text.clone()?;
-        epps.insert(name, (epp.token.span, (text, epp.text.span)))?;
+    let Epp { token, text } = epp;
+    let Word {
+        text: name,
+        span: at,
+    } = token;
+    let Word {
+        text: printed,
+        span,
+    } = text;
+    if !epps.contains_key(name.as_str()) {
+        epps.insert(name, (at, (printed, span)))?;
     }
     Ok(())
 }
@@ -162,9 +222,9 @@ fn insert_epp(
 /// The printed texts, a token's first one.
 pub(super) fn first_epps(
     alloc: Global,
-    all: &[Epp],
+    all: Vec<Epp>,
 ) -> Result<IndexMap<String, (Span, (String, Span))>, AllocError>
-    ensures { IfOk result (λ epps. named_epps epps ≡ fold with_epp_of [] (map epp_of all.now)) }
+    ensures { IfOk result (λ epps. named_epps epps ≡ fold with_epp_of [] (map epp_of all.items)) }
 {
     let mut epps = IndexMap::new(alloc);
     'epps: for epp in all {

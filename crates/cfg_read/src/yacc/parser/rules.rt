@@ -242,7 +242,7 @@ impl<'a> Scanner<'a> {
         ensures err { IfErr result (λ e. (n : WordText) (t : Option WordText) (x : SyntaxText) → FailsFrom self.now.kind self.now.text.now (Spaced (More (heading n t) no_part) x offset) e) }
         ensures more { IfOk result (λ f. offset < f.1) }
     {
-        let mut alternatives = Vec::new(alloc);
+        let mut alternatives = Vec::with_capacity(alloc, 2)?;
         let mut start = offset;
         'alternatives: loop {
             let (alternative, end) = self.parse_alternative(alloc, start)?;

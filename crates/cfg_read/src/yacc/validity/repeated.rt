@@ -1,11 +1,12 @@
 //! Names and declarations that stand more than once.
 
-ghost use Rattle.std.specs.Prelude.{◌≡◌, ◌++◌, ◌≤◌, map, vec_len, OnOk, IfOk};
+ghost use Rattle.std.specs.Prelude.{◌≡◌, ◌++◌, ◌≤◌, [], map, vec_len, true, OnOk, IfOk};
+ghost use Rattle.std.specs.List.{flat_map};
 ghost use Rattle.cfg_read.specs.Names.{level_tokens, avoided_tokens, implicit_tokens_of};
 ghost use Rattle.cfg_read.specs.SyntaxModels.{words_of, number_text, syntax_of};
 ghost use Rattle.cfg_read.specs.NameModels.{words_at};
 ghost use Rattle.cfg_read.specs.ErrorModels.{failures_in, kind_of, repeated_failure, span_lists, with_span};
-ghost use Rattle.cfg_read.specs.Validity.{repeated, repeated_names, repeated_words, repeated_declarations, word_spans, number_spans, groups_of, epp_tokens, DuplicatePrecedence, DuplicateEPP, DuplicateAvoidInsertDeclaration, DuplicateImplicitTokensDeclaration};
+ghost use Rattle.cfg_read.specs.Validity.{FailureKind, repeated, repeated_names, repeated_words, repeated_declarations, word_spans, number_spans, groups_of, epp_tokens, DuplicatePrecedence, DuplicateEPP, DuplicateAvoidInsertDeclaration, DuplicateImplicitTokensDeclaration};
 
 use super::YaccGrammarError;
 use crate::yacc::names;
@@ -91,6 +92,35 @@ fn grouped(alloc: Global, words: &[&Word]) -> Result<Vec<Vec<Span>>, AllocError>
     Ok(groups)
 }
 
+/// Tells whether no name stands twice among these words, so that none is told as repeated.
+fn all_differ(alloc: Global, words: &[&Word]) -> Result<bool, AllocError>
+    ensures { IfOk result (λ b. b ≡ true → (k : FailureKind) → repeated_names k (words_at words.now) ≡ []) }
+{
+    let mut names = IndexSet::with_capacity(alloc, words.len())?;
+    'words: for word in words {
+        let is_new = names.insert(word.text.as_str())?;
+        if !is_new {
+            return Ok(false);
+        }
+    }
+    Ok(true)
+}
+
+/// Puts a failure for each list of more than one span behind the others.
+fn push_groups(
+    errors: &mut Vec<YaccGrammarError>,
+    what: Repeated,
+    groups: Vec<Vec<Span>>,
+) -> Result<(), AllocError>
+    ensures { OnOk result (failures_in errors.new.items
+        ≡ failures_in errors.old.items ++ flat_map (repeated (repeated_failure what)) (span_lists groups.items)) }
+{
+    'groups: for spans in groups {
+        push_if_repeated(errors, what, spans)?;
+    }
+    Ok(())
+}
+
 /// Puts a failure for each name that stands more than once among these words behind the others.
 fn push_repeated_names(
     alloc: Global,
@@ -101,11 +131,12 @@ fn push_repeated_names(
     ensures { OnOk result (failures_in errors.new.items
         ≡ failures_in errors.old.items ++ repeated_names (repeated_failure what) (words_at words.now)) }
 {
-    let groups = grouped(alloc, words)?;
-    'groups: for group in &groups {
-        let spans = Vec::from_slice(alloc, group)?;
-        push_if_repeated(errors, what, spans)?;
+    let differ = all_differ(alloc, words)?;
+    if differ {
+        return Ok(());
     }
+    let groups = grouped(alloc, words)?;
+    push_groups(errors, what, groups)?;
     Ok(())
 }
 

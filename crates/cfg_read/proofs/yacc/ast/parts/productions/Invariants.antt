@@ -1,4 +1,4 @@
-use Rattle.std.proofs.Common.{◌≡◌, map, take}
+use Rattle.std.proofs.Common.{◌≡◌, map}
 use Rattle.std.specs.List.{flat_map}
 use Rattle.cfg_read.specs.Asts.{productions_in}
 use Rattle.cfg_read.specs.AstModels.{production_of}
@@ -7,4 +7,4 @@ use Rattle.cfg_read.specs.NameModels.{has_name}
 use Rattle.cfg_read.proofs.yacc.ast.parts.productions.Given as goal
 
 abbrev pub invariant-rules : goal.invariant-rules
-invariant-rules l = map production_of l.made.items ≡ flat_map (productions_in (has_name l.declared)) (map rule_of (take l.rule-index l.rules))
+invariant-rules l = map production_of l.made.items ≡ flat_map (productions_in (has_name l.declared)) (map rule_of l.yielded)

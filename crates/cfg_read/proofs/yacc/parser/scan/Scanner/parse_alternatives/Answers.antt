@@ -11,11 +11,11 @@ use Rattle.std.proofs.lemmas.Result.{err_from_is_err_and}
 use Rattle.cfg_read.proofs.yacc.parser.scan.Scanner.parse_alternatives.Goals as goal
 
 pub alternatives-init : goal.alternatives-init
-alternatives-init c = record { from = omega arith; steps = rw c.new-alternatives.ensures.items (λ n t x. here) }
+alternatives-init c = record { from = omega arith; steps = rw c.in_ok-alternatives.ensures.items (λ n t x. here) }
 
 pub returns-in_err-alternative-clause-err : goal.returns-in_err-alternative-clause-err
 returns-in_err-alternative-clause-err c =
-    let p = err_from_is_err_and c.from_residual.result c.from_residual.ensures.1 in
+    let p = err_from_is_err_and c.from_residual-in_err-alternative.result c.from_residual-in_err-alternative.ensures.1 in
     rw (p.1, p.2) (λ n t x. join_fails _ (c.alternatives.invariant.steps n t x) (c.in_err-alternative.ensures.err _ _))
 
 pub returns-then-is_last-clause-ok : goal.returns-then-is_last-clause-ok

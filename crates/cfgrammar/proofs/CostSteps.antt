@@ -1,5 +1,5 @@
--- How passes fill the table of least costs, and what it says at the end.
-use Rattle.std.proofs.Common.{◌≡◌, MatchOption, ℕ, zero, suc, ◌+◌, ◌<◌, ◌≤◌, ◌⊎◌, inl, inr, true, false, List, [], ◌∷◌, ◌++◌, length, get_or, set, drop, replicate, map, min, Option, Some, None, refl, sym, ap, ◌∙◌, subst, arith}
+-- How productions fill the table of least costs, and what it says at the end.
+use Rattle.std.proofs.Common.{◌≡◌, MatchOption, ℕ, zero, suc, ◌+◌, ◌<◌, ◌≤◌, ◌⊎◌, inl, inr, List, [], ◌∷◌, ◌++◌, length, get_or, set, drop, replicate, map, min, Option, Some, None, refl, sym, ap, ◌∙◌, subst, arith}
 use Rattle.std.proofs.lemmas.List.{get_or-set_same, get_or-set_other, length-set, length-replicate, get_or_read}
 use Rattle.std.proofs.lemmas.List.Sums.{sum_by-set}
 use Rattle.std.proofs.lemmas.Bool.{cases_eq, cases_lt}
@@ -11,7 +11,8 @@ use Rattle.cfg_theory.proofs.Lists.{get_from_drop}
 use Rattle.cfg_theory.proofs.Derivation.{derives_rule, tokens_both}
 use Rattle.cfg_theory.proofs.CostTables.{at_least, cost-append, one_sum}
 use Rattle.cfgrammar.specs.CostTable.{bound, cost_of, cost_in, cost_at, HasCost, AllHaveCosts, IsCost, HasNoCost, AreCosts, IsClosedBy, weight, fall, IsLess}
-use Rattle.cfgrammar.specs.Passes.{PassStep}
+use Rattle.cfgrammar.specs.WorkLists.{TakesIn}
+use Rattle.cfgrammar.proofs.ProdSteps.{IsAt, idle, sums_same, takes_in}
 use Rattle.std.proofs.Math.ListN.{get_or-append}
 use Rattle.std.proofs.Math.Seq.{get_or-append_seam}
 use Rattle.std.proofs.lemmas.List.{length_push}
@@ -173,14 +174,47 @@ closed_if G f p table n k (Some m) sums is at not i s =
     let le : m ≤ k = elim (cases_lt k m) [ inl lt ↦ absurd (not lt) | inr le ↦ le ] in
     (m, at, omega (arith, e, le, is))
 
-pub closed_step : (G : Grammar) (f : ℕ → ℕ) (p : ℕ) (table : List (Option ℕ)) (n k : ℕ) (o : Option ℕ) → Sums f (cost_in table) (body_of G p) n → k ≡ min n bound → cost_in table (head_of G p) ≡ o → (IsLess (Some k) o → ⊥) → PassStep fall (IsClosedBy G f p) table table false
-closed_step G f p table n k o sums is at not = record { still = λ e. refl; closed = λ e. closed_if G f p table n k o sums is at not; fewer = λ e. cc }
+-- what a production does
+module _ (G : Grammar) (f : ℕ → ℕ) (n : ℕ) (table : List (Option ℕ)) where
+  abbrev pub Lowers : List (Option ℕ) → Option ℕ → Type 0
+  Lowers new told = TakesIn G fall (λ t p. IsClosedBy G f p t) n table new told
 
-pub cheaper_step : (G : Grammar) (f : ℕ → ℕ) (p : ℕ) (table : List (Option ℕ)) (A n k : ℕ) (o : Option ℕ) → A < length table → o ≡ get_or table A None → k ≡ min n bound → IsLess (Some k) o → PassStep fall (IsClosedBy G f p) table (set table A (Some k)) true
-cheaper_step G f p table A n k o lt at is less = record { still = λ e. cc; closed = λ e. absurd (wrong e); fewer = λ e. falls table A k o lt at (omega (arith, is)) less }
-  where
-    wrong : true ≡ false → ⊥
-    wrong e = cc
+  pub costless : ((m : ℕ) → Sums f (cost_in table) (body_of G n) m → ⊥) → Lowers table None
+  costless none = idle G fall (λ t p. IsClosedBy G f p t) n table (λ m s. absurd (none m s))
+
+  pub no_cheaper : (m k : ℕ) (o : Option ℕ) → Sums f (cost_in table) (body_of G n) m → k ≡ min m bound → cost_in table (head_of G n) ≡ o → (IsLess (Some k) o → ⊥) → Lowers table None
+  no_cheaper m k o sums is at not = idle G fall (λ t p. IsClosedBy G f p t) n table (closed_if G f n table m k o sums is at not)
+
+  module _ (A k : ℕ) (o : Option ℕ) (lt : A < length table) (at : o ≡ get_or table A None) (less : IsLess (Some k) o) where
+    here : cost_in (set table A (Some k)) A ≡ Some k
+    here = get_or-set_same table A (Some k) None lt
+
+    other : (B : ℕ) → (B ≡ A → ⊥) → cost_in (set table A (Some k)) B ≡ cost_in table B
+    other B ne = get_or-set_other table A B (Some k) None ne
+
+    smaller : (m : ℕ) → o ≡ Some m → k < m
+    smaller m e = subst (IsLess (Some k)) e less
+
+    -- no cost rises
+    no_more : (B m : ℕ) → cost_in table B ≡ Some m → (j : ℕ) × (cost_in (set table A (Some k)) B ≡ Some j) × (j ≤ m)
+    no_more B m e = elim (cases_eq B A) [
+      | inl q ↦ (k, subst (λ C. cost_in (set table A (Some k)) C ≡ Some k) (sym q) here, (let r = smaller m (at ∙ subst (λ C. cost_in table C ≡ Some m) q e) in omega (arith, r)))
+      | inr ne ↦ (m, other B ne ∙ e, omega arith)
+    ]
+
+    still : (p : ℕ) → ((d : ℕ) → IsAt (body_of G p) A d → ⊥) → IsClosedBy G f p table → IsClosedBy G f p (set table A (Some k))
+    still p not c i s =
+        let (m, e, le) = c i (sums_same f (cost_in (set table A (Some k))) (cost_in table) A other (body_of G p) not i s) in
+        let (j, q, l) = no_more (head_of G p) m e in
+        (j, q, omega (arith, le, l))
+
+    pub lowers : (m : ℕ) → A ≡ head_of G n → A < G.rules → Sums f (cost_in table) (body_of G n) m → k ≡ min m bound → Lowers (set table A (Some k)) (Some A)
+    lowers m head in_range sums is = takes_in G fall (λ t p. IsClosedBy G f p t) n table (set table A (Some k)) A in_range still closed (falls table A k o lt at (omega (arith, is)) less)
+      where
+        closed : ((d : ℕ) → IsAt (body_of G n) A d → ⊥) → IsClosedBy G f n (set table A (Some k))
+        closed not i s =
+            let e = one_sum f (cost_in table) (body_of G n) m i sums (sums_same f (cost_in (set table A (Some k))) (cost_in table) A other (body_of G n) not i s) in
+            (k, subst (λ C. cost_in (set table A (Some k)) C ≡ Some k) head here, omega (arith, e, is))
 
 -- ---- what a table that is looked up says
 

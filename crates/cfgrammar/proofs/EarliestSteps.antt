@@ -1,4 +1,4 @@
--- How passes fill the table of one list a rule, and what it says at the end.
+-- How productions fill the table of one list a rule, and what it says at the end.
 use Rattle.std.proofs.Common.{◌≡◌, ℕ, zero, suc, ◌+◌, ◌<◌, ◌≤◌, ◌⊎◌, inl, inr, ◌↔◌, Bool, true, false, List, [], ◌∷◌, ◌++◌, length, get_or, set, drop, replicate, Option, Some, None, refl, sym, ap, ◌∙◌, subst, append_assoc, append-nil, arith}
 use Rattle.std.specs.Prelude.{IsTrue, Contains, MatchOption}
 use Rattle.std.proofs.Math.Nat.{mul_comm}
@@ -13,6 +13,7 @@ use Rattle.cfg_theory.specs.CostTables.{Concatenates}
 use Rattle.cfg_theory.specs.CheapestLists.{HaveCosts, ListsOfWantedRules, ListsAreShort}
 use Rattle.cfg_theory.specs.FirstLists.{HasUpTo, IsClosedUpTo, FirstsOfWantedRules}
 use Rattle.cfg_theory.proofs.Lists.{get_from_drop}
+use Rattle.cfg_theory.proofs.FirstLists.{before_on}
 use Rattle.std.specs.declared.alloc.Global.{Global}
 use Rattle.std.specs.declared.vec.Vec.{Vec}
 use Rattle.cfg_base.specs.declared.symbol.TIdx.{TIdx}
@@ -20,10 +21,11 @@ use Rattle.cfg_base.specs.declared.symbol.Symbol.{Symbol}
 use Rattle.cfgrammar.specs.Symbols.{sym_of, syms_of}
 use Rattle.cfgrammar.specs.TokenLists.{tokens_of}
 use Rattle.cfgrammar.specs.Sets.{is_set}
-use Rattle.cfgrammar.specs.Passes.{PassStep}
+use Rattle.cfgrammar.specs.WorkLists.{TakesIn}
 use Rattle.cfgrammar.specs.CostTable.{bound, cost_in, AreCosts, IsClosedBy}
 use Rattle.cfgrammar.specs.CheapestTable.{GivesLeast, IsHandedOn, IsFirstCheapest}
 use Rattle.cfgrammar.specs.EarliestTable.{found_list, found_lists, as_lists, found_in, GivesNone, GivesOne, ComesFirst, AreFound, IsTakenIn, lists_up_to, lists_ahead, room_of, room_in}
+use Rattle.cfgrammar.proofs.ProdSteps.{IsAt, idle, concatenates_same, takes_in}
 use Rattle.cfgrammar.proofs.CostSteps.{is_least}
 use Rattle.cfgrammar.proofs.CheapestSteps.{none_cheaper, gives, wanted_head, named_wanted}
 
@@ -208,20 +210,23 @@ body_below G n p good count = from (body_of G p) 0 refl
     from (token t ∷ a) d e = let r = get_from_drop (body_of G p) d (token t) a e in from a (suc d) r.1
 
 module _ (G : Grammar) (f : ℕ → ℕ) (least : List (Option ℕ)) (wanted : List Bool) (p : ℕ) (K : List (Option (List ℕ))) where
-  still_all : IsTakenIn G f least wanted p K → PassStep (room_in G.tokens) (IsTakenIn G f least wanted p) K K false
-  still_all h = record { still = λ e. refl; closed = λ e. h; fewer = λ e. absurd (false_true e) }
+  abbrev pub Finds : List (Option (List ℕ)) → Option ℕ → Type 0
+  Finds new told = TakesIn G (room_in G.tokens) (λ t q. IsTakenIn G f least wanted q t) p K new told
 
-  pub not_wanted : is_set wanted (head_of G p) ≡ false → PassStep (room_in G.tokens) (IsTakenIn G f least wanted p) K K false
+  still_all : IsTakenIn G f least wanted p K → Finds K None
+  still_all h = idle G (room_in G.tokens) (λ t q. IsTakenIn G f least wanted q t) p K h
+
+  pub not_wanted : is_set wanted (head_of G p) ≡ false → Finds K None
   not_wanted free = still_all (λ h _ _ _. absurd (false_true (sym free ∙ h)))
 
-  pub not_given : (answer : Bool) → answer ≡ false → (IsTrue answer ↔ GivesLeast G f least p) → PassStep (room_in G.tokens) (IsTakenIn G f least wanted p) K K false
+  pub not_given : (answer : Bool) → answer ≡ false → (IsTrue answer ↔ GivesLeast G f least p) → Finds K None
   not_given answer e told = still_all (λ _ h _ _. absurd (false_true (sym e ∙ told.1 h)))
 
-  pub not_found : GivesNone K (body_of G p) → PassStep (room_in G.tokens) (IsTakenIn G f least wanted p) K K false
+  pub not_found : GivesNone K (body_of G p) → Finds K None
   not_found none = still_all (λ _ _ w c. absurd (none w c))
 
   module _ (w : List ℕ) (o : Option (List ℕ)) (one : GivesOne K (body_of G p) w) (is : o ≡ get_or K (head_of G p) None) where
-    pub not_first : (ComesFirst w o → ⊥) → PassStep (room_in G.tokens) (IsTakenIn G f least wanted p) K K false
+    pub not_first : (ComesFirst w o → ⊥) → Finds K None
     not_first not = still_all (λ _ _ v c. subst (λ r. HasUpTo (as_lists r) v) is (subst (HasUpTo (as_lists o)) (sym ((one v).0 c)) (by o not)))
       where
         by : (r : Option (List ℕ)) → (ComesFirst w r → ⊥) → HasUpTo (as_lists r) w
@@ -239,9 +244,36 @@ module _ (G : Grammar) (f : ℕ → ℕ) (least : List (Option ℕ)) (wanted : L
           let low = costs.within (head_of G p) n q in
           omega (arith, le, low, k)
 
-      pub put_first : ComesFirst w o → PassStep (room_in G.tokens) (IsTakenIn G f least wanted p) K (set K (head_of G p) (Some w)) true
-      put_first h = record { still = λ e. absurd (true_false e); closed = λ e. absurd (true_false e); fewer = λ e. fewer }
+      after : (B : ℕ) → (B ≡ head_of G p → ⊥) → found_in (set K (head_of G p) (Some w)) B ≡ found_in K B
+      after B ne = ap as_lists (get_or-set_other K (head_of G p) B (Some w) None ne)
+
+      now : found_in (set K (head_of G p) (Some w)) (head_of G p) ≡ w ∷ []
+      now = ap as_lists (get_or-set_same K (head_of G p) (Some w) None lt)
+
+      has_now : (v : List ℕ) → (v ≡ w) ⊎ IsBefore w v → HasUpTo (found_in (set K (head_of G p) (Some w)) (head_of G p)) v
+      has_now v h = subst (λ l. HasUpTo l v) (sym now) (w, (0, omega arith, refl), h)
+
+      before_kept : ComesFirst w o → (u v : List ℕ) → o ≡ Some u → (v ≡ u) ⊎ IsBefore u v → IsBefore w v
+      before_kept h u v e x =
+          let b : IsBefore w u = subst (ComesFirst w) e h in
+          elim x [ inl q ↦ subst (IsBefore w) (sym q) b | inr y ↦ before_on w u v b y ]
+
+      -- a list that was up to date is
+      up_still : ComesFirst w o → (B : ℕ) (v : List ℕ) → HasUpTo (found_in K B) v → HasUpTo (found_in (set K (head_of G p) (Some w)) B) v
+      up_still h B v x = elim (cases_eq B (head_of G p)) [
+        | inl q ↦ subst (λ C. HasUpTo (found_in (set K (head_of G p) (Some w)) C) v) (sym q) (has_now v (inr (let (u, c, up) = subst (λ C. HasUpTo (found_in K C) v) q x in before_kept h u v (is ∙ is_only (get_or K (head_of G p) None) u c) up)))
+        | inr ne ↦ subst (λ l. HasUpTo l v) (sym (after B ne)) x
+      ]
+
+      pub put_first : ComesFirst w o → Finds (set K (head_of G p) (Some w)) (Some (head_of G p))
+      put_first h = takes_in G (room_in G.tokens) (λ t q. IsTakenIn G f least wanted q t) p K (set K (head_of G p) (Some w)) (head_of G p) (omega (arith, lt, found.count)) kept here fewer
         where
+          kept : (q : ℕ) → ((d : ℕ) → IsAt (body_of G q) (head_of G p) d → ⊥) → IsTakenIn G f least wanted q K → IsTakenIn G f least wanted q (set K (head_of G p) (Some w))
+          kept q not c want gives v x = up_still h (head_of G q) v (c want gives v (concatenates_same (found_in (set K (head_of G p) (Some w))) (found_in K) (head_of G p) after (body_of G q) not v x))
+
+          here : ((d : ℕ) → IsAt (body_of G p) (head_of G p) d → ⊥) → IsTakenIn G f least wanted p (set K (head_of G p) (Some w))
+          here not want gives v x = has_now v (inl ((one v).0 (concatenates_same (found_in (set K (head_of G p) (Some w))) (found_in K) (head_of G p) after (body_of G p) not v x)))
+
           fewer : room_in G.tokens (set K (head_of G p) (Some w)) < room_in G.tokens K
           fewer =
               let d = has_list.0 in

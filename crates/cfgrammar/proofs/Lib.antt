@@ -17,6 +17,7 @@ pub mod FollowSteps
 pub mod FollowFills
 pub mod PathSteps
 pub mod PathFills
+pub mod ProdSteps
 pub mod CostSteps
 pub mod RaiseSteps
 pub mod NarrowSteps

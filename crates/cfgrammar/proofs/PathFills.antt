@@ -63,12 +63,22 @@ reaches_token t old new w bits = reaches_same (token t) old new w bits bits
 pub went_none : (G : Grammar) (A : ℕ) (bits : List Bool) (w : Work) → GoesOn G A bits bits w w
 went_none G A bits w = record { kept = λ B h. h; closed = λ p h. h; from = λ h. h; rules = refl; room = omega arith }
 
+module _ (X : Sym) (old new : List Bool) (was is : Work) (place : HasPlace old X) (h : Reaches X old new was is) where
+  pub reached_on : (B : ℕ) → IsTrue (is_set old B) → IsTrue (is_set new B)
+  reached_on B x = subst (λ l. IsTrue (is_set l B)) (sym h.bits) (with_on old X B place x)
+
+  pub reached_back : (B : ℕ) → IsTrue (is_set new B) → IsTrue (is_set old B) ⊎ (X ≡ rule B)
+  reached_back B x = with_back old X B place (subst (λ l. IsTrue (is_set l B)) h.bits x)
+
+  pub named_next : (G : Grammar) (p n : ℕ) → slice_get (body_of G p) n ≡ Some X → NamedBelow G p n old → NamedBelow G p (n + 1) new
+  named_next G p n at below = named_more G p n X new at (λ d R lt next. reached_on R (below d R lt next), subst (λ l. IsIn l X) (sym h.bits) (in_it old X place))
+
 module _ (G : Grammar) (A : ℕ) (X : Sym) (old new : List Bool) (was is : Work) (place : HasPlace old X) (h : Reaches X old new was is) where
   on : (B : ℕ) → IsTrue (is_set old B) → IsTrue (is_set new B)
-  on B x = subst (λ l. IsTrue (is_set l B)) (sym h.bits) (with_on old X B place x)
+  on = reached_on X old new was is place h
 
   back : (B : ℕ) → IsTrue (is_set new B) → IsTrue (is_set old B) ⊎ (X ≡ rule B)
-  back B x = with_back old X B place (subst (λ l. IsTrue (is_set l B)) h.bits x)
+  back = reached_back X old new was is place h
 
   still : (p : ℕ) → (X ≡ rule (head_of G p) → ⊥) → IsReachedFrom G A p old → IsReachedFrom G A p new
   still p ne r from d R next = on R (r (elim from [ inl e ↦ inl e | inr x ↦ inr (elim (back (head_of G p) x) [ inl y ↦ y | inr e ↦ absurd (ne e) ]) ]) d R next)
@@ -94,9 +104,6 @@ module _ (G : Grammar) (A : ℕ) (X : Sym) (old new : List Bool) (was is : Work)
     rules = h.rules ∙ g.rules;
     room = let a = g.room in let b = h.room in omega (arith, a, b);
   }
-
-  pub named_next : (p n : ℕ) → slice_get (body_of G p) n ≡ Some X → NamedBelow G p n old → NamedBelow G p (n + 1) new
-  named_next p n at below = named_more G p n X new at (λ d R lt next. on R (below d R lt next), subst (λ l. IsIn l X) (sym h.bits) (in_it old X place))
 
 -- ---- the productions of a rule
 

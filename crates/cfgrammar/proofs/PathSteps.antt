@@ -1,5 +1,5 @@
 -- What the set of the rules that a rule reaches tells of productions.
-use Rattle.std.proofs.Common.{◌≡◌, ℕ, ◌+◌, ◌<◌, ◌⊎◌, inl, inr, ◌↔◌, Bool, true, false, ◌||◌, List, length, replicate, Some, slice_get, refl, sym, ap, ◌∙◌, subst, arith}
+use Rattle.std.proofs.Common.{◌≡◌, ℕ, ◌+◌, ◌<◌, ◌⊎◌, inl, inr, ◌↔◌, Bool, true, false, List, length, replicate, Some, slice_get, refl, sym, ap, ◌∙◌, subst, arith}
 use Rattle.std.specs.Prelude.{IsTrue}
 use Rattle.std.proofs.lemmas.List.{length-set}
 use Rattle.std.proofs.lemmas.Bool.{cases_eq}
@@ -7,11 +7,9 @@ use Rattle.cfg_theory.specs.Grammar.{Sym, rule, token, Grammar, IsNext, InRange,
 use Rattle.cfg_theory.specs.Derivation.{HasPath}
 use Rattle.cfg_theory.specs.Path.{IsReachTable, PathTablesAreExact}
 use Rattle.cfg_theory.proofs.Paths.{path_on}
-use Rattle.cfgrammar.specs.Sets.{is_set, missing}
+use Rattle.cfgrammar.specs.Sets.{is_set}
 use Rattle.cfgrammar.specs.Paths.{AreReached, IsReachedFrom, IsIn, HasPlace, with_rule}
-use Rattle.cfgrammar.specs.Passes.{PassStep}
 use Rattle.cfgrammar.proofs.Bits.{none_set, put_in}
-use Rattle.cfgrammar.proofs.Passed.{step_and}
 
 some_same : (X Y : Sym) → Some X ≡ Some Y → X ≡ Y
 some_same X Y e = cc
@@ -25,11 +23,6 @@ named_more G p n X bits at (below, here) d R lt next = elim (cases_eq d n) [ inl
   where
     at_place : d ≡ n → IsTrue (is_set bits R)
     at_place e = subst (IsIn bits) (some_same X (rule R) (sym at ∙ ap (slice_get (body_of G p)) (sym e) ∙ next.at)) here
-
-pub named_step : (G : Grammar) (p n : ℕ) (X : Sym) (a b c : List Bool) (x y : Bool) → slice_get (body_of G p) n ≡ Some X → PassStep missing (NamedBelow G p n) a b x → PassStep missing (λ s. IsIn s X) b c y → PassStep missing (NamedBelow G p (n + 1)) a c (x || y)
-named_step G p n X a b c x y at h k =
-    let r = step_and missing (NamedBelow G p n) (λ s. IsIn s X) a b c x y h k in
-    record { still = r.still; closed = λ e. named_more G p n X a at (r.closed e); fewer = r.fewer }
 
 -- what a reached production names is reached
 module _ (G : Grammar) (A p : ℕ) (lt : p < length G.productions) (old : List Bool) (sound : AreReached G A old) (from : (head_of G p ≡ A) ⊎ IsTrue (is_set old (head_of G p))) where

@@ -1,4 +1,4 @@
--- How passes raise a table of greatest costs, and what it says at the end.
+-- How productions raise a table of greatest costs, and what it says at the end.
 use Rattle.std.proofs.Common.{◌≡◌, ℕ, zero, suc, ◌<◌, ◌≤◌, ◌⊎◌, inl, inr, Bool, true, false, List, [], ◌∷◌, ◌++◌, length, get_or, set, replicate, min, Option, Some, None, refl, sym, ap, ◌∙◌, subst, arith}
 use Rattle.std.proofs.lemmas.List.{get_or-set_same, get_or-set_other, length-set, length-replicate, get_or_read}
 use Rattle.std.proofs.lemmas.List.Sums.{sum_by-set}
@@ -11,7 +11,8 @@ use Rattle.cfg_theory.specs.Greatest.{IsKeptTable, GreatestCostsExist, KeptTable
 use Rattle.cfg_theory.proofs.Derivation.{derives_rule, tokens_both}
 use Rattle.cfg_theory.proofs.CostTables.{cost-append, one_sum}
 use Rattle.cfgrammar.specs.CostTable.{bound, cost_of, cost_in}
-use Rattle.cfgrammar.specs.Passes.{PassStep}
+use Rattle.cfgrammar.specs.WorkLists.{TakesIn}
+use Rattle.cfgrammar.proofs.ProdSteps.{IsAt, idle, sums_same, takes_in}
 use Rattle.cfgrammar.specs.Sets.{is_set}
 use Rattle.cfgrammar.specs.Sentences.{Costed}
 use Rattle.cfgrammar.specs.Greatest.{AreRaised, IsRaisedBy, IsMore, slack, rise, AreGreatest}
@@ -93,31 +94,59 @@ none_raised G f top table e = record {
     never A n q = contrary n (sym (none_at G.rules A) ∙ sym (ap (λ l. cost_in l A) e) ∙ q)
 
 -- what a production does
-module _ (G : Grammar) (f : ℕ → ℕ) (top : ℕ) (skipped : List Bool) (p : ℕ) (table : List (Option ℕ)) where
-  abbrev Step : List (Option ℕ) → Bool → Type 0
-  Step new changed = PassStep (rise top) (IsRaisedBy G f top skipped p) table new changed
+module _ (G : Grammar) (f : ℕ → ℕ) (top : ℕ) (skipped : List Bool) (n : ℕ) (table : List (Option ℕ)) where
+  abbrev pub Raises : List (Option ℕ) → Option ℕ → Type 0
+  Raises new told = TakesIn G (rise top) (λ t p. IsRaisedBy G f top skipped p t) n table new told
 
-  idle : IsRaisedBy G f top skipped p table → Step table false
-  idle closed = record { still = λ e. refl; closed = λ e. closed; fewer = λ e. cc }
+  closed_table : IsRaisedBy G f top skipped n table → Raises table None
+  closed_table h = idle G (rise top) (λ t p. IsRaisedBy G f top skipped p t) n table h
 
-  pub skipped_step : is_set skipped (head_of G p) ≡ true → Step table false
-  skipped_step e = idle (λ q. absurd (true_false (sym e ∙ q)))
+  pub skipped_rule : is_set skipped (head_of G n) ≡ true → Raises table None
+  skipped_rule e = closed_table (λ q. absurd (true_false (sym e ∙ q)))
 
-  pub costless_step : ((n : ℕ) → Sums f (cost_in table) (body_of G p) n → ⊥) → Step table false
-  costless_step none = idle (λ q n s. absurd (none n s))
+  pub costless : ((m : ℕ) → Sums f (cost_in table) (body_of G n) m → ⊥) → Raises table None
+  costless none = closed_table (λ q m s. absurd (none m s))
 
-  closed_if : (n k : ℕ) (o : Option ℕ) → Sums f (cost_in table) (body_of G p) n → k ≡ min n top → cost_in table (head_of G p) ≡ o → (IsMore k o → ⊥) → IsRaisedBy G f top skipped p table
-  closed_if n k None sums is at not q i s = absurd (not tt)
-  closed_if n k (Some m) sums is at not q i s =
-      let e = one_sum f (cost_in table) (body_of G p) n i sums s in
-      let le : k ≤ m = elim (cases_lt m k) [ inl lt ↦ absurd (not lt) | inr le ↦ le ] in
-      (m, at, omega (arith, e, le, is))
+  closed_if : (m k : ℕ) (o : Option ℕ) → Sums f (cost_in table) (body_of G n) m → k ≡ min m top → cost_in table (head_of G n) ≡ o → (IsMore k o → ⊥) → IsRaisedBy G f top skipped n table
+  closed_if m k None sums is at not q i s = absurd (not tt)
+  closed_if m k (Some j) sums is at not q i s =
+      let e = one_sum f (cost_in table) (body_of G n) m i sums s in
+      let le : k ≤ j = elim (cases_lt j k) [ inl lt ↦ absurd (not lt) | inr le ↦ le ] in
+      (j, at, omega (arith, e, le, is))
 
-  pub low_step : (n k : ℕ) (o : Option ℕ) → Sums f (cost_in table) (body_of G p) n → k ≡ min n top → cost_in table (head_of G p) ≡ o → (IsMore k o → ⊥) → Step table false
-  low_step n k o sums is at not = idle (closed_if n k o sums is at not)
+  pub no_dearer : (m k : ℕ) (o : Option ℕ) → Sums f (cost_in table) (body_of G n) m → k ≡ min m top → cost_in table (head_of G n) ≡ o → (IsMore k o → ⊥) → Raises table None
+  no_dearer m k o sums is at not = closed_table (closed_if m k o sums is at not)
 
-  pub dearer_step : (A k : ℕ) (o : Option ℕ) → AreRaised G f top table → A < length table → o ≡ get_or table A None → k ≤ top → IsMore k o → Step (set table A (Some k)) true
-  dearer_step A k o h lt at le more = record { still = λ e. cc; closed = λ e. absurd (true_false e); fewer = λ e. rises G f top table h A k o lt at le more }
+  module _ (A k : ℕ) (o : Option ℕ) (lt : A < length table) (at : o ≡ get_or table A None) (more : IsMore k o) where
+    here : cost_in (set table A (Some k)) A ≡ Some k
+    here = get_or-set_same table A (Some k) None lt
+
+    other : (B : ℕ) → (B ≡ A → ⊥) → cost_in (set table A (Some k)) B ≡ cost_in table B
+    other B ne = get_or-set_other table A B (Some k) None ne
+
+    greater : (m : ℕ) → o ≡ Some m → m < k
+    greater m e = subst (IsMore k) e more
+
+    -- no cost falls
+    no_less : (B m : ℕ) → cost_in table B ≡ Some m → (j : ℕ) × (cost_in (set table A (Some k)) B ≡ Some j) × (m ≤ j)
+    no_less B m e = elim (cases_eq B A) [
+      | inl q ↦ (k, subst (λ C. cost_in (set table A (Some k)) C ≡ Some k) (sym q) here, (let r = greater m (at ∙ subst (λ C. cost_in table C ≡ Some m) q e) in omega (arith, r)))
+      | inr ne ↦ (m, other B ne ∙ e, omega arith)
+    ]
+
+    still : (p : ℕ) → ((d : ℕ) → IsAt (body_of G p) A d → ⊥) → IsRaisedBy G f top skipped p table → IsRaisedBy G f top skipped p (set table A (Some k))
+    still p not c free i s =
+        let (m, e, le) = c free i (sums_same f (cost_in (set table A (Some k))) (cost_in table) A other (body_of G p) not i s) in
+        let (j, q, l) = no_less (head_of G p) m e in
+        (j, q, omega (arith, le, l))
+
+    pub raises : AreRaised G f top table → (m : ℕ) → A ≡ head_of G n → A < G.rules → Sums f (cost_in table) (body_of G n) m → k ≡ min m top → Raises (set table A (Some k)) (Some A)
+    raises h m head in_range sums is = takes_in G (rise top) (λ t p. IsRaisedBy G f top skipped p t) n table (set table A (Some k)) A in_range still closed (rises G f top table h A k o lt at (omega (arith, is)) more)
+      where
+        closed : ((d : ℕ) → IsAt (body_of G n) A d → ⊥) → IsRaisedBy G f top skipped n (set table A (Some k))
+        closed not free i s =
+            let e = one_sum f (cost_in table) (body_of G n) m i sums (sums_same f (cost_in (set table A (Some k))) (cost_in table) A other (body_of G n) not i s) in
+            (k, subst (λ C. cost_in (set table A (Some k)) C ≡ Some k) head here, omega (arith, e, is))
 
 pub kept_table : (G : Grammar) (f : ℕ → ℕ) (top : ℕ) (skipped : List Bool) (table : List (Option ℕ)) → AreRaised G f top table → ((p : ℕ) → p < length G.productions → IsRaisedBy G f top skipped p table) → IsKeptTable G f top (is_set skipped) (cost_in table)
 kept_table G f top skipped table h closed = record {

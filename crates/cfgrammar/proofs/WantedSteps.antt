@@ -1,21 +1,28 @@
--- Which productions give the least cost, and how passes fill the set of the rules that they need.
-use Rattle.std.proofs.Common.{◌≡◌, ℕ, suc, ◌<◌, ◌≤◌, inl, inr, ◌↔◌, ◌==◌, Bool, true, false, List, [], ◌∷◌, length, set, drop, replicate, min, Option, Some, refl, sym, ap, ◌∙◌, subst, arith}
+-- Which productions give the least cost, and how takings fill the set of the rules that they need.
+use Rattle.std.proofs.Common.{◌≡◌, ℕ, suc, ◌+◌, ◌<◌, ◌≤◌, ◌⊎◌, inl, inr, ◌↔◌, ◌==◌, Bool, true, false, List, [], ◌∷◌, ◌++◌, length, set, drop, replicate, min, Option, Some, refl, sym, ap, ◌∙◌, subst, arith}
 use Rattle.std.specs.Prelude.{IsTrue}
+use Rattle.std.specs.List.{Contains}
 use Rattle.std.proofs.lemmas.List.{length-set, length-replicate}
+use Rattle.std.proofs.lemmas.List.Elements.{Contains-push_cases}
 use Rattle.std.proofs.lemmas.Option.{slice_get_within}
-use Rattle.std.proofs.lemmas.Bool.{eqb-true, eq-eqb}
+use Rattle.std.proofs.lemmas.Bool.{cases_eq, eqb-true, eq-eqb}
 use Rattle.cfg_theory.specs.Grammar.{Sym, rule, token, Grammar, head_of, body_of}
 use Rattle.cfg_theory.specs.Productive.{RulesIn}
 use Rattle.cfg_theory.specs.CostTables.{Sums}
 use Rattle.cfg_theory.proofs.Lists.{get_from_drop}
 use Rattle.cfg_theory.proofs.CostTables.{one_sum}
-use Rattle.cfgrammar.specs.Sets.{is_set, missing}
-use Rattle.cfgrammar.specs.Paths.{HasPlace, with_rule}
-use Rattle.cfgrammar.specs.Passes.{PassStep}
+use Rattle.cfgrammar.specs.Value.{productions_of}
+use Rattle.cfgrammar.specs.Sets.{is_set}
+use Rattle.cfgrammar.specs.WorkLists.{Work, StandsFrom}
+use Rattle.cfgrammar.specs.Paths.{HasPlace, Reaches}
 use Rattle.cfgrammar.specs.CostTable.{bound, cost_in}
-use Rattle.cfgrammar.specs.CheapestTable.{GivesLeast, AreNamedIn, IsHandedOn, AreKept}
-use Rattle.cfgrammar.proofs.Bits.{put_in}
+use Rattle.cfgrammar.specs.CheapestTable.{GivesLeast, AreNamedIn, IsHandedOn, IsHandedOnOrWaits, AreHandedOnBut, Wants}
+use Rattle.cfgrammar.proofs.Bits.{none_set, put_in}
+use Rattle.cfgrammar.proofs.RuleLists.{listed}
+use Rattle.cfgrammar.proofs.WorkSteps.{from_start}
+use Rattle.cfgrammar.proofs.FollowFills.{is_rule}
 use Rattle.cfgrammar.proofs.PathSteps.{NamedBelow}
+use Rattle.cfgrammar.proofs.PathFills.{reached_on, reached_back}
 
 some_same : (m n : ℕ) → Some m ≡ Some n → m ≡ n
 some_same m n e = cc
@@ -53,35 +60,55 @@ module _ (G : Grammar) (f : ℕ → ℕ) (least : List (Option ℕ)) (p : ℕ) w
 pub eq_told : (s k : ℕ) → IsTrue (s == k) ↔ (s ≡ k)
 eq_told s k = ((λ h. eqb-true s k h), λ e. eq-eqb s k e)
 
--- ---- the set
+-- ---- the set, and the rules that wait
 
-pub kept_same : (bits : List Bool) → AreKept bits bits
-kept_same bits B h = h
+pub wants_none : (G : Grammar) (f : ℕ → ℕ) (least : List (Option ℕ)) (bits : List Bool) (w : Work) → Wants G f least bits bits w w
+wants_none G f least bits w = record { kept = λ B h. h; closed = λ p h. h; rules = refl; room = omega arith }
 
-pub kept_on : (a b c : List Bool) → AreKept a b → AreKept b c → AreKept a c
-kept_on a b c h k B x = k B (h B x)
+module _ (G : Grammar) (f : ℕ → ℕ) (least : List (Option ℕ)) (X : Sym) (old new : List Bool) (was is : Work) (place : HasPlace old X) (h : Reaches X old new was is) where
+  on : (B : ℕ) → IsTrue (is_set old B) → IsTrue (is_set new B)
+  on = reached_on X old new was is place h
 
-pub kept_with : (bits : List Bool) (X : Sym) (new : List Bool) → HasPlace bits X → new ≡ with_rule bits X → AreKept bits new
-kept_with bits (rule R) new index e B h = subst (λ l. IsTrue (is_set l B)) (sym e) ((put_in bits R B index).1 (inl h))
-kept_with bits (token t) new index e B h = subst (λ l. IsTrue (is_set l B)) (sym e) h
+  still : (p : ℕ) → (X ≡ rule (head_of G p) → ⊥) → IsHandedOn G f least p old → IsHandedOn G f least p new
+  still p ne c wanted gives d R next = on R (c (elim (reached_back X old new was is place h (head_of G p) wanted) [ inl y ↦ y | inr e ↦ absurd (ne e) ]) gives d R next)
+
+  closed_on : (p : ℕ) → IsHandedOnOrWaits G f least old was.list p → IsHandedOnOrWaits G f least new is.list p
+  closed_on p (inr w) = inr (h.list (head_of G p) w)
+  closed_on p (inl c) = elim h.waits [
+    | inl e ↦ inl (subst (IsHandedOn G f least p) (sym e) c)
+    | inr all ↦ elim (is_rule X (head_of G p)) [ inl e ↦ inr (all (head_of G p) e) | inr ne ↦ inl (still p ne c) ]
+  ]
+
+  pub wants_more : (start : List Bool) (begun : Work) → Wants G f least start old begun was → Wants G f least start new begun is
+  wants_more start begun g = record {
+    kept = λ B x. on B (g.kept B x);
+    closed = λ p x. closed_on p (g.closed p x);
+    rules = h.rules ∙ g.rules;
+    room = let a = g.room in let b = h.room in omega (arith, a, b);
+  }
 
 -- all that is named
-pub all_in : (G : Grammar) (p n : ℕ) (a b : List Bool) (x : Bool) → length (body_of G p) ≤ n → PassStep missing (NamedBelow G p n) a b x → PassStep missing (AreNamedIn G p) a b x
-all_in G p n a b x le h = record {
-  still = h.still;
-  closed = λ e d R next. h.closed e d R (let lt = slice_get_within (body_of G p) d (rule R) next.at in omega (arith, lt, le)) next;
-  fewer = h.fewer;
-}
+pub all_in : (G : Grammar) (p n : ℕ) (bits : List Bool) → length (body_of G p) ≤ n → NamedBelow G p n bits → AreNamedIn G p bits
+all_in G p n bits le below d R next = below d R (let lt = slice_get_within (body_of G p) d (rule R) next.at in omega (arith, lt, le)) next
 
-module _ (G : Grammar) (f : ℕ → ℕ) (least : List (Option ℕ)) (p : ℕ) where
-  pub not_wanted : (a : List Bool) → is_set a (head_of G p) ≡ false → PassStep missing (IsHandedOn G f least p) a a false
-  not_wanted a free = record { still = λ e. refl; closed = λ e h _. absurd (false_true (sym free ∙ h)); fewer = λ e. cc }
+pub not_given : (G : Grammar) (f : ℕ → ℕ) (least : List (Option ℕ)) (p : ℕ) (bits : List Bool) (answer : Bool) → answer ≡ false → (IsTrue answer ↔ GivesLeast G f least p) → IsHandedOn G f least p bits
+not_given G f least p bits answer e told wanted h = absurd (false_true (sym e ∙ told.1 h))
 
-  pub not_given : (a : List Bool) (answer : Bool) → answer ≡ false → (IsTrue answer ↔ GivesLeast G f least p) → PassStep missing (IsHandedOn G f least p) a a false
-  not_given a answer e told = record { still = λ _. refl; closed = λ _ _ h. absurd (false_true (sym e ∙ told.1 h)); fewer = λ e. cc }
+-- a rule that was taken off: its productions are in its list
+pub wanted_off : (G : Grammar) (f : ℕ → ℕ) (least : List (Option ℕ)) (bits : List Bool) (work : List ℕ) (R p : ℕ) → p < length G.productions → IsHandedOnOrWaits G f least bits (work ++ R ∷ []) p → IsHandedOnOrWaits G f least bits work p ⊎ StandsFrom (productions_of G R) 0 p
+wanted_off G f least bits work R p lt (inl c) = inl (inl c)
+wanted_off G f least bits work R p lt (inr waits) = elim (Contains-push_cases work R (head_of G p) waits) [
+  | inl w ↦ inl (inr w)
+  | inr e ↦ inr (from_start (productions_of G R) p (subst (λ B. Contains (productions_of G B) p) (sym e) (listed G p lt)))
+]
 
-  pub handed : (a b : List Bool) (x : Bool) → PassStep missing (AreNamedIn G p) a b x → PassStep missing (IsHandedOn G f least p) a b x
-  handed a b x h = record { still = h.still; closed = λ e _ _. h.closed e; fewer = h.fewer }
+-- where no rule waits, all is handed on
+pub handed_all : (G : Grammar) (f : ℕ → ℕ) (least : List (Option ℕ)) (bits : List Bool) → AreHandedOnBut G f least bits [] → (p : ℕ) → p < length G.productions → IsHandedOn G f least p bits
+handed_all G f least bits h p lt = by (h p lt)
+  where
+    by : IsHandedOnOrWaits G f least bits [] p → IsHandedOn G f least p bits
+    by (inl c) = c
+    by (inr (k, within, e)) = absurd (omega (arith, within))
 
 -- as a fact on the list of symbols
 pub rules_in : (G : Grammar) (p : ℕ) (bits : List Bool) → AreNamedIn G p bits → RulesIn (λ B. IsTrue (is_set bits B)) (body_of G p)
@@ -98,3 +125,16 @@ first_wanted n A bits new lt e is =
     let count : length bits ≡ n = ap length e ∙ length-replicate n false in
     let low : A < length bits = omega (arith, lt, count) in
     (ap length is ∙ length-set bits A true ∙ count, subst (λ l. IsTrue (is_set l A)) (sym is) ((put_in bits A A low).1 (inr refl)))
+
+-- where it waits
+pub first_waits : (G : Grammar) (f : ℕ → ℕ) (least : List (Option ℕ)) (n A : ℕ) (bits new : List Bool) (list : List ℕ) → A < n → bits ≡ replicate n false → new ≡ set bits A true → Contains list A → AreHandedOnBut G f least new list
+first_waits G f least n A bits new list lt e is waits p in_range = elim (cases_eq (head_of G p) A) [
+  | inl q ↦ inr (subst (Contains list) (sym q) waits)
+  | inr ne ↦ inl (λ wanted. absurd (other ne (subst (λ l. IsTrue (is_set l (head_of G p))) is wanted)))
+]
+  where
+    low : A < length bits
+    low = let count : length bits ≡ n = ap length e ∙ length-replicate n false in omega (arith, lt, count)
+
+    other : (head_of G p ≡ A → ⊥) → IsTrue (is_set (set bits A true) (head_of G p)) → ⊥
+    other ne h = elim ((put_in bits A (head_of G p) low).0 h) [ inl x ↦ none_set n (head_of G p) (subst (λ l. IsTrue (is_set l (head_of G p))) e x) | inr q ↦ ne (sym q) ]

@@ -1,5 +1,5 @@
--- A table of the cheapest token lists of the rules that one rule needs, as passes fill it.
-use Rattle.std.specs.Prelude.{◌≡◌, ℕ, ◌<◌, ◌⊎◌, ◌∷◌, List, [], Bool, IsTrue, length, map, get_or, Contains, Option}
+-- The rules that one rule needs, as takings find them, and a table of their cheapest token lists.
+use Rattle.std.specs.Prelude.{◌≡◌, ℕ, ◌+◌, ◌<◌, ◌≤◌, ◌⊎◌, ◌∷◌, List, [], Bool, IsTrue, length, map, get_or, Contains, Option}
 use Rattle.std.specs.List.{sum_by}
 use Rattle.cfg_theory.specs.Grammar.{Sym, rule, token, Grammar, IsNext, head_of, body_of}
 use Rattle.cfg_theory.specs.Derivation.{IsProductive}
@@ -7,7 +7,8 @@ use Rattle.cfg_theory.specs.Cost.{IsCheapest, IsLeastCost, IsBefore}
 use Rattle.cfg_theory.specs.CostTables.{Concatenates}
 use Rattle.cfg_theory.specs.CheapestLists.{IsTight, HaveCosts}
 use Rattle.cfgrammar.specs.CostTable.{bound, cost_in}
-use Rattle.cfgrammar.specs.Sets.{is_set}
+use Rattle.cfgrammar.specs.Sets.{is_set, missing}
+use Rattle.cfgrammar.specs.WorkLists.{Work}
 use Rattle.cfgrammar.specs.TokenLists.{joined, spare}
 use Rattle.cfgrammar.specs.declared.yacc.sentences.SentenceError.{SentenceError}
 use Rattle.cfgrammar.specs.declared.yacc.sentences.SentenceError.TheVariants.{NoSentence, CostTooLarge, Memory}
@@ -38,6 +39,21 @@ IsHandedOn G f least p bits = IsTrue (is_set bits (head_of G p)) → GivesLeast 
 -- the first set is in the second one
 abbrev pub AreKept : List Bool → List Bool → Type 0
 AreKept old new = (B : ℕ) → IsTrue (is_set old B) → IsTrue (is_set new B)
+
+-- what p asks for is in the set, or its rule is one of the list
+abbrev pub IsHandedOnOrWaits : Grammar → (ℕ → ℕ) → List (Option ℕ) → List Bool → List ℕ → ℕ → Type 0
+IsHandedOnOrWaits G f least bits list p = IsHandedOn G f least p bits ⊎ Contains list (head_of G p)
+
+-- so with each production
+abbrev pub AreHandedOnBut : Grammar → (ℕ → ℕ) → List (Option ℕ) → List Bool → List ℕ → Type 0
+AreHandedOnBut G f least bits list = (p : ℕ) → p < length G.productions → IsHandedOnOrWaits G f least bits list p
+
+-- from one set and work list to another nothing is lost: the set grew, and what was handed on or waited is or does
+pub record Wants (G : Grammar) (f : ℕ → ℕ) (least : List (Option ℕ)) (old new : List Bool) (was is : Work) : Type 0 where
+  pub kept : AreKept old new
+  pub closed : (p : ℕ) → IsHandedOnOrWaits G f least old was.list p → IsHandedOnOrWaits G f least new is.list p
+  pub rules : is.rules ≡ was.rules
+  pub room : missing new + length is.list ≤ missing old + length was.list
 
 -- the lists of a rule
 abbrev pub lists_in : List (List (List ℕ)) → ℕ → List (List ℕ)

@@ -1,5 +1,5 @@
 -- Lists of rules that wait to be taken, and for each rule the productions that name it.
-use Rattle.std.specs.Prelude.{◌≡◌, ℕ, ◌<◌, ◌≤◌, ◌⊎◌, List, [], length, get_or, Some, slice_get}
+use Rattle.std.specs.Prelude.{◌≡◌, ℕ, ◌+◌, ◌<◌, ◌≤◌, ◌⊎◌, List, [], length, get_or, Option, None, Some, slice_get}
 use Rattle.std.specs.List.{Contains}
 use Rattle.cfg_theory.specs.Grammar.{Sym, rule, token, Grammar, IsNext}
 
@@ -45,3 +45,21 @@ HasList n (token t) = Unit {0}
 -- q stands in the list at the index i or later
 abbrev pub StandsFrom : List ℕ → ℕ → ℕ → Type 0
 StandsFrom list i q = (j : ℕ) × (i ≤ j) × (j < length list) × (get_or list j q ≡ q)
+
+-- p names the rule, where there is one
+abbrev pub NamesGiven : Grammar → ℕ → Option ℕ → Type 0
+NamesGiven G p None = ⊥
+NamesGiven G p (Some A) = (d : ℕ) × IsNext G p d (rule A)
+
+-- how many rules that is
+abbrev pub given : Option ℕ → ℕ
+given None = 0
+given (Some A) = 1
+
+-- from the table `old` the production n came to `new`, where `Closed` says under which productions a table is closed: n is one of
+-- them from then on, and the others still are, but for those that name the rule that is told of; where one is, there is less room
+pub record TakesIn {X : Type 0} (G : Grammar) (room : X → ℕ) (Closed : X → ℕ → Type 0) (n : ℕ) (old new : X) (told : Option ℕ) : Type 0 where
+  pub within : (A : ℕ) → told ≡ Some A → A < G.rules
+  pub kept : (p : ℕ) → Closed old p → Closed new p ⊎ NamesGiven G p told
+  pub here : Closed new n ⊎ NamesGiven G n told
+  pub less : room new + given told ≤ room old

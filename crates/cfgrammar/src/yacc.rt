@@ -1,5 +1,6 @@
 //! Yacc grammars: what `cfg_read` reads of a text, and the grammar values made of it.
 
+mod by_prods;
 pub mod firsts;
 pub mod follows;
 pub mod from_ast;

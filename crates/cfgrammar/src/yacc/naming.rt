@@ -49,6 +49,13 @@ impl Naming {
         Ok(Naming { lists })
     }
 
+    /// How many rules there are.
+    pub fn len(&self) -> usize
+        ensures { result ≡ length self.now }
+    {
+        self.lists.len()
+    }
+
     /// The productions that name a rule.
     pub fn of(&self, rule: usize) -> &[usize]
         requires { rule < length self.now }

@@ -31,7 +31,7 @@ impl<S: IndexStorage> YaccGrammar<S> {
 }
 
 /// Puts a symbol into the set, where it is a rule, and says whether that changed the set.
-pub(crate) fn add_symbol<S: IndexStorage>(symbol: Symbol<S>, reached: &mut Vob) -> bool
+fn add_symbol<S: IndexStorage>(symbol: Symbol<S>, reached: &mut Vob) -> bool
     requires { HasPlace reached.old.bits (sym_of S.number symbol) }
     ensures bits { reached.new.bits ≡ with_rule reached.old.bits (sym_of S.number symbol) }
     ensures steps { PassStep missing (λ b. IsIn b (sym_of S.number symbol)) reached.old.bits reached.new.bits result }
@@ -42,8 +42,8 @@ pub(crate) fn add_symbol<S: IndexStorage>(symbol: Symbol<S>, reached: &mut Vob) 
     }
 }
 
-/// The same, where the rule waits from then on.
-fn reach<S: IndexStorage>(
+/// Puts a symbol into the set, where it is a rule. That waits from then on, where it wasn't there.
+pub(crate) fn reach<S: IndexStorage>(
     symbol: Symbol<S>,
     reached: &mut Vob,
     work: &mut WorkList,

@@ -111,8 +111,9 @@ impl<'a, S: IndexStorage> SentenceGenerator<'a, S> {
         ensures costs { IfOk result (λ s. s.costs ≡ costs.items) }
     {
         let tokens = TokenCosts::new(grm, costs);
-        let (unbounded, greatest) = greatest_tables(alloc, &tokens)?;
-        let least = LeastCosts::new(alloc, tokens)?;
+        let naming = tokens.naming(alloc)?;
+        let (unbounded, greatest) = greatest_tables(alloc, &tokens, &naming)?;
+        let least = LeastCosts::new(alloc, tokens, &naming)?;
         Ok(SentenceGenerator {
             least,
             unbounded,

@@ -8,7 +8,7 @@ ghost use Rattle.std.specs.Prelude.{◌≡◌, ℕ, ◌<◌, ◌≤◌, ◌↔�
 ghost use Rattle.cfg_theory.specs.Productive.{RulesIn};
 ghost use Rattle.cfg_theory.specs.Cost.{cost};
 ghost use Rattle.cfgrammar.specs.Symbols.{syms_of};
-ghost use Rattle.cfgrammar.specs.Passes.{PassStep, Anything};
+ghost use Rattle.cfgrammar.specs.WorkLists.{TakesIn};
 ghost use Rattle.cfgrammar.specs.CostTable.{bound, cost_of, cost_in};
 ghost use Rattle.cfgrammar.specs.TokenLists.{tokens_of};
 ghost use Rattle.cfgrammar.specs.CheapestTable.{ListsAreRefused, IsFirstCheapest};
@@ -19,9 +19,9 @@ use super::needed::wanted_rules;
 use super::token_costs::BOUND;
 use super::token_lists::{append, is_before};
 use super::{SentenceError, SentenceGenerator};
-use crate::yacc::grammar::index_of;
+use crate::yacc::by_prods::{ByProds, ProdTable, close_by_prods};
 use cfg_base::index::IndexStorage;
-use cfg_base::symbol::{PIdx, RIdx, Symbol, TIdx};
+use cfg_base::symbol::{RIdx, Symbol, TIdx};
 use cfg_theory::cost::{
     cheap_lists_are_short, cheapest_lists_of_wanted_rules, first_cheapest_lists_of_wanted_rules,
     productive_rules_have_least_costs,
@@ -126,20 +126,20 @@ fn comes_first<S: IndexStorage>(list: &[TIdx<S>], kept: &Option<Vec<TIdx<S>>>) -
     }
 }
 
-/// Takes in one production, and says whether it gave a list that comes first.
+/// Takes in one production, and gives its rule where that has a list that comes first by it.
 fn take_prod<S: IndexStorage>(
     alloc: Global,
     least: &LeastCosts<S>,
     wanted: &Vob,
-    pidx: PIdx<S>,
+    number: usize,
     table: &mut Vec<Option<Vec<TIdx<S>>>>,
-) -> Result<bool, AllocError>
-    requires production { S.number pidx.0 < length least.now.grammar.productions }
+) -> Result<Option<usize>, AllocError>
+    requires production { number < length least.now.grammar.productions }
     requires costly { (t : ℕ) → t < length least.now.costs → 1 ≤ cost_of least.now.costs t }
     requires width { length wanted.now.bits ≡ least.now.grammar.rules }
     requires lists { AreFound least.now.grammar (cost_of least.now.costs) least.now.table (found_lists S.number table.old.items) }
     ensures lists { IfOk result (λ _. AreFound least.now.grammar (cost_of least.now.costs) least.now.table (found_lists S.number table.new.items)) }
-    ensures steps { IfOk result (λ b. PassStep (room_in least.now.grammar.tokens) (IsTakenIn least.now.grammar (cost_of least.now.costs) least.now.table wanted.now.bits (S.number pidx.0)) (found_lists S.number table.old.items) (found_lists S.number table.new.items) b) }
+    ensures takes { IfOk result (λ o. TakesIn least.now.grammar (room_in least.now.grammar.tokens) (λ t p. IsTakenIn least.now.grammar (cost_of least.now.costs) least.now.table wanted.now.bits p t) number (found_lists S.number table.old.items) (found_lists S.number table.new.items) o) }
 {
     cheap_lists_are_short();
     cheapest_lists_of_wanted_rules();
@@ -147,82 +147,56 @@ fn take_prod<S: IndexStorage>(
     least.stays_well_formed();
     least.stays_least();
     least.token_costs();
+    let pidx = least.prod_at(number);
     let rule = least.prod_to_rule(pidx).0.to_usize();
     if !wanted.get_unchecked(rule) {
-        return Ok(false);
+        return Ok(None);
     }
     if !least.gives_least(pidx) {
-        return Ok(false);
+        return Ok(None);
     }
     let Some(list) = body_list(alloc, least.prod(pidx), table.as_slice())? else {
-        return Ok(false);
+        return Ok(None);
     };
     if !comes_first(list.as_slice(), &table[rule]) {
-        return Ok(false);
+        return Ok(None);
     }
     table[rule] = Some(list);
-    Ok(true)
+    Ok(Some(rule))
 }
 
-/// Takes in each production once, and says whether one gave a list that comes first.
-fn pass<S: IndexStorage>(
+/// The first lists of wanted rules, as they are found.
+#[derive(Drop)]
+struct Finding<'t, 'a, S: IndexStorage> {
     alloc: Global,
-    least: &LeastCosts<S>,
-    wanted: &Vob,
-    table: &mut Vec<Option<Vec<TIdx<S>>>>,
-) -> Result<bool, AllocError>
-    requires costly { (t : ℕ) → t < length least.now.costs → 1 ≤ cost_of least.now.costs t }
-    requires width { length wanted.now.bits ≡ least.now.grammar.rules }
-    requires lists { AreFound least.now.grammar (cost_of least.now.costs) least.now.table (found_lists S.number table.old.items) }
-    ensures lists { IfOk result (λ _. AreFound least.now.grammar (cost_of least.now.costs) least.now.table (found_lists S.number table.new.items)) }
-    ensures steps { IfOk result (λ b. PassStep (room_in least.now.grammar.tokens) (λ t. (p : ℕ) → p < length least.now.grammar.productions → IsTakenIn least.now.grammar (cost_of least.now.costs) least.now.table wanted.now.bits p t) (found_lists S.number table.old.items) (found_lists S.number table.new.items) b) }
-{
-    let mut changed = false;
-    'prods: for number in 0..least.prods_len().0.to_usize() {
-        let pidx = PIdx(index_of(number));
-        changed |= take_prod(alloc, least, wanted, pidx, table)?;
+    least: &'t LeastCosts<'a, S>,
+    wanted: &'t Vob,
+    lists: Vec<Option<Vec<TIdx<S>>>>,
+}
+
+impl<'t, 'a, S: IndexStorage> ProdTable for Finding<'t, 'a, S> {
+    ghost use Rattle.std.specs.Prelude.{◌≡◌, ℕ, ◌<◌, ◌≤◌, length, refl};
+    ghost use Rattle.std.proofs.Common.{◌∙◌};
+    ghost use Rattle.cfgrammar.specs.CostTable.{cost_of};
+    ghost use Rattle.cfgrammar.specs.EarliestTable.{found_lists, AreFound, IsTakenIn, room_in};
+
+    ghost grammar = { λ s. s.least.now.grammar };
+
+    ghost is_sound = { λ s. ((t : ℕ) → t < length s.least.now.costs → 1 ≤ cost_of s.least.now.costs t) × (length s.wanted.now.bits ≡ s.least.now.grammar.rules) × AreFound s.least.now.grammar (cost_of s.least.now.costs) s.least.now.table (found_lists S.number s.lists.items) };
+
+    ghost room = { λ s. room_in s.least.now.grammar.tokens (found_lists S.number s.lists.items) };
+
+    ghost is_closed_by = { λ s p. IsTakenIn s.least.now.grammar (cost_of s.least.now.costs) s.least.now.table s.wanted.now.bits p (found_lists S.number s.lists.items) };
+
+    ghost is_of_same = { λ s t. (t.least.now ≡ s.least.now) × (t.wanted.now ≡ s.wanted.now) };
+
+    ghost same_refl = { λ s. (refl, refl) };
+
+    ghost same_trans = { λ s t u h k. (k.0 ∙ h.0, k.1 ∙ h.1) };
+
+    fn take_prod(&mut self, number: usize) -> Result<Option<usize>, AllocError> {
+        take_prod(self.alloc, self.least, self.wanted, number, &mut self.lists)
     }
-    Ok(changed)
-}
-
-/// The same, from the last production to the first.
-fn pass_back<S: IndexStorage>(
-    alloc: Global,
-    least: &LeastCosts<S>,
-    wanted: &Vob,
-    table: &mut Vec<Option<Vec<TIdx<S>>>>,
-) -> Result<bool, AllocError>
-    requires costly { (t : ℕ) → t < length least.now.costs → 1 ≤ cost_of least.now.costs t }
-    requires width { length wanted.now.bits ≡ least.now.grammar.rules }
-    requires lists { AreFound least.now.grammar (cost_of least.now.costs) least.now.table (found_lists S.number table.old.items) }
-    ensures lists { IfOk result (λ _. AreFound least.now.grammar (cost_of least.now.costs) least.now.table (found_lists S.number table.new.items)) }
-    ensures steps { IfOk result (λ b. PassStep (room_in least.now.grammar.tokens) Anything (found_lists S.number table.old.items) (found_lists S.number table.new.items) b) }
-{
-    let count = least.prods_len().0.to_usize();
-    let mut changed = false;
-    'prods: for number in 0..count {
-        let pidx = PIdx(index_of(count - 1 - number));
-        changed |= take_prod(alloc, least, wanted, pidx, table)?;
-    }
-    Ok(changed)
-}
-
-/// Both: lists of later rules, and of earlier ones, are then taken in at once.
-fn sweep<S: IndexStorage>(
-    alloc: Global,
-    least: &LeastCosts<S>,
-    wanted: &Vob,
-    table: &mut Vec<Option<Vec<TIdx<S>>>>,
-) -> Result<bool, AllocError>
-    requires costly { (t : ℕ) → t < length least.now.costs → 1 ≤ cost_of least.now.costs t }
-    requires width { length wanted.now.bits ≡ least.now.grammar.rules }
-    requires lists { AreFound least.now.grammar (cost_of least.now.costs) least.now.table (found_lists S.number table.old.items) }
-    ensures lists { IfOk result (λ _. AreFound least.now.grammar (cost_of least.now.costs) least.now.table (found_lists S.number table.new.items)) }
-    ensures steps { IfOk result (λ b. PassStep (room_in least.now.grammar.tokens) (λ t. (p : ℕ) → p < length least.now.grammar.productions → IsTakenIn least.now.grammar (cost_of least.now.costs) least.now.table wanted.now.bits p t) (found_lists S.number table.old.items) (found_lists S.number table.new.items) b) }
-{
-    let back = pass_back(alloc, least, wanted, table)?;
-    let on = pass(alloc, least, wanted, table)?;
-    Ok(back | on)
 }
 
 fn no_lists<S: IndexStorage>(
@@ -249,11 +223,16 @@ fn first_lists<S: IndexStorage>(
     ensures lists { IfOk result (λ v. AreFound least.now.grammar (cost_of least.now.costs) least.now.table (found_lists S.number v.items)) }
     ensures taken_in { IfOk result (λ v. (p : ℕ) → p < length least.now.grammar.productions → IsTakenIn least.now.grammar (cost_of least.now.costs) least.now.table wanted.now.bits p (found_lists S.number v.items)) }
 {
-    let mut table = no_lists(alloc, least.rules_len().0.to_usize())?;
-    'passes: loop {
-        let changed = sweep(alloc, least, wanted, &mut table)?;
-        if !changed {
-            return Ok(table);
-        }
-    }
+    let naming = least.naming(alloc)?;
+    let lists = no_lists(alloc, least.rules_len().0.to_usize())?;
+    let table = Finding {
+        alloc,
+        least,
+        wanted,
+        lists,
+    };
+    let naming = &naming;
+    let mut filling = ByProds { table, naming };
+    close_by_prods(alloc, least.prods_len().0.to_usize(), &mut filling)?;
+    Ok(filling.table.lists)
 }

@@ -1,15 +1,17 @@
-//! Least costs, by passes that lower them.
+//! Least costs, by productions that lower them.
 
 ghost use Rattle.std.specs.Prelude.{◌≡◌, ℕ, ◌<◌, ◌↔◌, IsTrue, IfOk, MatchOption, List, length, replicate, None, Some};
 ghost use Rattle.cfg_theory.specs.Grammar.{Grammar, WellFormed, head_of, body_of};
-ghost use Rattle.cfgrammar.specs.Symbols.{syms_of};
+ghost use Rattle.cfgrammar.specs.Symbols.{syms_of, numbers_of};
+ghost use Rattle.cfgrammar.specs.Value.{productions_of};
 ghost use Rattle.cfgrammar.specs.Sentences.{CostedTable};
 ghost use Rattle.cfgrammar.specs.CostTable.{cost_of, cost_in, IsCost, HasNoCost, AreCosts, IsClosedBy, fall, IsLess};
-ghost use Rattle.cfgrammar.specs.Passes.{PassStep, Anything};
+ghost use Rattle.cfgrammar.specs.WorkLists.{ListsNaming, TakesIn};
 ghost use Rattle.cfgrammar.specs.CheapestTable.{GivesLeast};
 
 use super::token_costs::{BOUND, TokenCosts};
-use crate::yacc::grammar::index_of;
+use crate::yacc::by_prods::{ByProds, ProdTable, close_by_prods};
+use crate::yacc::naming::Naming;
 use cfg_base::index::IndexStorage;
 use cfg_base::symbol::{PIdx, RIdx, Symbol};
 use std::alloc::{AllocError, Global};
@@ -38,11 +40,16 @@ impl<'a, S: IndexStorage> Model for LeastCosts<'a, S> {
 
 impl<'a, S: IndexStorage> LeastCosts<'a, S> {
     /// Computes the least costs.
-    pub fn new(alloc: Global, tokens: TokenCosts<'a, S>) -> Result<Self, AllocError>
+    pub fn new(
+        alloc: Global,
+        tokens: TokenCosts<'a, S>,
+        naming: &Naming,
+    ) -> Result<Self, AllocError>
+        requires naming { ListsNaming tokens.grammar (length tokens.grammar.productions) naming.now }
         ensures grammar { IfOk result (λ s. s.grammar ≡ tokens.entry.grammar) }
         ensures costs { IfOk result (λ s. s.costs ≡ tokens.entry.costs) }
     {
-        let least = least_costs(alloc, &tokens)?;
+        let least = least_costs(alloc, &tokens, naming)?;
         Ok(LeastCosts { tokens, least })
     }
 
@@ -79,6 +86,33 @@ impl<'a, S: IndexStorage> LeastCosts<'a, S> {
         ensures { S.number result.0 ≡ self.now.grammar.rules }
     {
         self.tokens.rules_len()
+    }
+
+    pub fn rule_at(&self, number: usize) -> RIdx<S>
+        requires { number < self.now.grammar.rules }
+        ensures { S.number result.0 ≡ number }
+    {
+        self.tokens.rule_at(number)
+    }
+
+    pub fn prod_at(&self, number: usize) -> PIdx<S>
+        requires { number < length self.now.grammar.productions }
+        ensures { S.number result.0 ≡ number }
+    {
+        self.tokens.prod_at(number)
+    }
+
+    pub fn naming(&self, alloc: Global) -> Result<Naming, AllocError>
+        ensures { IfOk result (λ n. ListsNaming self.now.grammar (length self.now.grammar.productions) n) }
+    {
+        self.tokens.naming(alloc)
+    }
+
+    pub fn rule_to_prods(&self, ridx: RIdx<S>) -> &[PIdx<S>]
+        requires { S.number ridx.0 < self.now.grammar.rules }
+        ensures { numbers_of S.number result.now ≡ productions_of self.now.grammar (S.number ridx.0) }
+    {
+        self.tokens.rule_to_prods(ridx)
     }
 
     pub fn prod(&self, pidx: PIdx<S>) -> &[Symbol<S>]
@@ -138,65 +172,59 @@ fn is_less(new: u32, old: Option<u32>) -> bool
     }
 }
 
-/// Takes in one production, and says whether that made its rule cheaper.
+/// Takes in one production, and gives its rule where that made it cheaper.
 fn take_prod<S: IndexStorage>(
     tokens: &TokenCosts<S>,
-    pidx: PIdx<S>,
+    number: usize,
     least: &mut Vec<Option<u32>>,
-) -> bool
-    requires production { S.number pidx.0 < length tokens.now.grammar.productions }
+) -> Option<usize>
+    requires production { number < length tokens.now.grammar.productions }
     requires costs { AreCosts tokens.now.grammar (cost_of tokens.now.costs) least.old.items }
     ensures costs { AreCosts tokens.now.grammar (cost_of tokens.now.costs) least.new.items }
-    ensures steps { PassStep fall (IsClosedBy tokens.now.grammar (cost_of tokens.now.costs) (S.number pidx.0)) least.old.items least.new.items result }
+    ensures takes { TakesIn tokens.now.grammar fall (λ t p. IsClosedBy tokens.now.grammar (cost_of tokens.now.costs) p t) number least.old.items least.new.items result }
 {
     tokens.stays_well_formed();
+    let pidx = tokens.prod_at(number);
     let Some(new) = tokens.body_cost(pidx, least.as_slice()) else {
-        return false;
+        return None;
     };
     let rule = tokens.prod_to_rule(pidx).0.to_usize();
     if !is_less(new, least[rule]) {
-        return false;
+        return None;
     }
     least[rule] = Some(new);
-    true
+    Some(rule)
 }
 
-/// Takes in each production once, and says whether that made a rule cheaper.
-fn pass<S: IndexStorage>(tokens: &TokenCosts<S>, least: &mut Vec<Option<u32>>) -> bool
-    requires costs { AreCosts tokens.now.grammar (cost_of tokens.now.costs) least.old.items }
-    ensures costs { AreCosts tokens.now.grammar (cost_of tokens.now.costs) least.new.items }
-    ensures steps { PassStep fall (λ t. (p : ℕ) → p < length tokens.now.grammar.productions → IsClosedBy tokens.now.grammar (cost_of tokens.now.costs) p t) least.old.items least.new.items result }
-{
-    let mut changed = false;
-    'prods: for number in 0..tokens.prods_len().0.to_usize() {
-        changed |= take_prod(tokens, PIdx(index_of(number)), least);
+/// Least costs, as they are lowered.
+#[derive(Drop)]
+struct Lowering<'t, 'a, S: IndexStorage> {
+    tokens: &'t TokenCosts<'a, S>,
+    least: Vec<Option<u32>>,
+}
+
+impl<'t, 'a, S: IndexStorage> ProdTable for Lowering<'t, 'a, S> {
+    ghost use Rattle.std.specs.Prelude.{◌≡◌, refl};
+    ghost use Rattle.std.proofs.Common.{◌∙◌};
+    ghost use Rattle.cfgrammar.specs.CostTable.{cost_of, AreCosts, IsClosedBy, fall};
+
+    ghost grammar = { λ s. s.tokens.now.grammar };
+
+    ghost is_sound = { λ s. AreCosts s.tokens.now.grammar (cost_of s.tokens.now.costs) s.least.items };
+
+    ghost room = { λ s. fall s.least.items };
+
+    ghost is_closed_by = { λ s p. IsClosedBy s.tokens.now.grammar (cost_of s.tokens.now.costs) p s.least.items };
+
+    ghost is_of_same = { λ s t. t.tokens.now ≡ s.tokens.now };
+
+    ghost same_refl = { λ s. refl };
+
+    ghost same_trans = { λ s t u h k. k ∙ h };
+
+    fn take_prod(&mut self, number: usize) -> Result<Option<usize>, AllocError> {
+        Ok(take_prod(self.tokens, number, &mut self.least))
     }
-    changed
-}
-
-/// The same, from the last production to the first.
-fn pass_back<S: IndexStorage>(tokens: &TokenCosts<S>, least: &mut Vec<Option<u32>>) -> bool
-    requires costs { AreCosts tokens.now.grammar (cost_of tokens.now.costs) least.old.items }
-    ensures costs { AreCosts tokens.now.grammar (cost_of tokens.now.costs) least.new.items }
-    ensures steps { PassStep fall Anything least.old.items least.new.items result }
-{
-    let count = tokens.prods_len().0.to_usize();
-    let mut changed = false;
-    'prods: for number in 0..count {
-        changed |= take_prod(tokens, PIdx(index_of(count - 1 - number)), least);
-    }
-    changed
-}
-
-/// Both: names of later rules, and of earlier ones, are then taken in at once.
-fn sweep<S: IndexStorage>(tokens: &TokenCosts<S>, least: &mut Vec<Option<u32>>) -> bool
-    requires costs { AreCosts tokens.now.grammar (cost_of tokens.now.costs) least.old.items }
-    ensures costs { AreCosts tokens.now.grammar (cost_of tokens.now.costs) least.new.items }
-    ensures steps { PassStep fall (λ t. (p : ℕ) → p < length tokens.now.grammar.productions → IsClosedBy tokens.now.grammar (cost_of tokens.now.costs) p t) least.old.items least.new.items result }
-{
-    let back = pass_back(tokens, least);
-    let on = pass(tokens, least);
-    back | on
 }
 
 pub(super) fn no_costs(alloc: Global, rules: usize) -> Result<Vec<Option<u32>>, AllocError>
@@ -213,14 +241,15 @@ pub(super) fn no_costs(alloc: Global, rules: usize) -> Result<Vec<Option<u32>>, 
 fn least_costs<S: IndexStorage>(
     alloc: Global,
     tokens: &TokenCosts<S>,
+    naming: &Naming,
 ) -> Result<Vec<Option<u32>>, AllocError>
+    requires naming { ListsNaming tokens.now.grammar (length tokens.now.grammar.productions) naming.now }
     ensures costs { IfOk result (λ v. AreCosts tokens.now.grammar (cost_of tokens.now.costs) v.items) }
     ensures closed { IfOk result (λ v. (p : ℕ) → p < length tokens.now.grammar.productions → IsClosedBy tokens.now.grammar (cost_of tokens.now.costs) p v.items) }
 {
-    let mut least = no_costs(alloc, tokens.rules_len().0.to_usize())?;
-    'passes: loop {
-        if !sweep(tokens, &mut least) {
-            return Ok(least);
-        }
-    }
+    let least = no_costs(alloc, tokens.rules_len().0.to_usize())?;
+    let table = Lowering { tokens, least };
+    let mut filling = ByProds { table, naming };
+    close_by_prods(alloc, tokens.prods_len().0.to_usize(), &mut filling)?;
+    Ok(filling.table.least)
 }

@@ -1,11 +1,11 @@
-//! Greatest costs, by passes that raise them.
+//! Greatest costs, by productions that raise them.
 
 ghost use Rattle.std.specs.Prelude.{◌≡◌, ℕ, ◌<◌, ◌≤◌, ◌↔◌, IsTrue, IfOk, IfErr, MatchOption, length, min, None, Some};
 ghost use Rattle.cfg_theory.specs.Cost.{IsGreatestCost, IsUnbounded};
 ghost use Rattle.cfg_theory.specs.Greatest.{IsKeptTable};
 ghost use Rattle.cfgrammar.specs.CostTable.{bound, cost_of, cost_in};
 ghost use Rattle.cfgrammar.specs.Sets.{is_set};
-ghost use Rattle.cfgrammar.specs.Passes.{PassStep, Anything};
+ghost use Rattle.cfgrammar.specs.WorkLists.{ListsNaming, TakesIn};
 ghost use Rattle.cfgrammar.specs.Greatest.{AreRaised, IsRaisedBy, IsMore, rise, AreGreatest, GreatestIsRefused};
 
 use super::kept_costs::KeptCosts;
@@ -13,9 +13,10 @@ use super::least::no_costs;
 use super::token_costs::{BOUND, TokenCosts};
 use super::unbounded::unbounded_rules;
 use super::{CostError, SentenceGenerator};
-use crate::yacc::grammar::index_of;
+use crate::yacc::by_prods::{ByProds, ProdTable, close_by_prods};
+use crate::yacc::naming::Naming;
 use cfg_base::index::IndexStorage;
-use cfg_base::symbol::{PIdx, RIdx};
+use cfg_base::symbol::RIdx;
 use cfg_theory::cost::{bounded_rules_have_greatest_costs, kept_tables_are_exact};
 use std::alloc::{AllocError, Global};
 use vob::Vob;
@@ -47,14 +48,16 @@ impl<'a, S: IndexStorage> SentenceGenerator<'a, S> {
 pub(super) fn greatest_tables<S: IndexStorage>(
     alloc: Global,
     tokens: &TokenCosts<S>,
+    naming: &Naming,
 ) -> Result<(Vob, Vec<Option<u32>>), AllocError>
+    requires naming { ListsNaming tokens.now.grammar (length tokens.now.grammar.productions) naming.now }
     ensures { IfOk result (λ r. AreGreatest tokens.now.grammar (cost_of tokens.now.costs) r.0.bits r.1.items) }
 {
     let none = Vob::from_elem(alloc, false, tokens.rules_len().0.to_usize())?;
-    let table = greatest_costs(alloc, tokens, &none, 1)?;
+    let table = greatest_costs(alloc, tokens, naming, &none, 1)?;
     let costly = KeptCosts::new(tokens, table);
     let unbounded = unbounded_rules(alloc, &costly)?;
-    let greatest = greatest_costs(alloc, tokens, &unbounded, BOUND)?;
+    let greatest = greatest_costs(alloc, tokens, naming, &unbounded, BOUND)?;
     Ok((unbounded, greatest))
 }
 
@@ -76,118 +79,95 @@ fn at_most(cost: u32, top: u32) -> u32
     cost
 }
 
-/// Takes in one production of a rule that isn't skipped, and says whether that made the rule dearer.
+/// Takes in one production of a rule that isn't skipped, and gives the rule where that made it dearer.
 fn take_prod<S: IndexStorage>(
     tokens: &TokenCosts<S>,
     skipped: &Vob,
     top: u32,
-    pidx: PIdx<S>,
+    number: usize,
     greatest: &mut Vec<Option<u32>>,
-) -> bool
-    requires production { S.number pidx.0 < length tokens.now.grammar.productions }
+) -> Option<usize>
+    requires production { number < length tokens.now.grammar.productions }
     requires rules { length skipped.now.bits ≡ tokens.now.grammar.rules }
     requires top { top ≤ bound }
     requires costs { AreRaised tokens.now.grammar (cost_of tokens.now.costs) top greatest.old.items }
     ensures costs { AreRaised tokens.now.grammar (cost_of tokens.now.costs) top greatest.new.items }
-    ensures steps { PassStep (rise top) (IsRaisedBy tokens.now.grammar (cost_of tokens.now.costs) top skipped.now.bits (S.number pidx.0)) greatest.old.items greatest.new.items result }
+    ensures takes { TakesIn tokens.now.grammar (rise top) (λ t p. IsRaisedBy tokens.now.grammar (cost_of tokens.now.costs) top skipped.now.bits p t) number greatest.old.items greatest.new.items result }
 {
     tokens.stays_well_formed();
+    let pidx = tokens.prod_at(number);
     let rule = tokens.prod_to_rule(pidx).0.to_usize();
     if skipped.get_unchecked(rule) {
-        return false;
+        return None;
     }
     let Some(cost) = tokens.body_cost(pidx, greatest.as_slice()) else {
-        return false;
+        return None;
     };
     let new = at_most(cost, top);
     if !is_more(new, greatest[rule]) {
-        return false;
+        return None;
     }
     greatest[rule] = Some(new);
-    true
+    Some(rule)
 }
 
-/// Takes in each production once, and says whether that made a rule dearer.
-fn pass<S: IndexStorage>(
-    tokens: &TokenCosts<S>,
-    skipped: &Vob,
+/// Greatest costs of rules that aren't skipped, kept at `top`, as they are raised.
+#[derive(Drop)]
+struct Raising<'t, 'a, S: IndexStorage> {
+    tokens: &'t TokenCosts<'a, S>,
+    skipped: &'t Vob,
     top: u32,
-    greatest: &mut Vec<Option<u32>>,
-) -> bool
-    requires rules { length skipped.now.bits ≡ tokens.now.grammar.rules }
-    requires top { top ≤ bound }
-    requires costs { AreRaised tokens.now.grammar (cost_of tokens.now.costs) top greatest.old.items }
-    ensures costs { AreRaised tokens.now.grammar (cost_of tokens.now.costs) top greatest.new.items }
-    ensures steps { PassStep (rise top) (λ t. (p : ℕ) → p < length tokens.now.grammar.productions → IsRaisedBy tokens.now.grammar (cost_of tokens.now.costs) top skipped.now.bits p t) greatest.old.items greatest.new.items result }
-{
-    let mut changed = false;
-    'prods: for number in 0..tokens.prods_len().0.to_usize() {
-        changed |= take_prod(tokens, skipped, top, PIdx(index_of(number)), greatest);
+    greatest: Vec<Option<u32>>,
+}
+
+impl<'t, 'a, S: IndexStorage> ProdTable for Raising<'t, 'a, S> {
+    ghost use Rattle.std.specs.Prelude.{◌≡◌, ◌≤◌, length, refl};
+    ghost use Rattle.std.proofs.Common.{◌∙◌};
+    ghost use Rattle.cfgrammar.specs.CostTable.{bound, cost_of};
+    ghost use Rattle.cfgrammar.specs.Greatest.{AreRaised, IsRaisedBy, rise};
+
+    ghost grammar = { λ s. s.tokens.now.grammar };
+
+    ghost is_sound = { λ s. (length s.skipped.now.bits ≡ s.tokens.now.grammar.rules) × (s.top ≤ bound) × AreRaised s.tokens.now.grammar (cost_of s.tokens.now.costs) s.top s.greatest.items };
+
+    ghost room = { λ s. rise s.top s.greatest.items };
+
+    ghost is_closed_by = { λ s p. IsRaisedBy s.tokens.now.grammar (cost_of s.tokens.now.costs) s.top s.skipped.now.bits p s.greatest.items };
+
+    ghost is_of_same = { λ s t. (t.tokens.now ≡ s.tokens.now) × (t.skipped.now ≡ s.skipped.now) × (t.top ≡ s.top) };
+
+    ghost same_refl = { λ s. (refl, refl, refl) };
+
+    ghost same_trans = { λ s t u h k. (k.0 ∙ h.0, k.1 ∙ h.1, k.2 ∙ h.2) };
+
+    fn take_prod(&mut self, number: usize) -> Result<Option<usize>, AllocError> {
+        let (tokens, skipped) = (self.tokens, self.skipped);
+        Ok(take_prod(tokens, skipped, self.top, number, &mut self.greatest))
     }
-    changed
-}
-
-/// The same, from the last production to the first.
-fn pass_back<S: IndexStorage>(
-    tokens: &TokenCosts<S>,
-    skipped: &Vob,
-    top: u32,
-    greatest: &mut Vec<Option<u32>>,
-) -> bool
-    requires rules { length skipped.now.bits ≡ tokens.now.grammar.rules }
-    requires top { top ≤ bound }
-    requires costs { AreRaised tokens.now.grammar (cost_of tokens.now.costs) top greatest.old.items }
-    ensures costs { AreRaised tokens.now.grammar (cost_of tokens.now.costs) top greatest.new.items }
-    ensures steps { PassStep (rise top) Anything greatest.old.items greatest.new.items result }
-{
-    let count = tokens.prods_len().0.to_usize();
-    let mut changed = false;
-    'prods: for number in 0..count {
-        changed |= take_prod(
-            tokens,
-            skipped,
-            top,
-            PIdx(index_of(count - 1 - number)),
-            greatest,
-        );
-    }
-    changed
-}
-
-/// Both: names of later rules, and of earlier ones, are then taken in at once.
-fn sweep<S: IndexStorage>(
-    tokens: &TokenCosts<S>,
-    skipped: &Vob,
-    top: u32,
-    greatest: &mut Vec<Option<u32>>,
-) -> bool
-    requires rules { length skipped.now.bits ≡ tokens.now.grammar.rules }
-    requires top { top ≤ bound }
-    requires costs { AreRaised tokens.now.grammar (cost_of tokens.now.costs) top greatest.old.items }
-    ensures costs { AreRaised tokens.now.grammar (cost_of tokens.now.costs) top greatest.new.items }
-    ensures steps { PassStep (rise top) (λ t. (p : ℕ) → p < length tokens.now.grammar.productions → IsRaisedBy tokens.now.grammar (cost_of tokens.now.costs) top skipped.now.bits p t) greatest.old.items greatest.new.items result }
-{
-    let back = pass_back(tokens, skipped, top, greatest);
-    let on = pass(tokens, skipped, top, greatest);
-    back | on
 }
 
 /// The greatest costs of the rules that aren't skipped, kept at `top`.
 fn greatest_costs<S: IndexStorage>(
     alloc: Global,
     tokens: &TokenCosts<S>,
+    naming: &Naming,
     skipped: &Vob,
     top: u32,
 ) -> Result<Vec<Option<u32>>, AllocError>
+    requires naming { ListsNaming tokens.now.grammar (length tokens.now.grammar.productions) naming.now }
     requires rules { length skipped.now.bits ≡ tokens.now.grammar.rules }
     requires top { top ≤ bound }
     ensures count { IfOk result (λ v. length v.items ≡ tokens.now.grammar.rules) }
     ensures table { IfOk result (λ v. IsKeptTable tokens.now.grammar (cost_of tokens.now.costs) top (is_set skipped.now.bits) (cost_in v.items)) }
 {
-    let mut greatest = no_costs(alloc, tokens.rules_len().0.to_usize())?;
-    'passes: loop {
-        if !sweep(tokens, skipped, top, &mut greatest) {
-            return Ok(greatest);
-        }
-    }
+    let greatest = no_costs(alloc, tokens.rules_len().0.to_usize())?;
+    let table = Raising {
+        tokens,
+        skipped,
+        top,
+        greatest,
+    };
+    let mut filling = ByProds { table, naming };
+    close_by_prods(alloc, tokens.prods_len().0.to_usize(), &mut filling)?;
+    Ok(filling.table.greatest)
 }

@@ -1,15 +1,18 @@
 //! A grammar with a cost for each of its tokens, and costs of lists of symbols.
 
-ghost use Rattle.std.specs.Prelude.{◌≡◌, ℕ, ◌+◌, ◌<◌, ◌≤◌, IfSome, MatchOption, length, min};
+ghost use Rattle.std.specs.Prelude.{◌≡◌, ℕ, ◌+◌, ◌<◌, ◌≤◌, IfOk, IfSome, MatchOption, length, min};
 ghost use Rattle.cfg_theory.specs.Grammar.{Grammar, WellFormed, head_of, body_of};
 ghost use Rattle.cfgrammar.specs.Symbols.{sym_of, syms_of, numbers_of};
 ghost use Rattle.cfgrammar.specs.Value.{productions_of};
 ghost use Rattle.cfgrammar.specs.Sentences.{Costed};
+ghost use Rattle.cfgrammar.specs.WorkLists.{ListsNaming};
 ghost use Rattle.cfgrammar.specs.CostTable.{bound, cost_of, cost_at, HasCost, AllHaveCosts, AreCapped, IsCost, HasNoCost};
 
 use crate::yacc::grammar::YaccGrammar;
+use crate::yacc::naming::Naming;
 use cfg_base::index::IndexStorage;
 use cfg_base::symbol::{PIdx, RIdx, Symbol};
+use std::alloc::{AllocError, Global};
 use std::marker::Model;
 
 /// A grammar with a cost for each of its tokens.
@@ -55,6 +58,13 @@ impl<'a, S: IndexStorage> TokenCosts<'a, S> {
         self.grm.stays_well_formed();
     }
 
+    /// For each rule the productions that name it.
+    pub fn naming(&self, alloc: Global) -> Result<Naming, AllocError>
+        ensures { IfOk result (λ n. ListsNaming self.now.grammar (length self.now.grammar.productions) n) }
+    {
+        Naming::new(alloc, self.grm)
+    }
+
     /// As of the grammar, and so the next ones.
     pub fn prods_len(&self) -> PIdx<S>
         ensures { S.number result.0 ≡ length self.now.grammar.productions }
@@ -66,6 +76,22 @@ impl<'a, S: IndexStorage> TokenCosts<'a, S> {
         ensures { S.number result.0 ≡ self.now.grammar.rules }
     {
         self.grm.rules_len()
+    }
+
+    /// The rule of a number.
+    pub fn rule_at(&self, number: usize) -> RIdx<S>
+        requires { number < self.now.grammar.rules }
+        ensures { S.number result.0 ≡ number }
+    {
+        self.grm.rule_at(number)
+    }
+
+    /// The production of a number.
+    pub fn prod_at(&self, number: usize) -> PIdx<S>
+        requires { number < length self.now.grammar.productions }
+        ensures { S.number result.0 ≡ number }
+    {
+        self.grm.prod_at(number)
     }
 
     pub fn prod(&self, pidx: PIdx<S>) -> &[Symbol<S>]

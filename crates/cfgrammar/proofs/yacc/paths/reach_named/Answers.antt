@@ -50,7 +50,7 @@ symbols-preserved g c =
       width = ap length h.bits ∙ with_width old X ∙ inv.width;
       sound = subst (AreReached G A) (sym h.bits) (with_reached G A p c.requires.production c.args.reached.now.bits c.requires.sound c.requires.reached d X old at place inv.sound);
       went = went_more G A X old new c.symbols.work c.reach.new.work place h c.args.reached.now.bits c.args.work.now inv.went;
-      named = named_next G A X old new c.symbols.work c.reach.new.work place h p d at inv.named;
+      named = named_next X old new c.symbols.work c.reach.new.work place h G p d at inv.named;
     }
 
 pub returns-clause-here : goal.returns-clause-here

@@ -1,19 +1,34 @@
-use Rattle.std.proofs.Common.{◌≡◌, ℕ, ◌<◌, List, Option, length, ◌∙◌}
+use Rattle.std.proofs.Common.{◌≡◌, ℕ, ◌<◌, length, sym, ◌∙◌, subst}
+use Rattle.cfgrammar.specs.WorkLists.{ListsNaming}
 use Rattle.cfgrammar.specs.CostTable.{cost_of}
-use Rattle.cfgrammar.specs.EarliestTable.{found_lists, IsTakenIn, room_in}
-use Rattle.cfgrammar.proofs.Passed.{done}
+use Rattle.cfgrammar.specs.EarliestTable.{found_lists, AreFound, IsTakenIn}
 use Rattle.cfgrammar.proofs.EarliestSteps.{none_found}
 use Rattle.cfgrammar.proofs.yacc.sentences.first_cheapest.first_lists.Goals as goal
 
-pub passes-init : goal.passes-init
-passes-init g c =
-    let G = c.args.least.now.grammar in
-    let number = g.S.IndexStorage.number in
-    let n : c.to_usize.result ≡ G.rules = c.to_usize.ensures.value ∙ c.rules_len.ensures in
-    none_found number G (cost_of c.args.least.now.costs) c.args.least.now.table c.to_usize.result c.in_ok-table.table.items n c.in_ok-table.ensures
+pub close_by_prods-requires-clause-naming : goal.close_by_prods-requires-clause-naming
+close_by_prods-requires-clause-naming g c =
+    let count : c.to_usize-2.result ≡ length c.args.least.now.grammar.productions = c.to_usize-2.ensures.value ∙ c.prods_len.ensures in
+    subst (λ (n : ℕ). ListsNaming c.args.least.now.grammar n c.in_ok-naming.naming) (sym count) c.in_ok-naming.ensures
 
-pub returns-then-not-changed-clause-taken_in : goal.returns-then-not-changed-clause-taken_in
-returns-then-not-changed-clause-taken_in g c =
+pub close_by_prods-requires-clause-sound : goal.close_by_prods-requires-clause-sound
+close_by_prods-requires-clause-sound g c =
     let G = c.args.least.now.grammar in
+    let n : c.to_usize.result ≡ G.rules = c.to_usize.ensures.value ∙ c.rules_len.ensures in
+    (c.requires.costly, c.requires.width, none_found g.S.IndexStorage.number G (cost_of c.args.least.now.costs) c.args.least.now.table c.to_usize.result c.in_ok-lists.lists.items n c.in_ok-lists.ensures)
+
+pub returns-clause-lists : goal.returns-clause-lists
+returns-clause-lists g c =
     let number = g.S.IndexStorage.number in
-    done (room_in G.tokens) (λ (t : List (Option (List ℕ))). (p : ℕ) → p < length G.productions → IsTakenIn G (cost_of c.args.least.now.costs) c.args.least.now.table c.args.wanted.now.bits p t) (found_lists number c.passes.table.items) (found_lists number c.sweep.new.table.items) c.in_ok-changed.changed c.if-not-changed.true c.in_ok-changed.ensures.steps
+    let t = c.close_by_prods.new.filling.table in
+    let h = c.in_ok-close_by_prods.ensures in
+    subst (λ v. AreFound v.grammar (cost_of v.costs) v.table (found_lists number t.lists.items)) h.same.0 h.sound.2
+
+pub returns-clause-taken_in : goal.returns-clause-taken_in
+returns-clause-taken_in g c = λ p lt.
+    let number = g.S.IndexStorage.number in
+    let t = c.close_by_prods.new.filling.table in
+    let h = c.in_ok-close_by_prods.ensures in
+    let least = t.least.now in
+    let count : c.to_usize-2.result ≡ length c.args.least.now.grammar.productions = c.to_usize-2.ensures.value ∙ c.prods_len.ensures in
+    subst (λ v. IsTakenIn v.grammar (cost_of v.costs) v.table c.args.wanted.now.bits p (found_lists number t.lists.items)) h.same.0
+    (subst (λ v. IsTakenIn least.grammar (cost_of least.costs) least.table v.bits p (found_lists number t.lists.items)) h.same.1 (h.closed p (subst (λ (n : ℕ). p < n) (sym count) lt)))

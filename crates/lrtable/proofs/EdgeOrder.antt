@@ -1,8 +1,8 @@
 -- The edges of a state in the order of their symbols: putting one among them.
-use Rattle.std.proofs.Common.{◌≡◌, ℕ, zero, suc, ◌<◌, ◌≤◌, inl, inr, Bool, true, false, cond, List, [], ◌∷◌, length, get_or, set, map, Some, None, nat_eq, refl, sym, ap, ap₂, ◌∙◌, subst, subst₂, arith, eqb-true}
+use Rattle.std.proofs.Common.{◌≡◌, ℕ, zero, suc, ◌+◌, ◌<◌, ◌≤◌, inl, inr, Bool, true, false, cond, List, [], ◌∷◌, length, get_or, set, map, Some, None, nat_eq, refl, sym, ap, ap₂, ◌∙◌, subst, subst₂, arith, eqb-true}
 use Rattle.std.specs.List.{insert, Contains}
 use Rattle.std.proofs.lemmas.Bool.{cases_Bool, cases_eq, cases_lt}
-use Rattle.std.proofs.lemmas.List.{get_or-set_same, get_or-set_other, length-set, length-map, map-set}
+use Rattle.std.proofs.lemmas.List.{get_or-set_same, get_or-set_other, length-set, length-map, map-set, get_or_default}
 use Rattle.cfg_theory.specs.Grammar.{Sym, rule, token}
 use Rattle.lr_theory.specs.Building.{same_symbol}
 use Rattle.lr_theory.proofs.Place.{same_symbol_true, same_symbol_refl, nat_eq_refl}
@@ -152,3 +152,19 @@ edge_here (x ∷ es) e a (zero, lt, at) = subst (λ (y : Edge). edge_in (x ∷ e
 edge_here (x ∷ es) e a (suc i, lt, at) =
     let later : SymBefore x.symbol e.symbol = subst (λ (y : Edge). SymBefore x.symbol y.symbol) at (a zero (suc i) e (omega arith) lt) in
     ap (λ b. cond b (Some x.target) (edge_in es e.symbol)) (after_differs x.symbol e.symbol later) ∙ edge_here es e (λ j k d l m. a (suc j) (suc k) d (omega (arith, l)) (omega (arith, m))) (i, omega (arith, lt), at)
+
+-- ---- where the edge on a symbol stands
+
+-- those before an edge on the symbol come before the symbol
+pub before_on : (es : List Edge) (i : ℕ) (X : Sym) → AscendEdges es → i < length es → ((d : Edge) → same_symbol (get_or es i d).symbol X ≡ true) → (k : ℕ) → k < i → (d : Edge) → SymBefore (get_or es k d).symbol X
+before_on es i X a lt on k below d = subst (SymBefore (get_or es k d).symbol) (same_symbol_true (get_or es i d).symbol X (on d)) (a k i d below lt)
+
+pub not_before_on : (es : List Edge) (i : ℕ) (X : Sym) → ((d : Edge) → same_symbol (get_or es i d).symbol X ≡ true) → (d : Edge) → SymBefore (get_or es i d).symbol X → ⊥
+not_before_on es i X on d h = never (sym (on d) ∙ before_differs (get_or es i d).symbol X h)
+
+-- where the last edge comes before the symbol all do
+pub last_before : (es : List Edge) (X : Sym) (last : ℕ) (d' : Edge) → AscendEdges es → length es ≡ last + 1 → SymBefore (get_or es last d').symbol X → (k : ℕ) → k < length es → (d : Edge) → SymBefore (get_or es k d).symbol X
+last_before es X last d' a n h k lt d = elim (cases_eq k last) [
+  | inl e ↦ subst (λ (x : Edge). SymBefore x.symbol X) (get_or_default es last d' d (omega (arith, n)) ∙ ap (λ m. get_or es m d) (sym e)) h
+  | inr ne ↦ before_trans (get_or es k d).symbol (get_or es last d).symbol X (a k last d (omega (arith, lt, n, ne)) (omega (arith, n))) (subst (λ (x : Edge). SymBefore x.symbol X) (get_or_default es last d' d (omega (arith, n))) h)
+]

@@ -1,31 +1,31 @@
 -- The states of a finished building as a state graph.
-use Rattle.std.proofs.Common.{◌≡◌, ℕ, zero, suc, ◌+◌, ◌<◌, ◌≤◌, inl, inr, false, cond, List, [], ◌∷◌, ◌++◌, length, get_or, map, take, Option, Some, refl, sym, ap, ◌∙◌, subst, subst₂, arith}
+use Rattle.std.proofs.Common.{◌≡◌, ℕ, zero, suc, ◌+◌, ◌<◌, ◌≤◌, inl, inr, cond, List, [], ◌∷◌, ◌++◌, length, get_or, map, take, Option, Some, refl, sym, ap, ◌∙◌, subst, subst₂, arith}
 use Rattle.std.specs.Prelude.{All}
 use Rattle.std.proofs.lemmas.Bool.{cases_eq, cases_lt}
 use Rattle.std.proofs.lemmas.List.{get_or_past, map_push, take_more, get_or-map, get_or_default, get_or_append_left, get_or_push, length-map, length_push}
 use Rattle.std.proofs.lemmas.List.Elements.{All-push}
-use Rattle.cfg_theory.specs.Grammar.{Sym, rule, token, Grammar, body_of, WellFormed}
+use Rattle.cfg_theory.specs.Grammar.{Sym, Grammar, body_of, WellFormed}
 use Rattle.lr_theory.specs.Building.{Pruned, IsGraph, same_symbol}
 use Rattle.lr_theory.specs.Canonical.{Present}
 use Rattle.lr_theory.specs.Graph.{Graph}
 use Rattle.lr_theory.specs.Itemset.{ItemSet, HasItem, HasLook, Closure, ClosureLook, Is, FitsGrammar}
 use Rattle.lr_theory.proofs.GraphLaws.{finished_law}
-use Rattle.lr_theory.proofs.Place.{same_symbol_refl}
-use Rattle.lrtable.specs.Graphs.{GraphValue, target_in, graph_of, SymbolBefore, AreInOrder, EdgesAscend, IsGraphValue, IsGraphOf, AreClosures, AreFinal, graph_of_values, pair_of_edge, pairs_of}
+use Rattle.lrtable.specs.Graphs.{GraphValue, target_in, graph_of, AreInOrder, IsGraphValue, IsGraphOf}
+use Rattle.lrtable.specs.FinalStates.{AreClosures, AreFinal, pair_of_edge, pairs_of}
+use Rattle.lrtable.specs.Pruning.{graph_of_states}
 use Rattle.vob.specs.Packed.{Contents}
 use Rattle.lrtable.specs.declared.cores.CoreSet.{CoreSet}
 use Rattle.lrtable.specs.declared.shared_sets.SharedSets.{SharedSets}
 use Rattle.lrtable.specs.declared.states.EdgeTo.{EdgeTo}
 use Rattle.lrtable.specs.declared.states.State.{State}
-use Rattle.lrtable.specs.ItemRows.{Item, Core, Ascends, IsCoreOf, map_of}
+use Rattle.lrtable.specs.ItemRows.{Core, Ascends, IsCoreOf, map_of}
 use Rattle.lrtable.specs.Meeting.{rows_in}
 use Rattle.lrtable.specs.Sharing.{shared_core, PointIn, IsShared}
 use Rattle.lrtable.specs.StateViews.{item_of, core_of_set, edge_of_pair, edges_of, value_of}
-use Rattle.lrtable.specs.States.{Edge, StateValue, edge_in, edge_of, state_at, no_state}
-use Rattle.lrtable.specs.Stepping.{FitsCore}
+use Rattle.lrtable.specs.States.{Edge, SymBefore, AscendEdges, StateValue, edge_in, edge_of, state_at, no_state}
+use Rattle.lrtable.proofs.EdgeLists.{found_at}
 use Rattle.lrtable.proofs.Exact.{dot_within}
 use Rattle.lrtable.proofs.Fitting.{fits_by}
-use Rattle.lrtable.proofs.ItemSets.{has_item, nought, at_own}
 
 -- ---- edges
 
@@ -41,35 +41,21 @@ map_any f (x ∷ xs) (suc i) d = map_any f xs i d
 pub edge_is : (states : List StateValue) (s : ℕ) (X : Sym) → target_in (get_or (map pairs_of states) s []) X ≡ edge_of states s X
 edge_is states s X = ap (λ (l : List (Sym × ℕ)). target_in l X) (map_any pairs_of states s no_state) ∙ target_is (state_at states s).edges X
 
-symbols_differ : (X Y : Sym) → SymbolBefore Y X → same_symbol X Y ≡ false
-symbols_differ (rule A) (rule B) lt = grind (arith, lt)
-symbols_differ (rule A) (token t) h = absurd h
-symbols_differ (token t) (rule A) h = refl
-symbols_differ (token t) (token u) lt = grind (arith, lt)
-
--- each edge of a list in order is the one on its symbol
-found_at : (es : List (Sym × ℕ)) (i : ℕ) (d : Sym × ℕ) → AreInOrder es → i < length es → target_in es (get_or es i d).0 ≡ Some (get_or es i d).1
-found_at [] i d a lt = absurd (omega (arith, lt))
-found_at (e ∷ es) zero d a lt = ap (λ b. cond b (Some e.1) (target_in es e.0)) (same_symbol_refl e.0)
-found_at (e ∷ es) (suc i) d a lt =
-    ap (λ b. cond b (Some e.1) (target_in es (get_or es i d).0)) (symbols_differ (get_or es i d).0 e.0 (a zero (suc i) d (omega arith) lt)) ∙
-    found_at es i d (λ j k x l w. a (suc j) (suc k) x (omega (arith, l)) (omega (arith, w))) (omega (arith, lt))
-
-pairs_ascend : (es : List Edge) → EdgesAscend es → AreInOrder (map pair_of_edge es)
+pairs_ascend : (es : List Edge) → AscendEdges es → AreInOrder (map pair_of_edge es)
 pairs_ascend es a = λ i j d lt within.
     (let n = length-map es pair_of_edge in
     let x : Edge = record { symbol = d.0; target = d.1 } in
-    subst₂ (λ (e f : Sym × ℕ). SymbolBefore e.0 f.0) (sym (map_any pair_of_edge es i x)) (sym (map_any pair_of_edge es j x)) (a i j x lt (omega (arith, within, n))))
+    subst₂ (λ (e f : Sym × ℕ). SymBefore e.0 f.0) (sym (map_any pair_of_edge es i x)) (sym (map_any pair_of_edge es j x)) (a i j x lt (omega (arith, within, n))))
 
 module _ (G : Grammar) (states : List StateValue) (final : AreFinal G states) (s : ℕ) where
   pub final_ascend : AreInOrder (get_or (map pairs_of states) s [])
   final_ascend = subst AreInOrder (sym (map_any pairs_of states s no_state)) (elim (cases_lt s (length states)) [
-    | inl lt ↦ pairs_ascend (state_at states s).edges (final.ascend s lt)
+    | inl lt ↦ pairs_ascend (state_at states s).edges (final.linked.ascend s lt)
     | inr ge ↦ subst (λ (x : StateValue). AreInOrder (map pair_of_edge x.edges)) (sym (get_or_past states s no_state ge)) (λ i j d lt within. absurd (omega (arith, within)))
   ])
 
   pub final_targets : All (λ e. e.1 < length states) (get_or (map pairs_of states) s [])
-  final_targets = λ k d lt. final.targets s (get_or (get_or (map pairs_of states) s []) k d).1 (get_or (get_or (map pairs_of states) s []) k d).0 (sym (edge_is states s (get_or (get_or (map pairs_of states) s []) k d).0) ∙ found_at (get_or (map pairs_of states) s []) k d final_ascend lt)
+  final_targets = λ k d lt. final.linked.targets s (get_or (get_or (map pairs_of states) s []) k d).1 (get_or (get_or (map pairs_of states) s []) k d).0 (sym (edge_is states s (get_or (get_or (map pairs_of states) s []) k d).0) ∙ found_at (get_or (map pairs_of states) s []) k d final_ascend lt)
 
 -- ---- a graph with the same cores and edges is the grammar's too
 
@@ -107,29 +93,18 @@ module _ (G : Grammar) (good : WellFormed G) where
     item_present : (p d : ℕ) → HasItem (map_of (state_at states s).core) p d → (w : List Sym) × Present G w p d
     item_present p d h =
         let n = length-map states (λ (x : StateValue). map_of x.core) in
-        let tied = (finished_law.finished G (graph_of_values states) good final.graph).ties s (omega (arith, lt, n)) in
+        let tied = (finished_law.finished G (graph_of_states states) good final.graph).ties s (omega (arith, lt, n)) in
         let is : get_or (map (λ (x : StateValue). map_of x.core) states) s [] ≡ map_of (state_at states s).core = map_any (λ (x : StateValue). map_of x.core) states s no_state in
         (tied.reached.0, tied.reached.1.present p d (subst (λ (m : ItemSet). HasItem m p d) (sym is) h))
 
-    pub final_core : FitsCore G (state_at states s).core
-    final_core = record {
-      good = final.cores s lt;
-      productions = λ k d within.
-          let good' = final.cores s lt in
-          let at = at_own (state_at states s).core.items k within in
-          let i = get_or (state_at states s).core.items k nought in
-          let h = (has_item (state_at states s).core.items (state_at states s).core.rows good'.ascends good'.count i.production i.dot).1 (k, at) in
-          subst (λ (x : Item). x.production < length G.productions) (get_or_default (state_at states s).core.items k nought d within) (present_in_range (item_present i.production i.dot h).1);
-    }
-
     pub final_fits : FitsGrammar G (map_of (state_at states s).core)
-    final_fits = fits_by G (state_at states s).core (final.cores s lt) (λ p d h. present_in_range (item_present p d h).1) (λ p d h. present_dot (item_present p d h).1)
+    final_fits = fits_by G (state_at states s).core (final.cores s lt).good (λ p d h. present_in_range (item_present p d h).1) (λ p d h. present_dot (item_present p d h).1)
 
   -- ---- the whole graph
 
   pub final_graph : (states : List StateValue) (g : GraphValue) → AreFinal G states → g.cores ≡ map (λ s. map_of s.core) states → g.start ≡ 0 → g.edges ≡ map pairs_of states → AreClosures G g.cores g.closed → IsGraphOf G g
   final_graph states g final cores start edges closed = record {
-    graph = graph_as G (graph_of_values states) (graph_of g) cores start (λ s X. ap (λ (l : List (List (Sym × ℕ))). target_in (get_or l s []) X) edges ∙ edge_is states s X) final.graph;
+    graph = graph_as G (graph_of_states states) (graph_of g) cores start (λ s X. ap (λ (l : List (List (Sym × ℕ))). target_in (get_or l s []) X) edges ∙ edge_is states s X) final.graph;
     closes = closed.count;
     closed = closed.each;
     fits = (

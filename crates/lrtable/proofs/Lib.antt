@@ -51,3 +51,17 @@ pub mod FilledCounts
 pub mod LeastReduced
 pub mod Edges
 pub mod FinalStates
+pub mod EdgeLists
+pub mod GraphParts
+pub mod GraphTables
+pub mod CanonicalTables
+pub mod OneTable
+pub mod Shifted
+pub mod RefusalLaws
+pub mod RuleRowSteps
+pub mod Clearing
+pub mod EdgePlaces
+pub mod Emptying
+pub mod GraphSteps
+pub mod GraphTexts
+pub mod ItemWalks

@@ -1,14 +1,16 @@
 -- One state more in a table, and the table of all.
-use Rattle.std.proofs.Common.{◌≡◌, ℕ, ◌+◌, ◌<◌, List, [], ◌∷◌, ◌++◌, length, get_or, map, refl, sym, ap, ◌∙◌, subst, arith}
+use Rattle.std.proofs.Common.{◌≡◌, ℕ, ◌+◌, ◌<◌, List, [], ◌∷◌, ◌++◌, length, get_or, map, Option, refl, sym, ap, ◌∙◌, subst, arith}
 use Rattle.std.specs.List.{range_with_len}
+use Rattle.std.proofs.lemmas.List.{get_or-map, length-map}
 use Rattle.std.proofs.lemmas.List.FromFn.{map-range_with_len_more, get_or-map-range_with_len, length-map-range_with_len}
 use Rattle.cfg_theory.specs.Grammar.{Grammar}
 use Rattle.lr_theory.specs.Automaton.{Action}
 use Rattle.table_theory.specs.Cells.{Precedences, gathered, some_conflicts}
 use Rattle.lrtable.specs.Rows.{at_of}
 use Rattle.lrtable.specs.CellRows.{PartsValue, cells_by, filled_row, pairs_in, shifts_in}
-use Rattle.lrtable.specs.SparseRows.{or_error, SparseTable, IsCellRow, full}
+use Rattle.lrtable.specs.SparseRows.{or_error, full_cells, full_targets, SparseTable, IsCellRow, IsTargetRow, full}
 use Rattle.lrtable.specs.TableRows.{RowsValue, AreRowsOf, IsTableBy}
+use Rattle.lrtable.specs.Tables.{HasFullRows}
 use Rattle.lrtable.proofs.FilledRows.{is_cell_row, at_filled}
 use Rattle.lrtable.proofs.FullRows.{cell_read, goto_read}
 use Rattle.lrtable.proofs.Gathered.{gathered_put}
@@ -45,6 +47,9 @@ module _ (G : Grammar) (precedences : Precedences) (parts : ℕ → PartsValue) 
     pub rows_are_cells : (s : ℕ) → s < n → IsCellRow G.tokens (get_or r.actions s [])
     rows_are_cells s lt = subst (IsCellRow G.tokens) (sym (actions_at s lt)) (is_cell_row (cells_by G precedences (parts s)) G.tokens)
 
+    pub rows_are_targets : ((s : ℕ) → s < n → IsTargetRow G.rules (targets s)) → (s : ℕ) → s < n → IsTargetRow G.rules (get_or r.gotos s [])
+    rows_are_targets fit s lt = subst (IsTargetRow G.rules) (sym (gotos_at s lt)) (fit s lt)
+
     pub table_by : (T : SparseTable) → T.actions ≡ r.actions → T.gotos ≡ r.gotos → T.tokens ≡ G.tokens → T.rules ≡ G.rules → T.conflicts ≡ some_conflicts r.pairs r.shifts → IsTableBy G precedences parts targets n (full T)
     table_by T ea eg et er ec = record {
       action = λ s t ls lt.
@@ -57,3 +62,12 @@ module _ (G : Grammar) (precedences : Precedences) (parts : ℕ → PartsValue) 
           ∙ (ap (λ (l : List (List (ℕ × ℕ))). at_of (get_or l s []) A) eg ∙ ap (λ (l : List (ℕ × ℕ)). at_of l A) (gotos_at s ls));
       conflicts = ec ∙ (ap (λ p. some_conflicts p r.shifts) are.pairs ∙ ap (λ p. some_conflicts (gathered (λ (k : ℕ). pairs_in k (parts k) G.tokens) n) p) are.shifts);
     }
+
+-- the rows of a table that keeps the filled cells alone are full
+pub full_rows : (T : SparseTable) → length T.actions ≡ T.states → length T.gotos ≡ T.states → HasFullRows (full T)
+full_rows T ea eg = record {
+  actions = length-map T.actions (full_cells T.tokens) ∙ ea;
+  gotos = length-map T.gotos (full_targets T.rules) ∙ eg;
+  cells = λ s lt. ap (λ (r : List Action). length r) (get_or-map (full_cells T.tokens) T.actions s [] [] (omega (arith, ea, lt))) ∙ length-map-range_with_len (λ (u : ℕ). or_error (at_of (get_or T.actions s []) u)) 0 T.tokens;
+  targets = λ s lt. ap (λ (r : List (Option ℕ)). length r) (get_or-map (full_targets T.rules) T.gotos s [] [] (omega (arith, eg, lt))) ∙ length-map-range_with_len (λ (B : ℕ). at_of (get_or T.gotos s []) B) 0 T.rules;
+}

@@ -1,6 +1,7 @@
 -- The closure of a set of items by its rules: the fronts of a grammar's productions, and what the items themselves open.
-use Rattle.std.specs.Prelude.{◌≡◌, ℕ, zero, suc, ◌<◌, ◌⊎◌, ◌↔◌, Bool, IsTrue, List, [], ◌∷◌, ◌++◌, length}
+use Rattle.std.specs.Prelude.{◌≡◌, ℕ, zero, suc, ◌<◌, ◌⊎◌, ◌↔◌, ◌||◌, Bool, IsTrue, List, [], ◌∷◌, ◌++◌, length, get_or, slice_set}
 use Rattle.std.specs.List.{Contains}
+use Rattle.vob.specs.Bits.{bitwise}
 use Rattle.cfg_theory.specs.Grammar.{Grammar, rule, IsOf, IsNext, head_of}
 use Rattle.cfg_theory.specs.Derivation.{Nullable, IsFirst}
 use Rattle.lr_theory.specs.Canonical.{from_dot}
@@ -19,15 +20,29 @@ pub record IsFrontOf (G : Grammar) (q : ℕ) (e : Front) : Type 0 where
   pub rule : IsNext G q zero (rule e.rule)
   pub rest : IsRest G q zero e.first e.nullable
 
--- the fronts are those of the productions
+-- the fronts are those of the productions, where productions that begin with one rule may have one together
 pub record AreFrontsOf (G : Grammar) (productions : List ℕ) (es : List Front) : Type 0 where
-  pub each : (e : Front) → Contains es e → (q : ℕ) × Contains productions q × IsFrontOf G q e
-  pub all : (q B : ℕ) → Contains productions q → IsNext G q zero (rule B) → (e : Front) × Contains es e × IsFrontOf G q e
+  pub width : (e : Front) → Contains es e → length e.first ≡ G.tokens
+  pub rules : (e : Front) → Contains es e → (q : ℕ) × Contains productions q × IsNext G q zero (rule e.rule)
+  pub first : (e : Front) (t : ℕ) → Contains es e → IsTrue (is_set e.first t) → (q : ℕ) × Contains productions q × IsNext G q zero (rule e.rule) × IsFirst G (from_dot G q (suc zero)) t
+  pub nullable : (e : Front) → Contains es e → IsTrue e.nullable → (q : ℕ) × Contains productions q × IsNext G q zero (rule e.rule) × Nullable G (from_dot G q (suc zero))
+  pub has_rule : (q B : ℕ) → Contains productions q → IsNext G q zero (rule B) → (e : Front) × Contains es e × (e.rule ≡ B)
+  pub has_first : (q B t : ℕ) → Contains productions q → IsNext G q zero (rule B) → IsFirst G (from_dot G q (suc zero)) t → (e : Front) × Contains es e × (e.rule ≡ B) × IsTrue (is_set e.first t)
+  pub has_nullable : (q B : ℕ) → Contains productions q → IsNext G q zero (rule B) → Nullable G (from_dot G q (suc zero)) → (e : Front) × Contains es e × (e.rule ≡ B) × IsTrue e.nullable
+
+-- a front with what may follow its rule in another production
+abbrev pub joined_front : Front → List Bool → Bool → Front
+joined_front e first nullable = record { rule = e.rule; first = bitwise (λ x y. x || y) e.first first; nullable = e.nullable || nullable }
+
+-- a front was put with the others, or joined to one of its rule
+pub data PutsAt (e : Front) (old : List Front) : List Front → Type 0 where
+  last : PutsAt e old (old ++ e ∷ [])
+  joined : (k : ℕ) → k < length old → (get_or old k e).rule ≡ e.rule → PutsAt e old (slice_set old k (joined_front (get_or old k e) e.first e.nullable))
 
 -- a production's front was put with the others, if it has one
 pub data PutsFront (G : Grammar) (q : ℕ) (old : List Front) : List Front → Type 0 where
   none : ((B : ℕ) → IsNext G q zero (rule B) → ⊥) → PutsFront G q old old
-  one : (e : Front) → IsFrontOf G q e → PutsFront G q old (old ++ e ∷ [])
+  one : {new : List Front} (e : Front) → IsFrontOf G q e → PutsAt e old new → PutsFront G q old new
 
 -- the fronts of each rule are those of its productions
 pub record AreFronts (G : Grammar) (fronts : List (List Front)) : Type 0 where

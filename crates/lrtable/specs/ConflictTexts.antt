@@ -47,3 +47,8 @@ ShiftsInRange v es = All (λ e. (e.0 < v.grammar.tokens) × (e.1 < length v.gram
 
 abbrev pub PairsInRange : GrammarValue → List ReduceReduce → Type 0
 PairsInRange v es = All (λ e. (e.1 < length v.grammar.productions) × (e.2 < length v.grammar.productions)) es
+
+-- so in both lists
+pub record ConflictsInRange (v : GrammarValue) (c : Conflicts) : Type 0 where
+  pub shifts : ShiftsInRange v c.shift_reduce
+  pub pairs : PairsInRange v c.reduce_reduce

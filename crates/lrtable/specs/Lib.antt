@@ -11,6 +11,7 @@ pub mod Adding
 pub mod Gaining
 pub mod Stepping
 pub mod Pruning
+pub mod FinalStates
 pub mod CellRows
 pub mod CellViews
 pub mod Cursors
@@ -24,3 +25,10 @@ pub mod Sharing
 pub mod LeastReduced
 pub mod Graphs
 pub mod GraphViews
+pub mod GraphParts
+pub mod Tables
+pub mod Closers
+pub mod TableRefusals
+pub mod GraphTexts
+pub mod RefusalViews
+pub mod ItemWalks

@@ -1,6 +1,6 @@
 -- Item sets that keep each set of lookaheads once: items in ascending order, and beside each the index of its set.
 use Rattle.std.specs.Prelude.{◌≡◌, ℕ, ◌<◌, ◌≤◌, ◌⊎◌, Bool, List, length, map, get_or, All}
-use Rattle.lr_theory.specs.Itemset.{Items, Lookaheads, ItemSet, HasItem, HasLook, SameItems, SameLooks}
+use Rattle.lr_theory.specs.Itemset.{Items, Lookaheads, Entry, ItemSet, HasItem, HasLook, SameItems, SameLooks}
 use Rattle.lrtable.specs.declared.shared_sets.SharedItem.{SharedItem}
 use Rattle.lrtable.specs.declared.shared_sets.SharedSets.{SharedSets}
 use Rattle.lrtable.specs.Adding.{Adds}
@@ -20,6 +20,13 @@ shared_core number s = record { items = keys_of number s.entries.items; rows = r
 
 abbrev pub shared_map : {S : Type 0} → (S → ℕ) → SharedSets S → ItemSet
 shared_map number s = map_of (shared_core number s)
+
+-- the same entry by entry
+abbrev pub entry_in : {S : Type 0} → (S → ℕ) → List (List Bool) → SharedItem S → Entry
+entry_in number rows e = record { production = number e.item.pidx.0; dot = number e.item.dot.0; lookaheads = row rows e.set }
+
+abbrev pub entries_in : {S : Type 0} → (S → ℕ) → List (List Bool) → List (SharedItem S) → ItemSet
+entries_in number rows entries = map (entry_in number rows) entries
 
 -- each index is that of a set
 abbrev pub PointIn : {S : Type 0} → List (List Bool) → List (SharedItem S) → Type 0

@@ -116,7 +116,7 @@ impl<S: IndexStorage> Conflicts<S> {
 }
 
 /// The name of a token; `$` for the end token.
-fn shown<S: IndexStorage>(grm: &YaccGrammar<S>, tidx: TIdx<S>) -> &str
+pub(crate) fn shown<S: IndexStorage>(grm: &YaccGrammar<S>, tidx: TIdx<S>) -> &str
     requires { S.number tidx.0 < grm.now.grammar.tokens }
     ensures { result.now ≡ shown_token grm.now (S.number tidx.0) }
 {

@@ -91,6 +91,19 @@ fn stands_at<S: IndexStorage>(items: &[CoreItem<S>], index: usize, item: &CoreIt
     same_item(&items[index], item)
 }
 
+/// A set without its items, to be used again.
+pub fn emptied<S: IndexStorage>(set: CoreSet<S>) -> CoreSet<S>
+    ensures { core_of_set S.number result ≡ no_core }
+{
+    let CoreSet {
+        mut items,
+        mut looks,
+    } = set;
+    items.clear();
+    looks.clear();
+    CoreSet { items, looks }
+}
+
 impl<S: IndexStorage> CoreSet<S> {
     /// A set without items.
     pub fn empty(alloc: Global) -> CoreSet<S>

@@ -1,21 +1,26 @@
 //! The state graph of a finished building.
 
-ghost use Rattle.std.specs.Prelude.{◌≡◌, ◌<◌, ◌≤◌, ℕ, [], length, map, get_or, IfOk, All};
+ghost use Rattle.std.specs.Prelude.{◌≡◌, ◌<◌, ◌≤◌, ℕ, [], length, map, get_or, IfOk, OnOk, IsErrOf, All};
 ghost use Rattle.cfgrammar.specs.Firsts.{AreFirsts};
 ghost use Rattle.lr_theory.specs.Itemset.{FitsGrammar};
-ghost use Rattle.lrtable.specs.Graphs.{AreClosures, AreFinal, IsGraphOf, pair_of_edge, pairs_of};
+ghost use Rattle.lr_theory.specs.Sizes.{StaysWithin};
+ghost use Rattle.lrtable.specs.FinalStates.{AreClosures, AreFinal, pair_of_edge, pairs_of};
+ghost use Rattle.lrtable.specs.Graphs.{IsGraphOf};
 ghost use Rattle.lrtable.specs.GraphViews.{edges_seen};
+ghost use Rattle.lrtable.specs.Handling.{TooManyStand};
 ghost use Rattle.lrtable.specs.ItemRows.{IsCoreOf, map_of};
 ghost use Rattle.lrtable.specs.States.{state_at};
 ghost use Rattle.lrtable.specs.StateViews.{edges_of, value_of};
 ghost use Rattle.lrtable.specs.Stepping.{FitsCore};
+ghost use Rattle.lrtable.specs.declared.states.BuildError.TheVariants as faults;
 
 use crate::closures::closed_set;
 use crate::itemset::{Itemset, of_shared};
 use crate::openers::Openers;
+use crate::pager;
 use crate::shared_sets::SharedSets;
 use crate::stategraph::{StateGraph, of_lists};
-use crate::states::{EdgeTo, State};
+use crate::states::{BuildError, EdgeTo, State};
 use crate::stidx::StIdx;
 use cfg_base::index::IndexStorage;
 use cfg_base::symbol::Symbol;
@@ -90,7 +95,7 @@ fn closed_sets<S: IndexStorage>(
 }
 
 /// The graph of the states of a finished building.
-pub(crate) fn from_states<S: IndexStorage>(
+fn from_states<S: IndexStorage>(
     alloc: Global,
     grm: &YaccGrammar<S>,
     firsts: &YaccFirsts<S>,
@@ -108,4 +113,20 @@ pub(crate) fn from_states<S: IndexStorage>(
     let closed = closed_sets(alloc, grm, firsts, states)?;
     let edges = edge_lists(alloc, states)?;
     Ok(of_lists(cores, closed, edges))
+}
+
+/// The graph of a grammar.
+pub(crate) fn graph_of_grammar<S: IndexStorage>(
+    alloc: Global,
+    grm: &YaccGrammar<S>,
+    firsts: &YaccFirsts<S>,
+) -> Result<StateGraph<S>, BuildError>
+    requires { AreFirsts grm.now.grammar firsts.now }
+    ensures graph { IfOk result (λ g. IsGraphOf grm.now.grammar g) }
+    ensures within { OnOk result (StaysWithin grm.now.grammar S.MAX) }
+    ensures many { IsErrOf result faults.TooManyStates → TooManyStand grm.now.grammar S.MAX }
+{
+    let states = pager::states(alloc, grm, firsts)?;
+    let graph = from_states(alloc, grm, firsts, states.as_slice())?;
+    Ok(graph)
 }

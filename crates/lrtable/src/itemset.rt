@@ -1,12 +1,14 @@
 //! Item sets: items of a grammar with their lookaheads, closure and goto.
 
 ghost use Rattle.std.specs.Prelude.{◌≡◌, ◌<◌, ◌≤◌, ◌↔◌, ◌⊎◌, ℕ, [], true, length, get_or, option_map, IsTrue, IfOk, OnOk, OnErr};
+ghost use Rattle.std.specs.Iterator.{YieldsFirstBy, item_count};
 ghost use Rattle.cfg_theory.specs.Grammar.{Grammar, body_of};
 ghost use Rattle.cfgrammar.specs.Firsts.{AreFirsts};
 ghost use Rattle.cfgrammar.specs.Symbols.{sym_of};
 ghost use Rattle.lr_theory.specs.Itemset.{Entry, entry_at, HasItem, HasLook, SameItems, SameLooks, Closure, ClosureLook, Goto, GotoLook, Is, FitsGrammar};
 ghost use Rattle.lrtable.specs.Adding.{With, WithLooks};
 ghost use Rattle.lrtable.specs.Itemsets.{HasWidth, IsNewTo};
+ghost use Rattle.lrtable.specs.ItemWalks.{entry_seen};
 ghost use Rattle.lrtable.specs.Sharing.{shared_map, IsShared};
 
 use crate::closures::{closed_set, moved_set};
@@ -131,10 +133,64 @@ impl<S: IndexStorage> Itemset<S> {
         &self.set.sets[entry.set]
     }
 
+    /// Walks over the items with their lookaheads, ascending by production, then by dot.
+    pub fn items(&self) -> Items<'_, S>
+        ensures { result ≡ self.now }
+    {
+        Items {
+            itemset: self,
+            index: 0,
+        }
+    }
+
+    /// The items with the sets that they share.
+    pub(crate) fn shared(&self) -> &SharedSets<S>
+        ensures value { shared_map S.number result.now ≡ self.now }
+        ensures kept { IsShared S.number result.now }
+    {
+        &self.set
+    }
+
     /// The lookaheads of an item, if it is there.
     pub fn get(&self, pidx: PIdx<S>, dot: SIdx<S>) -> Option<&Vob>
         ensures { option_map (λ v. v.now.bits) result ≡ entry_at self.now (S.number pidx.0) (S.number dot.0) }
     {
         self.set.get(&CoreItem { pidx, dot })
+    }
+}
+
+/// The items of a set with their lookaheads, ascending. Contracts see the entries that are left.
+#[derive(Drop)]
+pub struct Items<'a, S: IndexStorage> {
+    itemset: &'a Itemset<S>,
+    index: usize,
+}
+
+impl<'a, S: IndexStorage> Model for Items<'a, S> {
+    ghost use Rattle.std.specs.Prelude.{length, drop, ◌≤◌};
+    ghost use Rattle.lr_theory.specs.Itemset.{ItemSet};
+
+    ghost Value = { ItemSet };
+
+    ghost view = { λ w. drop w.index w.itemset.now };
+
+    ghost invariant = { λ w. w.index ≤ length w.itemset.now };
+}
+
+impl<'a, S: IndexStorage> Iterator for Items<'a, S> {
+    type Item = ((PIdx<S>, SIdx<S>), &'a Vob);
+
+    ghost next_gives = { YieldsFirstBy (entry_seen S.number) (λ s. s) };
+
+    ghost remaining = { item_count (λ s. s) };
+
+    fn next(&mut self) -> Option<((PIdx<S>, SIdx<S>), &'a Vob)> {
+        let itemset = self.itemset;
+        let index = self.index;
+        if index == itemset.len() {
+            return None;
+        }
+        self.index = index + 1;
+        Some((itemset.item_at(index), itemset.looks_at(index)))
     }
 }

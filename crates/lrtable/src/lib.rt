@@ -1,10 +1,10 @@
 //! LR(1) tables by Pager's merging.
 //!
-//! Item sets with closure and goto (`itemset`), the states of a grammar by the building of Pager 1977, the graph of such
-//! states (`stategraph`), the rows of cells with Yacc's precedences and the listed conflicts (`statetable`, `conflicts`).
-//! Contracts speak of the item sets and the building of `lr_theory` and of the cells of `table_theory`. The contracts that
-//! matter most are those of `itemset::Itemset`, of the private `pager::states`, whose answer is the graph of the grammar,
-//! and of `statetable::StateTable`. What is missing is the call that joins them.
+//! `from_yacc` gives the graph and the table of a grammar. Below it stand item sets with closure and goto (`itemset`), the
+//! states of a grammar by the building of Pager 1977, the graph of such states (`stategraph`), and the rows of cells with
+//! Yacc's precedences and the listed conflicts (`statetable`, `conflicts`). Contracts speak of the item sets and the
+//! building of `lr_theory` and of the cells of `table_theory`. The contracts that matter most are those of `from_yacc`,
+//! of `itemset::Itemset` and of `statetable::StateTable`.
 #![tactic(auto)]
 
 pub mod cells;
@@ -12,6 +12,9 @@ mod closures;
 pub mod conflicts;
 mod cores;
 mod finishing;
+mod grammar_table;
+mod graph_rows;
+mod graph_texts;
 pub mod itemset;
 pub mod laws;
 mod meeting;
@@ -22,6 +25,7 @@ mod pager;
 mod pruning;
 mod rests;
 pub mod rows;
+mod rule_rows;
 mod shared_sets;
 mod state_rows;
 pub mod stategraph;
@@ -30,3 +34,13 @@ pub mod statetable;
 pub mod stidx;
 pub mod table_iterators;
 mod table_rows;
+
+pub use cells::Action;
+pub use conflicts::Conflicts;
+pub use grammar_table::{FromYaccError, Minimiser, from_yacc};
+pub use itemset::Itemset;
+pub use rows::row_search;
+pub use stategraph::{StIdxs, StateGraph};
+pub use statetable::{StateTable, StateTableError, StateTableErrorKind, StateTableNewError};
+pub use stidx::StIdx;
+pub use table_iterators::{CoreReducesIterator, StateActionsIterator};

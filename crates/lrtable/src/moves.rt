@@ -162,7 +162,10 @@ fn move_open<S: IndexStorage>(
 }
 
 /// So many sets without items.
-fn empty_sets<S: IndexStorage>(alloc: Global, count: usize) -> Result<Vec<CoreSet<S>>, AllocError>
+pub fn empty_sets<S: IndexStorage>(
+    alloc: Global,
+    count: usize,
+) -> Result<Vec<CoreSet<S>>, AllocError>
     ensures { IfOk result (λ v. map (core_of_set S.number) v.items ≡ replicate count no_core) }
 {
     let mut sets = Vec::new(alloc);
@@ -172,23 +175,21 @@ fn empty_sets<S: IndexStorage>(alloc: Global, count: usize) -> Result<Vec<CoreSe
     Ok(sets)
 }
 
-/// The goto sets of a closed core, one for each symbol.
+/// Makes empty sets, one for each symbol, the goto sets of a closed core.
 pub fn goto_sets<S: IndexStorage>(
-    alloc: Global,
     grm: &YaccGrammar<S>,
     core: &CoreSet<S>,
     opening: &Opening,
-) -> Result<Vec<CoreSet<S>>, AllocError>
+    sets: &mut Vec<CoreSet<S>>,
+) -> Result<(), AllocError>
     requires fits { FitsCore grm.now.grammar (core_of_set S.number core.now) }
     requires sizes { IsSized grm.now.grammar opening.now }
     requires closed { (fronts : List (List Front)) × AreFronts grm.now.grammar fronts × IsClosureOf grm.now.grammar fronts (core_of_set S.number core.now) opening.now }
-    ensures { IfOk result (λ v. AreGotos grm.now.grammar (Closure grm.now.grammar (HasItem (map_of (core_of_set S.number core.now)))) (ClosureLook grm.now.grammar (HasItem (map_of (core_of_set S.number core.now))) (HasLook (map_of (core_of_set S.number core.now)))) (map (core_of_set S.number) v.items)) }
+    requires empty { map (core_of_set S.number) sets.old.items ≡ replicate (grm.now.grammar.rules + grm.now.grammar.tokens) no_core }
+    ensures { OnOk result (AreGotos grm.now.grammar (Closure grm.now.grammar (HasItem (map_of (core_of_set S.number core.now)))) (ClosureLook grm.now.grammar (HasItem (map_of (core_of_set S.number core.now))) (HasLook (map_of (core_of_set S.number core.now)))) (map (core_of_set S.number) sets.new.items)) }
 {
     grm.start_prod();
-    let rules = grm.rules_len().0.to_usize();
-    let tokens = grm.tokens_len().0.to_usize();
-    let mut sets = empty_sets(alloc, rules + tokens)?;
-    move_core(grm, &mut sets, core)?;
-    move_open(grm, &mut sets, opening)?;
-    Ok(sets)
+    move_core(grm, sets, core)?;
+    move_open(grm, sets, opening)?;
+    Ok(())
 }

@@ -1,10 +1,12 @@
 //! The rules that stand first in productions, with what may follow them there.
 
-ghost use Rattle.std.specs.Prelude.{◌≡◌, ◌<◌, [], length, map, get_or, IfOk, OnOk};
+ghost use Rattle.std.specs.Prelude.{◌≡◌, ◌<◌, [], length, map, get_or, IfOk, IfSome, OnOk};
+ghost use Rattle.std.specs.List.{Contains};
 ghost use Rattle.cfgrammar.specs.Firsts.{AreFirsts};
 ghost use Rattle.cfgrammar.specs.Value.{productions_of};
-ghost use Rattle.lrtable.specs.Closes.{AreFronts, AreFrontsOf, PutsFront};
-ghost use Rattle.lrtable.specs.Fronts.{front_of};
+ghost use Rattle.lrtable.specs.Closes.{AreFronts, AreFrontsOf, PutsFront, PutsAt, joined_front};
+ghost use Rattle.lrtable.specs.Fronts.{front_of, front_with};
+ghost use Rattle.lrtable.specs.Opening.{Front};
 
 use crate::rests::{Rest, rest_after, rule_after};
 use cfg_base::index::IndexStorage;
@@ -36,7 +38,28 @@ impl Model for Openers {
     ghost view = { λ o. map (λ l. map front_of l.items) o.rules.items };
 }
 
-/// Puts what a production opens with the others, if it begins with a rule.
+/// The index of the opener of a rule, if it is there.
+fn opener_of(openers: &[Opener], rule: usize) -> Option<usize>
+    ensures { IfSome result (λ k. (k < length openers.now) × ((d : Front) → (get_or (map front_of openers.now) k d).rule ≡ rule)) }
+{
+    'each: for k in 0..openers.len() {
+        if openers[k].rule == rule {
+            return Some(k);
+        }
+    }
+    None
+}
+
+/// Adds what may follow a rule in another production.
+fn join_rest(opener: &mut Opener, rest: &Rest)
+    requires { length opener.old.rest.first.bits ≡ length rest.now.first.bits }
+    ensures { front_of opener.new ≡ joined_front (front_of opener.old) rest.now.first.bits rest.now.nullable }
+{
+    opener.rest.first.or(&rest.first);
+    opener.rest.nullable |= rest.nullable;
+}
+
+/// Puts what a production opens with the others, if it begins with a rule: one opener for each rule.
 fn put_opener<S: IndexStorage>(
     alloc: Global,
     grm: &YaccGrammar<S>,
@@ -46,18 +69,32 @@ fn put_opener<S: IndexStorage>(
 ) -> Result<(), AllocError>
     requires production { S.number pidx.0 < length grm.now.grammar.productions }
     requires firsts { AreFirsts grm.now.grammar firsts.now }
+    requires width { (e : Front) → Contains (map front_of openers.old.items) e → length e.first ≡ grm.now.grammar.tokens }
     ensures { OnOk result (PutsFront grm.now.grammar (S.number pidx.0) (map front_of openers.old.items) (map front_of openers.new.items)) }
 {
     match rule_after(grm, pidx, 0) {
         Some(ridx) => {
             let rest = rest_after(alloc, grm, firsts, pidx, 0)?;
-            openers.push(Opener {
-                rule: ridx.0.to_usize(),
-                rest,
-            })?;
-            Ok(())
+            put_rest(openers, ridx.0.to_usize(), rest)
         }
         None => Ok(()),
+    }
+}
+
+/// Puts a rule that stands first in a production with the others, and what follows it there.
+fn put_rest(openers: &mut Vec<Opener>, rule: usize, rest: Rest) -> Result<(), AllocError>
+    requires { (e : Front) → Contains (map front_of openers.old.items) e → length e.first ≡ length rest.first.bits }
+    ensures { OnOk result (PutsAt (front_with rule rest) (map front_of openers.old.items) (map front_of openers.new.items)) }
+{
+    match opener_of(openers.as_slice(), rule) {
+        Some(k) => {
+            join_rest(&mut openers[k], &rest);
+            Ok(())
+        }
+        None => {
+            openers.push(Opener { rule, rest })?;
+            Ok(())
+        }
     }
 }
 

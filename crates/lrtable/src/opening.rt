@@ -14,13 +14,14 @@ ghost use Rattle.lrtable.specs.ItemRows.{map_of};
 ghost use Rattle.lrtable.specs.Meeting.{rows_in};
 ghost use Rattle.lrtable.specs.StateViews.{core_of_set};
 ghost use Rattle.lrtable.specs.Stepping.{FitsCore, IsSized, IsClosureOf};
-ghost use Rattle.lrtable.specs.Opening.{Front, RuleSets, IsOpen, HasRuleLook, room, FitsIn, AllFit, Brings, Follows, FrontStep, NamedIn, BroughtBy, SameSizes, Underway, AreOpened};
+ghost use Rattle.lrtable.specs.Closers.{IsReady};
+ghost use Rattle.lrtable.specs.Opening.{Front, RuleSets, IsTidy, IsOpen, HasRuleLook, room, FitsIn, AllFit, Brings, Follows, FrontStep, NamedIn, BroughtBy, SameSizes, Underway, AreOpened};
 
 use crate::cores::{CoreItem, CoreSet};
 use crate::openers::{Opener, Openers};
 use crate::rests::{Rest, rest_after, rule_after};
+use crate::rule_rows::RuleRows;
 use cfg_base::index::IndexStorage;
-use cfgrammar::yacc::sets::TokenSets;
 use cfgrammar::yacc::{YaccFirsts, YaccGrammar};
 use std::alloc::{AllocError, Global};
 use std::marker::Model;
@@ -29,7 +30,7 @@ use vob::Vob;
 /// The open rules, and a set of tokens for each rule.
 #[derive(Drop)]
 pub struct Opening {
-    looks: TokenSets,
+    looks: RuleRows,
     opened: Vob,
 }
 
@@ -49,9 +50,37 @@ impl Opening {
     pub fn empty(alloc: Global, rules: usize, tokens: usize) -> Result<Opening, AllocError>
         ensures { IfOk result (λ s. s ≡ record { tokens = tokens; rows = replicate rules (replicate tokens false); opened = replicate rules false }) }
     {
-        let looks = TokenSets::empty(alloc, rules, tokens)?;
+        let looks = RuleRows::empty(alloc, rules, tokens)?;
         let opened = Vob::from_elem(alloc, false, rules)?;
         Ok(Opening { looks, opened })
+    }
+
+    /// Empties the set of a rule, if the rule is open.
+    fn clear_open(&mut self, rule: usize)
+        requires { rule < length self.old.opened }
+        ensures tokens { self.new.tokens ≡ self.old.tokens }
+        ensures opened { self.new.opened ≡ self.old.opened }
+        ensures count { length self.new.rows ≡ length self.old.rows }
+        ensures looks { (A t : ℕ) → HasRuleLook self.new A t → HasRuleLook self.old A t }
+        ensures none { IsOpen self.old rule → (t : ℕ) → HasRuleLook self.new rule t → ⊥ }
+    {
+        if !self.opened.get_unchecked(rule) {
+            return;
+        }
+        self.looks.clear(rule);
+    }
+
+    /// Closes all rules and empties their sets, where those of the others are empty.
+    pub fn clear(&mut self)
+        requires { IsTidy self.old }
+        ensures sizes { SameSizes self.old self.new }
+        ensures none_open { (A : ℕ) → IsOpen self.new A → ⊥ }
+        ensures no_look { (A t : ℕ) → HasRuleLook self.new A t → ⊥ }
+    {
+        'rules: for rule in 0..self.opened.len() {
+            self.clear_open(rule);
+        }
+        self.opened.set_all(false);
     }
 
     /// Opens a rule.
@@ -251,6 +280,53 @@ impl Opening {
     }
 }
 
+/// What the closings of one core after another are made with.
+#[derive(Drop)]
+pub struct Closer {
+    pub opening: Opening,
+    pub looks: Vob,
+    pub waiting: Vec<usize>,
+}
+
+impl Closer {
+    /// With no open rule.
+    pub fn new<S: IndexStorage>(alloc: Global, grm: &YaccGrammar<S>) -> Result<Closer, AllocError>
+        ensures { IfOk result (λ c. IsReady grm.now.grammar c) }
+    {
+        let rules = grm.rules_len().0.to_usize();
+        let tokens = grm.tokens_len().0.to_usize();
+        Ok(Closer {
+            opening: Opening::empty(alloc, rules, tokens)?,
+            looks: Vob::from_elem(alloc, false, tokens)?,
+            waiting: Vec::new(alloc),
+        })
+    }
+
+    /// Opens the rules that the closure of a core opens, with their lookaheads, and no others.
+    pub fn close<S: IndexStorage>(
+        &mut self,
+        alloc: Global,
+        grm: &YaccGrammar<S>,
+        firsts: &YaccFirsts<S>,
+        openers: &Openers,
+        set: &CoreSet<S>,
+    ) -> Result<(), AllocError>
+        requires ready { IsReady grm.now.grammar self.old }
+        requires fits { FitsCore grm.now.grammar (core_of_set S.number set.now) }
+        requires firsts { AreFirsts grm.now.grammar firsts.now }
+        requires openers { AreFronts grm.now.grammar openers.now }
+        ensures ready { OnOk result (IsReady grm.now.grammar self.new) }
+        ensures closed { OnOk result (IsClosureOf grm.now.grammar openers.now (core_of_set S.number set.now) self.new.opening) }
+    {
+        self.opening.clear();
+        self.opening
+            .seed(alloc, grm, firsts, set, &mut self.waiting)?;
+        self.opening
+            .close(openers, &mut self.looks, &mut self.waiting)?;
+        Ok(())
+    }
+}
+
 /// The rules that the closure of a core opens, with their lookaheads.
 pub fn close_core<S: IndexStorage>(
     alloc: Global,
@@ -265,11 +341,7 @@ pub fn close_core<S: IndexStorage>(
     ensures sizes { IfOk result (λ s. IsSized grm.now.grammar s) }
     ensures closed { IfOk result (λ s. IsClosureOf grm.now.grammar openers.now (core_of_set S.number set.now) s) }
 {
-    let tokens = grm.tokens_len().0.to_usize();
-    let mut opening = Opening::empty(alloc, grm.rules_len().0.to_usize(), tokens)?;
-    let mut waiting = Vec::new(alloc);
-    opening.seed(alloc, grm, firsts, set, &mut waiting)?;
-    let mut looks = Vob::from_elem(alloc, false, tokens)?;
-    opening.close(openers, &mut looks, &mut waiting)?;
-    Ok(opening)
+    let mut closer = Closer::new(alloc, grm)?;
+    closer.close(alloc, grm, firsts, openers, set)?;
+    Ok(closer.opening)
 }

@@ -7,6 +7,7 @@ ghost use Rattle.cfgrammar.specs.Sets.{is_set};
 ghost use Rattle.lr_theory.specs.Building.{Building, IsGraph};
 ghost use Rattle.lr_theory.specs.Sizes.{StaysWithin};
 ghost use Rattle.lr_theory.specs.Itemset.{HasItem, HasLook, Closure, ClosureLook};
+ghost use Rattle.lrtable.specs.Closers.{IsReady};
 ghost use Rattle.lrtable.specs.Closes.{AreFronts};
 ghost use Rattle.lrtable.specs.Gaining.{no_core, core_in};
 ghost use Rattle.lrtable.specs.Handling.{AreReached, AreHandled, AreBuilt, TooManyStand, left_in};
@@ -18,9 +19,9 @@ ghost use Rattle.lrtable.specs.Stepping.{FitsCore, AreGotos, AreGotosOf, IsGotoA
 ghost use Rattle.lrtable.specs.declared.states.BuildError.TheVariants as faults;
 
 use crate::cores::{CoreItem, CoreSet};
-use crate::moves::{goto_sets, symbol_at};
+use crate::moves::{empty_sets, goto_sets, symbol_at};
 use crate::openers::Openers;
-use crate::opening::close_core;
+use crate::opening::Closer;
 use crate::pruning::prune;
 use crate::states::{BuildError, State, place};
 use cfg_base::index::IndexStorage;
@@ -30,7 +31,8 @@ use std::alloc::{AllocError, Global};
 use std::mem;
 use vob::Vob;
 
-/// Places the goto set of the symbol of a rank, if the set has items, and leaves an empty one behind.
+/// Places the goto set of the symbol of a rank, if the set has items, and leaves an empty one behind. The state's edge on
+/// the symbol may stand at `near`, and that on the next symbol behind it.
 fn place_rank<S: IndexStorage>(
     alloc: Global,
     grm: &YaccGrammar<S>,
@@ -38,9 +40,11 @@ fn place_rank<S: IndexStorage>(
     begins: &mut Vec<Vec<usize>>,
     cursor: &mut usize,
     from: usize,
+    near: &mut usize,
     sets: &mut Vec<CoreSet<S>>,
     number: usize,
 ) -> Result<(), BuildError>
+    requires near { near.old ≤ number }
     requires number { number < grm.now.grammar.rules + grm.now.grammar.tokens }
     requires count { length sets.old.items ≡ grm.now.grammar.rules + grm.now.grammar.tokens }
     requires from { from < length states.old.items }
@@ -50,6 +54,7 @@ fn place_rank<S: IndexStorage>(
     requires lists { length begins.old.items ≡ length grm.now.grammar.productions }
     requires few { length states.old.items ≤ S.MAX }
     requires cursor { cursor.old ≤ length states.old.items }
+    ensures near { OnOk result (near.new ≤ number + 1) }
     ensures states { OnOk result (AreStates grm.now.grammar.tokens (map (value_of S.number) states.new.items)) }
     ensures more { OnOk result (length states.old.items ≤ length states.new.items) }
     ensures buckets { OnOk result (AreBuckets (map (value_of S.number) states.new.items) (map (λ l. l.items) begins.new.items)) }
@@ -61,23 +66,17 @@ fn place_rank<S: IndexStorage>(
     ensures handled { OnOk result ((before : Building) → IsGotoAt grm.now.grammar before from number (core_in (map (core_of_set S.number) sets.old.items) number) → AreHandled grm.now.grammar before from number (map (value_of S.number) states.old.items) → AreHandled grm.now.grammar before from (number + 1) (map (value_of S.number) states.new.items)) }
     ensures many { IsErrOf result faults.TooManyStates → (before : Building) → IsNextTaken grm.now.grammar before from → IsGotoAt grm.now.grammar before from number (core_in (map (core_of_set S.number) sets.old.items) number) → AreHandled grm.now.grammar before from number (map (value_of S.number) states.old.items) → TooManyStand grm.now.grammar S.MAX }
 {
-    let set = mem::replace(&mut sets[number], CoreSet::empty(alloc));
-    if set.items.is_empty() {
+    if sets[number].items.is_empty() {
         return Ok(());
     }
-    place(
-        alloc,
-        states,
-        begins,
-        cursor,
-        from,
-        symbol_at(grm, number),
-        set,
-    )?;
+    let set = mem::replace(&mut sets[number], CoreSet::empty(alloc));
+    let symbol = symbol_at(grm, number);
+    sets[number] = place(alloc, states, begins, cursor, from, *near, symbol, set)?;
+    *near += 1;
     Ok(())
 }
 
-/// Places the goto sets of a state, symbol by symbol.
+/// Places the goto sets of a state, symbol by symbol, and leaves empty ones behind.
 fn place_all<S: IndexStorage>(
     alloc: Global,
     grm: &YaccGrammar<S>,
@@ -95,6 +94,7 @@ fn place_all<S: IndexStorage>(
     requires lists { length begins.old.items ≡ length grm.now.grammar.productions }
     requires few { length states.old.items ≤ S.MAX }
     requires cursor { cursor.old ≤ length states.old.items }
+    ensures emptied { OnOk result (map (core_of_set S.number) sets.new.items ≡ replicate (grm.now.grammar.rules + grm.now.grammar.tokens) no_core) }
     ensures buckets { OnOk result (AreBuckets (map (value_of S.number) states.new.items) (map (λ l. l.items) begins.new.items)) }
     ensures lists { OnOk result (length begins.new.items ≡ length begins.old.items) }
     ensures few { OnOk result (length states.new.items ≤ S.MAX) }
@@ -103,28 +103,36 @@ fn place_all<S: IndexStorage>(
     ensures handled { OnOk result ((before : Building) → AreGotosOf grm.now.grammar before from (map (core_of_set S.number) sets.old.items) → AreHandled grm.now.grammar before from 0 (map (value_of S.number) states.old.items) → AreHandled grm.now.grammar before from (grm.now.grammar.rules + grm.now.grammar.tokens) (map (value_of S.number) states.new.items)) }
     ensures many { IsErrOf result faults.TooManyStates → (before : Building) → IsNextTaken grm.now.grammar before from → AreGotosOf grm.now.grammar before from (map (core_of_set S.number) sets.old.items) → AreHandled grm.now.grammar before from 0 (map (value_of S.number) states.old.items) → TooManyStand grm.now.grammar S.MAX }
 {
+    let mut near = 0;
     'ranks: for number in 0..sets.len() {
-        place_rank(alloc, grm, states, begins, cursor, from, sets, number)?;
+        place_rank(
+            alloc, grm, states, begins, cursor, from, &mut near, sets, number,
+        )?;
     }
     Ok(())
 }
 
-/// The goto sets of a core, one for each symbol.
+/// Makes empty sets, one for each symbol, the goto sets of a core.
 fn gotos<S: IndexStorage>(
     alloc: Global,
     grm: &YaccGrammar<S>,
     firsts: &YaccFirsts<S>,
     openers: &Openers,
+    closer: &mut Closer,
     core: &CoreSet<S>,
-) -> Result<Vec<CoreSet<S>>, AllocError>
+    sets: &mut Vec<CoreSet<S>>,
+) -> Result<(), AllocError>
+    requires ready { IsReady grm.now.grammar closer.old }
     requires fits { FitsCore grm.now.grammar (core_of_set S.number core.now) }
     requires firsts { AreFirsts grm.now.grammar firsts.now }
     requires openers { AreFronts grm.now.grammar openers.now }
-    ensures { IfOk result (λ v. AreGotos grm.now.grammar (Closure grm.now.grammar (HasItem (map_of (core_of_set S.number core.now)))) (ClosureLook grm.now.grammar (HasItem (map_of (core_of_set S.number core.now))) (HasLook (map_of (core_of_set S.number core.now)))) (map (core_of_set S.number) v.items)) }
+    requires empty { map (core_of_set S.number) sets.old.items ≡ replicate (grm.now.grammar.rules + grm.now.grammar.tokens) no_core }
+    ensures ready { OnOk result (IsReady grm.now.grammar closer.new) }
+    ensures gotos { OnOk result (AreGotos grm.now.grammar (Closure grm.now.grammar (HasItem (map_of (core_of_set S.number core.now)))) (ClosureLook grm.now.grammar (HasItem (map_of (core_of_set S.number core.now))) (HasLook (map_of (core_of_set S.number core.now)))) (map (core_of_set S.number) sets.new.items)) }
 {
-    let opening = close_core(alloc, grm, firsts, openers, core)?;
-    let sets = goto_sets(alloc, grm, core, &opening)?;
-    Ok(sets)
+    closer.close(alloc, grm, firsts, openers, core)?;
+    goto_sets(grm, core, &closer.opening, sets)?;
+    Ok(())
 }
 
 /// Notes that a state is taken.
@@ -142,12 +150,16 @@ fn step<S: IndexStorage>(
     grm: &YaccGrammar<S>,
     firsts: &YaccFirsts<S>,
     openers: &Openers,
+    closer: &mut Closer,
+    sets: &mut Vec<CoreSet<S>>,
     states: &mut Vec<State<S>>,
     begins: &mut Vec<Vec<usize>>,
     number: usize,
 ) -> Result<usize, BuildError>
     requires firsts { AreFirsts grm.now.grammar firsts.now }
     requires openers { AreFronts grm.now.grammar openers.now }
+    requires ready { IsReady grm.now.grammar closer.old }
+    requires empty { map (core_of_set S.number) sets.old.items ≡ replicate (grm.now.grammar.rules + grm.now.grammar.tokens) no_core }
     requires reached { AreReached grm.now.grammar (map (value_of S.number) states.old.items) }
     requires number { number < length states.old.items }
     requires todo { (state_at (map (value_of S.number) states.old.items) number).todo ≡ true }
@@ -155,6 +167,8 @@ fn step<S: IndexStorage>(
     requires buckets { AreBuckets (map (value_of S.number) states.old.items) (map (λ l. l.items) begins.old.items) }
     requires lists { length begins.old.items ≡ length grm.now.grammar.productions }
     requires few { length states.old.items ≤ S.MAX }
+    ensures ready { OnOk result (IsReady grm.now.grammar closer.new) }
+    ensures emptied { OnOk result (map (core_of_set S.number) sets.new.items ≡ replicate (grm.now.grammar.rules + grm.now.grammar.tokens) no_core) }
     ensures reached { OnOk result (AreReached grm.now.grammar (map (value_of S.number) states.new.items)) }
     ensures buckets { OnOk result (AreBuckets (map (value_of S.number) states.new.items) (map (λ l. l.items) begins.new.items)) }
     ensures lists { OnOk result (length begins.new.items ≡ length begins.old.items) }
@@ -164,10 +178,11 @@ fn step<S: IndexStorage>(
     ensures many { IsErrOf result faults.TooManyStates → TooManyStand grm.now.grammar S.MAX }
 {
     grm.start_prod();
-    let mut sets = gotos(alloc, grm, firsts, openers, &states[number].core)?;
+    let core = &states[number].core;
+    gotos(alloc, grm, firsts, openers, closer, core, sets)?;
     take(states, number);
     let mut cursor = number;
-    place_all(alloc, grm, states, begins, &mut cursor, number, &mut sets)?;
+    place_all(alloc, grm, states, begins, &mut cursor, number, sets)?;
     Ok(cursor)
 }
 
@@ -249,11 +264,15 @@ pub fn finish<S: IndexStorage>(
     grm: &YaccGrammar<S>,
     firsts: &YaccFirsts<S>,
     openers: &Openers,
+    closer: &mut Closer,
+    sets: &mut Vec<CoreSet<S>>,
     states: &mut Vec<State<S>>,
     begins: &mut Vec<Vec<usize>>,
 ) -> Result<(), BuildError>
     requires firsts { AreFirsts grm.now.grammar firsts.now }
     requires openers { AreFronts grm.now.grammar openers.now }
+    requires ready { IsReady grm.now.grammar closer.old }
+    requires empty { map (core_of_set S.number) sets.old.items ≡ replicate (grm.now.grammar.rules + grm.now.grammar.tokens) no_core }
     requires reached { AreReached grm.now.grammar (map (value_of S.number) states.old.items) }
     requires buckets { AreBuckets (map (value_of S.number) states.old.items) (map (λ l. l.items) begins.old.items) }
     requires lists { length begins.old.items ≡ length grm.now.grammar.productions }
@@ -265,10 +284,28 @@ pub fn finish<S: IndexStorage>(
     let mut cursor = 0;
     'steps: loop {
         match lowest(states.as_slice(), cursor) {
-            Some(number) => cursor = step(alloc, grm, firsts, openers, states, begins, number)?,
+            Some(number) => {
+                cursor = step(
+                    alloc, grm, firsts, openers, closer, sets, states, begins, number,
+                )?;
+            }
             None => return Ok(()),
         }
     }
+}
+
+/// An empty set for each symbol.
+fn symbol_sets<S: IndexStorage>(
+    alloc: Global,
+    grm: &YaccGrammar<S>,
+) -> Result<Vec<CoreSet<S>>, AllocError>
+    ensures { IfOk result (λ v. map (core_of_set S.number) v.items ≡ replicate (grm.now.grammar.rules + grm.now.grammar.tokens) no_core) }
+{
+    grm.start_prod();
+    let rules = grm.rules_len().0.to_usize();
+    let tokens = grm.tokens_len().0.to_usize();
+    let sets = empty_sets(alloc, rules + tokens)?;
+    Ok(sets)
 }
 
 /// The states of the building at its end.
@@ -287,7 +324,18 @@ fn build<S: IndexStorage>(
     let openers = Openers::new(alloc, grm, firsts)?;
     let mut begins = start_lists(alloc, grm.prods_len().0.to_usize(), first)?;
     let mut states = start_states(alloc, grm)?;
-    finish(alloc, grm, firsts, &openers, &mut states, &mut begins)?;
+    let mut closer = Closer::new(alloc, grm)?;
+    let mut sets = symbol_sets(alloc, grm)?;
+    finish(
+        alloc,
+        grm,
+        firsts,
+        &openers,
+        &mut closer,
+        &mut sets,
+        &mut states,
+        &mut begins,
+    )?;
     Ok(states)
 }
 

@@ -41,6 +41,17 @@ pub struct StateParts<S> {
     pub accepts: bool,
 }
 
+impl<S: IndexStorage> StateParts<S> {
+    /// Of no state yet.
+    pub fn new(alloc: Global) -> StateParts<S> {
+        StateParts {
+            reductions: Vec::new(alloc),
+            shifts: Vec::new(alloc),
+            accepts: false,
+        }
+    }
+}
+
 /// Tells whether a token is in a set.
 #[tactic(auto, using(crate::proofs::TokenReductions::flag_at))]
 fn is_in(tokens: &Vob, number: usize) -> bool

@@ -1,17 +1,19 @@
 //! The states of a building, and the placing of a set among them.
 
-ghost use Rattle.std.specs.Prelude.{◌≡◌, ◌<◌, ◌↔◌, ℕ, Bool, true, false, [], length, map, get_or, slice_set, ◌≤◌, IsTrue, OnOk, IsErrOf, MatchOption, alloc_error};
+ghost use Rattle.std.specs.Prelude.{◌≡◌, ◌<◌, ◌↔◌, ℕ, Bool, true, false, [], length, map, get_or, slice_set, ◌≤◌, IsTrue, IfOk, OnOk, IsErrOf, MatchOption, alloc_error};
 ghost use Rattle.std.specs.List.{Contains, AllPairs};
 ghost use Rattle.cfg_theory.specs.Grammar.{Sym};
 ghost use Rattle.cfgrammar.specs.Symbols.{sym_of};
 ghost use Rattle.lr_theory.specs.Building.{same_symbol};
+ghost use Rattle.lrtable.specs.Gaining.{no_core};
 ghost use Rattle.lrtable.specs.Meeting.{AreAlike, RowsFit, rows_in};
 ghost use Rattle.lrtable.specs.ItemRows.{Item, Core, join_rows, CoversRows, LacksRows, IsCoreOf};
-ghost use Rattle.lrtable.specs.States.{IsPut, IsLinked, IsPlaced, JoinsAt, JoinsNone, AreStates, ListsCore, IsApartFrom, AreBuckets, AreQuiet, KeepsItems, AddsItems, Edge, SymBefore, first_production, grown_at, state_at};
+ghost use Rattle.lrtable.specs.States.{IsPut, IsLinked, IsPlaced, JoinsAt, JoinsNone, AreStates, AscendEdges, ListsCore, IsApartFrom, AreBuckets, AreQuiet, KeepsItems, AddsItems, Edge, SymBefore, first_production, grown_at, state_at};
 ghost use Rattle.lrtable.specs.declared.states.BuildError.TheVariants as faults;
 ghost use Rattle.lrtable.specs.StateViews.{item_of, items_of, core_of_set, edge_of_pair, edges_of, value_of};
 
-use crate::cores::{CoreSet, same_items};
+use crate::closures::same_symbols;
+use crate::cores::{CoreSet, emptied, same_items};
 use crate::meeting::{hold_all, weakly_compatible};
 use cfg_base::index::IndexStorage;
 use cfg_base::symbol::Symbol;
@@ -83,16 +85,6 @@ fn join_looks(looks: &mut Vec<Vob>, new: &[Vob]) -> bool
     grew
 }
 
-fn same_symbols<S: IndexStorage>(a: Symbol<S>, b: Symbol<S>) -> bool
-    ensures { result ≡ same_symbol (sym_of S.number a) (sym_of S.number b) }
-{
-    match (a, b) {
-        (Symbol::Rule(a), Symbol::Rule(b)) => a.0.to_usize() == b.0.to_usize(),
-        (Symbol::Token(a), Symbol::Token(b)) => a.0.to_usize() == b.0.to_usize(),
-        _ => false,
-    }
-}
-
 /// Tells whether a symbol comes before another: rules before tokens, each by their indices.
 fn comes_before<S: IndexStorage>(a: Symbol<S>, b: Symbol<S>) -> bool
     ensures { IsTrue result ↔ SymBefore (sym_of S.number a) (sym_of S.number b) }
@@ -130,11 +122,45 @@ fn is_on<S: IndexStorage>(edges: &[EdgeTo<S>], index: usize, symbol: Symbol<S>) 
     same_symbols(edges[index].symbol, symbol)
 }
 
-/// Puts an edge in the place of that on its symbol, or before those on later symbols.
-fn put_edge<S: IndexStorage>(edges: &mut Vec<EdgeTo<S>>, edge: EdgeTo<S>) -> Result<(), AllocError>
+/// Tells whether all edges come before a symbol, as they do where the last does.
+fn all_before<S: IndexStorage>(edges: &[EdgeTo<S>], symbol: Symbol<S>) -> bool
+    requires { AscendEdges (edges_of S.number edges.now) }
+    ensures { result ≡ true → (k : ℕ) → k < length edges.now → (d : Edge) → SymBefore (get_or (edges_of S.number edges.now) k d).symbol (sym_of S.number symbol) }
+{
+    let count = edges.len();
+    if count == 0 {
+        return true;
+    }
+    comes_before(edges[count - 1].symbol, symbol)
+}
+
+/// The index of the first edge whose symbol doesn't come before this one, which is looked for at `near`, at the end, and
+/// then among all.
+fn edge_near<S: IndexStorage>(edges: &[EdgeTo<S>], near: usize, symbol: Symbol<S>) -> usize
+    requires { AscendEdges (edges_of S.number edges.now) }
+    ensures within { result ≤ length edges.now }
+    ensures before { (k : ℕ) → k < result → (d : Edge) → SymBefore (get_or (edges_of S.number edges.now) k d).symbol (sym_of S.number symbol) }
+    ensures stop { (d : Edge) → result < length edges.now → SymBefore (get_or (edges_of S.number edges.now) result d).symbol (sym_of S.number symbol) → ⊥ }
+{
+    if is_on(edges, near, symbol) {
+        return near;
+    }
+    if all_before(edges, symbol) {
+        return edges.len();
+    }
+    edge_index(edges, symbol)
+}
+
+/// Puts an edge in the place of that on its symbol, which may stand at `near`, or before those on later symbols.
+fn put_edge<S: IndexStorage>(
+    edges: &mut Vec<EdgeTo<S>>,
+    near: usize,
+    edge: EdgeTo<S>,
+) -> Result<(), AllocError>
+    requires { AscendEdges (edges_of S.number edges.old.items) }
     ensures { OnOk result (IsPut (edges_of S.number edges.old.items) (sym_of S.number edge.symbol) edge.target (edges_of S.number edges.new.items)) }
 {
-    let index = edge_index(edges.as_slice(), edge.symbol);
+    let index = edge_near(edges.as_slice(), near, edge.symbol);
     if is_on(edges.as_slice(), index, edge.symbol) {
         edges[index] = edge;
         return Ok(());
@@ -195,18 +221,20 @@ fn grow<S: IndexStorage>(states: &mut Vec<State<S>>, number: usize, set: &CoreSe
     false
 }
 
-/// Puts an edge to the state `target` with those of the state `number`.
+/// Puts an edge to the state `target` with those of the state `number`; one on its symbol may stand at `near`.
 fn link<S: IndexStorage>(
     states: &mut Vec<State<S>>,
     number: usize,
+    near: usize,
     symbol: Symbol<S>,
     target: usize,
 ) -> Result<(), AllocError>
-    requires { number < length states.old.items }
+    requires number { number < length states.old.items }
+    requires ascends { AscendEdges (state_at (map (value_of S.number) states.old.items) number).edges }
     ensures { OnOk result (IsLinked (map (value_of S.number) states.old.items) number (sym_of S.number symbol) target (map (value_of S.number) states.new.items)) }
 {
     let state = &mut states[number];
-    put_edge(&mut state.edges, EdgeTo { symbol, target })?;
+    put_edge(&mut state.edges, near, EdgeTo { symbol, target })?;
     Ok(())
 }
 
@@ -228,6 +256,7 @@ fn join<S: IndexStorage>(
     states: &mut Vec<State<S>>,
     cursor: &mut usize,
     from: usize,
+    near: usize,
     symbol: Symbol<S>,
     number: usize,
     set: &CoreSet<S>,
@@ -242,7 +271,7 @@ fn join<S: IndexStorage>(
 {
     let grew = grow(states, number, set);
     lower(cursor, grew, number);
-    link(states, from, symbol, number)?;
+    link(states, from, near, symbol, number)?;
     Ok(())
 }
 
@@ -251,6 +280,7 @@ fn add<S: IndexStorage>(
     alloc: Global,
     states: &mut Vec<State<S>>,
     from: usize,
+    near: usize,
     symbol: Symbol<S>,
     set: CoreSet<S>,
 ) -> Result<(), AllocError>
@@ -267,7 +297,7 @@ fn add<S: IndexStorage>(
         edges: Vec::new(alloc),
         todo: true,
     })?;
-    link(states, from, symbol, number)?;
+    link(states, from, near, symbol, number)?;
     Ok(())
 }
 
@@ -278,6 +308,7 @@ fn add_listed<S: IndexStorage>(
     begins: &mut Vec<Vec<usize>>,
     first: usize,
     from: usize,
+    near: usize,
     symbol: Symbol<S>,
     set: CoreSet<S>,
 ) -> Result<(), BuildError>
@@ -298,23 +329,25 @@ fn add_listed<S: IndexStorage>(
     if number >= S::MAX {
         return Err(BuildError::TooManyStates);
     }
-    add(alloc, states, from, symbol, set)?;
+    add(alloc, states, from, near, symbol, set)?;
     let list = &mut begins[first];
     list.push(number)?;
     Ok(())
 }
 
 /// Puts a set, made from the state `from` by a symbol, among the states: it joins the first that it may, or becomes one.
-/// No state below the cursor is to be taken.
+/// No state below the cursor is to be taken. The state's edge on the symbol may stand at `near`. The
+/// answer is an empty set, to be used again.
 pub fn place<S: IndexStorage>(
     alloc: Global,
     states: &mut Vec<State<S>>,
     begins: &mut Vec<Vec<usize>>,
     cursor: &mut usize,
     from: usize,
+    near: usize,
     symbol: Symbol<S>,
     set: CoreSet<S>,
-) -> Result<(), BuildError>
+) -> Result<CoreSet<S>, BuildError>
     requires from { from < length states.old.items }
     requires states { (tokens : ℕ) × AreStates tokens (map (value_of S.number) states.old.items) × IsCoreOf tokens (core_of_set S.number set) }
     requires buckets { AreBuckets (map (value_of S.number) states.old.items) (map (λ l. l.items) begins.old.items) }
@@ -323,6 +356,7 @@ pub fn place<S: IndexStorage>(
     requires few { length states.old.items ≤ S.MAX }
     requires listed { first_production (items_of S.number set.items.items) < length begins.old.items }
     ensures placed { OnOk result (IsPlaced (map (value_of S.number) states.old.items) from (sym_of S.number symbol) (core_of_set S.number set) (map (value_of S.number) states.new.items)) }
+    ensures emptied { IfOk result (λ s. core_of_set S.number s ≡ no_core) }
     ensures buckets { OnOk result (AreBuckets (map (value_of S.number) states.new.items) (map (λ l. l.items) begins.new.items)) }
     ensures lists { OnOk result (length begins.new.items ≡ length begins.old.items) }
     ensures few { OnOk result (length states.new.items ≤ S.MAX) }
@@ -333,9 +367,12 @@ pub fn place<S: IndexStorage>(
     let first = set.items[0].pidx.0.to_usize();
     match first_joined(states.as_slice(), begins[first].as_slice(), &set) {
         Some(number) => {
-            join(states, cursor, from, symbol, number, &set)?;
-            Ok(())
+            join(states, cursor, from, near, symbol, number, &set)?;
+            Ok(emptied(set))
         }
-        None => add_listed(alloc, states, begins, first, from, symbol, set),
+        None => {
+            add_listed(alloc, states, begins, first, from, near, symbol, set)?;
+            Ok(CoreSet::empty(alloc))
+        }
     }
 }

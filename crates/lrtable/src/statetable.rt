@@ -1,18 +1,28 @@
 //! The table: what each state does on each token, and where it goes after each rule.
 
-ghost use Rattle.std.specs.Prelude.{◌≡◌, ◌+◌, ◌*◌, ◌^◌, ◌<◌, ◌≤◌, ◌↔◌, ℕ, IsTrue, List, [], length, option_map, slice_index_or};
+ghost use Rattle.std.specs.Prelude.{◌≡◌, ◌+◌, ◌*◌, ◌^◌, ◌<◌, ◌≤◌, ◌↔◌, ℕ, IsTrue, IfOk, IfErr, IfSome, IsSome, List, [], length, option_map, slice_index_or};
 ghost use Rattle.std.specs.List.{sum_by};
-ghost use Rattle.table_theory.specs.Cells.{some_conflicts};
+ghost use Rattle.cfg_theory.specs.Grammar.{WellFormed};
+ghost use Rattle.cfgrammar.specs.Value.{GrammarValue};
+ghost use Rattle.table_theory.specs.CellLaws.{SomeContested};
+ghost use Rattle.table_theory.specs.Cells.{NoPrecedences, some_conflicts};
 ghost use Rattle.lrtable.specs.CellRows.{PartsValue};
 ghost use Rattle.lrtable.specs.CellViews.{action_of, cells_of, pairs_of, precedences_of, shifts_of, state_of};
 ghost use Rattle.lrtable.specs.SparseRows.{AllReduce, IsCellRow, IsTargetRow, RowReduces, full_cells};
+ghost use Rattle.lrtable.specs.ConflictTexts.{ConflictsInRange};
+ghost use Rattle.lrtable.specs.Graphs.{GraphValue, IsGraphOf};
+ghost use Rattle.lrtable.specs.TableRefusals.{table_refusal_of};
 ghost use Rattle.lrtable.specs.TableRows.{AreRowsOf, IsTableBy, rows_of};
 ghost use Rattle.lrtable.specs.TableValues.{ReducesOnly, action_at, filled_count, filled_tokens, goto_at, reduced_productions, shifted_tokens};
+ghost use Rattle.lrtable.specs.Tables.{HasFullRows, IsTableOf, IsTableRefusal};
+ghost use Rattle.lrtable.specs.declared.statetable.StateTableNewError.TheVariants as faults;
 
 use crate::cells::{Action, reduced_by, reduces_by};
 use crate::conflicts::{Conflicts, of_lists};
+use crate::graph_rows::{has_room, rows_of_graph};
 use crate::rows::look_up;
 use crate::state_rows::{ReduceReduce, ShiftReduce};
+use crate::stategraph::StateGraph;
 use crate::stidx::StIdx;
 use crate::table_iterators::{
     CoreReducesIterator, StateActionsIterator, productions_of_row, tokens_of_row,
@@ -21,6 +31,7 @@ use crate::table_rows::TableRows;
 use cfg_base::index::IndexStorage;
 use cfg_base::symbol::{PIdx, RIdx, TIdx};
 use cfgrammar::yacc::YaccGrammar;
+use std::alloc::{AllocError, Global};
 use std::error::Error;
 use std::fmt;
 use std::fmt::{Debug, Display, Formatter, Write};
@@ -54,6 +65,25 @@ impl<S: IndexStorage> Model for StateTable<S> {
 }
 
 impl<S: IndexStorage> StateTable<S> {
+    /// The table of a grammar by its graph.
+    pub fn new(
+        alloc: Global,
+        grm: &YaccGrammar<S>,
+        sg: &StateGraph<S>,
+    ) -> Result<StateTable<S>, StateTableNewError<S>>
+        requires { IsGraphOf grm.now.grammar sg.now }
+        ensures table { IfOk result (IsTableOf grm.now sg.now) }
+        ensures listed { IfOk result (λ t. IfSome t.conflicts (ConflictsInRange grm.now)) }
+        ensures refused { IfErr result (λ e. IsTableRefusal grm.now sg.now (table_refusal_of S.number e)) }
+    {
+        grm.start_prod();
+        let rows = rows_of_graph(alloc, grm, sg)?;
+        if !has_room(grm, sg) {
+            return Err(StateTableNewError::TooLarge);
+        }
+        Ok(of_rows(grm, rows, sg.all_states_len(), sg.start_state()))
+    }
+
     /// What the state does on the token.
     pub fn action(&self, stidx: StIdx<S>, tidx: TIdx<S>) -> Action<S>
         requires state { S.number stidx.0 < self.now.states }
@@ -134,6 +164,23 @@ impl<S: IndexStorage> StateTable<S> {
         StIdx(self.states)
     }
 
+    /// The state of a number. A loop over all states is `for number in 0..table.states_len().0.to_usize()`.
+    pub fn state_at(&self, number: usize) -> StIdx<S>
+        requires { number < self.now.states }
+        ensures { S.number result.0 ≡ number }
+    {
+        // Read, so that the proof may use that the count of states fits.
+        self.states.to_usize();
+        StIdx(S::from_usize(number).unwrap())
+    }
+
+    /// Whether this is a state of the table.
+    pub fn has_state(&self, stidx: StIdx<S>) -> bool
+        ensures { IsTrue result ↔ S.number stidx.0 < self.now.states }
+    {
+        stidx.0.to_usize() < self.states.to_usize()
+    }
+
     /// Counts the tokens, the end token among them.
     pub fn tokens_len(&self) -> TIdx<S>
         ensures { S.number result.0 ≡ self.now.tokens }
@@ -164,9 +211,12 @@ impl<S: IndexStorage> StateTable<S> {
         cells + gotos
     }
 
-    /// The conflicts that no precedence settles, if there are any.
+    /// The conflicts that no precedence settles, if there are any: without precedences there are some exactly where
+    /// canonical LR(1) is contested.
+    #[tactic(auto, using(crate::proofs::CanonicalTables::exact))]
     pub fn conflicts(&self) -> Option<&Conflicts<S>>
-        ensures { option_map (λ c. c.now) result ≡ self.now.conflicts }
+        ensures value { option_map (λ c. c.now) result ≡ self.now.conflicts }
+        ensures canonical { (v : GrammarValue) (g : GraphValue) → WellFormed v.grammar → IsTableOf v g self.now → NoPrecedences (precedences_of v) → IsSome self.now.conflicts ↔ SomeContested v.grammar }
     {
         match &self.conflicts {
             Some(conflicts) => Some(conflicts),
@@ -241,6 +291,7 @@ pub(crate) fn of_rows<S: IndexStorage>(
     ensures rules { result.rules ≡ grm.now.grammar.rules }
     ensures productions { result.productions ≡ length grm.now.grammar.productions }
     ensures start { result.start ≡ S.number start.0 }
+    ensures rows { HasFullRows result }
     ensures table { (parts : ℕ → PartsValue) (gotos : ℕ → List (ℕ × ℕ)) → AreRowsOf grm.now.grammar (precedences_of grm.now) parts gotos (S.number states.0) (rows_of S.number rows) → IsTableBy grm.now.grammar (precedences_of grm.now) parts gotos (S.number states.0) result }
 {
     let TableRows {
@@ -287,3 +338,40 @@ impl<S> Display for StateTableError<S> {
 }
 
 impl<S: Debug + Drop> Error for StateTableError<S> {}
+
+/// Why a graph has no table.
+#[derive(Clone, Copy, Debug, PartialEq, Eq)]
+pub enum StateTableNewError<S> {
+    /// No table is made of the grammar.
+    StateTable(StateTableError<S>),
+    /// A cell for each state and token, and one for each state and rule, are more than `usize::MAX`.
+    TooLarge,
+    /// There is no memory.
+    Memory(AllocError),
+}
+
+impl<S> From<AllocError> for StateTableNewError<S> {
+    ghost from_gives = { λ x e. e ≡ faults.Memory x };
+
+    fn from(e: AllocError) -> StateTableNewError<S> {
+        StateTableNewError::Memory(e)
+    }
+}
+
+/// Prints the inner error, or the variant's name.
+impl<S> Display for StateTableNewError<S> {
+    ghost use Rattle.std.specs.Prelude.{Some};
+    ghost use Rattle.lrtable.specs.TableRefusals.{new_error_text};
+
+    ghost output = { λ e. Some (new_error_text e) };
+
+    fn fmt<W: Write>(&self, f: &mut Formatter<W>) -> fmt::Result {
+        match self {
+            StateTableNewError::StateTable(e) => write!(f, "{e}"),
+            StateTableNewError::TooLarge => write!(f, "TooLarge"),
+            StateTableNewError::Memory(_) => write!(f, "Memory"),
+        }
+    }
+}
+
+impl<S: Debug + Drop> Error for StateTableNewError<S> {}

@@ -2,7 +2,7 @@ use Rattle.std.proofs.Common.{◌≡◌, map, take}
 use Rattle.std.specs.declared.alloc.Global.{Global}
 use Rattle.std.specs.declared.vec.Vec.{Vec}
 use Rattle.cfg_base.specs.declared.symbol.Symbol.{Symbol}
-use Rattle.lrtable.specs.Graphs.{pairs_of}
+use Rattle.lrtable.specs.FinalStates.{pairs_of}
 use Rattle.lrtable.specs.GraphViews.{edges_seen}
 use Rattle.lrtable.specs.StateViews.{value_of}
 use Rattle.lrtable.specs.declared.stidx.StIdx.{StIdx}

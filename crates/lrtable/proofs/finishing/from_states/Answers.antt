@@ -1,21 +1,22 @@
 use Rattle.std.proofs.Common.{length, map, refl, sym, ap, ◌∙◌, subst, arith}
 use Rattle.std.proofs.lemmas.List.{length-map}
-use Rattle.lrtable.specs.Graphs.{GraphValue, IsGraphOf, AreClosures}
+use Rattle.lrtable.specs.FinalStates.{AreClosures}
+use Rattle.lrtable.specs.Graphs.{GraphValue, IsGraphOf}
 use Rattle.lrtable.specs.GraphViews.{graph_seen}
 use Rattle.lrtable.specs.StateViews.{value_of}
-use Rattle.lrtable.proofs.FinalStates.{final_targets, final_core, final_fits, final_graph, final_value, targets_fit}
+use Rattle.lrtable.proofs.FinalStates.{final_targets, final_fits, final_graph, final_value, targets_fit}
 use Rattle.lrtable.proofs.finishing.from_states.Goals as goal
 
 pub core_sets-requires : goal.core_sets-requires
 core_sets-requires g c =
     let n = length-map c.args.states.now (value_of g.S.IndexStorage.number) in
-    (c.args.grm.now.grammar.tokens, λ s lt. c.requires.ready.cores s (omega (arith, lt, n)))
+    (c.args.grm.now.grammar.tokens, λ s lt. (c.requires.ready.cores s (omega (arith, lt, n))).good)
 
 pub closed_sets-requires-clause-fit : goal.closed_sets-requires-clause-fit
 closed_sets-requires-clause-fit g c = λ s lt.
     let number = g.S.IndexStorage.number in
     let n = length-map c.args.states.now (value_of number) in
-    final_core c.args.grm.now.grammar c.start_prod.ensures.well_formed (map (value_of number) c.args.states.now) c.requires.ready s (omega (arith, lt, n))
+    c.requires.ready.cores s (omega (arith, lt, n))
 
 pub closed_sets-requires-clause-dots : goal.closed_sets-requires-clause-dots
 closed_sets-requires-clause-dots g c = λ s lt.

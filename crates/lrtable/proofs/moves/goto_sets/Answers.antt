@@ -1,4 +1,4 @@
-use Rattle.std.proofs.Common.{◌≡◌, ◌+◌, ap₂, ◌∙◌, map}
+use Rattle.std.proofs.Common.{refl, map}
 use Rattle.lrtable.specs.StateViews.{core_of_set}
 use Rattle.lrtable.proofs.Moving.{all_moved}
 use Rattle.lrtable.proofs.moves.goto_sets.Goals as goal
@@ -9,4 +9,4 @@ returns g c =
     let G = c.args.grm.now.grammar in
     let closed = c.requires.closed in
     all_moved G closed.0 (core_of_set number c.args.core.now) c.args.opening.now _ _ (map (core_of_set number) c.move_core.new.sets.items) (map (core_of_set number) c.move_open.new.sets.items) c.start_prod.ensures.well_formed closed.1 closed.2
-    (ap₂ ◌+◌ (c.to_usize-rules.ensures.value ∙ c.rules_len.ensures) (c.to_usize-tokens.ensures.value ∙ c.tokens_len.ensures)) c.in_ok-sets.ensures c.in_ok-move_core.ensures c.in_ok-move_open.ensures
+    refl c.requires.empty c.in_ok-move_core.ensures c.in_ok-move_open.ensures

@@ -1,11 +1,10 @@
-use Rattle.std.proofs.Common.{◌≡◌, ◌≤◌, List, [], ◌++◌, ◌∷◌, length, map, take, sym, subst, arith}
+use Rattle.std.proofs.Common.{map, take, sym, subst, arith}
 use Rattle.std.proofs.lemmas.List.{take_all}
 use Rattle.cfgrammar.specs.Value.{productions_of}
 use Rattle.cfgrammar.proofs.RuleLists.{alone}
 use Rattle.lrtable.specs.Closes.{AreFrontsOf}
 use Rattle.lrtable.specs.Fronts.{front_of}
-use Rattle.lrtable.specs.Opening.{Front}
-use Rattle.lrtable.proofs.Fronts.{fronts_none, fronts_more, listed_prod, listed_count}
+use Rattle.lrtable.proofs.Fronts.{fronts_more, listed_prod, listed_count}
 use Rattle.lrtable.proofs.openers.openers_of.Goals as goal
 
 pub put_opener-requires-clause-production : goal.put_opener-requires-clause-production
@@ -33,3 +32,6 @@ returns g c =
     let n = listed_count number c.rule_to_prods-prods.result.now qs c.rule_to_prods-prods.ensures in
     let done = c.prods-test.false in
     subst (λ l. AreFrontsOf G l (map front_of c.prods.openers.items)) (take_all c.prods.k qs (omega (arith, n, done))) c.prods.invariant
+
+pub put_opener-requires-clause-width : goal.put_opener-requires-clause-width
+put_opener-requires-clause-width g c = c.prods.invariant.width

@@ -1,19 +1,20 @@
-use Rattle.std.proofs.Common.{List, map, sym, subst}
+use Rattle.std.proofs.Common.{sym, ◌∙◌, subst}
+use Rattle.std.proofs.lemmas.Result.{on_ok_weaker}
 use Rattle.cfg_theory.specs.Grammar.{rule, IsNext}
-use Rattle.lrtable.specs.Closes.{PutsFront}
-use Rattle.lrtable.specs.Fronts.{front_of}
-use Rattle.lrtable.specs.declared.openers.Opener.{Opener}
-use Rattle.lrtable.proofs.Fronts.{put_one}
+use Rattle.lrtable.specs.Closes.{IsFrontOf, PutsFront}
+use Rattle.lrtable.specs.Fronts.{front_with}
 use Rattle.lrtable.proofs.openers.put_opener.Goals as goal
 
-pub returns-in_ok-push-in-Some : goal.returns-in_ok-push-in-Some
-returns-in_ok-push-in-Some g c =
+pub put_rest-requires : goal.put_rest-requires
+put_rest-requires g c = λ e m. c.requires.width e m ∙ sym c.in_ok-rest-in-Some.ensures.width
+
+pub returns-in_ok-rest-in-Some : goal.returns-in_ok-rest-in-Some
+returns-in_ok-rest-in-Some g c =
     let number = g.S.IndexStorage.number in
     let G = c.args.grm.now.grammar in
     let q = number c.args.pidx.0 in
-    let o : Opener = record { rule = c.to_usize.result; rest = c.in_ok-rest-in-Some.rest } in
-    subst (λ (l : List Opener). PutsFront G q (map front_of c.args.openers.now.items) (map front_of l)) (sym c.in_ok-push-in-Some.ensures.items)
-    (put_one G q c.args.openers.now.items o (subst (λ k. IsNext G q 0 (rule k)) (sym c.to_usize.ensures.value) c.in-Some.ensures) c.in_ok-rest-in-Some.ensures)
+    let f : IsFrontOf G q (front_with c.to_usize.result c.in_ok-rest-in-Some.rest) = record { rule = subst (λ k. IsNext G q 0 (rule k)) (sym c.to_usize.ensures.value) c.in-Some.ensures; rest = c.in_ok-rest-in-Some.ensures } in
+    on_ok_weaker c.put_rest.result (λ h. PutsFront.one (front_with c.to_usize.result c.in_ok-rest-in-Some.rest) f h) c.put_rest.ensures
 
 pub returns-in-None : goal.returns-in-None
 returns-in-None g c = PutsFront.none c.in-None.ensures

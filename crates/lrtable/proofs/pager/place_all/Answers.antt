@@ -1,13 +1,16 @@
-use Rattle.std.proofs.Common.{length, map, refl, sym, ap, ◌∙◌, subst, arith, rules, length-set}
+use Rattle.std.proofs.Common.{◌+◌, length, map, refl, sym, ap, ◌∙◌, subst, arith, rules, length-set}
 use Rattle.std.proofs.lemmas.List.{length-map}
 use Rattle.lrtable.specs.Gaining.{no_core}
 use Rattle.lrtable.specs.StateViews.{value_of, core_of_set}
 use Rattle.lrtable.specs.Stepping.{FitsCore, IsGotoAt}
+use Rattle.lrtable.proofs.Emptying.{emptied_next, all_empty}
 use Rattle.lrtable.proofs.Stepping.{rest_next, next_handled, goto_at}
 use Rattle.lrtable.proofs.pager.place_all.Goals as goal
 
 pub ranks-init : goal.ranks-init
 ranks-init g c = record {
+  near = omega arith;
+  emptied = λ n lt. absurd (omega (arith, lt));
   count = refl;
   states = c.requires.states;
   more = omega arith;
@@ -40,6 +43,8 @@ ranks-preserved g c =
     let m = v.more in
     let m' = e.more in
     record {
+      near = e.near;
+      emptied = emptied_next sets new c.ranks.number (let k = length-map c.ranks.sets.items (core_of_set number) in let t = c.ranks-test.true in let q = v.count in omega (arith, k, t, q)) e.sets v.emptied;
       count = (let l = length-map c.place_rank.new.sets.items (core_of_set number) in let k = length-map c.ranks.sets.items (core_of_set number) in let s = ap length e.sets in let n = length-set sets c.ranks.number no_core in let q = v.count in omega (arith, l, k, s, n, q));
       states = e.states;
       more = omega (arith, m, m');
@@ -65,3 +70,14 @@ place_rank-requires-clause-cursor g c =
     let more = c.ranks.invariant.more in
     let le = c.requires.cursor in
     omega (arith, less, more, le)
+
+pub returns-clause-emptied : goal.returns-clause-emptied
+returns-clause-emptied g c =
+    let number = g.S.IndexStorage.number in
+    let G = c.args.grm.now.grammar in
+    let v = c.ranks.invariant in
+    let k = length-map c.ranks.sets.items (core_of_set number) in
+    let q = v.count in
+    let count = c.requires.count in
+    let done = c.ranks-test.false in
+    all_empty (map (core_of_set number) c.ranks.sets.items) (G.rules + G.tokens) (omega (arith, k, q, count)) (λ n lt. v.emptied n (omega (arith, lt, done, count)))

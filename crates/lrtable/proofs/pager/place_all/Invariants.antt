@@ -1,8 +1,8 @@
-use Rattle.std.proofs.Common.{◌≡◌, ℕ, ◌≤◌, length, map}
+use Rattle.std.proofs.Common.{◌≡◌, ℕ, ◌<◌, ◌≤◌, length, map}
 use Rattle.std.specs.declared.alloc.Global.{Global}
 use Rattle.std.specs.declared.vec.Vec.{Vec}
 use Rattle.lr_theory.specs.Building.{Building}
-use Rattle.lrtable.specs.Gaining.{core_in}
+use Rattle.lrtable.specs.Gaining.{no_core, core_in}
 use Rattle.lrtable.specs.Handling.{AreHandled}
 use Rattle.lrtable.specs.States.{AreStates, AreBuckets, AreQuiet}
 use Rattle.lrtable.specs.StateViews.{value_of, core_of_set}
@@ -13,6 +13,8 @@ abbrev pub invariant-ranks : goal.invariant-ranks
 invariant-ranks g l =
     let number = g.S.IndexStorage.number in
     record {
+      near : l.near ≤ l.number;
+      emptied : (n : ℕ) → n < l.number → core_in (map (core_of_set number) l.sets.items) n ≡ no_core;
       count : length l.sets.items ≡ length l.initial.sets.items;
       states : AreStates l.grm.grammar.tokens (map (value_of number) l.states.items);
       more : length l.initial.states.items ≤ length l.states.items;

@@ -38,7 +38,7 @@ place_all-requires-clause-sets g c =
     let number = g.S.IndexStorage.number in
     let G = c.args.grm.now.grammar in
     let core = map_of (core_of_set number c.index.result.now.core) in
-    all_fit G (Closure G (HasItem core)) (ClosureLook G (HasItem core) (HasLook core)) (map (core_of_set number) c.in_ok-sets.sets.items) c.in_ok-sets.ensures
+    all_fit G (Closure G (HasItem core)) (ClosureLook G (HasItem core) (HasLook core)) (map (core_of_set number) c.gotos.new.sets.items) c.in_ok-gotos.ensures.gotos
 
 pub place_all-requires-clause-buckets : goal.place_all-requires-clause-buckets
 place_all-requires-clause-buckets g c =
@@ -57,8 +57,8 @@ returns-in_err-place_all-clause-many g c = λ e.
     let low = c.requires.number in
     let h = c.requires.reached in
     let at = map_at (value_of number) c.args.states.now.items c.args.number c.index.result.now no_state low c.index.ensures in
-    let sets = map (core_of_set number) c.in_ok-sets.sets.items in
-    let gotos = gotos_of G states h.building c.args.number sets h.matches (subst (λ (v : StateValue). AreGotos G (Closure G (HasItem (map_of v.core))) (ClosureLook G (HasItem (map_of v.core)) (HasLook (map_of v.core))) sets) (sym at) c.in_ok-sets.ensures) in
+    let sets = map (core_of_set number) c.gotos.new.sets.items in
+    let gotos = gotos_of G states h.building c.args.number sets h.matches (subst (λ (v : StateValue). AreGotos G (Closure G (HasItem (map_of v.core))) (ClosureLook G (HasItem (map_of v.core)) (HasLook (map_of v.core))) sets) (sym at) c.in_ok-gotos.ensures.gotos) in
     let begun = subst (λ (l : List StateValue). AreHandled G h.building c.args.number 0 l) (sym c.take.ensures) (none_handled states h.building c.args.number h.matches (omega (arith, n, low)) G h.cores) in
     c.place_all.ensures.many (search rules) h.building (next_taken G states h c.args.number c.requires.todo c.requires.lowest) gotos begun
 
@@ -71,8 +71,8 @@ returns-clause-reached g c =
     let low = c.requires.number in
     let h = c.requires.reached in
     let at = map_at (value_of number) c.args.states.now.items c.args.number c.index.result.now no_state low c.index.ensures in
-    let sets = map (core_of_set number) c.in_ok-sets.sets.items in
-    let gotos = gotos_of G states h.building c.args.number sets h.matches (subst (λ (v : StateValue). AreGotos G (Closure G (HasItem (map_of v.core))) (ClosureLook G (HasItem (map_of v.core)) (HasLook (map_of v.core))) sets) (sym at) c.in_ok-sets.ensures) in
+    let sets = map (core_of_set number) c.gotos.new.sets.items in
+    let gotos = gotos_of G states h.building c.args.number sets h.matches (subst (λ (v : StateValue). AreGotos G (Closure G (HasItem (map_of v.core))) (ClosureLook G (HasItem (map_of v.core)) (HasLook (map_of v.core))) sets) (sym at) c.in_ok-gotos.ensures.gotos) in
     let begun = subst (λ (l : List StateValue). AreHandled G h.building c.args.number 0 l) (sym c.take.ensures) (none_handled states h.building c.args.number h.matches (omega (arith, n, low)) G h.cores) in
     step_reached G states (map (value_of number) c.place_all.new.states.items) c.args.number h (omega (arith, n, low)) c.requires.todo c.requires.lowest (c.in_ok-place_all.ensures.handled h.building gotos begun)
 
@@ -85,8 +85,8 @@ returns-clause-less g c =
     let low = c.requires.number in
     let h = c.requires.reached in
     let at = map_at (value_of number) c.args.states.now.items c.args.number c.index.result.now no_state low c.index.ensures in
-    let sets = map (core_of_set number) c.in_ok-sets.sets.items in
-    let gotos = gotos_of G states h.building c.args.number sets h.matches (subst (λ (v : StateValue). AreGotos G (Closure G (HasItem (map_of v.core))) (ClosureLook G (HasItem (map_of v.core)) (HasLook (map_of v.core))) sets) (sym at) c.in_ok-sets.ensures) in
+    let sets = map (core_of_set number) c.gotos.new.sets.items in
+    let gotos = gotos_of G states h.building c.args.number sets h.matches (subst (λ (v : StateValue). AreGotos G (Closure G (HasItem (map_of v.core))) (ClosureLook G (HasItem (map_of v.core)) (HasLook (map_of v.core))) sets) (sym at) c.in_ok-gotos.ensures.gotos) in
     let begun = subst (λ (l : List StateValue). AreHandled G h.building c.args.number 0 l) (sym c.take.ensures) (none_handled states h.building c.args.number h.matches (omega (arith, n, low)) G h.cores) in
     let m = length-map c.place_all.new.states.items (value_of number) in
     let few = c.in_ok-place_all.ensures.few in

@@ -9,7 +9,7 @@ use Rattle.lrtable.specs.CellViews.{cells_of, targets_of, precedences_of}
 use Rattle.lrtable.specs.SparseRows.{IsCellRow, IsTargetRow}
 use Rattle.lrtable.specs.TableRows.{rows_of}
 use Rattle.lrtable.specs.TableViews.{sparse_of}
-use Rattle.lrtable.proofs.TableSteps.{table_by}
+use Rattle.lrtable.proofs.TableSteps.{full_rows, table_by}
 use Rattle.lrtable.proofs.statetable.of_rows.Goals as goal
 
 pub invariant_of-result : goal.invariant_of-result
@@ -34,3 +34,12 @@ returns-clause-table g c = λ parts gotos are.
     let r = c.args.rows in
     let T = sparse_of number c.args.states.0 c.tokens_len.result.0 c.rules_len.result.0 c.prods_len.result.0 c.args.start r.actions.items r.gotos.items c.listed.result in
     table_by c.args.grm.now.grammar (precedences_of c.args.grm.now) parts gotos (number c.args.states.0) (rows_of number r) are T refl refl c.tokens_len.ensures c.rules_len.ensures c.listed.ensures
+
+pub returns-clause-rows : goal.returns-clause-rows
+returns-clause-rows g c =
+    let number = g.S.IndexStorage.number in
+    let r = c.args.rows in
+    let h : Vec (ℕ × TableAction g.row.S.Denot) Global → List (ℕ × Action) = λ row. cells_of number row.items in
+    let k : Vec (ℕ × StIdx g.row.S.Denot) Global → List (ℕ × ℕ) = λ row. targets_of number row.items in
+    let T = sparse_of number c.args.states.0 c.tokens_len.result.0 c.rules_len.result.0 c.prods_len.result.0 c.args.start r.actions.items r.gotos.items c.listed.result in
+    full_rows T (length-map r.actions.items h ∙ c.requires.actions) (length-map r.gotos.items k ∙ c.requires.gotos)

@@ -1,0 +1,5 @@
+use Rattle.lrtable.proofs.CanonicalTables.{graph_holds}
+use Rattle.lrtable.proofs.laws.graphs_hold_canonical_items.Goals as goal
+
+pub returns : goal.returns
+returns c = graph_holds

@@ -1,0 +1,70 @@
+//! Sets of tokens, one for each rule, that are emptied and used again.
+
+ghost use Rattle.std.specs.Prelude.{◌≡◌, ◌<◌, false, IfOk, [], length, get_or, replicate, slice_set};
+ghost use Rattle.cfgrammar.specs.Sets.{SetRows, missing_in, joined_to, HasAllOf};
+ghost use Rattle.cfgrammar.specs.Passes.{PassStep};
+
+use std::alloc::{AllocError, Global};
+use std::marker::Model;
+use vob::Vob;
+
+/// A set of tokens for each rule.
+#[derive(Drop)]
+pub struct RuleRows {
+    width: usize,
+    rows: Vec<Vob>,
+}
+
+impl Model for RuleRows {
+    ghost use Rattle.std.specs.Prelude.{map, length};
+    ghost use Rattle.cfgrammar.specs.Sets.{SetRows, AreRows};
+
+    ghost Value = { SetRows };
+
+    ghost view = { λ s. record { width = s.width; rows = map (λ v. v.bits) s.rows.items } };
+
+    ghost invariant = { λ s. AreRows (length (map (λ v. v.bits) s.rows.items)) s.width (map (λ v. v.bits) s.rows.items) };
+}
+
+impl RuleRows {
+    /// Creates `count` empty sets of numbers below `width`.
+    pub fn empty(alloc: Global, count: usize, width: usize) -> Result<RuleRows, AllocError>
+        ensures { IfOk result (λ s. s ≡ record { width = width; rows = replicate count (replicate width false) }) }
+    {
+        let mut rows = Vec::new(alloc);
+        'rows: for _ in 0..count {
+            rows.push(Vob::from_elem(alloc, false, width)?)?;
+        }
+        Ok(RuleRows { width, rows })
+    }
+
+    /// The set of a rule.
+    pub fn row(&self, rule: usize) -> &Vob
+        requires { rule < length self.now.rows }
+        ensures bits { result.now.bits ≡ get_or self.now.rows rule [] }
+        ensures width { length result.now.bits ≡ self.now.width }
+    {
+        &self.rows[rule]
+    }
+
+    /// Adds the tokens to the set of a rule, and says whether that changed it.
+    pub fn join(&mut self, rule: usize, tokens: &Vob) -> bool
+        requires within { rule < length self.old.rows }
+        requires width { length tokens.now.bits ≡ self.old.width }
+        ensures value { self.new ≡ record { width = self.old.width; rows = joined_to self.old.rows rule tokens.now.bits } }
+        ensures width_was { length (get_or self.old.rows rule []) ≡ self.old.width }
+        ensures steps { PassStep missing_in (HasAllOf rule tokens.now.bits) self.old.rows self.new.rows result }
+    {
+        let row = &mut self.rows[rule];
+        row.or(tokens)
+    }
+
+    /// Empties the set of a rule.
+    pub fn clear(&mut self, rule: usize)
+        requires { rule < length self.old.rows }
+        ensures { self.new ≡ record { width = self.old.width; rows = slice_set self.old.rows rule (replicate self.old.width false) } }
+    {
+        let row = &mut self.rows[rule];
+        row.set_all(false);
+    }
+}

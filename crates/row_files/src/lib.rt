@@ -1,4 +1,5 @@
-//! Files of grammar texts with their answers, for the programs that read them: `read_rows`, `grammar_rows`.
+//! Files of grammar texts with their answers, for the programs that read them: `read_rows`, `grammar_rows`,
+//! `table_rows`.
 //!
 //! - A line `= WORD ..` tells how the texts below it are read: as one of the kind `user`, `tree` or `none` (`Original`
 //!   with `UserAction`, `GenericParseTree` or `NoAction`), `grmtools` or `eco`, or by `section` as one of the kind that

@@ -1,0 +1,15 @@
+use Rattle.std.proofs.Common.{◌≡◌, rules, arith}
+use Rattle.lrtable_tests.proofs.EmptySets.{none_wide}
+use Rattle.lrtable_tests.proofs.closing.start_set.Goals as goal
+
+pub add-requires : goal.add-requires
+add-requires g c = none_wide _ _ c.new-set.ensures.none
+
+pub returns : goal.returns
+returns g c =
+    let number = g.S.IndexStorage.number in
+    let G = c.args.grm.now.grammar in
+    let start = c.start_prod.ensures.value in
+    let lt = c.start_prod.ensures.well_formed.start_of.in_range in
+    let first : number c.unwrap.result ≡ 0 = search rules in
+    c.in_ok-add.ensures.fits G (c.new-set.ensures.fits G) (omega (arith, start, lt)) (omega (arith, first)) c.in_ok-end.ensures

@@ -1,0 +1,101 @@
+//! Closures and goto sets.
+
+ghost use Rattle.std.specs.Prelude.{◌≡◌, length, IfOk};
+ghost use Rattle.cfgrammar.specs.Firsts.{AreFirsts};
+ghost use Rattle.lr_theory.specs.Itemset.{FitsGrammar};
+
+use crate::make::made;
+use crate::spell::push_items;
+use cfg_base::index::IndexStorage;
+use cfg_base::symbol::{RIdx, SIdx, Symbol, TIdx};
+use cfgrammar::yacc::{YaccFirsts, YaccGrammar};
+use lrtable::itemset::Itemset;
+use std::alloc::{AllocError, Global};
+use std::process::Abort;
+use std::test::*;
+use vob::Vob;
+
+/// A flag for each token, that of the end token alone set.
+fn end_alone<S: IndexStorage>(alloc: Global, grm: &YaccGrammar<S>) -> Result<Vob, AllocError>
+    ensures { IfOk result (λ v. length v.bits ≡ grm.now.grammar.tokens) }
+{
+    let mut end = Vob::from_elem(alloc, false, usize::from(grm.tokens_len()))?;
+    end.set(usize::from(grm.eof_token_idx()), true);
+    Ok(end)
+}
+
+/// The start item with the end token.
+fn start_set<S: IndexStorage>(alloc: Global, grm: &YaccGrammar<S>) -> Result<Itemset<S>, AllocError>
+    ensures { IfOk result (FitsGrammar grm.now.grammar) }
+{
+    let end = end_alone(alloc, grm)?;
+    let mut set = Itemset::new(alloc);
+    set.add(grm.start_prod(), SIdx(S::from_usize(0).unwrap()), &end)?;
+    Ok(set)
+}
+
+/// The closure of a set, its goto set over a symbol, and the closure of that.
+fn push_passed<S: IndexStorage>(
+    alloc: Global,
+    out: &mut String,
+    grm: &YaccGrammar<S>,
+    firsts: &YaccFirsts<S>,
+    set: &Itemset<S>,
+    symbol: &Symbol<S>,
+) -> Result<(), AllocError>
+    requires fits { FitsGrammar grm.now.grammar set.now }
+    requires firsts { AreFirsts grm.now.grammar firsts.now }
+{
+    let closed = set.close(alloc, grm, firsts)?;
+    push_items(alloc, out, &closed)?;
+    let passed = closed.goto(alloc, grm, symbol)?;
+    out.push('\n')?;
+    push_items(alloc, out, &passed)?;
+    let closed = passed.close(alloc, grm, firsts)?;
+    out.push('\n')?;
+    push_items(alloc, out, &closed)
+}
+
+fn passed<S: IndexStorage>(alloc: Global, text: &str, symbol: &Symbol<S>) -> Result<String, Fail> {
+    let grm = made::<S>(alloc, text)?;
+    let firsts = grm.firsts(alloc)?;
+    let set = start_set(alloc, &grm)?;
+    let mut out = String::new(alloc);
+    push_passed(alloc, &mut out, &grm, &firsts, &set, symbol)?;
+    Ok(out)
+}
+
+const POINTERS: &str = "%start S %% S: L '=' R | R; L: '*' R | 'id'; R: L;";
+
+const POINTER: &str =
+    "0.0 3;1.0 3;2.0 0 3;3.0 0 3;4.0 3;5.0 3;\n2.1 0 3;\n2.0 0 3;2.1 0 3;3.0 0 3;4.0 0 3;";
+
+/// The rule `U` derives no list of tokens, and its items stand.
+const WITHOUT_END: &str = "%start S %% S: 'a' S 'a' | 'b' | U 'c'; U: 'd' U;";
+
+const NESTED: &str = "0.0 4;1.0 4;2.0 4;3.0 2;4.0 4;\n0.1 4;\n0.0 0;0.1 4;1.0 0;2.0 0;3.0 2;";
+
+const EMPTY: &str = "%% S: 'b' F | 'a'; F: C D 'f'; C: D A; A: 'a' S 'c' | 'a'; D: 'd' | ;";
+
+const BEHIND_EMPTY: &str = "0.0 5;1.0 5;8.0 5;\n0.1 5;\n0.1 5;2.0 5;3.0 2 4;6.0 1;7.0 1;";
+
+#[test]
+fn sets_are_closed_and_passed_on(rt: HostRuntime) -> Result<(), Fail> {
+    let found = passed::<u8>(rt.alloc(), POINTERS, &Symbol::Token(TIdx(1)))?;
+    assert_eq!(rt; found.as_str(), POINTER);
+    let found = passed::<u16>(rt.alloc(), WITHOUT_END, &Symbol::Token(TIdx(0)))?;
+    assert_eq!(rt; found.as_str(), NESTED);
+    let found = passed::<u32>(rt.alloc(), EMPTY, &Symbol::Token(TIdx(0)))?;
+    assert_eq!(rt; found.as_str(), BEHIND_EMPTY);
+    Ok(())
+}
+
+#[test]
+fn sets_are_passed_on_over_rules(rt: HostRuntime) -> Result<(), Fail> {
+    let found = passed::<u32>(rt.alloc(), POINTERS, &Symbol::Rule(RIdx(2)))?;
+    assert_eq!(rt;
+        found.as_str(),
+        "0.0 3;1.0 3;2.0 0 3;3.0 0 3;4.0 3;5.0 3;\n0.1 3;4.1 3;\n0.1 3;4.1 3;"
+    );
+    Ok(())
+}

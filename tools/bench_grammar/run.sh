@@ -5,7 +5,7 @@
 set -eu
 here=$(dirname "$(readlink -f "$0")")
 . "$here/../count.sh"
-prepare make 3 3 1 1 -- vob cfg_theory cfg_base cfg_read cfgrammar
+prepare make 3 3 1 1 -- vob cfg_theory cfg_base cfg_read cfg_numbered cfgrammar
 for step in 1 381; do
     for what in make firsts follows cost; do
         none=$(count $what 1000 500 $step 0)

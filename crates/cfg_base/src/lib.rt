@@ -15,6 +15,7 @@ pub mod header;
 pub mod index;
 pub mod markmap;
 pub mod newlinecache;
+pub mod precedence;
 pub mod span;
 pub mod steps;
 pub mod symbol;

@@ -2,7 +2,7 @@
 use Rattle.std.proofs.Common.{◌≡◌, ℕ, suc, ◌+◌, Bool, true, false, List, [], ◌∷◌, ◌++◌, fold, option_map, Some, slice_get, if◌then◌else◌, All, refl, sym, ap, ◌∙◌, arith}
 use Rattle.std.proofs.lemmas.List.Elements.{All-append, All-head, All-map, All-nil, All-push, All-tail, All-weaker}
 use Rattle.std.proofs.lemmas.Option.{same_Some}
-use Rattle.cfg_read.specs.declared.yacc.AssocKind.{AssocKind}
+use Rattle.cfg_base.specs.declared.precedence.AssocKind.{AssocKind}
 use Rattle.cfg_read.specs.SyntaxTexts.{LevelText}
 use Rattle.cfg_read.specs.Names.{words_in}
 use Rattle.cfg_read.specs.Asts.{PrecedenceAst, precedence_ast, level_precedences, precedences_at, has_precedence, with_precedence_of, precedences_of}

@@ -9,7 +9,7 @@ use Rattle.cfg_read.specs.declared.yacc.ast.Symbol.{Symbol}
 use Rattle.cfg_read.specs.declared.yacc.ast.Symbol.TheVariants.{Rule, Token}
 use Rattle.cfg_read.specs.declared.yacc.ast.Production.{Production}
 use Rattle.cfg_read.specs.declared.yacc.ast.Rule.{Rule as RuleEntry}
-use Rattle.cfg_read.specs.declared.yacc.Precedence.{Precedence}
+use Rattle.cfg_base.specs.declared.precedence.Precedence.{Precedence}
 use Rattle.cfg_read.specs.SyntaxTexts.{WordText, NumberText, EppText}
 use Rattle.cfg_read.specs.Asts.{SymbolAst, RuleAst, ProductionAst, PrecedenceAst}
 

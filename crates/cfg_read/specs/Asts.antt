@@ -4,7 +4,7 @@ use Rattle.std.specs.List.{flat_map, list_any}
 use Rattle.std.specs.Option.{option_or}
 use Rattle.std.specs.Str.{bytes_eq}
 use Rattle.cfg_base.specs.SpanModel.{SpanModel}
-use Rattle.cfg_read.specs.declared.yacc.AssocKind.{AssocKind}
+use Rattle.cfg_base.specs.declared.precedence.AssocKind.{AssocKind}
 use Rattle.cfg_read.specs.SyntaxTexts.{WordText, SymbolText, AlternativeText, RuleText, LevelText, NumberText, EppText, ParamText, SyntaxText}
 use Rattle.cfg_read.specs.Names.{is_among, distinct, headings, words_in, declared_tokens, implicit_tokens_of, avoided_tokens, is_token_by, tokens_of}
 use Rattle.cfg_read.specs.Validity.{expected_symbols}

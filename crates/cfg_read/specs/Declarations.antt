@@ -1,6 +1,6 @@
 -- The declarations, by their words.
 use Rattle.std.specs.Prelude.{ℕ, Bool, true, false, List, Option, None, Some, if◌then◌else◌}
-use Rattle.cfg_read.specs.declared.yacc.AssocKind.TheVariants as assoc
+use Rattle.cfg_base.specs.declared.precedence.AssocKind.TheVariants as assoc
 use Rattle.cfg_read.specs.declared.yacc.YaccKind.{YaccKind}
 use Rattle.cfg_read.specs.declared.yacc.YaccKind.TheVariants as kinds
 use Rattle.cfg_read.specs.declared.yacc.parser.declaration.Count.TheVariants as counts

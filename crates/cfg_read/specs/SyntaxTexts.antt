@@ -1,7 +1,7 @@
 -- What a grammar text says, each kind of thing in the order of the text. Texts are lists of bytes.
 use Rattle.std.specs.Prelude.{ℕ, Bool, List, Option}
 use Rattle.cfg_base.specs.SpanModel.{SpanModel}
-use Rattle.cfg_read.specs.declared.yacc.AssocKind.{AssocKind}
+use Rattle.cfg_base.specs.declared.precedence.AssocKind.{AssocKind}
 
 -- a text, and where it stands: a name or token without quotes, a string with its quotes
 pub record WordText : Type 0 where

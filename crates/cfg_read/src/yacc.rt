@@ -10,6 +10,7 @@ pub mod validity;
 mod validity_info;
 
 pub use ast::warnings::{YaccGrammarWarning, YaccGrammarWarningKind};
+pub use cfg_base::precedence::{AssocKind, Precedence, PrecedenceLevel};
 pub use file::{YaccGrammarFailure, YaccGrammarResult, one_file, one_kind};
 pub use kind::{KindError, kind_comes_back};
 pub use parser::error::YaccGrammarErrorKind;
@@ -38,22 +39,4 @@ pub enum YaccOriginalActionKind {
     GenericParseTree,
     /// Nothing: no actions are run.
     NoAction,
-}
-
-/// A level of precedence: the number of a precedence line, counted from 0.
-pub type PrecedenceLevel = u64;
-
-/// How tightly a token or production binds.
-#[derive(Clone, Copy, Debug, PartialEq, Eq)]
-pub struct Precedence {
-    pub level: PrecedenceLevel,
-    pub kind: AssocKind,
-}
-
-/// To which side the tokens of a precedence line group.
-#[derive(Clone, Copy, Debug, PartialEq, Eq)]
-pub enum AssocKind {
-    Left,
-    Right,
-    Nonassoc,
 }

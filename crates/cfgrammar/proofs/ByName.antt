@@ -13,9 +13,9 @@ use Rattle.cfg_read.specs.SyntaxTexts.{WordText}
 use Rattle.cfg_read.specs.Asts.{Ast}
 use Rattle.cfg_read.specs.Names.{texts}
 use Rattle.cfg_read.specs.WellFormedAst.{AreDistinct, names_of_tokens}
-use Rattle.cfgrammar.specs.Value.{TokenFacts}
+use Rattle.cfg_numbered.specs.Value.{TokenFacts}
 use Rattle.cfgrammar.specs.FromAst.{file_token_facts}
-use Rattle.cfgrammar.proofs.Named.{fresh_in, or_left, or_right}
+use Rattle.cfg_numbered.proofs.Named.{fresh_in, or_left, or_right}
 
 -- no entry has the name
 abbrev pub IsFree : {X : Type 0} → List (String Global × X) → List ℕ → Type 0

@@ -5,12 +5,12 @@ use Rattle.std.specs.Option.{option_and_then}
 use Rattle.std.specs.Str.{bytes_eq}
 use Rattle.std.proofs.lemmas.List.Elements.{All-nil, All-cons, All-append, All-map}
 use Rattle.std.proofs.lemmas.Option.{same_Some, none-some}
-use Rattle.cfg_read.specs.declared.yacc.AssocKind.{AssocKind}
-use Rattle.cfg_read.specs.declared.yacc.Precedence.{Precedence}
+use Rattle.cfg_base.specs.declared.precedence.AssocKind.{AssocKind}
+use Rattle.cfg_base.specs.declared.precedence.Precedence.{Precedence}
 use Rattle.cfg_read.specs.declared.yacc.YaccKind.{YaccKind}
 use Rattle.cfg_read.specs.Asts.{Ast, PrecedenceAst}
 use Rattle.cfg_read.specs.WellFormedAst as trees
-use Rattle.cfgrammar.specs.Value.{TokenFacts, ProductionFacts, end_facts, HasLevel, of_token, of_production, GrammarLevelsHaveOneKind, HasNoPrecedences}
+use Rattle.cfg_numbered.specs.Value.{TokenFacts, ProductionFacts, end_facts, HasLevel, of_token, of_production, GrammarLevelsHaveOneKind, HasNoPrecedences}
 use Rattle.cfgrammar.specs.FromAst.{file_token_facts, tokens_of, precedence_of, file_production_facts, added_production_facts, start_production, implicit_productions, production_facts_of, value_by, made, has_implicit}
 use Rattle.cfgrammar.proofs.FromAstLookups.{all_at}
 

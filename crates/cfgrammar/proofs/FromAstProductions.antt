@@ -5,8 +5,8 @@ use Rattle.cfg_theory.specs.Grammar.{Production}
 use Rattle.cfg_read.specs.Asts.{Ast, ProductionAst}
 use Rattle.cfgrammar.specs.FromAst.{file_head, file_body, file_productions, added_production_facts}
 use Rattle.cfgrammar.specs.AddedProductions.{Adds}
-use Rattle.cfgrammar.specs.Info.{production_of, production_facts}
-use Rattle.cfgrammar.specs.declared.yacc.info.ProductionInfo.{ProductionInfo}
+use Rattle.cfg_numbered.specs.Info.{production_of, production_facts}
+use Rattle.cfg_numbered.specs.declared.yacc.info.ProductionInfo.{ProductionInfo}
 
 -- one more production of the file
 pub files_more : (implicit : Bool) (ast : Ast) (n : ℕ) (ps : List ProductionAst) (p : ProductionAst) (m : ℕ) → m ≡ n + length ps

@@ -1,18 +1,18 @@
 -- The value of parts that are those of a tree.
 use Rattle.std.proofs.Common.{◌≡◌, ℕ, ◌≤◌, Bool, List, [], ◌∷◌, ◌++◌, None, length, map, sym, ap, ◌∙◌, arith}
-use Rattle.cfgrammar.specs.Value.{end_facts}
-use Rattle.cfgrammar.proofs.Named.{count_with_end}
+use Rattle.cfg_numbered.specs.Value.{end_facts}
+use Rattle.cfg_numbered.proofs.Named.{count_with_end}
 use Rattle.std.proofs.lemmas.List.{length-map}
 use Rattle.cfg_read.specs.Asts.{Ast}
 use Rattle.cfg_read.specs.WellFormedAst.{IsWellFormedAst}
-use Rattle.cfgrammar.specs.Info.{rule_facts, token_facts, production_of, production_facts, kept_facts, value_of}
+use Rattle.cfg_numbered.specs.Info.{rule_facts, token_facts, production_of, production_facts, kept_facts, value_of}
 use Rattle.cfgrammar.specs.FromAst.{rules_of, tokens_of, file_token_facts, productions_of, production_facts_of, kept_of, grammar_of, value_by, too_many, NamesNoAdded}
 use Rattle.std.specs.declared.alloc.Global.{Global}
 use Rattle.std.specs.declared.string.String.{String}
-use Rattle.cfgrammar.specs.declared.yacc.info.RuleInfo.{RuleInfo}
-use Rattle.cfgrammar.specs.declared.yacc.info.TokenInfo.{TokenInfo}
-use Rattle.cfgrammar.specs.declared.yacc.info.ProductionInfo.{ProductionInfo}
-use Rattle.cfgrammar.specs.declared.yacc.info.KeptInfo.{KeptInfo}
+use Rattle.cfg_numbered.specs.declared.yacc.info.RuleInfo.{RuleInfo}
+use Rattle.cfg_numbered.specs.declared.yacc.info.TokenInfo.{TokenInfo}
+use Rattle.cfg_numbered.specs.declared.yacc.info.ProductionInfo.{ProductionInfo}
+use Rattle.cfg_numbered.specs.declared.yacc.info.KeptInfo.{KeptInfo}
 use Rattle.cfgrammar.proofs.FromAstCounts.{count_productions}
 use Rattle.cfgrammar.proofs.FromAstWell.{made_well}
 

@@ -10,7 +10,7 @@ use Rattle.cfg_read.specs.SyntaxTexts.{WordText}
 use Rattle.cfg_read.specs.Names.{texts}
 use Rattle.cfg_read.specs.Asts.{Ast, RuleAst, ProductionAst}
 use Rattle.cfg_read.specs.WellFormedAst.{AreDistinct, names_of_rules, IsWellFormedAst}
-use Rattle.cfgrammar.specs.Value.{RuleFacts, TokenFacts, Fits, IsGrammar, end_facts}
+use Rattle.cfg_numbered.specs.Value.{RuleFacts, TokenFacts, Fits, IsGrammar, end_facts}
 use Rattle.cfgrammar.specs.declared.yacc.from_ast.TooMany.TheVariants as told
 use Rattle.cfgrammar.specs.FromAst.{start_name, implicit_start_name, implicit_name, implicit_rule, first_rule, file_productions, start_production, implicit_productions, productions_of, file_rule_facts, added_rule_facts, rules_of, file_token_facts, tokens_of, file_production_facts, added_production_facts, production_facts_of, grammar_of, value_by, longest, as_told, too_many, NamesNoAdded}
 use Rattle.cfgrammar.proofs.FromAstLevels.{made_levels}

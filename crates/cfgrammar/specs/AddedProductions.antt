@@ -1,9 +1,9 @@
 -- How the parts of a grammar grow.
 use Rattle.std.specs.Prelude.{◌≡◌, ℕ, List, ◌++◌, map}
 use Rattle.cfg_theory.specs.Grammar.{Production}
-use Rattle.cfgrammar.specs.Info.{production_of, production_facts}
+use Rattle.cfg_numbered.specs.Info.{production_of, production_facts}
 use Rattle.cfgrammar.specs.FromAst.{added_production_facts}
-use Rattle.cfgrammar.specs.declared.yacc.info.ProductionInfo.{ProductionInfo}
+use Rattle.cfg_numbered.specs.declared.yacc.info.ProductionInfo.{ProductionInfo}
 
 -- added productions stand behind the others
 pub record Adds {S : Type 0} (number : S → ℕ) (old new : List (ProductionInfo S)) (added : List Production) : Type 0 where

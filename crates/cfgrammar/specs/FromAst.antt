@@ -4,7 +4,7 @@ use Rattle.std.specs.List.{flat_map, list_any, find, position_or_len}
 use Rattle.std.specs.Option.{option_or, option_and_then, option_map_or}
 use Rattle.std.specs.Str.{bytes_eq}
 use Rattle.cfg_base.specs.SpanModel.{SpanModel}
-use Rattle.cfg_read.specs.declared.yacc.Precedence.{Precedence}
+use Rattle.cfg_base.specs.declared.precedence.Precedence.{Precedence}
 use Rattle.cfg_read.specs.declared.yacc.YaccKind.{YaccKind}
 use Rattle.cfg_read.specs.declared.yacc.YaccKind.TheVariants as kinds
 use Rattle.cfg_read.specs.SyntaxTexts.{WordText, NumberText, EppText}
@@ -16,7 +16,7 @@ use Rattle.cfg_read.specs.ErrorModels.{failures_in}
 use Rattle.cfg_read.specs.ValidityInfo.{CheckedAst, is_valid, IsChecked}
 use Rattle.cfg_read.specs.Files.{TellsKind, LacksKind}
 use Rattle.cfg_theory.specs.Grammar.{Sym, rule, token, Production, Grammar}
-use Rattle.cfgrammar.specs.Value.{RuleFacts, TokenFacts, ProductionFacts, ParamFacts, KeptFacts, GrammarValue, end_facts}
+use Rattle.cfg_numbered.specs.Value.{RuleFacts, TokenFacts, ProductionFacts, ParamFacts, KeptFacts, GrammarValue, end_facts}
 use Rattle.cfgrammar.specs.declared.yacc.from_ast.TooMany.{TooMany}
 use Rattle.cfgrammar.specs.declared.yacc.from_ast.TooMany.TheVariants as told
 use Rattle.cfgrammar.specs.declared.yacc.from_ast.YaccGrammarMakeError.{YaccGrammarMakeError}

@@ -1,19 +1,13 @@
-//! Grammars as values, and what their derivations show.
+//! Grammars of texts.
 //!
-//! A `YaccGrammar` numbers rules, tokens and productions in an index type; contracts see it as a grammar of
-//! numbers, well formed, with names, spans, precedences and kept texts beside them. The contracts that matter most
-//! are those of `YaccGrammar::new` and the other ways from a text to a grammar, by the rules of numbering in
-//! `specs/Made`; of `prod`, `prod_to_rule` and `start_prod`, with the law
-//! `yacc::grammar::laws::productions_stand_in_one_list` on the lists of `rule_to_prods`; of `firsts` and `follows`,
-//! whose sets hold exactly what derivations show; of `has_path`; and of `sentence_generator`, whose least and
-//! greatest costs and cheapest sentences are over all token lists that a rule derives.
+//! A `YaccGrammar` is the `NumberedGrammar` of `cfg_numbered` that is made of a text: all that the latter answers it
+//! answers too, by `Deref`, and contracts see the two as one value. The contracts that matter most are those of
+//! `YaccGrammar::new` and the other ways from a text to a grammar, by the rules of numbering in `specs/FromAst`, with the
+//! laws `yacc::from_ast::sound_trees_make_grammars` and
+//! `yacc::from_ast::trees_without_precedences_make_grammars_without`; and of `TooMany`, which is answered exactly where a
+//! count has no number in the index type.
 //!
-//! FIRST and FOLLOW sets and paths are found by takings from a list of rules that wait (`yacc::work_list`): what rests
-//! on a rule that is taken is brought up to date, and a rule of which that tells more waits again. So are least and
-//! greatest costs, and the rules that cheapest lists need with the first list of each (`yacc::by_prods`). All cheapest
-//! lists, and the rules without a greatest cost, come by passes over all productions, until one changes nothing. What
-//! takings and passes keep is true of derivations, what they end with is closed under the productions, and sets or
-//! costs that are both are exact by the laws of `cfg_theory`.
+//! What users of grammars name of `cfg_base`, `cfg_read` and `cfg_numbered` stands here too.
 #![tactic(auto)]
 
 pub mod yacc;

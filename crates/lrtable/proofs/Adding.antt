@@ -5,13 +5,13 @@ use Rattle.std.specs.List.{insert, AllPairs}
 use Rattle.std.proofs.lemmas.Bool.{cases_eq, cases_lt}
 use Rattle.std.proofs.lemmas.List.{get_or_default}
 use Rattle.std.proofs.lemmas.List.Edits.{length-insert, get_or-insert_below, get_or-insert_at, get_or-insert_above}
-use Rattle.cfgrammar.specs.Sets.{is_set}
+use Rattle.cfg_numbered.specs.Sets.{is_set}
 use Rattle.lr_theory.specs.Itemset.{HasItem, HasLook}
 use Rattle.lrtable.specs.Meeting.{row}
 use Rattle.lrtable.specs.ItemRows.{Item, IsAt, ItemBefore, Ascends, Core, map_of, IsCoreOf}
 use Rattle.lrtable.specs.Adding.{Adds}
 use Rattle.lrtable.proofs.ItemSets.{has_item, has_look}
-use Rattle.cfgrammar.proofs.Bits.{join, joined}
+use Rattle.cfg_numbered.proofs.Bits.{join, joined}
 
 -- ---- the order
 

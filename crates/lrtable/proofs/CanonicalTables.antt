@@ -3,7 +3,7 @@ use Rattle.std.proofs.Common.{ℕ, ◌<◌, ◌↔◌, List, [], ◌∷◌, leng
 use Rattle.std.specs.Prelude.{IsSome, IsNone, IfSome, Contains}
 use Rattle.std.proofs.lemmas.List.{get_or_default}
 use Rattle.cfg_theory.specs.Grammar.{Sym, Grammar, WellFormed, body_of}
-use Rattle.cfgrammar.specs.Value.{GrammarValue}
+use Rattle.cfg_numbered.specs.Value.{GrammarValue}
 use Rattle.lr_theory.specs.Automaton.{Automaton, Complete}
 use Rattle.lr_theory.specs.Canonical.{Present, Look, shift, reduce, accept, Contest}
 use Rattle.lr_theory.specs.Graph.{IsState, Finished, Conflict}

@@ -4,13 +4,13 @@ use Rattle.std.specs.Prelude.{IsTrue}
 use Rattle.std.specs.List.{Contains}
 use Rattle.std.proofs.lemmas.List.{length-replicate}
 use Rattle.cfg_theory.specs.Grammar.{Grammar, rule, IsOf, IsNext, WellFormed, head_of}
-use Rattle.cfgrammar.specs.Sets.{is_set, is_set_in}
+use Rattle.cfg_numbered.specs.Sets.{is_set, is_set_in}
 use Rattle.lr_theory.specs.Itemset.{HasItem, HasLook}
 use Rattle.lrtable.specs.ItemRows.{Core, map_of}
 use Rattle.lrtable.specs.Opening.{Front, RuleSets, IsOpen, HasRuleLook, HasFront, AllFit, FitsIn, SameSizes, Opened, OpenedLook, AreOpened, Follows}
 use Rattle.lrtable.specs.Closes.{AreFronts, AreSeeds, Seeds}
 use Rattle.lrtable.specs.Stepping.{IsSized, IsClosureOf}
-use Rattle.cfgrammar.proofs.Bits.{none_set, none_in}
+use Rattle.cfg_numbered.proofs.Bits.{none_set, none_in}
 
 pub sized_on : (G : Grammar) (a b : RuleSets) → IsSized G a → SameSizes a b → IsSized G b
 sized_on G a b h s = record { tokens = s.tokens ∙ h.tokens; opened = s.opened ∙ h.opened; rows = s.rows ∙ h.rows }

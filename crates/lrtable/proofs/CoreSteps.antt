@@ -10,7 +10,7 @@ use Rattle.lrtable.specs.ItemRows.{Item, IsAt, ItemBefore, Ascends, Core, IsCore
 use Rattle.lrtable.specs.StateViews.{item_of, items_of}
 use Rattle.lrtable.specs.declared.cores.CoreItem.{CoreItem}
 use Rattle.lrtable.proofs.Adding.{before_trans, not_before, inserted_core, inserted_adds, joined_core, joined_adds}
-use Rattle.cfgrammar.proofs.Bits.{join, length-bitwise}
+use Rattle.cfg_numbered.proofs.Bits.{join, length-bitwise}
 
 pub map_insert : {X Y : Type 0} (f : X → Y) (xs : List X) (k : ℕ) (x : X) → map f (insert xs k x) ≡ insert (map f xs) k (f x)
 map_insert f xs k x = map-append f (take k xs) (x ∷ drop k xs) ∙ ap₂ (λ a b. a ++ f x ∷ b) (sym (take-map f k xs)) (sym (drop-map f k xs))

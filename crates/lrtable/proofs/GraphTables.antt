@@ -3,7 +3,7 @@ use Rattle.std.proofs.Common.{◌≡◌, ℕ, ◌<◌, ◌≤◌, ◌^◌, inl, 
 use Rattle.std.proofs.lemmas.Bool.{cases_lt}
 use Rattle.std.proofs.lemmas.List.{get_or_past}
 use Rattle.cfg_theory.specs.Grammar.{Sym, rule, token, Grammar, WellFormed, end_token}
-use Rattle.cfgrammar.specs.Value.{GrammarValue}
+use Rattle.cfg_numbered.specs.Value.{GrammarValue}
 use Rattle.lr_theory.specs.Automaton.{Action}
 use Rattle.lr_theory.specs.Sizes.{cell_count}
 use Rattle.table_theory.specs.Cells.{Candidates, AreCandidates, Refuses, NotRefused, candidates_in, reductions_in, accepts_in, cell_of, gathered, pairs_at, shifts_at, some_conflicts, reduce_reduce_list, shift_reduce_list}

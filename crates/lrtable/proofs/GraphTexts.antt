@@ -11,7 +11,7 @@ use Rattle.std.proofs.lemmas.Option.{slice_get-get_or}
 use Rattle.std.specs.declared.ops.Bound.TheVariants.{Unbounded}
 use Rattle.vob.specs.Walk.{has_item, indices, indices_of, walk}
 use Rattle.cfg_theory.specs.Grammar.{Sym, Grammar, InRange, IsNext, WellFormed, body_of}
-use Rattle.cfgrammar.specs.Value.{GrammarValue}
+use Rattle.cfg_numbered.specs.Value.{GrammarValue}
 use Rattle.lr_theory.specs.Building.{same_symbol}
 use Rattle.lr_theory.specs.Itemset.{Entry, ItemSet, entry_at, FitsGrammar}
 use Rattle.lr_theory.specs.ItemLists.{IsAt}

@@ -1,5 +1,6 @@
 pub mod OpenSteps
 pub mod OpenLaws
+pub mod OwnFronts
 pub mod CloseLaws
 pub mod Shared
 pub mod ItemSets
@@ -65,3 +66,6 @@ pub mod Emptying
 pub mod GraphSteps
 pub mod GraphTexts
 pub mod ItemWalks
+pub mod Marks
+pub mod BlankCells
+pub mod MarkedSets

@@ -2,7 +2,7 @@
 use Rattle.std.proofs.Common.{◌≡◌, ℕ, ◌<◌, List, [], length, get_or, Option, None, sym, ap, ◌∙◌, arith}
 use Rattle.std.proofs.lemmas.List.{ext_get_or}
 use Rattle.cfg_theory.specs.Grammar.{Sym, Grammar, WellFormed}
-use Rattle.cfgrammar.specs.Value.{GrammarValue}
+use Rattle.cfg_numbered.specs.Value.{GrammarValue}
 use Rattle.lr_theory.specs.Automaton.{Action}
 use Rattle.lr_theory.specs.Itemset.{ItemSet}
 use Rattle.lr_theory.specs.Graph.{SameGraph}

@@ -1,15 +1,16 @@
 -- The productions of open rules, added at dot nought with one set for each rule: with the core's items they are its closure.
 use Rattle.std.proofs.Common.{◌≡◌, ℕ, ◌+◌, ◌<◌, ◌≤◌, ◌⊎◌, inl, inr, Bool, List, [], ◌∷◌, ◌++◌, length, get_or, take, refl, sym, ◌∙◌, subst, arith}
-use Rattle.std.specs.Prelude.{IsTrue}
+use Rattle.std.specs.Prelude.{IsTrue, ◌↔◌}
 use Rattle.std.specs.List.{Contains}
 use Rattle.std.proofs.lemmas.Bool.{cases_eq}
 use Rattle.std.proofs.lemmas.List.{take_all}
 use Rattle.std.proofs.lemmas.List.Elements.{Contains-append_left, Contains-push, Contains-push_cases}
 use Rattle.vob.specs.Packed.{Contents}
 use Rattle.cfg_theory.specs.Grammar.{Grammar, IsOf, WellFormed, head_of}
-use Rattle.cfgrammar.specs.Sets.{is_set}
-use Rattle.cfgrammar.specs.Value.{productions_of}
-use Rattle.cfgrammar.proofs.RuleLists.{listed, alone}
+use Rattle.cfg_numbered.specs.Sets.{is_set}
+use Rattle.cfg_numbered.specs.Value.{productions_of}
+use Rattle.table_theory.proofs.CellLists.{contains_nil, contains_cases}
+use Rattle.cfg_numbered.proofs.RuleLists.{listed, alone}
 use Rattle.lr_theory.specs.Itemset.{ItemSet, HasItem, HasLook, SameItems, SameLooks, Closure, ClosureLook, Is}
 use Rattle.lrtable.specs.declared.shared_sets.SharedSets.{SharedSets}
 use Rattle.lrtable.specs.Adding.{One, OneLooks}
@@ -17,8 +18,9 @@ use Rattle.lrtable.specs.Closes.{AreFronts}
 use Rattle.lrtable.specs.ItemRows.{Core, IsCoreOf, map_of}
 use Rattle.lrtable.specs.Meeting.{rows_in, row}
 use Rattle.lrtable.specs.Opening.{Front, RuleSets, IsOpen, HasRuleLook}
-use Rattle.lrtable.specs.Sharing.{shared_core, PointIn, TakesIn, GrowsBy}
-use Rattle.lrtable.specs.Stepping.{OfRule, OfRuleLooks, OpenAt, OpenLooksAt, OpenBelow, OpenLooksBelow, IsClosureOf}
+use Rattle.lrtable.specs.Sharing.{shared_core, shared_map, PointIn, TakesIn, GrowsBy}
+use Rattle.lrtable.specs.Stepping.{OfRule, OfRuleLooks, OpenBelow, OpenLooksBelow, IsClosureOf}
+use Rattle.lrtable.proofs.Clearing.{next_in, rest_in, set_below}
 use Rattle.lrtable.proofs.CloseLaws.{item, look, held_look}
 use Rattle.lrtable.proofs.Closing.{look_open}
 use Rattle.lrtable.proofs.Moving.{ListedBelow, ListedLooks}
@@ -83,38 +85,76 @@ module _ {S : Type 0} (number : S → ℕ) (G : Grammar) where
       back : (p : ℕ) → IsOf G p A → Contains (take k (productions_of G A)) p
       back p o = subst (λ l. Contains l p) (sym (take_all k (productions_of G A) le)) (subst (λ B. Contains (productions_of G B) p) o.head (listed G p o.in_range))
 
-  -- a rule that is open, and one that isn't
-  pub opened_at : (s : RuleSets) (A B : ℕ) (bits : List Bool) (b c : SharedSets S) → A ≡ B → IsOpen s B → bits ≡ get_or s.rows B [] → GrowsBy number G.tokens (OfRule G A) (OfRuleLooks G A (λ t. IsTrue (is_set bits t))) b c → GrowsBy number G.tokens (OpenAt G s B) (OpenLooksAt G s B) b c
-  opened_at s A B bits b c q is_open e h = grows_as number G.tokens (OfRule G A) (OpenAt G s B) (OfRuleLooks G A (λ t. IsTrue (is_set bits t))) (OpenLooksAt G s B) b c
-      (λ p d. (λ x. (x.0, subst (IsOf G p) q x.1, is_open), λ x. (x.0, subst (IsOf G p) (sym q) x.1)))
-      (λ p d t. (λ x. (x.0, subst (IsOf G p) q x.1, is_open, subst (λ r. IsTrue (is_set r t)) e x.2), λ x. (x.0, subst (IsOf G p) (sym q) x.1, subst (λ r. IsTrue (is_set r t)) (sym e) x.3))) h
+  -- so far the productions of the open rules that aren't left were added, and none but those of open rules
+  pub record OpensLeft (s : RuleSets) (left : List ℕ) (old new : SharedSets S) : Type 0 where
+    pub items : (p d : ℕ) → HasItem (shared_map number new) p d → HasItem (shared_map number old) p d ⊎ OpenBelow G s G.rules p d
+    pub looks : (p d t : ℕ) → HasLook (shared_map number new) p d t → HasLook (shared_map number old) p d t ⊎ OpenLooksBelow G s G.rules p d t
+    pub kept : (p d : ℕ) → HasItem (shared_map number old) p d → HasItem (shared_map number new) p d
+    pub kept_looks : (p d t : ℕ) → HasLook (shared_map number old) p d t → HasLook (shared_map number new) p d t
+    pub opens : (p d : ℕ) → OpenBelow G s G.rules p d → HasItem (shared_map number new) p d ⊎ Contains left (head_of G p)
+    pub opens_looks : (p d t : ℕ) → OpenLooksBelow G s G.rules p d t → HasLook (shared_map number new) p d t ⊎ Contains left (head_of G p)
+    pub are_open : (A : ℕ) → Contains left A → IsOpen s A
+    pub core : IsCoreOf G.tokens (shared_core number new)
+    pub within : PointIn (rows_in new.sets.items) new.entries.items
 
-  pub unopened_at : (s : RuleSets) (A : ℕ) (b : SharedSets S) → IsCoreOf G.tokens (shared_core number b) → PointIn (rows_in b.sets.items) b.entries.items → (IsOpen s A → ⊥) → GrowsBy number G.tokens (OpenAt G s A) (OpenLooksAt G s A) b b
-  unopened_at s A b core points none = grows_none number G.tokens (OpenAt G s A) (OpenLooksAt G s A) b core points (λ p d h. none h.2) (λ p d t h. none h.2)
+  pub opens_none : (s : RuleSets) (left : List ℕ) (b : SharedSets S) → ((A : ℕ) → Contains left A ↔ IsOpen s A) → IsCoreOf G.tokens (shared_core number b) → PointIn (rows_in b.sets.items) b.entries.items → OpensLeft s left b b
+  opens_none s left b walks core points = record {
+    items = λ p d h. inl h;
+    looks = λ p d t h. inl h;
+    kept = λ p d h. h;
+    kept_looks = λ p d t h. h;
+    opens = λ p d h. inr ((walks (head_of G p)).1 h.3);
+    opens_looks = λ p d t h. inr ((walks (head_of G p)).1 h.3);
+    are_open = λ A. (walks A).0;
+    core = core;
+    within = points;
+  }
 
-  pub opened_none : (s : RuleSets) (b : SharedSets S) → IsCoreOf G.tokens (shared_core number b) → PointIn (rows_in b.sets.items) b.entries.items → GrowsBy number G.tokens (OpenBelow G s 0) (OpenLooksBelow G s 0) b b
-  opened_none s b core points = grows_none number G.tokens (OpenBelow G s 0) (OpenLooksBelow G s 0) b core points (λ p d h. (let lt = h.2 in omega (arith, lt))) (λ p d t h. (let lt = h.2 in omega (arith, lt)))
+  -- the next one is a rule
+  pub opens_at : (s : RuleSets) (A : ℕ) (left rest : List ℕ) (a b : SharedSets S) → left ≡ A ∷ rest → length s.opened ≡ G.rules → OpensLeft s left a b → A < G.rules
+  opens_at s A left rest a b e n h = subst (λ m. A < m) n (set_below s.opened A (h.are_open A (next_in left rest A e)))
 
-  pub opened_next : (s : RuleSets) (A : ℕ) (a b c : SharedSets S) → GrowsBy number G.tokens (OpenBelow G s A) (OpenLooksBelow G s A) a b → GrowsBy number G.tokens (OpenAt G s A) (OpenLooksAt G s A) b c → GrowsBy number G.tokens (OpenBelow G s (A + 1)) (OpenLooksBelow G s (A + 1)) a c
-  opened_next s A a b c h m = grows_as number G.tokens (λ p d. OpenBelow G s A p d ⊎ OpenAt G s A p d) (OpenBelow G s (A + 1)) (λ p d t. OpenLooksBelow G s A p d t ⊎ OpenLooksAt G s A p d t) (OpenLooksBelow G s (A + 1)) a c
-      (λ p d. (to p d, back p d)) (λ p d t. (to_look p d t, back_look p d t)) (grows_on number G.tokens (OpenBelow G s A) (OpenAt G s A) (OpenLooksBelow G s A) (OpenLooksAt G s A) a b c h m)
+  -- its productions
+  pub opens_next : (s : RuleSets) (A B : ℕ) (bits : List Bool) (left rest : List ℕ) (a b c : SharedSets S) → left ≡ B ∷ rest → A ≡ B → B < G.rules → bits ≡ get_or s.rows B [] → OpensLeft s left a b → GrowsBy number G.tokens (OfRule G A) (OfRuleLooks G A (λ t. IsTrue (is_set bits t))) b c → OpensLeft s rest a c
+  opens_next s A B bits left rest a b c e q lt is h m = record {
+    items = λ p d x. elim ((m.extends.items p d).1 x) [ inl y ↦ h.items p d y | inr y ↦ inr (one p d y) ];
+    looks = λ p d t x. elim ((m.extends.looks p d t).1 x) [
+      | inl y ↦ h.looks p d t y
+      | inr y ↦ inr (let o = one p d (y.0, y.1) in (o.0, o.1, o.2, o.3, subst (λ C. HasRuleLook s C t) (sym (y.1.head ∙ q)) (subst (λ r. IsTrue (is_set r t)) is y.2)))
+    ];
+    kept = λ p d x. (m.extends.items p d).0 (inl (h.kept p d x));
+    kept_looks = λ p d t x. (m.extends.looks p d t).0 (inl (h.kept_looks p d t x));
+    opens = λ p d o. elim (h.opens p d o) [
+      | inl y ↦ inl ((m.extends.items p d).0 (inl y))
+      | inr y ↦ elim (next (head_of G p) y) [ inl z ↦ inl ((m.extends.items p d).0 (inr (o.0, of p o.1 z))) | inr z ↦ inr z ]
+    ];
+    opens_looks = λ p d t o. elim (h.opens_looks p d t o) [
+      | inl y ↦ inl ((m.extends.looks p d t).0 (inl y))
+      | inr y ↦ elim (next (head_of G p) y) [ inl z ↦ inl ((m.extends.looks p d t).0 (inr (o.0, of p o.1 z, subst (λ r. IsTrue (is_set r t)) (sym is) (subst (λ C. HasRuleLook s C t) (sym z) o.4)))) | inr z ↦ inr z ]
+    ];
+    are_open = λ C x. h.are_open C (rest_in left rest B C e x);
+    core = m.core;
+    within = m.within;
+  }
     where
-      to : (p d : ℕ) → OpenBelow G s A p d ⊎ OpenAt G s A p d → OpenBelow G s (A + 1) p d
-      to p d (inl (z, r, lt, x)) = (z, r, omega (arith, lt), x)
-      to p d (inr (z, o, x)) = (z, o.in_range, (let q = o.head in omega (arith, q)), subst (IsOpen s) (sym o.head) x)
+      one : (p d : ℕ) → OfRule G A p d → OpenBelow G s G.rules p d
+      one p d (z, o) = (z, o.in_range, (let k = o.head in omega (arith, k, q, lt)), subst (IsOpen s) (sym (o.head ∙ q)) (h.are_open B (next_in left rest B e)))
 
-      back : (p d : ℕ) → OpenBelow G s (A + 1) p d → OpenBelow G s A p d ⊎ OpenAt G s A p d
-      back p d (z, r, lt, x) = elim (cases_eq (head_of G p) A) [ inl q ↦ inr (z, record { in_range = r; head = q }, subst (IsOpen s) q x) | inr ne ↦ inl (z, r, omega (arith, lt, ne), x) ]
+      next : (C : ℕ) → Contains left C → (B ≡ C) ⊎ Contains rest C
+      next C x = contains_cases B C rest (subst (λ l. Contains l C) e x)
 
-      to_look : (p d t : ℕ) → OpenLooksBelow G s A p d t ⊎ OpenLooksAt G s A p d t → OpenLooksBelow G s (A + 1) p d t
-      to_look p d t (inl (z, r, lt, x, l)) = (z, r, omega (arith, lt), x, l)
-      to_look p d t (inr (z, o, x, l)) = (z, o.in_range, (let q = o.head in omega (arith, q)), subst (IsOpen s) (sym o.head) x, subst (λ B. HasRuleLook s B t) (sym o.head) l)
+      of : (p : ℕ) → p < length G.productions → B ≡ head_of G p → IsOf G p A
+      of p r z = record { in_range = r; head = sym (q ∙ z) }
 
-      back_look : (p d t : ℕ) → OpenLooksBelow G s (A + 1) p d t → OpenLooksBelow G s A p d t ⊎ OpenLooksAt G s A p d t
-      back_look p d t (z, r, lt, x, l) = elim (cases_eq (head_of G p) A) [
-        | inl q ↦ inr (z, record { in_range = r; head = q }, subst (IsOpen s) q x, subst (λ B. HasRuleLook s B t) q l)
-        | inr ne ↦ inl (z, r, omega (arith, lt, ne), x, l)
-      ]
+  pub opens_all : (s : RuleSets) (left : List ℕ) (a b : SharedSets S) → left ≡ [] → OpensLeft s left a b → GrowsBy number G.tokens (OpenBelow G s G.rules) (OpenLooksBelow G s G.rules) a b
+  opens_all s left a b e h = record {
+    extends = record {
+      items = λ p d. (λ x. elim x [ inl y ↦ h.kept p d y | inr y ↦ elim (h.opens p d y) [ inl z ↦ z | inr z ↦ absurd (contains_nil (head_of G p) (subst (λ l. Contains l (head_of G p)) e z)) ] ], h.items p d);
+      looks = λ p d t. (λ x. elim x [ inl y ↦ h.kept_looks p d t y | inr y ↦ elim (h.opens_looks p d t y) [ inl z ↦ z | inr z ↦ absurd (contains_nil (head_of G p) (subst (λ l. Contains l (head_of G p)) e z)) ] ], h.looks p d t);
+    };
+    core = h.core;
+    within = h.within;
+  }
 
 -- ---- the closure
 

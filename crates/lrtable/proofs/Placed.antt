@@ -9,7 +9,7 @@ use Rattle.lr_theory.specs.Building.{Building}
 use Rattle.lrtable.specs.ItemRows.{Core, IsCoreOf, map_of, set_of, join_rows, CoversRows, LacksRows}
 use Rattle.lrtable.specs.Meeting.{row}
 use Rattle.lrtable.specs.States.{Edge, StateValue, no_state, state_at, AscendEdges, Matches, AreStates, IsLinked, IsPlaced, JoinsAt, JoinsNone, grown_at}
-use Rattle.cfgrammar.proofs.Bits.{length-bitwise}
+use Rattle.cfg_numbered.proofs.Bits.{length-bitwise}
 use Rattle.lrtable.proofs.CoreSets.{length_join, row_join}
 use Rattle.lrtable.proofs.Placing.{edged, edge_put, grown_matches, added_matches, kept_place, grown_place, added_place, count_is}
 

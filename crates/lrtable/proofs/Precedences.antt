@@ -1,8 +1,8 @@
 -- The precedences of tokens and of productions.
 use Rattle.std.proofs.Common.{◌≡◌, ℕ, Option, Some, None, refl, ap}
 use Rattle.std.specs.Prelude.{option_map, slice_get}
-use Rattle.cfg_read.specs.declared.yacc.Precedence.{Precedence}
-use Rattle.cfgrammar.specs.Value.{GrammarValue, TokenFacts, ProductionFacts, HasNoPrecedences}
+use Rattle.cfg_base.specs.declared.precedence.Precedence.{Precedence}
+use Rattle.cfg_numbered.specs.Value.{GrammarValue, TokenFacts, ProductionFacts, HasNoPrecedences}
 use Rattle.table_theory.specs.Cells.{NoPrecedences}
 use Rattle.lrtable.specs.CellViews.{precedence_of, precedences_of, of_token_facts, of_production_facts}
 

@@ -1,7 +1,7 @@
 -- Refusals against tables and against each other.
 use Rattle.std.proofs.Common.{◌≡◌, ◌≢◌, ℕ, ◌+◌, ◌*◌, refl, sym, ap, ◌∙◌, arith}
 use Rattle.cfg_theory.specs.Grammar.{Grammar, WellFormed}
-use Rattle.cfgrammar.specs.Value.{GrammarValue}
+use Rattle.cfg_numbered.specs.Value.{GrammarValue}
 use Rattle.lr_theory.specs.Building.{IsGraph}
 use Rattle.lr_theory.specs.Graph.{Graph}
 use Rattle.lr_theory.specs.Sizes.{StaysWithin, cell_count}

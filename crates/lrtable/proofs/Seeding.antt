@@ -7,7 +7,7 @@ use Rattle.cfg_theory.specs.Grammar.{Sym, rule, token, Grammar, IsNext, WellForm
 use Rattle.cfg_theory.specs.Derivation.{Nullable, IsFirst}
 use Rattle.lr_theory.specs.Canonical.{from_dot}
 use Rattle.lr_theory.specs.Itemset.{Items, Lookaheads, HasItem, HasLook, SameItems, SameLooks}
-use Rattle.cfgrammar.specs.Sets.{is_set}
+use Rattle.cfg_numbered.specs.Sets.{is_set}
 use Rattle.lrtable.specs.Adding.{One, OneLooks}
 use Rattle.lrtable.specs.ItemRows.{Item, IsAt, Core, IsCoreOf, map_of}
 use Rattle.lrtable.specs.Meeting.{row}

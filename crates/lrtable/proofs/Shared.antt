@@ -5,7 +5,7 @@ use Rattle.std.proofs.lemmas.List.{length-map, get_or-map, get_or_past}
 use Rattle.std.proofs.lemmas.Bool.{cases_lt}
 use Rattle.vob.specs.Bits.{LacksSome}
 use Rattle.vob.specs.Packed.{Contents}
-use Rattle.cfgrammar.specs.Sets.{is_set}
+use Rattle.cfg_numbered.specs.Sets.{is_set}
 use Rattle.lrtable.specs.ItemRows.{CoversRows, LacksRows}
 use Rattle.lrtable.specs.Meeting.{PairFits, PairApart, AreAlike, row, rows_in}
 

@@ -15,7 +15,7 @@ use Rattle.lrtable.specs.ItemRows.{Item, Core, IsCoreOf, map_of}
 use Rattle.lrtable.specs.States.{StateValue, no_state, state_at, edge_in, edge_of, AscendEdges, Matches, AreStates, IsPlaced, JoinsNone, AreBuckets, first_production}
 use Rattle.lrtable.proofs.Buckets.{buckets_kept}
 use Rattle.lrtable.specs.Stepping.{FitsCore, AreGotos, AreGotosOf, IsGotoAt, IsNextTaken, set_off}
-use Rattle.cfgrammar.proofs.Bits.{set_same}
+use Rattle.cfg_numbered.proofs.Bits.{set_same}
 use Rattle.lrtable.proofs.Handling.{skipped, placed_next, too_many, stepped, stepped_less}
 use Rattle.lrtable.proofs.ItemSets.{has_item, nought, at_own}
 use Rattle.lrtable.proofs.Placing.{core_is, count_is}

@@ -8,7 +8,7 @@ use Rattle.vob.specs.Packed.{Contents}
 use Rattle.lrtable.specs.Meeting.{rows_in}
 use Rattle.std.proofs.lemmas.List.{get_or-map, map-append, map_more, at_drop_more}
 use Rattle.cfg_base.specs.declared.symbol.PIdx.{PIdx}
-use Rattle.cfgrammar.specs.Sets.{is_set}
+use Rattle.cfg_numbered.specs.Sets.{is_set}
 use Rattle.table_theory.specs.Cells.{ReduceReduce, pairs_at}
 use Rattle.lrtable.specs.declared.state_rows.Reduction.{Reduction}
 use Rattle.lrtable.specs.CellRows.{ReductionValue, reductions_on, first_of, pair_with}
@@ -64,7 +64,7 @@ module _ {S : Type 0} (number : S → ℕ) (sets : List (List Bool)) (xs : List 
   with_own : is_set (get_or sets x.set []) t ≡ true → upto (i + 1) ≡ upto i ++ number x.pidx.0 ∷ []
   with_own e = more ∙ ap (λ b. upto i ++ cond b (number x.pidx.0 ∷ []) []) e
 
-  without_own : is_set (get_or sets x.set []) t ≡ false → upto (i + 1) ≡ upto i
+  pub without_own : is_set (get_or sets x.set []) t ≡ false → upto (i + 1) ≡ upto i
   without_own e = more ∙ (ap (λ b. upto i ++ cond b (number x.pidx.0 ∷ []) []) e ∙ append-nil (upto i))
 
   -- the first one so far, and the pairs so far, with one that reduces

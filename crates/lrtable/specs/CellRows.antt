@@ -2,7 +2,7 @@
 use Rattle.std.specs.Prelude.{◌≡◌, ℕ, ◌<◌, Bool, true, false, ◌&&◌, cond, nat_eq, List, [], ◌∷◌, length, Option, Some, None}
 use Rattle.std.specs.List.{AllByRecursion}
 use Rattle.cfg_theory.specs.Grammar.{Grammar, end_token}
-use Rattle.cfgrammar.specs.Sets.{is_set}
+use Rattle.cfg_numbered.specs.Sets.{is_set}
 use Rattle.lr_theory.specs.Automaton.{Action}
 use Rattle.table_theory.specs.Cells.{Precedence, Precedences, Candidates, ReduceReduce, ShiftReduce, shift_or_reduce, unsettled_entry, gathered, pairs_at, shifts_at, cell_of}
 use Rattle.lrtable.specs.Rows.{Rises, at_of}
@@ -95,3 +95,9 @@ pub record FitsParts (G : Grammar) (x : PartsValue) : Type 0 where
 -- it accepts, and p is the first reduction on the end token
 abbrev pub IsContested : Grammar → PartsValue → ℕ → Type 0
 IsContested G x p = (x.accepts ≡ true) × (first_of (reductions_on x.reductions (end_token G)) ≡ Some p)
+
+-- nothing stands in the cell of the token
+pub record IsBlank (G : Grammar) (x : PartsValue) (t : ℕ) : Type 0 where
+  pub reductions : reductions_on x.reductions t ≡ []
+  pub edge : at_of x.shifts t ≡ None
+  pub no_end : t ≡ end_token G → ⊥

@@ -2,12 +2,12 @@
 use Rattle.std.specs.Prelude.{ℕ, Bool, List, [], map, get_or, Option, Some, None, option_map, slice_get}
 use Rattle.lr_theory.specs.Automaton.{Action}
 use Rattle.table_theory.specs.Cells.{AssocKind as KindOfTheory, Left, Right, Nonassoc, Precedence as PrecedenceOfTheory, Precedences, ReduceReduce, ShiftReduce}
-use Rattle.cfg_read.specs.declared.yacc.AssocKind.{AssocKind}
-use Rattle.cfg_read.specs.declared.yacc.AssocKind.TheVariants as kinds
-use Rattle.cfg_read.specs.declared.yacc.Precedence.{Precedence}
+use Rattle.cfg_base.specs.declared.precedence.AssocKind.{AssocKind}
+use Rattle.cfg_base.specs.declared.precedence.AssocKind.TheVariants as kinds
+use Rattle.cfg_base.specs.declared.precedence.Precedence.{Precedence}
 use Rattle.cfg_base.specs.declared.symbol.PIdx.{PIdx}
 use Rattle.cfg_base.specs.declared.symbol.TIdx.{TIdx}
-use Rattle.cfgrammar.specs.Value.{GrammarValue, TokenFacts, ProductionFacts}
+use Rattle.cfg_numbered.specs.Value.{GrammarValue, TokenFacts, ProductionFacts}
 use Rattle.lrtable.specs.declared.stidx.StIdx.{StIdx}
 use Rattle.lrtable.specs.declared.cells.Action.{Action as TableAction}
 use Rattle.lrtable.specs.declared.cells.Action.TheVariants as actions

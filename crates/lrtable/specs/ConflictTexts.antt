@@ -3,8 +3,8 @@ use Rattle.std.specs.Prelude.{ℕ, ◌<◌, List, [], ◌∷◌, ◌++◌, None,
 use Rattle.std.specs.List.{flat_map}
 use Rattle.std.specs.Fmt.{decimal}
 use Rattle.std.specs.Option.{unwrap_or}
-use Rattle.cfgrammar.specs.PrettyPrint.{production_text}
-use Rattle.cfgrammar.specs.Value.{GrammarValue, TokenFacts}
+use Rattle.cfg_numbered.specs.PrettyPrint.{production_text}
+use Rattle.cfg_numbered.specs.Value.{GrammarValue, TokenFacts}
 use Rattle.table_theory.specs.Cells.{ReduceReduce, ShiftReduce, Conflicts}
 
 -- the name of a token; `$` for the end token, which has none

@@ -1,5 +1,6 @@
 -- The sets to which the items of a closed state move, a set for each symbol by its rank.
-use Rattle.std.specs.Prelude.{◌≡◌, ℕ, ◌<◌, ◌⊎◌, ◌↔◌, List, [], length, get_or}
+use Rattle.std.specs.Prelude.{◌≡◌, ℕ, ◌<◌, ◌⊎◌, ◌↔◌, Bool, false, List, [], length, get_or}
+use Rattle.cfg_numbered.specs.Sets.{is_set}
 use Rattle.cfg_theory.specs.Grammar.{Sym, Grammar, InRange}
 use Rattle.lr_theory.specs.Itemset.{Items, Lookaheads, ItemSet, HasItem, HasLook, Goto, GotoLook}
 use Rattle.lrtable.specs.ItemRows.{Core, map_of, IsCoreOf}
@@ -18,6 +19,15 @@ moved_by G sets X = map_of (core_in sets (rank G X))
 -- so many tokens have a flag in each row of each set
 abbrev pub AreSets : ℕ → List Core → Type 0
 AreSets tokens sets = (n : ℕ) → n < length sets → IsCoreOf tokens (core_in sets n)
+
+-- a set whose rank has no mark has no items
+abbrev pub AreMarked : List Bool → List Core → Type 0
+AreMarked marks sets = (n : ℕ) → n < length sets → is_set marks n ≡ false → core_in sets n ≡ no_core
+
+-- so it is after a step, if it was before
+pub record KeepsMarks (was : List Bool) (before : List Core) (now : List Bool) (after : List Core) : Type 0 where
+  pub width : length now ≡ length was
+  pub marked : AreMarked was before → AreMarked now after
 
 -- the items of I moved into the sets, with the lookaheads of L, and no others
 pub record Gains (G : Grammar) (I : Items) (L : Lookaheads) (old new : List Core) : Type 0 where

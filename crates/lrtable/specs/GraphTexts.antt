@@ -4,8 +4,8 @@ use Rattle.std.specs.List.{filter, flat_map, join_by, range_with_len}
 use Rattle.std.specs.Fmt.{decimal}
 use Rattle.vob.specs.Walk.{indices_of}
 use Rattle.cfg_theory.specs.Grammar.{Sym, rule, token, head_of, body_of}
-use Rattle.cfgrammar.specs.PrettyPrint.{name_of}
-use Rattle.cfgrammar.specs.Value.{GrammarValue}
+use Rattle.cfg_numbered.specs.PrettyPrint.{name_of}
+use Rattle.cfg_numbered.specs.Value.{GrammarValue}
 use Rattle.lr_theory.specs.Itemset.{Entry, ItemSet}
 use Rattle.lrtable.specs.ConflictTexts.{shown_token}
 use Rattle.lrtable.specs.Graphs.{GraphValue}

@@ -4,7 +4,7 @@ use Rattle.std.specs.declared.alloc.Global.{Global}
 use Rattle.std.specs.declared.vec.Vec.{Vec}
 use Rattle.cfg_base.specs.declared.symbol.Symbol.{Symbol}
 use Rattle.cfg_theory.specs.Grammar.{Sym}
-use Rattle.cfgrammar.specs.Symbols.{sym_of}
+use Rattle.cfg_numbered.specs.Symbols.{sym_of}
 use Rattle.lr_theory.specs.Itemset.{ItemSet}
 use Rattle.lrtable.specs.Graphs.{GraphValue}
 use Rattle.lrtable.specs.declared.stidx.StIdx.{StIdx}

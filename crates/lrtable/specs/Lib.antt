@@ -32,3 +32,4 @@ pub mod TableRefusals
 pub mod GraphTexts
 pub mod RefusalViews
 pub mod ItemWalks
+pub mod Marks

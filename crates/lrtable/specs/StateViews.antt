@@ -1,6 +1,6 @@
 -- States as contracts see them.
 use Rattle.std.specs.Prelude.{ℕ, List, map}
-use Rattle.cfgrammar.specs.Symbols.{sym_of}
+use Rattle.cfg_numbered.specs.Symbols.{sym_of}
 use Rattle.lrtable.specs.declared.cores.CoreItem.{CoreItem}
 use Rattle.lrtable.specs.declared.cores.CoreSet.{CoreSet}
 use Rattle.lrtable.specs.declared.states.EdgeTo.{EdgeTo}

@@ -1,7 +1,7 @@
 -- The table of a grammar's graph, why none is given, and both against canonical LR(1).
 use Rattle.std.specs.Prelude.{◌≡◌, ℕ, ◌+◌, ◌<◌, ◌≤◌, ◌^◌, [], length, get_or, Contains}
 use Rattle.cfg_theory.specs.Grammar.{Grammar}
-use Rattle.cfgrammar.specs.Value.{GrammarValue}
+use Rattle.cfg_numbered.specs.Value.{GrammarValue}
 use Rattle.lr_theory.specs.Automaton.{Automaton}
 use Rattle.lr_theory.specs.Building.{IsGraph}
 use Rattle.lr_theory.specs.Canonical.{shift, reduce, accept}

@@ -8,8 +8,9 @@ ghost use Rattle.lrtable.specs.CellViews.{action_of, cells_of, precedence_of, pr
 
 use crate::stidx::StIdx;
 use cfg_base::index::IndexStorage;
+use cfg_base::precedence::{AssocKind, Precedence};
 use cfg_base::symbol::{PIdx, TIdx};
-use cfgrammar::yacc::{AssocKind, Precedence, YaccGrammar};
+use cfg_numbered::yacc::NumberedGrammar;
 use std::alloc::AllocError;
 
 /// What a table does at a state and a token.
@@ -66,7 +67,7 @@ fn is_unsettled(token: Option<Precedence>, by: Option<Precedence>) -> bool
 
 /// The precedence of a token.
 #[tactic(auto, using(crate::proofs::Precedences::token_level))]
-fn of_token<S: IndexStorage>(grm: &YaccGrammar<S>, tidx: TIdx<S>) -> Option<Precedence>
+fn of_token<S: IndexStorage>(grm: &NumberedGrammar<S>, tidx: TIdx<S>) -> Option<Precedence>
     requires { S.number tidx.0 < grm.now.grammar.tokens }
     ensures { (precedences_of grm.now).of_token (S.number tidx.0) ≡ option_map precedence_of result }
 {
@@ -75,7 +76,7 @@ fn of_token<S: IndexStorage>(grm: &YaccGrammar<S>, tidx: TIdx<S>) -> Option<Prec
 
 /// The precedence of a production.
 #[tactic(auto, using(crate::proofs::Precedences::production_level))]
-fn of_production<S: IndexStorage>(grm: &YaccGrammar<S>, pidx: PIdx<S>) -> Option<Precedence>
+fn of_production<S: IndexStorage>(grm: &NumberedGrammar<S>, pidx: PIdx<S>) -> Option<Precedence>
     requires { S.number pidx.0 < length grm.now.grammar.productions }
     ensures { (precedences_of grm.now).of_production (S.number pidx.0) ≡ option_map precedence_of result }
 {
@@ -84,7 +85,7 @@ fn of_production<S: IndexStorage>(grm: &YaccGrammar<S>, pidx: PIdx<S>) -> Option
 
 /// The cell of a token, by its first reduction and the target of its edge.
 pub(crate) fn cell_on<S: IndexStorage>(
-    grm: &YaccGrammar<S>,
+    grm: &NumberedGrammar<S>,
     tidx: TIdx<S>,
     accepts: bool,
     reduction: Option<PIdx<S>>,
@@ -111,7 +112,7 @@ pub(crate) fn cell_on<S: IndexStorage>(
 
 /// Lists a shift against a reduction, if precedence doesn't settle it.
 fn list_unsettled<S: IndexStorage>(
-    grm: &YaccGrammar<S>,
+    grm: &NumberedGrammar<S>,
     tidx: TIdx<S>,
     pidx: PIdx<S>,
     stidx: StIdx<S>,
@@ -129,7 +130,7 @@ fn list_unsettled<S: IndexStorage>(
 
 /// Lists the shift of a token against its first reduction, if it has both and precedence doesn't settle it.
 pub(crate) fn list_shift<S: IndexStorage>(
-    grm: &YaccGrammar<S>,
+    grm: &NumberedGrammar<S>,
     tidx: TIdx<S>,
     reduction: Option<PIdx<S>>,
     edge: Option<StIdx<S>>,

@@ -1,11 +1,12 @@
 //! Closures and goto sets as items that share their sets of lookaheads.
 
 ghost use Rattle.std.specs.Prelude.{◌≡◌, ◌<◌, ℕ, length, IfOk, OnOk};
-ghost use Rattle.cfgrammar.specs.Firsts.{AreFirsts};
-ghost use Rattle.cfgrammar.specs.Symbols.{sym_of};
+ghost use Rattle.cfg_numbered.specs.Firsts.{AreFirsts};
+ghost use Rattle.cfg_numbered.specs.Symbols.{sym_of};
 ghost use Rattle.lr_theory.specs.Building.{same_symbol};
 ghost use Rattle.lr_theory.specs.Itemset.{HasItem, HasLook, Closure, ClosureLook, Goto, GotoLook, Is};
 ghost use Rattle.lrtable.specs.Adding.{One, OneLooks};
+ghost use Rattle.lrtable.specs.Closers.{IsReady};
 ghost use Rattle.lrtable.specs.Closes.{AreFronts};
 ghost use Rattle.lrtable.specs.ItemRows.{IsCoreOf, map_of};
 ghost use Rattle.lrtable.specs.Meeting.{rows_in};
@@ -16,12 +17,12 @@ ghost use Rattle.lrtable.specs.Stepping.{FitsCore};
 use crate::cores::{CoreItem, CoreSet};
 use crate::moves::dot_behind;
 use crate::openers::Openers;
-use crate::opening::close_core;
+use crate::opening::Closer;
 use crate::rests::symbol_after;
 use crate::shared_sets::SharedSets;
 use cfg_base::index::IndexStorage;
 use cfg_base::symbol::{PIdx, Symbol};
-use cfgrammar::yacc::{YaccFirsts, YaccGrammar};
+use cfg_numbered::yacc::{NumberedGrammar, YaccFirsts};
 use std::alloc::{AllocError, Global};
 use vob::Vob;
 
@@ -29,7 +30,7 @@ use vob::Vob;
 /// set for each rule.
 pub fn closed_set<S: IndexStorage>(
     alloc: Global,
-    grm: &YaccGrammar<S>,
+    grm: &NumberedGrammar<S>,
     firsts: &YaccFirsts<S>,
     openers: &Openers,
     core: &CoreSet<S>,
@@ -41,10 +42,33 @@ pub fn closed_set<S: IndexStorage>(
     ensures core { IfOk result (λ s. IsCoreOf grm.now.grammar.tokens (shared_core S.number s)) }
     ensures within { IfOk result (λ s. PointIn (rows_in s.sets.items) s.entries.items) }
 {
+    let mut closer = Closer::new(alloc, grm)?;
+    let set = closed_by(alloc, grm, firsts, openers, &mut closer, core)?;
+    Ok(set)
+}
+
+/// The same, with what the closings of one core after another are made with.
+pub fn closed_by<S: IndexStorage>(
+    alloc: Global,
+    grm: &NumberedGrammar<S>,
+    firsts: &YaccFirsts<S>,
+    openers: &Openers,
+    closer: &mut Closer,
+    core: &CoreSet<S>,
+) -> Result<SharedSets<S>, AllocError>
+    requires ready { IsReady grm.now.grammar closer.old }
+    requires fits { FitsCore grm.now.grammar (core_of_set S.number core.now) }
+    requires firsts { AreFirsts grm.now.grammar firsts.now }
+    requires openers { AreFronts grm.now.grammar openers.now }
+    ensures ready { OnOk result (IsReady grm.now.grammar closer.new) }
+    ensures is { IfOk result (λ s. Is (shared_map S.number s) (Closure grm.now.grammar (HasItem (map_of (core_of_set S.number core.now)))) (ClosureLook grm.now.grammar (HasItem (map_of (core_of_set S.number core.now))) (HasLook (map_of (core_of_set S.number core.now))))) }
+    ensures core { IfOk result (λ s. IsCoreOf grm.now.grammar.tokens (shared_core S.number s)) }
+    ensures within { IfOk result (λ s. PointIn (rows_in s.sets.items) s.entries.items) }
+{
     grm.start_prod();
-    let opening = close_core(alloc, grm, firsts, openers, core)?;
+    closer.close(alloc, grm, firsts, openers, core)?;
     let mut set = SharedSets::of_core(alloc, core)?;
-    set.open_rules(grm, &opening)?;
+    set.open_rules(grm, &closer.opening)?;
     Ok(set)
 }
 
@@ -61,7 +85,7 @@ pub fn same_symbols<S: IndexStorage>(a: Symbol<S>, b: Symbol<S>) -> bool
 
 /// Moves an item into a set, if the symbol stands behind its dot.
 fn move_one<S: IndexStorage>(
-    grm: &YaccGrammar<S>,
+    grm: &NumberedGrammar<S>,
     moved: &mut SharedSets<S>,
     pidx: PIdx<S>,
     dot: usize,
@@ -92,7 +116,7 @@ fn move_one<S: IndexStorage>(
 /// The goto set of a symbol.
 pub fn moved_set<S: IndexStorage>(
     alloc: Global,
-    grm: &YaccGrammar<S>,
+    grm: &NumberedGrammar<S>,
     set: &SharedSets<S>,
     symbol: &Symbol<S>,
 ) -> Result<SharedSets<S>, AllocError>

@@ -11,7 +11,7 @@ use crate::state_rows::{ReduceReduce, ShiftReduce};
 use crate::stidx::StIdx;
 use cfg_base::index::IndexStorage;
 use cfg_base::symbol::{PIdx, TIdx};
-use cfgrammar::yacc::YaccGrammar;
+use cfg_numbered::yacc::NumberedGrammar;
 use std::alloc::{AllocError, Global};
 use std::marker::Model;
 use std::slice::Iter;
@@ -75,7 +75,7 @@ impl<S: IndexStorage> Conflicts<S> {
     }
 
     /// The shifts against reductions as text: a heading, and a line for each. Nothing where there is none.
-    pub fn pp_sr(&self, alloc: Global, grm: &YaccGrammar<S>) -> Result<String, AllocError>
+    pub fn pp_sr(&self, alloc: Global, grm: &NumberedGrammar<S>) -> Result<String, AllocError>
         requires { ShiftsInRange grm.now self.now.shift_reduce }
         ensures { IfOk result (λ text. string_bytes text ≡ shifts_text grm.now self.now.shift_reduce) }
     {
@@ -89,7 +89,7 @@ impl<S: IndexStorage> Conflicts<S> {
     }
 
     /// The pairs of reductions as text: a heading, and a line for each. Nothing where there is none.
-    pub fn pp_rr(&self, alloc: Global, grm: &YaccGrammar<S>) -> Result<String, AllocError>
+    pub fn pp_rr(&self, alloc: Global, grm: &NumberedGrammar<S>) -> Result<String, AllocError>
         requires { PairsInRange grm.now self.now.reduce_reduce }
         ensures { IfOk result (λ text. string_bytes text ≡ pairs_text grm.now self.now.reduce_reduce) }
     {
@@ -103,7 +103,7 @@ impl<S: IndexStorage> Conflicts<S> {
     }
 
     /// Both as text, the shifts against reductions first.
-    pub fn pp(&self, alloc: Global, grm: &YaccGrammar<S>) -> Result<String, AllocError>
+    pub fn pp(&self, alloc: Global, grm: &NumberedGrammar<S>) -> Result<String, AllocError>
         requires shifts { ShiftsInRange grm.now self.now.shift_reduce }
         requires pairs { PairsInRange grm.now self.now.reduce_reduce }
         ensures { IfOk result (λ text. string_bytes text ≡ conflicts_text grm.now self.now) }
@@ -116,7 +116,7 @@ impl<S: IndexStorage> Conflicts<S> {
 }
 
 /// The name of a token; `$` for the end token.
-pub(crate) fn shown<S: IndexStorage>(grm: &YaccGrammar<S>, tidx: TIdx<S>) -> &str
+pub(crate) fn shown<S: IndexStorage>(grm: &NumberedGrammar<S>, tidx: TIdx<S>) -> &str
     requires { S.number tidx.0 < grm.now.grammar.tokens }
     ensures { result.now ≡ shown_token grm.now (S.number tidx.0) }
 {
@@ -141,7 +141,7 @@ fn push_state<S: IndexStorage>(
 fn push_reduce<S: IndexStorage>(
     alloc: Global,
     text: &mut String,
-    grm: &YaccGrammar<S>,
+    grm: &NumberedGrammar<S>,
     pidx: PIdx<S>,
 ) -> Result<(), AllocError>
     requires { S.number pidx.0 < length grm.now.grammar.productions }
@@ -158,7 +158,7 @@ fn push_reduce<S: IndexStorage>(
 fn push_shift<S: IndexStorage>(
     alloc: Global,
     text: &mut String,
-    grm: &YaccGrammar<S>,
+    grm: &NumberedGrammar<S>,
     entry: ShiftReduce<S>,
 ) -> Result<(), AllocError>
     requires token { S.number entry.0.0 < grm.now.grammar.tokens }
@@ -179,7 +179,7 @@ fn push_shift<S: IndexStorage>(
 fn push_pair<S: IndexStorage>(
     alloc: Global,
     text: &mut String,
-    grm: &YaccGrammar<S>,
+    grm: &NumberedGrammar<S>,
     entry: ReduceReduce<S>,
 ) -> Result<(), AllocError>
     requires first { S.number entry.1.0 < length grm.now.grammar.productions }
@@ -199,7 +199,7 @@ fn push_pair<S: IndexStorage>(
 fn push_shifts<S: IndexStorage>(
     alloc: Global,
     text: &mut String,
-    grm: &YaccGrammar<S>,
+    grm: &NumberedGrammar<S>,
     entries: &[ShiftReduce<S>],
 ) -> Result<(), AllocError>
     requires { ShiftsInRange grm.now (shifts_of S.number entries.now) }
@@ -215,7 +215,7 @@ fn push_shifts<S: IndexStorage>(
 fn push_pairs<S: IndexStorage>(
     alloc: Global,
     text: &mut String,
-    grm: &YaccGrammar<S>,
+    grm: &NumberedGrammar<S>,
     entries: &[ReduceReduce<S>],
 ) -> Result<(), AllocError>
     requires { PairsInRange grm.now (pairs_of S.number entries.now) }

@@ -1,6 +1,6 @@
 //! Items in ascending order, each with its lookaheads: the cores of states, and the sets that become states.
 
-ghost use Rattle.std.specs.Prelude.{◌≡◌, ◌<◌, ◌≤◌, ◌↔◌, ℕ, true, false, length, get_or, IsTrue, OnOk};
+ghost use Rattle.std.specs.Prelude.{◌≡◌, ◌<◌, ◌≤◌, ◌↔◌, ℕ, true, false, [], length, get_or, IfOk, IsTrue, OnOk};
 ghost use Rattle.std.specs.List.{insert};
 ghost use Rattle.lrtable.specs.Adding.{Adds};
 ghost use Rattle.lrtable.specs.Gaining.{no_core};
@@ -91,17 +91,60 @@ fn stands_at<S: IndexStorage>(items: &[CoreItem<S>], index: usize, item: &CoreIt
     same_item(&items[index], item)
 }
 
-/// A set without its items, to be used again.
-pub fn emptied<S: IndexStorage>(set: CoreSet<S>) -> CoreSet<S>
-    ensures { core_of_set S.number result ≡ no_core }
+/// A copy of a set of tokens, in the place of one that isn't used any more, if the last of these is of its size.
+fn copied(spare: &mut Vec<Vob>, looks: &Vob) -> Result<Vob, AllocError>
+    ensures { IfOk result (λ v. v.bits ≡ looks.now.bits) }
+{
+    match spare.pop() {
+        Some(mut row) => {
+            if row.len() != looks.len() {
+                return looks.clone();
+            }
+            row.set_all(false);
+            row.or(looks);
+            Ok(row)
+        }
+        None => looks.clone(),
+    }
+}
+
+/// Puts a value at an index of a list, most often at its end.
+fn put_in<T: Drop>(list: &mut Vec<T>, index: usize, value: T) -> Result<(), AllocError>
+    requires { index ≤ length list.old.items }
+    ensures { OnOk result (list.new.items ≡ insert list.old.items index value) }
+{
+    if index == list.len() {
+        list.push(value)?;
+        return Ok(());
+    }
+    list.insert(index, value)?;
+    Ok(())
+}
+
+/// Puts sets of tokens that aren't used any more with others, and leaves none behind.
+fn lay_by(spare: &mut Vec<Vob>, looks: &mut Vec<Vob>) -> Result<(), AllocError>
+    ensures { OnOk result (looks.new.items ≡ []) }
+{
+    'rows: while let Some(row) = looks.pop() {
+        spare.push(row)?;
+    }
+    Ok(())
+}
+
+/// A set without its items, to be used again, as its sets of tokens are to be.
+pub fn emptied<S: IndexStorage>(
+    spare: &mut Vec<Vob>,
+    set: CoreSet<S>,
+) -> Result<CoreSet<S>, AllocError>
+    ensures { IfOk result (λ c. core_of_set S.number c ≡ no_core) }
 {
     let CoreSet {
         mut items,
         mut looks,
     } = set;
     items.clear();
-    looks.clear();
-    CoreSet { items, looks }
+    lay_by(spare, &mut looks)?;
+    Ok(CoreSet { items, looks })
 }
 
 impl<S: IndexStorage> CoreSet<S> {
@@ -116,7 +159,12 @@ impl<S: IndexStorage> CoreSet<S> {
     }
 
     /// Adds an item with its lookaheads, or lookaheads to those of the item that is there.
-    pub fn add(&mut self, item: CoreItem<S>, looks: &Vob) -> Result<(), AllocError>
+    pub fn add(
+        &mut self,
+        spare: &mut Vec<Vob>,
+        item: CoreItem<S>,
+        looks: &Vob,
+    ) -> Result<(), AllocError>
         requires { (tokens : ℕ) × IsCoreOf tokens (core_of_set S.number self.old) × (length looks.now.bits ≡ tokens) }
         ensures adds { OnOk result (Adds (map_of (core_of_set S.number self.old)) (S.number item.pidx.0) (S.number item.dot.0) looks.now.bits (map_of (core_of_set S.number self.new))) }
         ensures fits { OnOk result ((tokens : ℕ) → IsCoreOf tokens (core_of_set S.number self.old) → length looks.now.bits ≡ tokens → IsCoreOf tokens (core_of_set S.number self.new)) }
@@ -127,20 +175,26 @@ impl<S: IndexStorage> CoreSet<S> {
             row.or(looks);
             return Ok(());
         }
-        self.insert(index, item, looks)?;
+        self.insert(spare, index, item, looks)?;
         Ok(())
     }
 
     /// Puts an item with its lookaheads at an index.
-    fn insert(&mut self, index: usize, item: CoreItem<S>, looks: &Vob) -> Result<(), AllocError>
+    fn insert(
+        &mut self,
+        spare: &mut Vec<Vob>,
+        index: usize,
+        item: CoreItem<S>,
+        looks: &Vob,
+    ) -> Result<(), AllocError>
         requires items { index ≤ length self.old.items.items }
         requires looks { index ≤ length self.old.looks.items }
         ensures items { OnOk result (items_of S.number self.new.items.items ≡ insert (items_of S.number self.old.items.items) index (item_of S.number item)) }
         ensures looks { OnOk result (rows_in self.new.looks.items ≡ insert (rows_in self.old.looks.items) index looks.now.bits) }
     {
-        let row = looks.clone()?;
-        self.items.insert(index, item)?;
-        self.looks.insert(index, row)?;
+        let row = copied(spare, looks)?;
+        put_in(&mut self.items, index, item)?;
+        put_in(&mut self.looks, index, row)?;
         Ok(())
     }
 }

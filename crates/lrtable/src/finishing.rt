@@ -1,7 +1,7 @@
 //! The state graph of a finished building.
 
 ghost use Rattle.std.specs.Prelude.{◌≡◌, ◌<◌, ◌≤◌, ℕ, [], length, map, get_or, IfOk, OnOk, IsErrOf, All};
-ghost use Rattle.cfgrammar.specs.Firsts.{AreFirsts};
+ghost use Rattle.cfg_numbered.specs.Firsts.{AreFirsts};
 ghost use Rattle.lr_theory.specs.Itemset.{FitsGrammar};
 ghost use Rattle.lr_theory.specs.Sizes.{StaysWithin};
 ghost use Rattle.lrtable.specs.FinalStates.{AreClosures, AreFinal, pair_of_edge, pairs_of};
@@ -14,9 +14,10 @@ ghost use Rattle.lrtable.specs.StateViews.{edges_of, value_of};
 ghost use Rattle.lrtable.specs.Stepping.{FitsCore};
 ghost use Rattle.lrtable.specs.declared.states.BuildError.TheVariants as faults;
 
-use crate::closures::closed_set;
+use crate::closures::closed_by;
 use crate::itemset::{Itemset, of_shared};
 use crate::openers::Openers;
+use crate::opening::Closer;
 use crate::pager;
 use crate::shared_sets::SharedSets;
 use crate::stategraph::{StateGraph, of_lists};
@@ -24,7 +25,7 @@ use crate::states::{BuildError, EdgeTo, State};
 use crate::stidx::StIdx;
 use cfg_base::index::IndexStorage;
 use cfg_base::symbol::Symbol;
-use cfgrammar::yacc::{YaccFirsts, YaccGrammar};
+use cfg_numbered::yacc::{NumberedGrammar, YaccFirsts};
 use std::alloc::{AllocError, Global};
 
 /// The edges of a state with the indices of their targets.
@@ -76,7 +77,7 @@ fn core_sets<S: IndexStorage>(
 /// The closures of the states.
 fn closed_sets<S: IndexStorage>(
     alloc: Global,
-    grm: &YaccGrammar<S>,
+    grm: &NumberedGrammar<S>,
     firsts: &YaccFirsts<S>,
     states: &[State<S>],
 ) -> Result<Vec<Itemset<S>>, AllocError>
@@ -86,10 +87,11 @@ fn closed_sets<S: IndexStorage>(
     ensures { IfOk result (λ v. AreClosures grm.now.grammar (map (λ s. map_of s.core) (map (value_of S.number) states.now)) v.items) }
 {
     let openers = Openers::new(alloc, grm, firsts)?;
+    let mut closer = Closer::new(alloc, grm)?;
     let mut sets = Vec::with_capacity(alloc, states.len())?;
     'states: for number in 0..states.len() {
         let core = &states[number].core;
-        sets.push(of_shared(closed_set(alloc, grm, firsts, &openers, core)?))?;
+        sets.push(of_shared(closed_by(alloc, grm, firsts, &openers, &mut closer, core)?))?;
     }
     Ok(sets)
 }
@@ -97,7 +99,7 @@ fn closed_sets<S: IndexStorage>(
 /// The graph of the states of a finished building.
 fn from_states<S: IndexStorage>(
     alloc: Global,
-    grm: &YaccGrammar<S>,
+    grm: &NumberedGrammar<S>,
     firsts: &YaccFirsts<S>,
     states: &[State<S>],
 ) -> Result<StateGraph<S>, AllocError>
@@ -118,7 +120,7 @@ fn from_states<S: IndexStorage>(
 /// The graph of a grammar.
 pub(crate) fn graph_of_grammar<S: IndexStorage>(
     alloc: Global,
-    grm: &YaccGrammar<S>,
+    grm: &NumberedGrammar<S>,
     firsts: &YaccFirsts<S>,
 ) -> Result<StateGraph<S>, BuildError>
     requires { AreFirsts grm.now.grammar firsts.now }

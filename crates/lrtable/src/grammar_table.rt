@@ -19,7 +19,7 @@ use crate::stategraph::StateGraph;
 use crate::states::BuildError;
 use crate::statetable::{StateTable, StateTableError, StateTableNewError};
 use cfg_base::index::IndexStorage;
-use cfgrammar::yacc::{YaccFirsts, YaccGrammar};
+use cfg_numbered::yacc::{NumberedGrammar, YaccFirsts};
 use std::alloc::{AllocError, Global};
 use std::error::Error;
 use std::fmt;
@@ -76,7 +76,7 @@ impl<S> From<AllocError> for FromYaccError<S> {
 /// The graph of a grammar.
 fn make_graph<S: IndexStorage>(
     alloc: Global,
-    grm: &YaccGrammar<S>,
+    grm: &NumberedGrammar<S>,
 ) -> Result<StateGraph<S>, FromYaccError<S>>
     ensures graph { IfOk result (λ g. IsGraphOf grm.now.grammar g) }
     ensures within { OnOk result (StaysWithin grm.now.grammar S.MAX) }
@@ -93,7 +93,7 @@ fn make_graph<S: IndexStorage>(
 /// The table of a grammar's graph.
 fn make_table<S: IndexStorage>(
     alloc: Global,
-    grm: &YaccGrammar<S>,
+    grm: &NumberedGrammar<S>,
     graph: &StateGraph<S>,
 ) -> Result<StateTable<S>, FromYaccError<S>>
     requires graph { IsGraphOf grm.now.grammar graph.now }
@@ -113,7 +113,7 @@ fn make_table<S: IndexStorage>(
 /// The graph of a grammar by Pager's merging, and its table.
 fn by_pager<S: IndexStorage>(
     alloc: Global,
-    grm: &YaccGrammar<S>,
+    grm: &NumberedGrammar<S>,
 ) -> Result<(StateGraph<S>, StateTable<S>), FromYaccError<S>>
     ensures graph { IfOk result (λ r. IsGraphOf grm.now.grammar r.0) }
     ensures table { IfOk result (λ r. IsTableOf grm.now r.0 r.1) }
@@ -131,7 +131,7 @@ fn by_pager<S: IndexStorage>(
 /// contested there.
 pub fn from_yacc<S: IndexStorage>(
     alloc: Global,
-    grm: &YaccGrammar<S>,
+    grm: &NumberedGrammar<S>,
     m: Minimiser,
 ) -> Result<(StateGraph<S>, StateTable<S>), FromYaccError<S>>
     ensures graph { IfOk result (λ r. IsGraphOf grm.now.grammar r.0) }

@@ -24,11 +24,11 @@ use crate::stidx::StIdx;
 use crate::table_rows::TableRows;
 use cfg_base::index::IndexStorage;
 use cfg_base::symbol::Symbol;
-use cfgrammar::yacc::YaccGrammar;
+use cfg_numbered::yacc::NumberedGrammar;
 use std::alloc::{AllocError, Global};
 
 /// Tells whether an item is complete, and of another production than the start's.
-fn is_reduction<S: IndexStorage>(grm: &YaccGrammar<S>, entry: SharedItem<S>) -> bool
+fn is_reduction<S: IndexStorage>(grm: &NumberedGrammar<S>, entry: SharedItem<S>) -> bool
     requires { S.number entry.item.pidx.0 < length grm.now.grammar.productions }
     ensures { (rows : List (List Bool)) → result ≡ is_complete grm.now.grammar (entry_in S.number rows entry) }
 {
@@ -40,7 +40,7 @@ fn is_reduction<S: IndexStorage>(grm: &YaccGrammar<S>, entry: SharedItem<S>) -> 
 }
 
 /// Tells whether an item is complete, and of the start production.
-fn is_end<S: IndexStorage>(grm: &YaccGrammar<S>, entry: SharedItem<S>) -> bool
+fn is_end<S: IndexStorage>(grm: &NumberedGrammar<S>, entry: SharedItem<S>) -> bool
     requires { S.number entry.item.pidx.0 < length grm.now.grammar.productions }
     ensures { (rows : List (List Bool)) → result ≡ is_start_complete grm.now.grammar (entry_in S.number rows entry) }
 {
@@ -53,7 +53,7 @@ fn is_end<S: IndexStorage>(grm: &YaccGrammar<S>, entry: SharedItem<S>) -> bool
 
 /// Puts an item behind the reductions so far, if it is one.
 fn keep_reduction<S: IndexStorage>(
-    grm: &YaccGrammar<S>,
+    grm: &NumberedGrammar<S>,
     entry: SharedItem<S>,
     reductions: &mut Vec<Reduction<S>>,
 ) -> Result<(), AllocError>
@@ -72,7 +72,7 @@ fn keep_reduction<S: IndexStorage>(
 
 /// Takes the reductions of a closed state's items, in order, in place of those that are there.
 fn fill_reductions<S: IndexStorage>(
-    grm: &YaccGrammar<S>,
+    grm: &NumberedGrammar<S>,
     entries: &[SharedItem<S>],
     reductions: &mut Vec<Reduction<S>>,
 ) -> Result<(), AllocError>
@@ -87,7 +87,7 @@ fn fill_reductions<S: IndexStorage>(
 }
 
 /// Tells whether a closed state's items have the complete start production.
-fn has_end<S: IndexStorage>(grm: &YaccGrammar<S>, entries: &[SharedItem<S>]) -> bool
+fn has_end<S: IndexStorage>(grm: &NumberedGrammar<S>, entries: &[SharedItem<S>]) -> bool
     requires { All (λ e. S.number e.item.pidx.0 < length grm.now.grammar.productions) entries.now }
     ensures { (rows : List (List Bool)) → result ≡ accepts_in grm.now.grammar (entries_in S.number rows entries.now) }
 {
@@ -163,7 +163,7 @@ fn goto_row<S: IndexStorage>(
 
 /// Takes what a state has for its row, by its closed items and its edges, in place of what is there.
 fn fill_parts<S: IndexStorage>(
-    grm: &YaccGrammar<S>,
+    grm: &NumberedGrammar<S>,
     shared: &SharedSets<S>,
     edges: &[(Symbol<S>, StIdx<S>)],
     parts: &mut StateParts<S>,
@@ -184,7 +184,7 @@ fn fill_parts<S: IndexStorage>(
 /// Adds the rows of the next state, unless it accepts where a production reduces.
 fn add_row<S: IndexStorage>(
     alloc: Global,
-    grm: &YaccGrammar<S>,
+    grm: &NumberedGrammar<S>,
     sg: &StateGraph<S>,
     stidx: StIdx<S>,
     parts: &mut StateParts<S>,
@@ -217,7 +217,7 @@ fn add_row<S: IndexStorage>(
 /// The rows of all states, unless one accepts where a production reduces.
 pub fn rows_of_graph<S: IndexStorage>(
     alloc: Global,
-    grm: &YaccGrammar<S>,
+    grm: &NumberedGrammar<S>,
     sg: &StateGraph<S>,
 ) -> Result<TableRows<S>, StateTableNewError<S>>
     requires { IsGraphOf grm.now.grammar sg.now }
@@ -235,7 +235,7 @@ pub fn rows_of_graph<S: IndexStorage>(
 }
 
 /// Tells whether the cells and the gotos of all states can be counted.
-pub fn has_room<S: IndexStorage>(grm: &YaccGrammar<S>, sg: &StateGraph<S>) -> bool
+pub fn has_room<S: IndexStorage>(grm: &NumberedGrammar<S>, sg: &StateGraph<S>) -> bool
     ensures { IsTrue result ↔ (cell_count grm.now.grammar (graph_of sg.now) < 2 ^ 64) }
 {
     let width = grm.tokens_len().0.to_usize() + grm.rules_len().0.to_usize();

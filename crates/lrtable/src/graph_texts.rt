@@ -4,7 +4,7 @@ ghost use Rattle.std.specs.Prelude.{◌≡◌, ◌<◌, ◌≤◌, ◌⊎◌, �
 ghost use Rattle.std.specs.List.{flat_map};
 ghost use Rattle.std.specs.String.{string_bytes};
 ghost use Rattle.cfg_theory.specs.Grammar.{InRange, body_of};
-ghost use Rattle.cfgrammar.specs.Symbols.{sym_of, syms_of};
+ghost use Rattle.cfg_numbered.specs.Symbols.{sym_of, syms_of};
 ghost use Rattle.lr_theory.specs.Itemset.{Entry, FitsGrammar};
 ghost use Rattle.lrtable.specs.GraphTexts.{token_text, symbol_text, spaced, dotted, looks_text, head_text, item_text, edge_text, edges_to, by_target, NoneLead, state_lines, line, lines_text, front_width, number_front, state_text, graph_text, sets_of};
 ghost use Rattle.lrtable.specs.GraphViews.{edges_seen};
@@ -16,14 +16,14 @@ use crate::stategraph::StateGraph;
 use crate::stidx::StIdx;
 use cfg_base::index::IndexStorage;
 use cfg_base::symbol::{PIdx, SIdx, Symbol, TIdx};
-use cfgrammar::yacc::YaccGrammar;
+use cfg_numbered::yacc::NumberedGrammar;
 use std::alloc::{AllocError, Global};
 use vob::Vob;
 
 /// Puts a token between quotation marks.
 fn push_token<S: IndexStorage>(
     text: &mut String,
-    grm: &YaccGrammar<S>,
+    grm: &NumberedGrammar<S>,
     tidx: TIdx<S>,
 ) -> Result<(), AllocError>
     requires { S.number tidx.0 < grm.now.grammar.tokens }
@@ -38,7 +38,7 @@ fn push_token<S: IndexStorage>(
 /// Puts a symbol: a rule's name, or a token between quotation marks.
 fn push_symbol<S: IndexStorage>(
     text: &mut String,
-    grm: &YaccGrammar<S>,
+    grm: &NumberedGrammar<S>,
     symbol: Symbol<S>,
 ) -> Result<(), AllocError>
     requires { InRange grm.now.grammar (sym_of S.number symbol) }
@@ -56,7 +56,7 @@ fn push_symbol<S: IndexStorage>(
 /// Puts a space and a symbol.
 fn push_spaced<S: IndexStorage>(
     text: &mut String,
-    grm: &YaccGrammar<S>,
+    grm: &NumberedGrammar<S>,
     symbol: Symbol<S>,
 ) -> Result<(), AllocError>
     requires { InRange grm.now.grammar (sym_of S.number symbol) }
@@ -70,7 +70,7 @@ fn push_spaced<S: IndexStorage>(
 /// Puts symbols, a space before each.
 fn push_symbols<S: IndexStorage>(
     text: &mut String,
-    grm: &YaccGrammar<S>,
+    grm: &NumberedGrammar<S>,
     symbols: &[Symbol<S>],
 ) -> Result<(), AllocError>
     requires { All (InRange grm.now.grammar) (syms_of S.number symbols.now) }
@@ -85,7 +85,7 @@ fn push_symbols<S: IndexStorage>(
 /// Puts the symbols of a production with a dot among them.
 fn push_dotted<S: IndexStorage>(
     text: &mut String,
-    grm: &YaccGrammar<S>,
+    grm: &NumberedGrammar<S>,
     pidx: PIdx<S>,
     dot: SIdx<S>,
 ) -> Result<(), AllocError>
@@ -112,7 +112,7 @@ fn comma(follows: bool) -> &'static str
 /// Puts what stands before a token, and the token.
 fn push_look<S: IndexStorage>(
     text: &mut String,
-    grm: &YaccGrammar<S>,
+    grm: &NumberedGrammar<S>,
     follows: bool,
     token: usize,
 ) -> Result<(), AllocError>
@@ -127,7 +127,7 @@ fn push_look<S: IndexStorage>(
 /// Puts the tokens of a set between curly brackets.
 fn push_looks<S: IndexStorage>(
     text: &mut String,
-    grm: &YaccGrammar<S>,
+    grm: &NumberedGrammar<S>,
     looks: &Vob,
 ) -> Result<(), AllocError>
     requires { length looks.now.bits ≡ grm.now.grammar.tokens }
@@ -146,7 +146,7 @@ fn push_looks<S: IndexStorage>(
 /// Puts the front of an item: the rule of its production.
 fn push_head<S: IndexStorage>(
     text: &mut String,
-    grm: &YaccGrammar<S>,
+    grm: &NumberedGrammar<S>,
     pidx: PIdx<S>,
 ) -> Result<(), AllocError>
     requires { S.number pidx.0 < length grm.now.grammar.productions }
@@ -162,7 +162,7 @@ fn push_head<S: IndexStorage>(
 /// The item at an index as text.
 fn item_line<S: IndexStorage>(
     alloc: Global,
-    grm: &YaccGrammar<S>,
+    grm: &NumberedGrammar<S>,
     set: &Itemset<S>,
     index: usize,
 ) -> Result<String, AllocError>
@@ -183,7 +183,7 @@ fn item_line<S: IndexStorage>(
 /// An edge as text.
 fn edge_line<S: IndexStorage>(
     alloc: Global,
-    grm: &YaccGrammar<S>,
+    grm: &NumberedGrammar<S>,
     symbol: Symbol<S>,
     number: usize,
 ) -> Result<String, AllocError>
@@ -201,7 +201,7 @@ fn edge_line<S: IndexStorage>(
 fn push_items<S: IndexStorage>(
     alloc: Global,
     lines: &mut Vec<String>,
-    grm: &YaccGrammar<S>,
+    grm: &NumberedGrammar<S>,
     set: &Itemset<S>,
 ) -> Result<(), AllocError>
     requires { FitsGrammar grm.now.grammar set.now }
@@ -219,7 +219,7 @@ fn push_items<S: IndexStorage>(
 fn push_edge<S: IndexStorage>(
     alloc: Global,
     lines: &mut Vec<String>,
-    grm: &YaccGrammar<S>,
+    grm: &NumberedGrammar<S>,
     symbol: Symbol<S>,
     number: usize,
     target: usize,
@@ -239,7 +239,7 @@ fn push_edge<S: IndexStorage>(
 fn push_edges_to<S: IndexStorage>(
     alloc: Global,
     lines: &mut Vec<String>,
-    grm: &YaccGrammar<S>,
+    grm: &NumberedGrammar<S>,
     edges: &[(Symbol<S>, StIdx<S>)],
     target: usize,
 ) -> Result<(), AllocError>
@@ -283,7 +283,7 @@ fn next_target<S: IndexStorage>(edges: &[(Symbol<S>, StIdx<S>)], from: usize, la
 fn push_edges<S: IndexStorage>(
     alloc: Global,
     lines: &mut Vec<String>,
-    grm: &YaccGrammar<S>,
+    grm: &NumberedGrammar<S>,
     edges: &[(Symbol<S>, StIdx<S>)],
     count: usize,
 ) -> Result<(), AllocError>
@@ -302,7 +302,7 @@ fn push_edges<S: IndexStorage>(
 /// The lines of a state.
 fn lines_of<S: IndexStorage>(
     alloc: Global,
-    grm: &YaccGrammar<S>,
+    grm: &NumberedGrammar<S>,
     set: &Itemset<S>,
     edges: &[(Symbol<S>, StIdx<S>)],
     count: usize,
@@ -390,7 +390,7 @@ fn shown_set<S: IndexStorage>(
 fn push_state<S: IndexStorage>(
     alloc: Global,
     text: &mut String,
-    grm: &YaccGrammar<S>,
+    grm: &NumberedGrammar<S>,
     graph: &StateGraph<S>,
     gap: &str,
     stidx: StIdx<S>,
@@ -417,7 +417,7 @@ fn push_state<S: IndexStorage>(
 fn push_states<S: IndexStorage>(
     alloc: Global,
     text: &mut String,
-    grm: &YaccGrammar<S>,
+    grm: &NumberedGrammar<S>,
     graph: &StateGraph<S>,
     gap: &str,
     core_states: bool,
@@ -441,7 +441,7 @@ impl<S: IndexStorage> StateGraph<S> {
     pub fn pp(
         &self,
         alloc: Global,
-        grm: &YaccGrammar<S>,
+        grm: &NumberedGrammar<S>,
         core_states: bool,
     ) -> Result<String, AllocError>
         requires { IsGraphOf grm.now.grammar self.now }
@@ -456,7 +456,11 @@ impl<S: IndexStorage> StateGraph<S> {
     }
 
     /// As `pp`, by the cores.
-    pub fn pp_core_states(&self, alloc: Global, grm: &YaccGrammar<S>) -> Result<String, AllocError>
+    pub fn pp_core_states(
+        &self,
+        alloc: Global,
+        grm: &NumberedGrammar<S>,
+    ) -> Result<String, AllocError>
         requires { IsGraphOf grm.now.grammar self.now }
         ensures { IfOk result (λ text. string_bytes text ≡ graph_text grm.now self.now self.now.cores) }
     {
@@ -467,7 +471,7 @@ impl<S: IndexStorage> StateGraph<S> {
     pub fn pp_closed_states(
         &self,
         alloc: Global,
-        grm: &YaccGrammar<S>,
+        grm: &NumberedGrammar<S>,
     ) -> Result<String, AllocError>
         requires { IsGraphOf grm.now.grammar self.now }
         ensures { IfOk result (λ text. string_bytes text ≡ graph_text grm.now self.now self.now.closed) }

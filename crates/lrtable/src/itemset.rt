@@ -3,8 +3,8 @@
 ghost use Rattle.std.specs.Prelude.{◌≡◌, ◌<◌, ◌≤◌, ◌↔◌, ◌⊎◌, ℕ, [], true, length, get_or, option_map, IsTrue, IfOk, OnOk, OnErr};
 ghost use Rattle.std.specs.Iterator.{YieldsFirstBy, item_count};
 ghost use Rattle.cfg_theory.specs.Grammar.{Grammar, body_of};
-ghost use Rattle.cfgrammar.specs.Firsts.{AreFirsts};
-ghost use Rattle.cfgrammar.specs.Symbols.{sym_of};
+ghost use Rattle.cfg_numbered.specs.Firsts.{AreFirsts};
+ghost use Rattle.cfg_numbered.specs.Symbols.{sym_of};
 ghost use Rattle.lr_theory.specs.Itemset.{Entry, entry_at, HasItem, HasLook, SameItems, SameLooks, Closure, ClosureLook, Goto, GotoLook, Is, FitsGrammar};
 ghost use Rattle.lrtable.specs.Adding.{With, WithLooks};
 ghost use Rattle.lrtable.specs.Itemsets.{HasWidth, IsNewTo};
@@ -17,7 +17,7 @@ use crate::openers::Openers;
 use crate::shared_sets::SharedSets;
 use cfg_base::index::IndexStorage;
 use cfg_base::symbol::{PIdx, SIdx, Symbol};
-use cfgrammar::yacc::{YaccFirsts, YaccGrammar};
+use cfg_numbered::yacc::{NumberedGrammar, YaccFirsts};
 use std::alloc::{AllocError, Global};
 use std::marker::Model;
 use vob::Vob;
@@ -78,7 +78,7 @@ impl<S: IndexStorage> Itemset<S> {
     pub fn close(
         &self,
         alloc: Global,
-        grm: &YaccGrammar<S>,
+        grm: &NumberedGrammar<S>,
         firsts: &YaccFirsts<S>,
     ) -> Result<Itemset<S>, AllocError>
         requires fits { FitsGrammar grm.now.grammar self.now }
@@ -96,7 +96,7 @@ impl<S: IndexStorage> Itemset<S> {
     pub fn goto(
         &self,
         alloc: Global,
-        grm: &YaccGrammar<S>,
+        grm: &NumberedGrammar<S>,
         sym: &Symbol<S>,
     ) -> Result<Itemset<S>, AllocError>
         requires { FitsGrammar grm.now.grammar self.now }

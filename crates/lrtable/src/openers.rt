@@ -2,8 +2,8 @@
 
 ghost use Rattle.std.specs.Prelude.{◌≡◌, ◌<◌, [], length, map, get_or, IfOk, IfSome, OnOk};
 ghost use Rattle.std.specs.List.{Contains};
-ghost use Rattle.cfgrammar.specs.Firsts.{AreFirsts};
-ghost use Rattle.cfgrammar.specs.Value.{productions_of};
+ghost use Rattle.cfg_numbered.specs.Firsts.{AreFirsts};
+ghost use Rattle.cfg_numbered.specs.Value.{productions_of};
 ghost use Rattle.lrtable.specs.Closes.{AreFronts, AreFrontsOf, PutsFront, PutsAt, joined_front};
 ghost use Rattle.lrtable.specs.Fronts.{front_of, front_with};
 ghost use Rattle.lrtable.specs.Opening.{Front};
@@ -11,7 +11,7 @@ ghost use Rattle.lrtable.specs.Opening.{Front};
 use crate::rests::{Rest, rest_after, rule_after};
 use cfg_base::index::IndexStorage;
 use cfg_base::symbol::{PIdx, RIdx};
-use cfgrammar::yacc::{YaccFirsts, YaccGrammar};
+use cfg_numbered::yacc::{NumberedGrammar, YaccFirsts};
 use std::alloc::{AllocError, Global};
 use std::marker::Model;
 
@@ -62,7 +62,7 @@ fn join_rest(opener: &mut Opener, rest: &Rest)
 /// Puts what a production opens with the others, if it begins with a rule: one opener for each rule.
 fn put_opener<S: IndexStorage>(
     alloc: Global,
-    grm: &YaccGrammar<S>,
+    grm: &NumberedGrammar<S>,
     firsts: &YaccFirsts<S>,
     pidx: PIdx<S>,
     openers: &mut Vec<Opener>,
@@ -101,7 +101,7 @@ fn put_rest(openers: &mut Vec<Opener>, rule: usize, rest: Rest) -> Result<(), Al
 /// The rules that stand first in the productions of a rule.
 fn openers_of<S: IndexStorage>(
     alloc: Global,
-    grm: &YaccGrammar<S>,
+    grm: &NumberedGrammar<S>,
     firsts: &YaccFirsts<S>,
     ridx: RIdx<S>,
 ) -> Result<Vec<Opener>, AllocError>
@@ -121,7 +121,7 @@ impl Openers {
     /// Those of a grammar.
     pub fn new<S: IndexStorage>(
         alloc: Global,
-        grm: &YaccGrammar<S>,
+        grm: &NumberedGrammar<S>,
         firsts: &YaccFirsts<S>,
     ) -> Result<Openers, AllocError>
         requires { AreFirsts grm.now.grammar firsts.now }

@@ -1,12 +1,12 @@
 //! The rules that a closure opens. All productions of a rule that it opens come in at dot nought with the same
 //! lookaheads, so these are kept once for each rule.
 
-ghost use Rattle.std.specs.Prelude.{◌≡◌, ℕ, ◌<◌, true, false, [], length, map, get_or, replicate, slice_set, IfOk, OnOk, IsTrue, ◌↔◌, if◌then◌else◌};
+ghost use Rattle.std.specs.Prelude.{◌≡◌, ℕ, ◌<◌, true, false, [], ◌∷◌, length, map, get_or, replicate, slice_set, IfOk, OnOk, IsTrue, ◌↔◌, if◌then◌else◌};
 ghost use Rattle.std.specs.List.{Contains};
-ghost use Rattle.cfgrammar.specs.Passes.{PassStep};
-ghost use Rattle.cfgrammar.specs.Sets.{joined_to, is_set, HasAllOf};
+ghost use Rattle.cfg_numbered.specs.Passes.{PassStep};
+ghost use Rattle.cfg_numbered.specs.Sets.{joined_to, is_set, HasAllOf};
 ghost use Rattle.lrtable.specs.Fronts.{front_of, front_with};
-ghost use Rattle.cfgrammar.specs.Firsts.{AreFirsts};
+ghost use Rattle.cfg_numbered.specs.Firsts.{AreFirsts};
 ghost use Rattle.lr_theory.specs.Itemset.{HasItem, HasLook};
 ghost use Rattle.lrtable.specs.Adding.{One, OneLooks};
 ghost use Rattle.lrtable.specs.Closes.{Seeds, SeedsLook, AreFronts};
@@ -15,17 +15,18 @@ ghost use Rattle.lrtable.specs.Meeting.{rows_in};
 ghost use Rattle.lrtable.specs.StateViews.{core_of_set};
 ghost use Rattle.lrtable.specs.Stepping.{FitsCore, IsSized, IsClosureOf};
 ghost use Rattle.lrtable.specs.Closers.{IsReady};
-ghost use Rattle.lrtable.specs.Opening.{Front, RuleSets, IsTidy, IsOpen, HasRuleLook, room, FitsIn, AllFit, Brings, Follows, FrontStep, NamedIn, BroughtBy, SameSizes, Underway, AreOpened};
+ghost use Rattle.lrtable.specs.Opening.{Front, RuleSets, IsTidy, IsOpen, HasRuleLook, room, FitsIn, AllFit, Brings, Follows, FrontStep, NamedIn, BroughtBy, GainsOwn, SameSizes, Underway, AreOpened};
 
 use crate::cores::{CoreItem, CoreSet};
 use crate::openers::{Opener, Openers};
 use crate::rests::{Rest, rest_after, rule_after};
 use crate::rule_rows::RuleRows;
 use cfg_base::index::IndexStorage;
-use cfgrammar::yacc::{YaccFirsts, YaccGrammar};
+use cfg_numbered::yacc::{NumberedGrammar, YaccFirsts};
 use std::alloc::{AllocError, Global};
 use std::marker::Model;
 use vob::Vob;
+use vob::iter::IterSetBits;
 
 /// The open rules, and a set of tokens for each rule.
 #[derive(Drop)]
@@ -55,21 +56,6 @@ impl Opening {
         Ok(Opening { looks, opened })
     }
 
-    /// Empties the set of a rule, if the rule is open.
-    fn clear_open(&mut self, rule: usize)
-        requires { rule < length self.old.opened }
-        ensures tokens { self.new.tokens ≡ self.old.tokens }
-        ensures opened { self.new.opened ≡ self.old.opened }
-        ensures count { length self.new.rows ≡ length self.old.rows }
-        ensures looks { (A t : ℕ) → HasRuleLook self.new A t → HasRuleLook self.old A t }
-        ensures none { IsOpen self.old rule → (t : ℕ) → HasRuleLook self.new rule t → ⊥ }
-    {
-        if !self.opened.get_unchecked(rule) {
-            return;
-        }
-        self.looks.clear(rule);
-    }
-
     /// Closes all rules and empties their sets, where those of the others are empty.
     pub fn clear(&mut self)
         requires { IsTidy self.old }
@@ -77,9 +63,7 @@ impl Opening {
         ensures none_open { (A : ℕ) → IsOpen self.new A → ⊥ }
         ensures no_look { (A t : ℕ) → HasRuleLook self.new A t → ⊥ }
     {
-        'rules: for rule in 0..self.opened.len() {
-            self.clear_open(rule);
-        }
+        self.looks.clear_all(&self.opened);
         self.opened.set_all(false);
     }
 
@@ -100,6 +84,20 @@ impl Opening {
         ensures { IsTrue result ↔ IsOpen self.now rule }
     {
         self.opened.get_unchecked(rule)
+    }
+
+    /// Walks over the open rules.
+    pub fn open_rules(&self) -> IterSetBits<'_, usize>
+        ensures { (A : ℕ) → Contains result A ↔ IsOpen self.now A }
+    {
+        self.opened.iter_set_bits(..)
+    }
+
+    /// A flag for each rule, which tells whether it is open.
+    pub fn opened(&self) -> &Vob
+        ensures { result.now.bits ≡ self.now.opened }
+    {
+        &self.opened
     }
 
     /// The lookaheads of a rule.
@@ -193,6 +191,29 @@ impl Opening {
         Ok(())
     }
 
+    /// Adds to the lookaheads of a rule what follows the rule where it stands first by an opener.
+    fn keep_one(&mut self, rule: usize, opener: &Opener)
+        requires within { rule < length self.old.rows }
+        requires first { length opener.now.rest.first.bits ≡ self.old.tokens }
+        ensures { GainsOwn (front_of opener.now ∷ []) rule self.old self.new }
+    {
+        if opener.rule != rule {
+            return;
+        }
+        self.join(rule, &opener.rest.first);
+    }
+
+    /// The same by each of its own openers, so that the rule needn't wait for what it brings to itself.
+    fn keep_own(&mut self, rule: usize, openers: &[Opener])
+        requires within { rule < length self.old.rows }
+        requires first { (e : Front) → Contains (map front_of openers.now) e → length e.first ≡ self.old.tokens }
+        ensures { GainsOwn (map front_of openers.now) rule self.old self.new }
+    {
+        'openers: for opener in openers {
+            self.keep_one(rule, opener);
+        }
+    }
+
     /// Writes the lookaheads of a rule over a set.
     fn copy_looks(&self, rule: usize, looks: &mut Vob)
         requires within { rule < length self.now.rows }
@@ -223,6 +244,7 @@ impl Opening {
         ensures none_waits { OnOk result (waiting.new.items ≡ []) }
     {
         'waiting: while let Some(rule) = waiting.pop() {
+            self.keep_own(rule, openers.of_rule(rule));
             self.copy_looks(rule, looks);
             self.follow_all(openers.of_rule(rule), looks, waiting)?;
         }
@@ -233,7 +255,7 @@ impl Opening {
     fn seed_one<S: IndexStorage>(
         &mut self,
         alloc: Global,
-        grm: &YaccGrammar<S>,
+        grm: &NumberedGrammar<S>,
         firsts: &YaccFirsts<S>,
         item: &CoreItem<S>,
         looks: &Vob,
@@ -261,7 +283,7 @@ impl Opening {
     fn seed<S: IndexStorage>(
         &mut self,
         alloc: Global,
-        grm: &YaccGrammar<S>,
+        grm: &NumberedGrammar<S>,
         firsts: &YaccFirsts<S>,
         set: &CoreSet<S>,
         waiting: &mut Vec<usize>,
@@ -290,7 +312,10 @@ pub struct Closer {
 
 impl Closer {
     /// With no open rule.
-    pub fn new<S: IndexStorage>(alloc: Global, grm: &YaccGrammar<S>) -> Result<Closer, AllocError>
+    pub fn new<S: IndexStorage>(
+        alloc: Global,
+        grm: &NumberedGrammar<S>,
+    ) -> Result<Closer, AllocError>
         ensures { IfOk result (λ c. IsReady grm.now.grammar c) }
     {
         let rules = grm.rules_len().0.to_usize();
@@ -306,7 +331,7 @@ impl Closer {
     pub fn close<S: IndexStorage>(
         &mut self,
         alloc: Global,
-        grm: &YaccGrammar<S>,
+        grm: &NumberedGrammar<S>,
         firsts: &YaccFirsts<S>,
         openers: &Openers,
         set: &CoreSet<S>,
@@ -325,23 +350,4 @@ impl Closer {
             .close(openers, &mut self.looks, &mut self.waiting)?;
         Ok(())
     }
-}
-
-/// The rules that the closure of a core opens, with their lookaheads.
-pub fn close_core<S: IndexStorage>(
-    alloc: Global,
-    grm: &YaccGrammar<S>,
-    firsts: &YaccFirsts<S>,
-    openers: &Openers,
-    set: &CoreSet<S>,
-) -> Result<Opening, AllocError>
-    requires fits { FitsCore grm.now.grammar (core_of_set S.number set.now) }
-    requires firsts { AreFirsts grm.now.grammar firsts.now }
-    requires openers { AreFronts grm.now.grammar openers.now }
-    ensures sizes { IfOk result (λ s. IsSized grm.now.grammar s) }
-    ensures closed { IfOk result (λ s. IsClosureOf grm.now.grammar openers.now (core_of_set S.number set.now) s) }
-{
-    let mut closer = Closer::new(alloc, grm)?;
-    closer.close(alloc, grm, firsts, openers, set)?;
-    Ok(closer.opening)
 }

@@ -1,15 +1,15 @@
 //! The building of the states, by Pager's merging.
 
 ghost use Rattle.std.specs.Prelude.{◌↔◌, IsTrue, ◌≡◌, ◌<◌, ◌≤◌, ◌+◌, ℕ, true, false, [], ◌∷◌, length, map, replicate, slice_set, IfOk, OnOk, IsErrOf, MatchOption};
-ghost use Rattle.cfgrammar.specs.Firsts.{AreFirsts};
+ghost use Rattle.cfg_numbered.specs.Firsts.{AreFirsts};
 ghost use Rattle.cfg_theory.specs.Grammar.{IsEnd};
-ghost use Rattle.cfgrammar.specs.Sets.{is_set};
+ghost use Rattle.cfg_numbered.specs.Sets.{is_set};
 ghost use Rattle.lr_theory.specs.Building.{Building, IsGraph};
 ghost use Rattle.lr_theory.specs.Sizes.{StaysWithin};
 ghost use Rattle.lr_theory.specs.Itemset.{HasItem, HasLook, Closure, ClosureLook};
 ghost use Rattle.lrtable.specs.Closers.{IsReady};
 ghost use Rattle.lrtable.specs.Closes.{AreFronts};
-ghost use Rattle.lrtable.specs.Gaining.{no_core, core_in};
+ghost use Rattle.lrtable.specs.Gaining.{no_core, core_in, AreMarked};
 ghost use Rattle.lrtable.specs.Handling.{AreReached, AreHandled, AreBuilt, TooManyStand, left_in};
 ghost use Rattle.lrtable.specs.ItemRows.{map_of};
 ghost use Rattle.lrtable.specs.Pruning.{AreLinked, graph_of_states};
@@ -26,7 +26,7 @@ use crate::pruning::prune;
 use crate::states::{BuildError, State, place};
 use cfg_base::index::IndexStorage;
 use cfg_base::symbol::SIdx;
-use cfgrammar::yacc::{YaccFirsts, YaccGrammar};
+use cfg_numbered::yacc::{NumberedGrammar, YaccFirsts};
 use std::alloc::{AllocError, Global};
 use std::mem;
 use vob::Vob;
@@ -35,13 +35,14 @@ use vob::Vob;
 /// the symbol may stand at `near`, and that on the next symbol behind it.
 fn place_rank<S: IndexStorage>(
     alloc: Global,
-    grm: &YaccGrammar<S>,
+    grm: &NumberedGrammar<S>,
     states: &mut Vec<State<S>>,
     begins: &mut Vec<Vec<usize>>,
     cursor: &mut usize,
     from: usize,
     near: &mut usize,
     sets: &mut Vec<CoreSet<S>>,
+    spare: &mut Vec<Vob>,
     number: usize,
 ) -> Result<(), BuildError>
     requires near { near.old ≤ number }
@@ -71,7 +72,9 @@ fn place_rank<S: IndexStorage>(
     }
     let set = mem::replace(&mut sets[number], CoreSet::empty(alloc));
     let symbol = symbol_at(grm, number);
-    sets[number] = place(alloc, states, begins, cursor, from, *near, symbol, set)?;
+    sets[number] = place(
+        alloc, states, begins, spare, cursor, from, *near, symbol, set,
+    )?;
     *near += 1;
     Ok(())
 }
@@ -79,14 +82,18 @@ fn place_rank<S: IndexStorage>(
 /// Places the goto sets of a state, symbol by symbol, and leaves empty ones behind.
 fn place_all<S: IndexStorage>(
     alloc: Global,
-    grm: &YaccGrammar<S>,
+    grm: &NumberedGrammar<S>,
     states: &mut Vec<State<S>>,
     begins: &mut Vec<Vec<usize>>,
     cursor: &mut usize,
     from: usize,
     sets: &mut Vec<CoreSet<S>>,
+    marks: &Vob,
+    spare: &mut Vec<Vob>,
 ) -> Result<(), BuildError>
     requires count { length sets.old.items ≡ grm.now.grammar.rules + grm.now.grammar.tokens }
+    requires wide { length marks.now.bits ≡ grm.now.grammar.rules + grm.now.grammar.tokens }
+    requires marked { AreMarked marks.now.bits (map (core_of_set S.number) sets.old.items) }
     requires from { from < length states.old.items }
     requires states { AreStates grm.now.grammar.tokens (map (value_of S.number) states.old.items) }
     requires sets { (n : ℕ) → n < grm.now.grammar.rules + grm.now.grammar.tokens → FitsCore grm.now.grammar (core_in (map (core_of_set S.number) sets.old.items) n) }
@@ -104,9 +111,9 @@ fn place_all<S: IndexStorage>(
     ensures many { IsErrOf result faults.TooManyStates → (before : Building) → IsNextTaken grm.now.grammar before from → AreGotosOf grm.now.grammar before from (map (core_of_set S.number) sets.old.items) → AreHandled grm.now.grammar before from 0 (map (value_of S.number) states.old.items) → TooManyStand grm.now.grammar S.MAX }
 {
     let mut near = 0;
-    'ranks: for number in 0..sets.len() {
+    'ranks: for number in marks.iter_set_bits(..) {
         place_rank(
-            alloc, grm, states, begins, cursor, from, &mut near, sets, number,
+            alloc, grm, states, begins, cursor, from, &mut near, sets, spare, number,
         )?;
     }
     Ok(())
@@ -115,23 +122,29 @@ fn place_all<S: IndexStorage>(
 /// Makes empty sets, one for each symbol, the goto sets of a core.
 fn gotos<S: IndexStorage>(
     alloc: Global,
-    grm: &YaccGrammar<S>,
+    grm: &NumberedGrammar<S>,
     firsts: &YaccFirsts<S>,
     openers: &Openers,
     closer: &mut Closer,
     core: &CoreSet<S>,
     sets: &mut Vec<CoreSet<S>>,
+    marks: &mut Vob,
+    spare: &mut Vec<Vob>,
 ) -> Result<(), AllocError>
     requires ready { IsReady grm.now.grammar closer.old }
     requires fits { FitsCore grm.now.grammar (core_of_set S.number core.now) }
     requires firsts { AreFirsts grm.now.grammar firsts.now }
     requires openers { AreFronts grm.now.grammar openers.now }
+    requires wide { length marks.old.bits ≡ grm.now.grammar.rules + grm.now.grammar.tokens }
     requires empty { map (core_of_set S.number) sets.old.items ≡ replicate (grm.now.grammar.rules + grm.now.grammar.tokens) no_core }
     ensures ready { OnOk result (IsReady grm.now.grammar closer.new) }
+    ensures wide { OnOk result (length marks.new.bits ≡ grm.now.grammar.rules + grm.now.grammar.tokens) }
+    ensures marked { OnOk result (AreMarked marks.new.bits (map (core_of_set S.number) sets.new.items)) }
     ensures gotos { OnOk result (AreGotos grm.now.grammar (Closure grm.now.grammar (HasItem (map_of (core_of_set S.number core.now)))) (ClosureLook grm.now.grammar (HasItem (map_of (core_of_set S.number core.now))) (HasLook (map_of (core_of_set S.number core.now)))) (map (core_of_set S.number) sets.new.items)) }
 {
     closer.close(alloc, grm, firsts, openers, core)?;
-    goto_sets(grm, core, &closer.opening, sets)?;
+    marks.set_all(false);
+    goto_sets(grm, core, &closer.opening, sets, marks, spare)?;
     Ok(())
 }
 
@@ -147,11 +160,13 @@ fn take<S: IndexStorage>(states: &mut Vec<State<S>>, number: usize)
 /// A step: takes the first state that is to be taken, and gives a number below which none is then.
 fn step<S: IndexStorage>(
     alloc: Global,
-    grm: &YaccGrammar<S>,
+    grm: &NumberedGrammar<S>,
     firsts: &YaccFirsts<S>,
     openers: &Openers,
     closer: &mut Closer,
     sets: &mut Vec<CoreSet<S>>,
+    marks: &mut Vob,
+    spare: &mut Vec<Vob>,
     states: &mut Vec<State<S>>,
     begins: &mut Vec<Vec<usize>>,
     number: usize,
@@ -159,6 +174,7 @@ fn step<S: IndexStorage>(
     requires firsts { AreFirsts grm.now.grammar firsts.now }
     requires openers { AreFronts grm.now.grammar openers.now }
     requires ready { IsReady grm.now.grammar closer.old }
+    requires wide { length marks.old.bits ≡ grm.now.grammar.rules + grm.now.grammar.tokens }
     requires empty { map (core_of_set S.number) sets.old.items ≡ replicate (grm.now.grammar.rules + grm.now.grammar.tokens) no_core }
     requires reached { AreReached grm.now.grammar (map (value_of S.number) states.old.items) }
     requires number { number < length states.old.items }
@@ -168,6 +184,7 @@ fn step<S: IndexStorage>(
     requires lists { length begins.old.items ≡ length grm.now.grammar.productions }
     requires few { length states.old.items ≤ S.MAX }
     ensures ready { OnOk result (IsReady grm.now.grammar closer.new) }
+    ensures wide { OnOk result (length marks.new.bits ≡ grm.now.grammar.rules + grm.now.grammar.tokens) }
     ensures emptied { OnOk result (map (core_of_set S.number) sets.new.items ≡ replicate (grm.now.grammar.rules + grm.now.grammar.tokens) no_core) }
     ensures reached { OnOk result (AreReached grm.now.grammar (map (value_of S.number) states.new.items)) }
     ensures buckets { OnOk result (AreBuckets (map (value_of S.number) states.new.items) (map (λ l. l.items) begins.new.items)) }
@@ -179,10 +196,22 @@ fn step<S: IndexStorage>(
 {
     grm.start_prod();
     let core = &states[number].core;
-    gotos(alloc, grm, firsts, openers, closer, core, sets)?;
+    gotos(
+        alloc, grm, firsts, openers, closer, core, sets, marks, spare,
+    )?;
     take(states, number);
     let mut cursor = number;
-    place_all(alloc, grm, states, begins, &mut cursor, number, sets)?;
+    place_all(
+        alloc,
+        grm,
+        states,
+        begins,
+        &mut cursor,
+        number,
+        sets,
+        marks,
+        spare,
+    )?;
     Ok(cursor)
 }
 
@@ -200,7 +229,7 @@ fn lowest<S: IndexStorage>(states: &[State<S>], cursor: usize) -> Option<usize>
 }
 
 /// The lookaheads of the start item: the end token.
-fn end_looks<S: IndexStorage>(alloc: Global, grm: &YaccGrammar<S>) -> Result<Vob, AllocError>
+fn end_looks<S: IndexStorage>(alloc: Global, grm: &NumberedGrammar<S>) -> Result<Vob, AllocError>
     ensures width { IfOk result (λ v. length v.bits ≡ grm.now.grammar.tokens) }
     ensures bits { IfOk result (λ v. (t : ℕ) → IsTrue (is_set v.bits t) ↔ IsEnd grm.now.grammar t) }
 {
@@ -212,7 +241,7 @@ fn end_looks<S: IndexStorage>(alloc: Global, grm: &YaccGrammar<S>) -> Result<Vob
 /// The start state: the start production at dot nought with the end token.
 pub fn start_states<S: IndexStorage>(
     alloc: Global,
-    grm: &YaccGrammar<S>,
+    grm: &NumberedGrammar<S>,
 ) -> Result<Vec<State<S>>, AllocError>
     ensures reached { IfOk result (λ v. AreReached grm.now.grammar (map (value_of S.number) v.items)) }
     ensures one { IfOk result (λ v. length v.items ≡ 1) }
@@ -261,17 +290,20 @@ fn start_lists(alloc: Global, count: usize, first: usize) -> Result<Vec<Vec<usiz
 /// Makes steps until no state is to be taken.
 pub fn finish<S: IndexStorage>(
     alloc: Global,
-    grm: &YaccGrammar<S>,
+    grm: &NumberedGrammar<S>,
     firsts: &YaccFirsts<S>,
     openers: &Openers,
     closer: &mut Closer,
     sets: &mut Vec<CoreSet<S>>,
+    marks: &mut Vob,
+    spare: &mut Vec<Vob>,
     states: &mut Vec<State<S>>,
     begins: &mut Vec<Vec<usize>>,
 ) -> Result<(), BuildError>
     requires firsts { AreFirsts grm.now.grammar firsts.now }
     requires openers { AreFronts grm.now.grammar openers.now }
     requires ready { IsReady grm.now.grammar closer.old }
+    requires wide { length marks.old.bits ≡ grm.now.grammar.rules + grm.now.grammar.tokens }
     requires empty { map (core_of_set S.number) sets.old.items ≡ replicate (grm.now.grammar.rules + grm.now.grammar.tokens) no_core }
     requires reached { AreReached grm.now.grammar (map (value_of S.number) states.old.items) }
     requires buckets { AreBuckets (map (value_of S.number) states.old.items) (map (λ l. l.items) begins.old.items) }
@@ -286,7 +318,7 @@ pub fn finish<S: IndexStorage>(
         match lowest(states.as_slice(), cursor) {
             Some(number) => {
                 cursor = step(
-                    alloc, grm, firsts, openers, closer, sets, states, begins, number,
+                    alloc, grm, firsts, openers, closer, sets, marks, spare, states, begins, number,
                 )?;
             }
             None => return Ok(()),
@@ -297,7 +329,7 @@ pub fn finish<S: IndexStorage>(
 /// An empty set for each symbol.
 fn symbol_sets<S: IndexStorage>(
     alloc: Global,
-    grm: &YaccGrammar<S>,
+    grm: &NumberedGrammar<S>,
 ) -> Result<Vec<CoreSet<S>>, AllocError>
     ensures { IfOk result (λ v. map (core_of_set S.number) v.items ≡ replicate (grm.now.grammar.rules + grm.now.grammar.tokens) no_core) }
 {
@@ -311,7 +343,7 @@ fn symbol_sets<S: IndexStorage>(
 /// The states of the building at its end.
 fn build<S: IndexStorage>(
     alloc: Global,
-    grm: &YaccGrammar<S>,
+    grm: &NumberedGrammar<S>,
     firsts: &YaccFirsts<S>,
 ) -> Result<Vec<State<S>>, BuildError>
     requires { AreFirsts grm.now.grammar firsts.now }
@@ -326,6 +358,8 @@ fn build<S: IndexStorage>(
     let mut states = start_states(alloc, grm)?;
     let mut closer = Closer::new(alloc, grm)?;
     let mut sets = symbol_sets(alloc, grm)?;
+    let mut marks = Vob::from_elem(alloc, false, sets.len())?;
+    let mut spare = Vec::new(alloc);
     finish(
         alloc,
         grm,
@@ -333,6 +367,8 @@ fn build<S: IndexStorage>(
         &openers,
         &mut closer,
         &mut sets,
+        &mut marks,
+        &mut spare,
         &mut states,
         &mut begins,
     )?;
@@ -342,7 +378,7 @@ fn build<S: IndexStorage>(
 /// The states of a grammar's graph, in order: those of the building at its end that edges lead to.
 pub fn states<S: IndexStorage>(
     alloc: Global,
-    grm: &YaccGrammar<S>,
+    grm: &NumberedGrammar<S>,
     firsts: &YaccFirsts<S>,
 ) -> Result<Vec<State<S>>, BuildError>
     requires { AreFirsts grm.now.grammar firsts.now }

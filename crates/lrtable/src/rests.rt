@@ -2,13 +2,13 @@
 
 ghost use Rattle.std.specs.Prelude.{◌≡◌, ◌<◌, ℕ, length, IfOk, MatchOption};
 ghost use Rattle.cfg_theory.specs.Grammar.{Sym, rule, body_of, IsNext};
-ghost use Rattle.cfgrammar.specs.Firsts.{AreFirsts};
-ghost use Rattle.cfgrammar.specs.Symbols.{sym_of};
+ghost use Rattle.cfg_numbered.specs.Firsts.{AreFirsts};
+ghost use Rattle.cfg_numbered.specs.Symbols.{sym_of};
 ghost use Rattle.lrtable.specs.Closes.{IsRest};
 
 use cfg_base::index::IndexStorage;
 use cfg_base::symbol::{PIdx, RIdx, Symbol};
-use cfgrammar::yacc::{YaccFirsts, YaccGrammar};
+use cfg_numbered::yacc::{NumberedGrammar, YaccFirsts};
 use std::alloc::{AllocError, Global};
 use vob::Vob;
 
@@ -21,7 +21,7 @@ pub struct Rest {
 
 /// The symbol behind a dot, if there is one.
 pub fn symbol_after<S: IndexStorage>(
-    grm: &YaccGrammar<S>,
+    grm: &NumberedGrammar<S>,
     pidx: PIdx<S>,
     dot: usize,
 ) -> Option<Symbol<S>>
@@ -37,7 +37,7 @@ pub fn symbol_after<S: IndexStorage>(
 
 /// The rule behind a dot, if there is one.
 pub fn rule_after<S: IndexStorage>(
-    grm: &YaccGrammar<S>,
+    grm: &NumberedGrammar<S>,
     pidx: PIdx<S>,
     dot: usize,
 ) -> Option<RIdx<S>>
@@ -56,7 +56,7 @@ pub fn rule_after<S: IndexStorage>(
 /// What follows the symbol behind a dot.
 pub fn rest_after<S: IndexStorage>(
     alloc: Global,
-    grm: &YaccGrammar<S>,
+    grm: &NumberedGrammar<S>,
     firsts: &YaccFirsts<S>,
     pidx: PIdx<S>,
     dot: usize,

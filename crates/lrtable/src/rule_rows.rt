@@ -1,8 +1,8 @@
 //! Sets of tokens, one for each rule, that are emptied and used again.
 
-ghost use Rattle.std.specs.Prelude.{◌≡◌, ◌<◌, false, IfOk, [], length, get_or, replicate, slice_set};
-ghost use Rattle.cfgrammar.specs.Sets.{SetRows, missing_in, joined_to, HasAllOf};
-ghost use Rattle.cfgrammar.specs.Passes.{PassStep};
+ghost use Rattle.std.specs.Prelude.{◌≡◌, ◌<◌, ℕ, false, IfOk, IsTrue, [], length, get_or, replicate, slice_set};
+ghost use Rattle.cfg_numbered.specs.Sets.{SetRows, is_set, is_set_in, missing_in, joined_to, HasAllOf};
+ghost use Rattle.cfg_numbered.specs.Passes.{PassStep};
 
 use std::alloc::{AllocError, Global};
 use std::marker::Model;
@@ -17,7 +17,7 @@ pub struct RuleRows {
 
 impl Model for RuleRows {
     ghost use Rattle.std.specs.Prelude.{map, length};
-    ghost use Rattle.cfgrammar.specs.Sets.{SetRows, AreRows};
+    ghost use Rattle.cfg_numbered.specs.Sets.{SetRows, AreRows};
 
     ghost Value = { SetRows };
 
@@ -66,5 +66,18 @@ impl RuleRows {
     {
         let row = &mut self.rows[rule];
         row.set_all(false);
+    }
+
+    /// Empties the sets of some rules.
+    pub fn clear_all(&mut self, rules: &Vob)
+        requires { length rules.now.bits ≡ length self.old.rows }
+        ensures width { self.new.width ≡ self.old.width }
+        ensures count { length self.new.rows ≡ length self.old.rows }
+        ensures kept { (A t : ℕ) → IsTrue (is_set_in self.new.rows A t) → IsTrue (is_set_in self.old.rows A t) }
+        ensures emptied { (A t : ℕ) → IsTrue (is_set rules.now.bits A) → IsTrue (is_set_in self.new.rows A t) → ⊥ }
+    {
+        'rules: for rule in rules.iter_set_bits(..) {
+            self.clear(rule);
+        }
     }
 }

@@ -2,7 +2,7 @@
 //! has a set of its own.
 
 ghost use Rattle.std.specs.Prelude.{◌≡◌, ◌<◌, ◌≤◌, ◌↔◌, ℕ, [], true, false, length, get_or, option_map, IsTrue, IfOk, OnOk, OnErr};
-ghost use Rattle.cfgrammar.specs.Sets.{is_set};
+ghost use Rattle.cfg_numbered.specs.Sets.{is_set};
 ghost use Rattle.lr_theory.specs.Itemset.{entry_at};
 ghost use Rattle.lrtable.specs.Gaining.{no_core};
 ghost use Rattle.lrtable.specs.ItemRows.{Item, IsAt, ItemBefore, Ascends, IsCoreOf, map_of};
@@ -10,13 +10,13 @@ ghost use Rattle.lrtable.specs.Itemsets.{IsNewTo};
 ghost use Rattle.lrtable.specs.Meeting.{rows_in, row};
 ghost use Rattle.lrtable.specs.Sharing.{keys_of, shared_core, shared_map, PointIn, IsShared, BelongsAt, KeepsSets, TakesIn, StaysAs, GrowsBy};
 ghost use Rattle.lrtable.specs.StateViews.{item_of, core_of_set};
-ghost use Rattle.lrtable.specs.Stepping.{IsSized, OfRule, OfRuleLooks, OpenAt, OpenLooksAt, OpenBelow, OpenLooksBelow};
+ghost use Rattle.lrtable.specs.Stepping.{IsSized, OfRule, OfRuleLooks, OpenBelow, OpenLooksBelow};
 
 use crate::cores::{CoreItem, CoreSet, comes_before, same_item};
 use crate::opening::Opening;
 use cfg_base::index::IndexStorage;
 use cfg_base::symbol::{PIdx, RIdx, SIdx};
-use cfgrammar::yacc::YaccGrammar;
+use cfg_numbered::yacc::NumberedGrammar;
 use std::alloc::{AllocError, Global};
 use vob::Vob;
 
@@ -152,6 +152,10 @@ impl<S: IndexStorage> SharedSets<S> {
             self.grow(index, item, &looks)?;
             return Ok(());
         }
+        if index == self.entries.len() {
+            self.entries.push(SharedItem { item, set })?;
+            return Ok(());
+        }
         self.entries.insert(index, SharedItem { item, set })?;
         Ok(())
     }
@@ -159,7 +163,7 @@ impl<S: IndexStorage> SharedSets<S> {
     /// Adds the productions of a rule at dot nought with one set.
     fn open_rule(
         &mut self,
-        grm: &YaccGrammar<S>,
+        grm: &NumberedGrammar<S>,
         ridx: RIdx<S>,
         looks: &Vob,
     ) -> Result<(), AllocError>
@@ -183,35 +187,19 @@ impl<S: IndexStorage> SharedSets<S> {
         Ok(())
     }
 
-    /// Adds the productions of a rule at dot nought, if the rule is open.
-    fn open_at(
-        &mut self,
-        grm: &YaccGrammar<S>,
-        opening: &Opening,
-        number: usize,
-    ) -> Result<(), AllocError>
-        requires rule { number < grm.now.grammar.rules }
-        requires sizes { IsSized grm.now.grammar opening.now }
-        requires core { IsCoreOf grm.now.grammar.tokens (shared_core S.number self.old) }
-        requires within { PointIn (rows_in self.old.sets.items) self.old.entries.items }
-        ensures { OnOk result (GrowsBy S.number grm.now.grammar.tokens (OpenAt grm.now.grammar opening.now number) (OpenLooksAt grm.now.grammar opening.now number) self.old self.new) }
-    {
-        if !opening.is_open(number) {
-            return Ok(());
-        }
-        self.open_rule(grm, grm.rule_at(number), opening.row(number))?;
-        Ok(())
-    }
-
     /// Adds the productions of the open rules at dot nought, those of a rule with one set.
-    pub fn open_rules(&mut self, grm: &YaccGrammar<S>, opening: &Opening) -> Result<(), AllocError>
+    pub fn open_rules(
+        &mut self,
+        grm: &NumberedGrammar<S>,
+        opening: &Opening,
+    ) -> Result<(), AllocError>
         requires sizes { IsSized grm.now.grammar opening.now }
         requires core { IsCoreOf grm.now.grammar.tokens (shared_core S.number self.old) }
         requires within { PointIn (rows_in self.old.sets.items) self.old.entries.items }
         ensures { OnOk result (GrowsBy S.number grm.now.grammar.tokens (OpenBelow grm.now.grammar opening.now grm.now.grammar.rules) (OpenLooksBelow grm.now.grammar opening.now grm.now.grammar.rules) self.old self.new) }
     {
-        'rules: for number in 0..grm.rules_len().0.to_usize() {
-            self.open_at(grm, opening, number)?;
+        'rules: for number in opening.open_rules() {
+            self.open_rule(grm, grm.rule_at(number), opening.row(number))?;
         }
         Ok(())
     }
@@ -222,8 +210,8 @@ impl<S: IndexStorage> SharedSets<S> {
         ensures core { IfOk result (λ s. shared_core S.number s ≡ core_of_set S.number core.now) }
         ensures within { IfOk result (λ s. PointIn (rows_in s.sets.items) s.entries.items) }
     {
-        let mut entries = Vec::new(alloc);
-        let mut sets = Vec::new(alloc);
+        let mut entries = Vec::with_capacity(alloc, core.items.len())?;
+        let mut sets = Vec::with_capacity(alloc, core.items.len())?;
         'items: for k in 0..core.items.len() {
             sets.push(core.looks[k].clone()?)?;
             entries.push(SharedItem {

@@ -1,12 +1,13 @@
 //! The row of cells of a state, and the conflicts that are listed of it.
 
-ghost use Rattle.std.specs.Prelude.{◌≡◌, ◌<◌, ◌+◌, ◌++◌, ◌&&◌, [], ℕ, nat_eq, get_or, Some, IfOk, OnOk, MatchOption};
+ghost use Rattle.std.specs.Prelude.{◌≡◌, ◌<◌, ◌+◌, ◌++◌, ◌&&◌, false, [], ℕ, length, nat_eq, get_or, None, Some, IfOk, OnOk, MatchOption};
 ghost use Rattle.std.specs.Option.{option_or};
 ghost use Rattle.table_theory.specs.Cells.{pairs_at};
 ghost use Rattle.cfg_theory.specs.Grammar.{end_token};
-ghost use Rattle.cfgrammar.specs.Sets.{is_set};
-ghost use Rattle.lrtable.specs.CellRows.{FitsParts, IsContested, cells_by, filled, filled_row, first_of, pair_with, pairs_in, pairs_on, reductions_on, shifts_in, shifts_on};
+ghost use Rattle.cfg_numbered.specs.Sets.{is_set};
+ghost use Rattle.lrtable.specs.CellRows.{FitsParts, IsBlank, IsContested, cells_by, filled, filled_row, first_of, pair_with, pairs_in, pairs_on, reductions_on, shifts_in, shifts_on};
 ghost use Rattle.lrtable.specs.CellViews.{cells_of, pairs_of, parts_of, precedences_of, production_of, reductions_of, shifts_of, state_of, targets_of};
+ghost use Rattle.lrtable.specs.Marks.{LeavesOut};
 ghost use Rattle.lrtable.specs.Meeting.{rows_in};
 ghost use Rattle.lrtable.specs.Cursors.{IsCursor};
 ghost use Rattle.lrtable.specs.Rows.{Rises, at_of};
@@ -15,7 +16,7 @@ use crate::cells::{Action, cell_on, list_shift, put_cell};
 use crate::stidx::StIdx;
 use cfg_base::index::IndexStorage;
 use cfg_base::symbol::{PIdx, TIdx};
-use cfgrammar::yacc::YaccGrammar;
+use cfg_numbered::yacc::NumberedGrammar;
 use std::alloc::{AllocError, Global};
 use vob::Vob;
 
@@ -133,7 +134,7 @@ fn list_reductions<S: IndexStorage>(
 }
 
 /// Tells whether a state accepts on a token: on the end token, if it has the complete start production.
-fn accepts_on<S: IndexStorage>(grm: &YaccGrammar<S>, has_complete: bool, tidx: TIdx<S>) -> bool
+fn accepts_on<S: IndexStorage>(grm: &NumberedGrammar<S>, has_complete: bool, tidx: TIdx<S>) -> bool
     ensures { result ≡ (nat_eq (S.number tidx.0) (end_token grm.now.grammar) && has_complete) }
 {
     if tidx.0.to_usize() == grm.eof_token_idx().0.to_usize() {
@@ -144,7 +145,7 @@ fn accepts_on<S: IndexStorage>(grm: &YaccGrammar<S>, has_complete: bool, tidx: T
 
 /// Puts the cell of a token and its listed conflicts behind those of the tokens before.
 fn put_token<S: IndexStorage>(
-    grm: &YaccGrammar<S>,
+    grm: &NumberedGrammar<S>,
     stidx: StIdx<S>,
     parts: &StateParts<S>,
     sets: &[Vob],
@@ -192,10 +193,103 @@ fn take_edge<S: IndexStorage>(
     Some(edge.1)
 }
 
+/// Marks the tokens of a set, or all tokens where the set is of another size.
+fn mark_set(marks: &mut Vob, tokens: &Vob)
+    ensures { LeavesOut (λ t. is_set tokens.now.bits t ≡ false) marks.old.bits marks.new.bits }
+{
+    if tokens.len() != marks.len() {
+        marks.set_all(true);
+        return;
+    }
+    marks.or(tokens);
+}
+
+/// Marks the tokens of a reduction.
+fn mark_reduction<S: IndexStorage>(marks: &mut Vob, sets: &[Vob], reduction: Reduction<S>)
+    ensures { LeavesOut (λ t. is_set (get_or (rows_in sets.now) reduction.set []) t ≡ false) marks.old.bits marks.new.bits }
+{
+    if reduction.set < sets.len() {
+        mark_set(marks, &sets[reduction.set]);
+    }
+}
+
+/// Marks the tokens of reductions.
+fn mark_reductions<S: IndexStorage>(marks: &mut Vob, sets: &[Vob], reductions: &[Reduction<S>])
+    ensures { LeavesOut (λ t. reductions_on (reductions_of S.number (rows_in sets.now) reductions.now) t ≡ []) marks.old.bits marks.new.bits }
+{
+    'each: for i in 0..reductions.len() {
+        mark_reduction(marks, sets, reductions[i]);
+    }
+}
+
+/// Marks a token, if there are so many.
+fn mark_token(marks: &mut Vob, number: usize)
+    ensures { LeavesOut (λ t. t ≡ number → ⊥) marks.old.bits marks.new.bits }
+{
+    if number < marks.len() {
+        marks.set(number, true);
+    }
+}
+
+/// Marks the tokens of edges.
+fn mark_shifts<S: IndexStorage>(marks: &mut Vob, shifts: &[(usize, StIdx<S>)])
+    ensures { LeavesOut (λ t. at_of (targets_of S.number shifts.now) t ≡ None) marks.old.bits marks.new.bits }
+{
+    'each: for i in 0..shifts.len() {
+        mark_token(marks, shifts[i].0);
+    }
+}
+
+/// The tokens in whose cells something may stand, beside others.
+fn filled_tokens<S: IndexStorage>(
+    alloc: Global,
+    grm: &NumberedGrammar<S>,
+    parts: &StateParts<S>,
+    sets: &[Vob],
+) -> Result<Vob, AllocError>
+    ensures width { IfOk result (λ v. length v.bits ≡ grm.now.grammar.tokens) }
+    ensures blank { IfOk result (λ v. (t : ℕ) → t < grm.now.grammar.tokens → is_set v.bits t ≡ false → IsBlank grm.now.grammar (parts_of S.number (rows_in sets.now) parts.now) t) }
+{
+    let mut marks = Vob::from_elem(alloc, false, grm.tokens_len().0.to_usize())?;
+    mark_reductions(&mut marks, sets, parts.reductions.as_slice());
+    mark_shifts(&mut marks, parts.shifts.as_slice());
+    mark_token(&mut marks, grm.eof_token_idx().0.to_usize());
+    Ok(marks)
+}
+
+/// Puts the cells of the marked tokens and their listed conflicts behind those of the states before. Nothing stands in the
+/// cells of the others.
+fn put_tokens<S: IndexStorage>(
+    grm: &NumberedGrammar<S>,
+    stidx: StIdx<S>,
+    parts: &StateParts<S>,
+    sets: &[Vob],
+    marks: &Vob,
+    row: &mut Vec<(usize, Action<S>)>,
+    pairs: &mut Vec<ReduceReduce<S>>,
+    shifts: &mut Vec<ShiftReduce<S>>,
+) -> Result<(), AllocError>
+    requires fits { FitsParts grm.now.grammar (parts_of S.number (rows_in sets.now) parts.now) }
+    requires width { length marks.now.bits ≡ grm.now.grammar.tokens }
+    requires blank { (t : ℕ) → t < grm.now.grammar.tokens → is_set marks.now.bits t ≡ false → IsBlank grm.now.grammar (parts_of S.number (rows_in sets.now) parts.now) t }
+    requires none { row.old.items ≡ [] }
+    ensures row { OnOk result (cells_of S.number row.new.items ≡ filled_row (cells_by grm.now.grammar (precedences_of grm.now) (parts_of S.number (rows_in sets.now) parts.now)) grm.now.grammar.tokens) }
+    ensures pairs { OnOk result (pairs_of S.number pairs.new.items ≡ pairs_of S.number pairs.old.items ++ pairs_in (S.number stidx.0) (parts_of S.number (rows_in sets.now) parts.now) grm.now.grammar.tokens) }
+    ensures shifts { OnOk result (shifts_of S.number shifts.new.items ≡ shifts_of S.number shifts.old.items ++ shifts_in (precedences_of grm.now) (S.number stidx.0) (parts_of S.number (rows_in sets.now) parts.now) grm.now.grammar.tokens) }
+{
+    let mut next = 0;
+    'tokens: for number in marks.iter_set_bits(..) {
+        let edge = take_edge(parts.shifts.as_slice(), &mut next, number);
+        let tidx = grm.token_at(number);
+        put_token(grm, stidx, parts, sets, tidx, edge, row, pairs, shifts)?;
+    }
+    Ok(())
+}
+
 /// The row of a state; its conflicts are listed behind those of the states before.
 pub fn state_row<S: IndexStorage>(
     alloc: Global,
-    grm: &YaccGrammar<S>,
+    grm: &NumberedGrammar<S>,
     stidx: StIdx<S>,
     parts: &StateParts<S>,
     sets: &[Vob],
@@ -207,19 +301,15 @@ pub fn state_row<S: IndexStorage>(
     ensures pairs { OnOk result (pairs_of S.number pairs.new.items ≡ pairs_of S.number pairs.old.items ++ pairs_in (S.number stidx.0) (parts_of S.number (rows_in sets.now) parts.now) grm.now.grammar.tokens) }
     ensures shifts { OnOk result (shifts_of S.number shifts.new.items ≡ shifts_of S.number shifts.old.items ++ shifts_in (precedences_of grm.now) (S.number stidx.0) (parts_of S.number (rows_in sets.now) parts.now) grm.now.grammar.tokens) }
 {
+    let marks = filled_tokens(alloc, grm, parts, sets)?;
     let mut row = Vec::new(alloc);
-    let mut next = 0;
-    'tokens: for number in 0..grm.tokens_len().0.to_usize() {
-        let edge = take_edge(parts.shifts.as_slice(), &mut next, number);
-        let tidx = grm.token_at(number);
-        put_token(grm, stidx, parts, sets, tidx, edge, &mut row, pairs, shifts)?;
-    }
+    put_tokens(grm, stidx, parts, sets, &marks, &mut row, pairs, shifts)?;
     Ok(row)
 }
 
 /// The production that contests accept, if the state accepts and reduces on the end token.
 pub fn contesting<S: IndexStorage>(
-    grm: &YaccGrammar<S>,
+    grm: &NumberedGrammar<S>,
     parts: &StateParts<S>,
     sets: &[Vob],
 ) -> Option<PIdx<S>>

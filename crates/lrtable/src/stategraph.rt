@@ -5,7 +5,7 @@ ghost use Rattle.std.specs.Iterator.{YieldsFirstBy, item_count};
 ghost use Rattle.std.specs.List.{range_with_len};
 ghost use Rattle.std.specs.Ordering.{nat_cmp};
 ghost use Rattle.std.specs.Slice.Iter.{iter_rest};
-ghost use Rattle.cfgrammar.specs.Symbols.{sym_of};
+ghost use Rattle.cfg_numbered.specs.Symbols.{sym_of};
 ghost use Rattle.lrtable.specs.GraphViews.{edges_seen, graph_seen};
 ghost use Rattle.lrtable.specs.Graphs.{IsGraphValue, edge_count, graph_of, target_in};
 
@@ -74,7 +74,8 @@ impl<S: IndexStorage> StateGraph<S> {
 
     /// How many states there are.
     pub fn all_states_len(&self) -> StIdx<S>
-        ensures { S.number result.0 ≡ length self.now.cores }
+        ensures value { S.number result.0 ≡ length self.now.cores }
+        ensures graph { IsGraphValue S.MAX self.now }
     {
         StIdx(S::from_usize(self.cores.len()).unwrap())
     }

@@ -3,7 +3,7 @@
 ghost use Rattle.std.specs.Prelude.{◌≡◌, ◌<◌, ◌↔◌, ℕ, Bool, true, false, [], length, map, get_or, slice_set, ◌≤◌, IsTrue, IfOk, OnOk, IsErrOf, MatchOption, alloc_error};
 ghost use Rattle.std.specs.List.{Contains, AllPairs};
 ghost use Rattle.cfg_theory.specs.Grammar.{Sym};
-ghost use Rattle.cfgrammar.specs.Symbols.{sym_of};
+ghost use Rattle.cfg_numbered.specs.Symbols.{sym_of};
 ghost use Rattle.lr_theory.specs.Building.{same_symbol};
 ghost use Rattle.lrtable.specs.Gaining.{no_core};
 ghost use Rattle.lrtable.specs.Meeting.{AreAlike, RowsFit, rows_in};
@@ -169,6 +169,18 @@ fn put_edge<S: IndexStorage>(
     Ok(())
 }
 
+/// Tells whether the lookaheads of two items or more are all held. With one item there is no pair to compare, and nothing is
+/// gained by a test.
+fn hold_many(a: &[Vob], b: &[Vob]) -> bool
+    requires { AreAlike (rows_in a.now) (rows_in b.now) }
+    ensures { result ≡ true → CoversRows (rows_in a.now) (rows_in b.now) }
+{
+    if a.len() < 2 {
+        return false;
+    }
+    hold_all(a, b)
+}
+
 /// Tells whether a set joins a state. Where the state holds all its lookaheads, no pair of items is compared.
 fn joins<S: IndexStorage>(state: &State<S>, set: &CoreSet<S>) -> bool
     requires state { (tokens : ℕ) × IsCoreOf tokens (core_of_set S.number state.now.core) × IsCoreOf tokens (core_of_set S.number set.now) }
@@ -178,7 +190,7 @@ fn joins<S: IndexStorage>(state: &State<S>, set: &CoreSet<S>) -> bool
     if !same_items(state.core.items.as_slice(), set.items.as_slice()) {
         return false;
     }
-    if hold_all(state.core.looks.as_slice(), set.looks.as_slice()) {
+    if hold_many(state.core.looks.as_slice(), set.looks.as_slice()) {
         return true;
     }
     weakly_compatible(state.core.looks.as_slice(), set.looks.as_slice())
@@ -337,11 +349,12 @@ fn add_listed<S: IndexStorage>(
 
 /// Puts a set, made from the state `from` by a symbol, among the states: it joins the first that it may, or becomes one.
 /// No state below the cursor is to be taken. The state's edge on the symbol may stand at `near`. The
-/// answer is an empty set, to be used again.
+/// answer is an empty set, to be used again, and the sets of tokens that it had are put with the spare ones.
 pub fn place<S: IndexStorage>(
     alloc: Global,
     states: &mut Vec<State<S>>,
     begins: &mut Vec<Vec<usize>>,
+    spare: &mut Vec<Vob>,
     cursor: &mut usize,
     from: usize,
     near: usize,
@@ -368,7 +381,8 @@ pub fn place<S: IndexStorage>(
     match first_joined(states.as_slice(), begins[first].as_slice(), &set) {
         Some(number) => {
             join(states, cursor, from, near, symbol, number, &set)?;
-            Ok(emptied(set))
+            let set = emptied(spare, set)?;
+            Ok(set)
         }
         None => {
             add_listed(alloc, states, begins, first, from, near, symbol, set)?;

@@ -3,7 +3,7 @@
 ghost use Rattle.std.specs.Prelude.{◌≡◌, ◌+◌, ◌*◌, ◌^◌, ◌<◌, ◌≤◌, ◌↔◌, ℕ, IsTrue, IfOk, IfErr, IfSome, IsSome, List, [], length, option_map, slice_index_or};
 ghost use Rattle.std.specs.List.{sum_by};
 ghost use Rattle.cfg_theory.specs.Grammar.{WellFormed};
-ghost use Rattle.cfgrammar.specs.Value.{GrammarValue};
+ghost use Rattle.cfg_numbered.specs.Value.{GrammarValue};
 ghost use Rattle.table_theory.specs.CellLaws.{SomeContested};
 ghost use Rattle.table_theory.specs.Cells.{NoPrecedences, some_conflicts};
 ghost use Rattle.lrtable.specs.CellRows.{PartsValue};
@@ -30,7 +30,7 @@ use crate::table_iterators::{
 use crate::table_rows::TableRows;
 use cfg_base::index::IndexStorage;
 use cfg_base::symbol::{PIdx, RIdx, TIdx};
-use cfgrammar::yacc::YaccGrammar;
+use cfg_numbered::yacc::NumberedGrammar;
 use std::alloc::{AllocError, Global};
 use std::error::Error;
 use std::fmt;
@@ -68,7 +68,7 @@ impl<S: IndexStorage> StateTable<S> {
     /// The table of a grammar by its graph.
     pub fn new(
         alloc: Global,
-        grm: &YaccGrammar<S>,
+        grm: &NumberedGrammar<S>,
         sg: &StateGraph<S>,
     ) -> Result<StateTable<S>, StateTableNewError<S>>
         requires { IsGraphOf grm.now.grammar sg.now }
@@ -152,14 +152,16 @@ impl<S: IndexStorage> StateTable<S> {
 
     /// The state that a run begins in.
     pub fn start_state(&self) -> StIdx<S>
-        ensures { S.number result.0 ≡ self.now.start }
+        ensures value { S.number result.0 ≡ self.now.start }
+        ensures within { self.now.start < self.now.states }
     {
         self.start
     }
 
     /// Counts the states.
     pub fn states_len(&self) -> StIdx<S>
-        ensures { S.number result.0 ≡ self.now.states }
+        ensures value { S.number result.0 ≡ self.now.states }
+        ensures rows { HasFullRows self.now }
     {
         StIdx(self.states)
     }
@@ -275,7 +277,7 @@ fn listed<S: IndexStorage>(
 
 /// The table of the rows of all states.
 pub(crate) fn of_rows<S: IndexStorage>(
-    grm: &YaccGrammar<S>,
+    grm: &NumberedGrammar<S>,
     rows: TableRows<S>,
     states: StIdx<S>,
     start: StIdx<S>,

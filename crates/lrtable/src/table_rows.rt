@@ -12,7 +12,7 @@ use crate::conflicts::{Conflicts, of_lists};
 use crate::state_rows::{ReduceReduce, ShiftReduce, StateParts, state_row};
 use crate::stidx::StIdx;
 use cfg_base::index::IndexStorage;
-use cfgrammar::yacc::YaccGrammar;
+use cfg_numbered::yacc::NumberedGrammar;
 use std::alloc::{AllocError, Global};
 use vob::Vob;
 
@@ -45,7 +45,7 @@ impl<S: IndexStorage> TableRows<S> {
     pub fn add_state(
         &mut self,
         alloc: Global,
-        grm: &YaccGrammar<S>,
+        grm: &NumberedGrammar<S>,
         stidx: StIdx<S>,
         parts: &StateParts<S>,
         sets: &[Vob],

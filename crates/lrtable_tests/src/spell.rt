@@ -19,12 +19,11 @@ pub fn push_items<S: IndexStorage>(
     out: &mut String,
     set: &Itemset<S>,
 ) -> Result<(), AllocError> {
-    for index in 0..set.len() {
-        let (pidx, dot) = set.item_at(index);
+    for ((pidx, dot), lookaheads) in set.items() {
         let production = usize::from(pidx);
         let place = usize::from(dot);
         out.push_str(format!(in alloc; "{production}.{place}")?.as_str())?;
-        push_lookaheads(alloc, out, set.looks_at(index))?;
+        push_lookaheads(alloc, out, lookaheads)?;
         out.push(';')?;
     }
     Ok(())

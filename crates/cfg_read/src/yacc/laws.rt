@@ -1,8 +1,6 @@
 //! Laws of valid texts, and of the values of their trees.
 
 ghost use Rattle.std.specs.Prelude.{◌≡◌, ◌↔◌, IsTrue, Bool, Some, Contains};
-ghost use Rattle.cfg_read.specs.declared.yacc.Precedence.{Precedence};
-ghost use Rattle.cfg_read.specs.declared.yacc.AssocKind.{AssocKind};
 ghost use Rattle.cfg_read.specs.declared.yacc.YaccKind.{YaccKind};
 ghost use Rattle.cfg_read.specs.declared.yacc.YaccOriginalActionKind.{YaccOriginalActionKind};
 ghost use Rattle.cfg_read.specs.SyntaxTexts.{WordText, SyntaxText};
@@ -10,7 +8,7 @@ ghost use Rattle.cfg_read.specs.Validity.{IsValid};
 ghost use Rattle.cfg_read.specs.Asts.{Ast, ast_of};
 ghost use Rattle.cfg_read.specs.WellFormedAst.{IsWellFormedAst, names_of_rules};
 
-use crate::yacc::{AssocKind, Precedence, YaccKind, YaccOriginalActionKind};
+use crate::yacc::{YaccKind, YaccOriginalActionKind};
 
 /// What the tree of a valid text names is there, each name once, each production is one rule's, and precedences of one
 /// level have one kind.
@@ -23,10 +21,8 @@ pub fn any_rule_may_start()
     ensures { (ast : Ast) (w : WordText) → IsWellFormedAst ast → Contains (names_of_rules ast) w.text → IsWellFormedAst (record ast { start = Some w }) }
 {}
 
-/// `==` of precedences is equality of their levels and kinds, and that of kinds is equality of the values.
+/// `==` of kinds is equality of the values.
 pub fn equality_is_of_values()
-    ensures precedence { (a b : Precedence) → IsTrue (⟦<Precedence as PartialEq>⟧.eq a b) ↔ (a ≡ b) }
-    ensures assoc { (a b : AssocKind) → IsTrue (⟦<AssocKind as PartialEq>⟧.eq a b) ↔ (a ≡ b) }
     ensures kind { (a b : YaccKind) → IsTrue (⟦<YaccKind as PartialEq>⟧.eq a b) ↔ (a ≡ b) }
     ensures action { (a b : YaccOriginalActionKind) → IsTrue (⟦<YaccOriginalActionKind as PartialEq>⟧.eq a b) ↔ (a ≡ b) }
 {}

@@ -5,7 +5,7 @@ ghost use Rattle.cfg_read.specs.declared.yacc.YaccKind.{YaccKind};
 ghost use Rattle.cfg_read.specs.ErrorModels.{failures_in};
 ghost use Rattle.cfg_read.specs.Asts.{Ast};
 ghost use Rattle.cfg_read.specs.WellFormedAst.{IsWellFormedAst, NamesAreWords};
-ghost use Rattle.cfgrammar.specs.Value.{IsGrammar, HasNoPrecedences};
+ghost use Rattle.cfg_numbered.specs.Value.{IsGrammar, HasNoPrecedences};
 ghost use Rattle.cfgrammar.specs.FromAst.{has_implicit, grammar_of, value_by, made, too_many, NamesNoAdded, MakesTree, Refuses};
 
 mod by_name;
@@ -18,6 +18,8 @@ mod productions;
 use crate::yacc::grammar::YaccGrammar;
 use cfg_base::index::IndexStorage;
 use cfg_base::symbol::PIdx;
+use cfg_numbered::yacc::NumberedGrammar;
+use cfg_numbered::yacc::grammar::index_of;
 use cfg_read::yacc::YaccKind;
 use cfg_read::yacc::ast::GrammarAST;
 use cfg_read::yacc::validity::{YaccGrammarError, copy_errors};
@@ -82,7 +84,7 @@ fn of_tree<S: IndexStorage>(
     alloc: Global,
     ast: &GrammarAST,
     implicit: bool,
-) -> Result<YaccGrammar<S>, AllocError>
+) -> Result<NumberedGrammar<S>, AllocError>
     requires sound { IsWellFormedAst ast.now }
     requires free { NamesNoAdded ast.now }
     requires fits { too_many S.MAX (grammar_of implicit ast.now) ≡ None }
@@ -92,8 +94,8 @@ fn of_tree<S: IndexStorage>(
     let tokens = info::tokens(alloc, ast)?;
     let prods = productions::all(alloc, ast, implicit)?;
     let kept = info::kept(ast, implicit)?;
-    let start = PIdx(crate::yacc::grammar::index_of(ast.prods().len()));
-    YaccGrammar::of_parts(alloc, rules, tokens, prods, start, kept)
+    let start = PIdx(index_of(ast.prods().len()));
+    NumberedGrammar::of_parts(alloc, rules, tokens, prods, start, kept)
 }
 
 /// The grammar of the tree of a valid text.
@@ -110,7 +112,7 @@ pub(crate) fn of_valid<S: IndexStorage>(
     match counts::too_many::<S>(ast, implicit) {
         Some(count) => Err(YaccGrammarMakeError::TooMany(count)),
         None => match of_tree(alloc, ast, implicit) {
-            Ok(grm) => Ok(grm),
+            Ok(grm) => Ok(YaccGrammar::of_numbered(grm)),
             Err(e) => Err(YaccGrammarMakeError::Memory(e)),
         },
     }

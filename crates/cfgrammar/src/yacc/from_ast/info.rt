@@ -6,14 +6,14 @@ ghost use Rattle.std.specs.Option.{option_copied};
 ghost use Rattle.std.specs.String.{string_bytes};
 ghost use Rattle.std.specs.Str.{bytes_eq};
 ghost use Rattle.cfg_read.specs.WellFormedAst.{AreDistinct, names_of_tokens};
-ghost use Rattle.cfgrammar.specs.Info.{rule_facts, token_facts, kept_facts, param_facts};
+ghost use Rattle.cfg_numbered.specs.Info.{rule_facts, token_facts, kept_facts, param_facts};
 ghost use Rattle.cfgrammar.specs.FromAst as tree;
 
 use super::by_name::put_last;
 use super::numbers::tilde;
-use crate::yacc::info::{KeptInfo, RuleInfo, TokenInfo};
 use cfg_base::index::IndexStorage;
 use cfg_base::span::Span;
+use cfg_numbered::yacc::info::{KeptInfo, RuleInfo, TokenInfo};
 use cfg_read::yacc::Precedence;
 use cfg_read::yacc::ast::GrammarAST;
 use indexmap::IndexMap;

@@ -4,12 +4,12 @@ ghost use Rattle.std.specs.Prelude.{◌≡◌, ℕ, suc, ◌≤◌, ◌++◌, Bo
 ghost use Rattle.std.specs.List.{flat_map};
 ghost use Rattle.cfg_read.specs.AstModels.{ast_symbol_of};
 ghost use Rattle.cfg_read.specs.WellFormedAst.{names_of_rules, names_of_tokens, NamesOne};
-ghost use Rattle.cfgrammar.specs.Symbols.{sym_of, syms_of};
+ghost use Rattle.cfg_numbered.specs.Symbols.{sym_of, syms_of};
 ghost use Rattle.cfgrammar.specs.FromAst as tree;
 
-use crate::yacc::grammar::index_of;
 use cfg_base::index::IndexStorage;
 use cfg_base::symbol::{RIdx, Symbol, TIdx};
+use cfg_numbered::yacc::grammar::index_of;
 use cfg_read::yacc::ast::{self, GrammarAST};
 use std::alloc::{AllocError, Global};
 

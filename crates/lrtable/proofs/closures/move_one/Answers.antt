@@ -1,6 +1,6 @@
 use Rattle.std.proofs.Common.{sym, ◌∙◌, subst}
 use Rattle.cfg_theory.specs.Grammar.{IsNext}
-use Rattle.cfgrammar.specs.Symbols.{sym_of}
+use Rattle.cfg_numbered.specs.Symbols.{sym_of}
 use Rattle.lr_theory.proofs.Place.{same_symbol_true}
 use Rattle.lrtable.proofs.Exact.{dot_within}
 use Rattle.lrtable.proofs.Moved.{moves}

@@ -1,6 +1,6 @@
 use Rattle.std.proofs.Common.{◌≡◌, ◌<◌, length, sym, subst, arith, rules}
 use Rattle.std.proofs.lemmas.List.{length-map}
-use Rattle.cfgrammar.specs.Symbols.{sym_of}
+use Rattle.cfg_numbered.specs.Symbols.{sym_of}
 use Rattle.lr_theory.specs.Itemset.{Goto, GotoLook}
 use Rattle.lrtable.specs.Adding.{One, OneLooks}
 use Rattle.lrtable.specs.ItemRows.{Item, IsCoreOf}

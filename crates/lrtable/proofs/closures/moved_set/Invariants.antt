@@ -1,4 +1,4 @@
-use Rattle.cfgrammar.specs.Symbols.{sym_of}
+use Rattle.cfg_numbered.specs.Symbols.{sym_of}
 use Rattle.lr_theory.specs.Itemset.{Goto, GotoLook}
 use Rattle.lrtable.specs.Sharing.{shared_core, GrowsBy}
 use Rattle.lrtable.specs.Stepping.{ItemsBelow, LooksBelow}

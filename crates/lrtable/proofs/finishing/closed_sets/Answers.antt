@@ -9,8 +9,8 @@ use Rattle.lrtable.proofs.FinalStates.{core_is, closes_next, closes_all}
 use Rattle.lrtable.proofs.Fitting.{closure_fits_core}
 use Rattle.lrtable.proofs.finishing.closed_sets.Goals as goal
 
-pub closed_set-requires-clause-fits : goal.closed_set-requires-clause-fits
-closed_set-requires-clause-fits g c =
+pub closed_by-requires-clause-fits : goal.closed_by-requires-clause-fits
+closed_by-requires-clause-fits g c =
     let number = g.S.IndexStorage.number in
     let k = c.states.number in
     subst (FitsCore c.args.grm.now.grammar) (core_is number c.args.states.now k c.index-states-number.result c.states-test.true) (c.requires.fit k c.states-test.true)
@@ -23,12 +23,14 @@ states-preserved g c =
     let x = c.index-states-number.result in
     let at = core_is number c.args.states.now k x c.states-test.true in
     let core = core_of_set number (get_or c.args.states.now k x).core in
-    let set = c.in_ok-closed_set.field-0 in
-    let is = c.in_ok-closed_set.ensures.is in
+    let set = c.in_ok-closed_by.field-0 in
+    let is = c.in_ok-closed_by.ensures.is in
     let fits = c.requires.dots k c.states-test.true in
-    let fit = closure_fits_core G core (shared_core number set) c.in_ok-closed_set.ensures.core (subst (λ d. FitsGrammar G (map_of d)) at fits) is in
-    closes_next G (map (value_of number) c.args.states.now) k c.states.sets.items c.push.new.self.items core c.of_shared.result c.states.invariant c.in_ok-push.ensures.items at
-    (subst (λ (s : ItemSet). Is s (Closure G (HasItem (map_of core))) (ClosureLook G (HasItem (map_of core)) (HasLook (map_of core)))) (sym c.of_shared.ensures) is) (subst (FitsGrammar G) (sym c.of_shared.ensures) fit)
+    let fit = closure_fits_core G core (shared_core number set) c.in_ok-closed_by.ensures.core (subst (λ d. FitsGrammar G (map_of d)) at fits) is in (
+      c.in_ok-closed_by.ensures.ready,
+      closes_next G (map (value_of number) c.args.states.now) k c.states.sets.items c.push.new.self.items core c.of_shared.result c.states.invariant.1 c.in_ok-push.ensures.items at
+          (subst (λ (s : ItemSet). Is s (Closure G (HasItem (map_of core))) (ClosureLook G (HasItem (map_of core)) (HasLook (map_of core)))) (sym c.of_shared.ensures) is) (subst (FitsGrammar G) (sym c.of_shared.ensures) fit),
+    )
 
 pub returns : goal.returns
 returns g c =
@@ -36,4 +38,4 @@ returns g c =
     let done = c.states-test.false in
     let end = c.states.auto.number-end in
     let n = length-map c.args.states.now (value_of number) in
-    closes_all c.args.grm.now.grammar (map (value_of number) c.args.states.now) c.states.number c.states.sets.items c.states.invariant (omega (arith, done, end, n))
+    closes_all c.args.grm.now.grammar (map (value_of number) c.args.states.now) c.states.number c.states.sets.items c.states.invariant.1 (omega (arith, done, end, n))

@@ -1,5 +1,5 @@
 use Rattle.std.proofs.lemmas.Result.{IfOk-weaker, IfErr-weaker}
-use Rattle.cfgrammar.specs.Value.{GrammarValue}
+use Rattle.cfg_numbered.specs.Value.{GrammarValue}
 use Rattle.lrtable.specs.Graphs.{GraphValue}
 use Rattle.lrtable.specs.RefusalViews.{refusal_of}
 use Rattle.lrtable.specs.TableValues.{TableValue}

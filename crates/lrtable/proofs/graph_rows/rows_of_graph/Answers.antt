@@ -39,7 +39,7 @@ returns-clause-rows g c =
     let test = c.states-test.false in
     let most = c.states.auto.number-end in
     let value = c.to_usize-number-end.ensures.value in
-    let count = c.all_states_len.ensures in
+    let count = c.all_states_len.ensures.value in
     let e : c.states.number ≡ length c.args.sg.now.cores = omega (arith, test, most, value, count) in
     subst (λ k. AreRowsOf G (precedences_of c.args.grm.now) (parts_in G c.args.sg.now) (targets_in c.args.sg.now) k (rows_of number c.states.rows)) e c.states.invariant.rows
 
@@ -49,6 +49,6 @@ returns-clause-quiet g c =
     let test = c.states-test.false in
     let most = c.states.auto.number-end in
     let value = c.to_usize-number-end.ensures.value in
-    let count = c.all_states_len.ensures in
+    let count = c.all_states_len.ensures.value in
     let e : c.states.number ≡ length c.args.sg.now.cores = omega (arith, test, most, value, count) in
     subst (λ k. (s p : ℕ) → s < k → IsContested G (parts_in G c.args.sg.now s) p → ⊥) e c.states.invariant.quiet

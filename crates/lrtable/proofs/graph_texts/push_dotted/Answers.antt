@@ -1,4 +1,4 @@
-use Rattle.cfgrammar.specs.Symbols.{sym_of}
+use Rattle.cfg_numbered.specs.Symbols.{sym_of}
 use Rattle.lrtable.proofs.GraphTexts.{passed_in_range, left_in_range}
 use Rattle.lrtable.proofs.graph_texts.push_dotted.Goals as goal
 

@@ -21,6 +21,6 @@ returns g c =
     let number = g.S.IndexStorage.number in
     state_put c.args.grm.now c.args.graph.now (sets_of c.args.core_states c.args.graph.now) (number c.args.stidx.0) c.to_usize-count.result (length c.args.gap.now) c.shown_set-set.result.now (edges_seen number c.edges-edges.result.now) c.as_str.result.now c.args.gap.now
     (string_bytes c.args.text.now) (string_bytes c.push_lines.new.text) (map string_bytes c.as_slice.result.now)
-    (c.to_usize-count.ensures.value ∙ c.all_states_len-states.ensures) c.shown_set-set.ensures c.edges-edges.ensures c.requires.gap refl
+    (c.to_usize-count.ensures.value ∙ c.all_states_len-states.ensures.value) c.shown_set-set.ensures c.edges-edges.ensures c.requires.gap refl
     (c.as_str.ensures.value ∙ c.in_ok-front.ensures ∙ ap (number_front (length c.args.gap.now)) c.to_usize-number.ensures.value)
     (ap (map string_bytes) c.as_slice.ensures.value ∙ c.in_ok-lines.ensures) c.in_ok-push_lines.ensures

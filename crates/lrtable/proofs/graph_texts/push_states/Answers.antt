@@ -14,6 +14,6 @@ states-preserved g c =
 pub returns : goal.returns
 returns g c =
     let one = state_text c.args.grm.now c.args.graph.now (sets_of c.args.core_states c.args.graph.now) in
-    let count = c.to_usize-count.ensures.value ∙ c.all_states_len-last.ensures in
+    let count = c.to_usize-count.ensures.value ∙ c.all_states_len-last.ensures.value in
     let e : c.states.number ≡ length c.args.graph.now.cores = omega (arith, count) in
     subst (λ n. string_bytes c.states.text ≡ string_bytes c.args.text.now ++ flat_map one (range_with_len 0 n)) e c.states.invariant

@@ -1,6 +1,6 @@
 use Rattle.std.specs.String.{string_bytes}
 use Rattle.cfg_theory.specs.Grammar.{InRange}
-use Rattle.cfgrammar.specs.Symbols.{sym_of}
+use Rattle.cfg_numbered.specs.Symbols.{sym_of}
 use Rattle.lrtable.specs.GraphTexts.{spaced}
 use Rattle.lrtable.proofs.TextLines.{entry_is, line_put}
 use Rattle.lrtable.proofs.graph_texts.push_symbols.Goals as goal

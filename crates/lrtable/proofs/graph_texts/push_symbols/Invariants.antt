@@ -1,7 +1,7 @@
 use Rattle.std.proofs.Common.{◌≡◌, ◌++◌, take}
 use Rattle.std.specs.List.{flat_map}
 use Rattle.std.specs.String.{string_bytes}
-use Rattle.cfgrammar.specs.Symbols.{syms_of}
+use Rattle.cfg_numbered.specs.Symbols.{syms_of}
 use Rattle.lrtable.specs.GraphTexts.{spaced}
 use Rattle.lrtable.proofs.graph_texts.push_symbols.Given as goal
 

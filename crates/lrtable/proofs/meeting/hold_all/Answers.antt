@@ -1,6 +1,6 @@
 use Rattle.std.proofs.Common.{ℕ, arith, below_more, ap, ◌∙◌, sym}
 use Rattle.std.specs.Prelude.{IsTrue}
-use Rattle.cfgrammar.specs.Sets.{is_set}
+use Rattle.cfg_numbered.specs.Sets.{is_set}
 use Rattle.lrtable.specs.Meeting.{row, rows_in}
 use Rattle.lrtable.proofs.Shared.{alike_at, as_many, row_of, all_covered, one_lacked}
 use Rattle.lrtable.proofs.meeting.hold_all.Goals as goal

@@ -1,10 +1,19 @@
-use Rattle.std.proofs.Common.{map}
-use Rattle.lrtable.specs.Gaining.{Gains}
+use Rattle.std.proofs.Common.{◌≡◌, ℕ, ◌≤◌, length, map}
+use Rattle.lrtable.specs.Gaining.{Gains, KeepsMarks}
 use Rattle.lrtable.specs.StateViews.{core_of_set}
 use Rattle.lrtable.specs.Stepping.{OpenBelow, OpenLooksBelow}
+use Rattle.lrtable.proofs.Marks.{marked_from}
 use Rattle.lrtable.proofs.moves.move_open.Given as goal
 
+-- the open rules below a number are moved, and those from there on are left
 abbrev pub invariant-rules : goal.invariant-rules
 invariant-rules g l =
     let number = g.S.IndexStorage.number in
-    Gains l.grm.grammar (OpenBelow l.grm.grammar l.opening l.number) (OpenLooksBelow l.grm.grammar l.opening l.number) (map (core_of_set number) l.initial.sets.items) (map (core_of_set number) l.sets.items)
+    (goal.iterator-rules g).can_next l.number-iterator ×
+    (goal.iterator-rules g).is_finite l.number-iterator ×
+    ((n : ℕ) × record {
+      within : n ≤ length l.opening.opened;
+      left : l.number-iterator ≡ marked_from l.opening.opened n;
+      gains : Gains l.grm.grammar (OpenBelow l.grm.grammar l.opening n) (OpenLooksBelow l.grm.grammar l.opening n) (map (core_of_set number) l.initial.sets.items) (map (core_of_set number) l.sets.items);
+      marks : KeepsMarks l.initial.marks.bits (map (core_of_set number) l.initial.sets.items) l.marks.bits (map (core_of_set number) l.sets.items);
+    })

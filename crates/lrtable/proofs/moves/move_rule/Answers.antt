@@ -1,18 +1,22 @@
-use Rattle.std.proofs.Common.{◌≡◌, ◌≤◌, ◌<◌, ◌+◌, ℕ, length, map, arith}
+use Rattle.std.proofs.Common.{map, arith, ◌∙◌}
 use Rattle.std.specs.Prelude.{IsTrue}
 use Rattle.std.proofs.lemmas.List.{length-map}
-use Rattle.cfgrammar.specs.Sets.{is_set}
-use Rattle.cfgrammar.specs.Value.{productions_of}
-use Rattle.cfgrammar.proofs.RuleLists.{alone}
+use Rattle.cfg_numbered.specs.Sets.{is_set}
+use Rattle.cfg_numbered.specs.Value.{productions_of}
+use Rattle.cfg_numbered.proofs.RuleLists.{alone}
 use Rattle.lrtable.specs.StateViews.{core_of_set}
 use Rattle.lrtable.proofs.Fronts.{listed_prod, listed_count}
+use Rattle.lrtable.proofs.MarkedSets.{keeps_same, keeps_next}
 use Rattle.lrtable.proofs.Moving.{listed_begin, listed_more, listed_end}
 use Rattle.lrtable.proofs.moves.move_rule.Goals as goal
 
 pub prods-init : goal.prods-init
 prods-init g c =
     let number = g.S.IndexStorage.number in
-    listed_begin c.args.grm.now.grammar (number c.args.ridx.0) (λ t. IsTrue (is_set c.args.looks.now.bits t)) (map (core_of_set number) c.args.sets.now.items) c.requires.good
+    record {
+      gains = listed_begin c.args.grm.now.grammar (number c.args.ridx.0) (λ t. IsTrue (is_set c.args.looks.now.bits t)) (map (core_of_set number) c.args.sets.now.items) c.requires.good;
+      marks = keeps_same c.args.marks.now.bits (map (core_of_set number) c.args.sets.now.items);
+    }
 
 pub move_over-requires : goal.move_over-requires
 move_over-requires g c =
@@ -23,11 +27,12 @@ move_over-requires g c =
     let a = length-map c.args.sets.now.items (core_of_set number) in
     let b = length-map c.prods.sets.items (core_of_set number) in
     let count = c.requires.count in
-    let same = c.prods.invariant.count in
+    let same = c.prods.invariant.gains.count in
     record {
       production = (alone G A (number c.index-prods-k.result.0) n.1).0;
       count = omega (arith, a, b, count, same);
-      good = c.prods.invariant.good;
+      wide = c.prods.invariant.marks.width ∙ c.requires.wide;
+      good = c.prods.invariant.gains.good;
       width = c.requires.width;
     }
 
@@ -37,13 +42,16 @@ prods-preserved g c =
     let G = c.args.grm.now.grammar in
     let A = number c.args.ridx.0 in
     let n = listed_prod number c.rule_to_prods-prods.result.now (productions_of G A) c.prods.k c.index-prods-k.result c.rule_to_prods-prods.ensures c.prods-test.true c.index-prods-k.is in
-    listed_more G A c.prods.k (number c.index-prods-k.result.0) c.args.looks.now.bits (map (core_of_set number) c.args.sets.now.items) (map (core_of_set number) c.prods.sets.items) (map (core_of_set number) c.move_over.new.sets.items) n.0 c.prods.invariant c.in_ok-move_over.ensures
+    record {
+      gains = listed_more G A c.prods.k (number c.index-prods-k.result.0) c.args.looks.now.bits (map (core_of_set number) c.args.sets.now.items) (map (core_of_set number) c.prods.sets.items) (map (core_of_set number) c.move_over.new.sets.items) n.0 c.prods.invariant.gains c.in_ok-move_over.ensures.gains;
+      marks = keeps_next c.args.marks.now.bits (map (core_of_set number) c.args.sets.now.items) c.prods.marks.bits (map (core_of_set number) c.prods.sets.items) c.move_over.new.marks.bits (map (core_of_set number) c.move_over.new.sets.items) c.prods.invariant.marks c.in_ok-move_over.ensures.marks;
+    }
 
-pub returns : goal.returns
-returns g c =
+pub returns-clause-gains : goal.returns-clause-gains
+returns-clause-gains g c =
     let number = g.S.IndexStorage.number in
     let G = c.args.grm.now.grammar in
     let A = number c.args.ridx.0 in
     let n = listed_count number c.rule_to_prods-prods.result.now (productions_of G A) c.rule_to_prods-prods.ensures in
     let done = c.prods-test.false in
-    listed_end G A c.prods.k (λ t. IsTrue (is_set c.args.looks.now.bits t)) (map (core_of_set number) c.args.sets.now.items) (map (core_of_set number) c.prods.sets.items) (omega (arith, n, done)) c.prods.invariant
+    listed_end G A c.prods.k (λ t. IsTrue (is_set c.args.looks.now.bits t)) (map (core_of_set number) c.args.sets.now.items) (map (core_of_set number) c.prods.sets.items) (omega (arith, n, done)) c.prods.invariant.gains

@@ -1,7 +1,7 @@
 use Rattle.std.proofs.Common.{map, take, sym, subst, arith}
 use Rattle.std.proofs.lemmas.List.{take_all}
-use Rattle.cfgrammar.specs.Value.{productions_of}
-use Rattle.cfgrammar.proofs.RuleLists.{alone}
+use Rattle.cfg_numbered.specs.Value.{productions_of}
+use Rattle.cfg_numbered.proofs.RuleLists.{alone}
 use Rattle.lrtable.specs.Closes.{AreFrontsOf}
 use Rattle.lrtable.specs.Fronts.{front_of}
 use Rattle.lrtable.proofs.Fronts.{fronts_more, listed_prod, listed_count}

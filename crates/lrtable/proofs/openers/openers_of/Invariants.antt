@@ -1,5 +1,5 @@
 use Rattle.std.proofs.Common.{map, take}
-use Rattle.cfgrammar.specs.Value.{productions_of}
+use Rattle.cfg_numbered.specs.Value.{productions_of}
 use Rattle.lrtable.specs.Closes.{AreFrontsOf}
 use Rattle.lrtable.specs.Fronts.{front_of}
 use Rattle.lrtable.proofs.openers.openers_of.Given as goal

@@ -1,8 +1,9 @@
-use Rattle.std.proofs.Common.{ℕ, List, map, sym, ◌∙◌, subst, arith}
-use Rattle.std.proofs.lemmas.List.{length-map}
+use Rattle.std.proofs.Common.{ℕ, ◌+◌, List, false, length, map, sym, ap, ◌∙◌, subst, arith}
+use Rattle.std.proofs.lemmas.List.{length-map, length-replicate}
 use Rattle.lr_theory.proofs.Sizes.{building_sizes}
+use Rattle.lrtable.specs.Gaining.{no_core}
 use Rattle.lrtable.specs.States.{AreBuckets}
-use Rattle.lrtable.specs.StateViews.{value_of}
+use Rattle.lrtable.specs.StateViews.{value_of, core_of_set}
 use Rattle.lrtable.proofs.Placing.{count_is}
 use Rattle.lrtable.proofs.Starting.{start_buckets}
 use Rattle.lrtable.proofs.pager.build.Goals as goal
@@ -27,6 +28,17 @@ finish-requires-clause-buckets g c =
     let lt = c.start_prod.ensures.well_formed.start_of.in_range in
     subst (λ (l : List (List ℕ)). AreBuckets states l) (sym c.in_ok-begins.ensures.lists)
     (start_buckets states c.to_usize.result c.to_usize-first.result (omega (arith, n, one)) (c.in_ok-states.ensures.first ∙ sym start ∙ sym first) (omega (arith, start, first, count, lt)))
+
+pub finish-requires-clause-wide : goal.finish-requires-clause-wide
+finish-requires-clause-wide g c =
+    let G = c.args.grm.now.grammar in
+    let made = ap length c.in_ok-marks.ensures.bits in
+    let flags = length-replicate c.len.result false in
+    let len = c.len.ensures in
+    let sets = ap length c.in_ok-sets.ensures in
+    let count = length-replicate (G.rules + G.tokens) no_core in
+    let same = length-map c.in_ok-sets.sets.items (core_of_set g.S.IndexStorage.number) in
+    omega (arith, made, flags, len, sets, count, same)
 
 pub finish-requires-clause-few : goal.finish-requires-clause-few
 finish-requires-clause-few g c =

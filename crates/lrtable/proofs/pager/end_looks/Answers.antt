@@ -1,4 +1,4 @@
-use Rattle.std.proofs.Common.{◌≡◌, rules, false, true, List, Bool, set, ap, ◌∙◌}
+use Rattle.std.proofs.Common.{rules, true, List, Bool, set, ap, ◌∙◌}
 use Rattle.lrtable.proofs.Starting.{end_bits}
 use Rattle.lrtable.proofs.pager.end_looks.Goals as goal
 

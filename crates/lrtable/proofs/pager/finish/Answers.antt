@@ -1,8 +1,5 @@
-use Rattle.std.proofs.Common.{◌≡◌, ℕ, ◌<◌, List, false, length, map, subst, arith}
-use Rattle.std.proofs.lemmas.List.{length-map}
-use Rattle.lrtable.specs.States.{state_at}
+use Rattle.std.proofs.Common.{map}
 use Rattle.lrtable.specs.StateViews.{value_of}
-use Rattle.lrtable.specs.declared.states.State.{State}
 use Rattle.lrtable.proofs.Handling.{at_end}
 use Rattle.lrtable.proofs.Starting.{none_due}
 use Rattle.lrtable.proofs.pager.finish.Goals as goal

@@ -11,6 +11,7 @@ use Rattle.lrtable.proofs.pager.finish.Given as goal
 abbrev pub invariant-steps : goal.invariant-steps
 invariant-steps g l = record {
   ready : IsReady l.grm.grammar l.closer;
+  wide : length l.marks.bits ≡ l.grm.grammar.rules + l.grm.grammar.tokens;
   empty : map (core_of_set g.S.IndexStorage.number) l.sets.items ≡ replicate (l.grm.grammar.rules + l.grm.grammar.tokens) no_core;
   reached : AreReached l.grm.grammar (map (value_of g.S.IndexStorage.number) l.states.items);
   buckets : AreBuckets (map (value_of g.S.IndexStorage.number) l.states.items) (map (λ (v : Vec ℕ Global). v.items) l.begins.items);

@@ -1,4 +1,4 @@
-use Rattle.std.proofs.Common.{◌≡◌, ℕ, ◌<◌, false, map, ap, ◌∙◌, below_more}
+use Rattle.std.proofs.Common.{◌≡◌, false, map, ap, ◌∙◌, below_more}
 use Rattle.lrtable.specs.States.{StateValue, no_state, state_at}
 use Rattle.lrtable.specs.StateViews.{value_of}
 use Rattle.lrtable.proofs.CoreSteps.{map_at}

@@ -1,83 +1,172 @@
-use Rattle.std.proofs.Common.{◌+◌, length, map, refl, sym, ap, ◌∙◌, subst, arith, rules, length-set}
+use Rattle.std.proofs.Common.{◌≡◌, ◌+◌, ◌<◌, ◌≤◌, ℕ, inl, inr, true, length, map, refl, sym, ap, ◌∙◌, subst, arith, rules, length-set}
+use Rattle.std.specs.declared.ops.Bound.TheVariants.{Unbounded}
+use Rattle.std.proofs.lemmas.Bool.{cases_lt}
 use Rattle.std.proofs.lemmas.List.{length-map}
-use Rattle.lrtable.specs.Gaining.{no_core}
+use Rattle.vob.specs.Walk.{walk}
+use Rattle.lrtable.specs.Gaining.{no_core, core_in}
 use Rattle.lrtable.specs.StateViews.{value_of, core_of_set}
 use Rattle.lrtable.specs.Stepping.{FitsCore, IsGotoAt}
 use Rattle.lrtable.proofs.Emptying.{emptied_next, all_empty}
+use Rattle.lrtable.proofs.Marks.{IsNextMark, all_marked, next_mark, no_mark}
+use Rattle.lrtable.proofs.MarkedSets.{skip_ranks}
 use Rattle.lrtable.proofs.Stepping.{rest_next, next_handled, goto_at}
 use Rattle.lrtable.proofs.pager.place_all.Goals as goal
 
 pub ranks-init : goal.ranks-init
-ranks-init g c = record {
-  near = omega arith;
-  emptied = λ n lt. absurd (omega (arith, lt));
-  count = refl;
-  states = c.requires.states;
-  more = omega arith;
-  buckets = c.requires.buckets;
-  lists = refl;
-  few = c.requires.few;
-  less = omega arith;
-  quiet = λ h. h;
-  rest = λ n le. refl;
-  handled = λ before sets h. h;
-}
+ranks-init g c =
+    let bits = c.args.marks.now.bits in
+    let e : c.into_iter-number-iterator.result ≡ walk true bits Unbounded Unbounded = cc in (
+      tt,
+      tt,
+      (
+        0,
+        record {
+          within = omega arith;
+          left = all_marked bits c.into_iter-number-iterator.result e;
+          near = omega arith;
+          emptied = λ n lt. absurd (omega (arith, lt));
+          count = refl;
+          states = c.requires.states;
+          more = omega arith;
+          buckets = c.requires.buckets;
+          lists = refl;
+          few = c.requires.few;
+          less = omega arith;
+          quiet = λ h. h;
+          rest = λ n le. refl;
+          handled = λ before sets h. h;
+        },
+      ),
+    )
 
-pub place_rank-requires-clause-set : goal.place_rank-requires-clause-set
-place_rank-requires-clause-set g c =
+pub place_rank-requires : goal.place_rank-requires
+place_rank-requires g c =
     let G = c.args.grm.now.grammar in
     let number = g.S.IndexStorage.number in
-    let test = c.ranks-test.true in
+    let bits = c.args.marks.now.bits in
+    let n = c.ranks.invariant.2.0 in
+    let v = c.ranks.invariant.2.1 in
+    let t = c.in-Some.number in
+    let m : IsNextMark bits n t c.next.new.self = next_mark bits n t c.ranks.number-iterator c.next.new.self v.within v.left c.in-Some.ensures.steps in
+    let below = m.below in
+    let low = m.low in
+    let wide = c.requires.wide in
     let count = c.requires.count in
-    subst (FitsCore G) (sym (c.ranks.invariant.rest c.ranks.number (omega arith))) (c.requires.sets c.ranks.number (omega (arith, test, count)))
+    let near = v.near in
+    let from = c.requires.from in
+    let more = v.more in
+    let less = v.less in
+    let cursor = c.requires.cursor in
+    let lt : t < G.rules + G.tokens = omega (arith, below, wide) in
+    record {
+      near = omega (arith, near, low);
+      number = lt;
+      count = v.count ∙ count;
+      from = omega (arith, from, more);
+      states = v.states;
+      set = subst (FitsCore G) (sym (v.rest t low)) (c.requires.sets t lt);
+      buckets = v.buckets;
+      lists = v.lists ∙ c.requires.lists;
+      few = v.few;
+      cursor = omega (arith, less, more, cursor);
+    }
 
 pub ranks-preserved : goal.ranks-preserved
 ranks-preserved g c =
     let G = c.args.grm.now.grammar in
     let number = g.S.IndexStorage.number in
-    let v = c.ranks.invariant in
+    let bits = c.args.marks.now.bits in
+    let n = c.ranks.invariant.2.0 in
+    let v = c.ranks.invariant.2.1 in
+    let t = c.in-Some.number in
+    let m : IsNextMark bits n t c.next.new.self = next_mark bits n t c.ranks.number-iterator c.next.new.self v.within v.left c.in-Some.ensures.steps in
     let e = c.in_ok-place_rank.ensures in
     let first = map (core_of_set number) c.args.sets.now.items in
     let sets = map (core_of_set number) c.ranks.sets.items in
     let new = map (core_of_set number) c.place_rank.new.sets.items in
-    let m = v.more in
-    let m' = e.more in
-    record {
-      near = e.near;
-      emptied = emptied_next sets new c.ranks.number (let k = length-map c.ranks.sets.items (core_of_set number) in let t = c.ranks-test.true in let q = v.count in omega (arith, k, t, q)) e.sets v.emptied;
-      count = (let l = length-map c.place_rank.new.sets.items (core_of_set number) in let k = length-map c.ranks.sets.items (core_of_set number) in let s = ap length e.sets in let n = length-set sets c.ranks.number no_core in let q = v.count in omega (arith, l, k, s, n, q));
-      states = e.states;
-      more = omega (arith, m, m');
-      buckets = e.buckets;
-      lists = e.lists ∙ v.lists;
-      few = e.few;
-      less = (let p = e.less in let q = v.less in omega (arith, p, q));
-      quiet = λ h. e.quiet (v.quiet h);
-      rest = rest_next first sets new c.ranks.number e.sets v.rest;
-      handled = λ before gotos h. next_handled G before c.args.from c.ranks.number first sets (map (value_of number) c.ranks.states.items) (map (value_of number) c.place_rank.new.states.items) v.rest e.handled gotos (v.handled before gotos h);
-    }
+    let below = m.below in
+    let low = m.low in
+    let wide = c.requires.wide in
+    let count = c.requires.count in
+    let long = length-map c.args.sets.now.items (core_of_set number) in
+    let k = length-map c.ranks.sets.items (core_of_set number) in
+    let q = v.count in
+    let old = v.more in
+    let more = e.more in
+    let none : (i : ℕ) → n ≤ i → i < t → core_in first i ≡ no_core = λ i a b. c.requires.marked i (omega (arith, b, below, wide, count, long)) (m.none i a b) in
+    let empty : (i : ℕ) → i < t → core_in sets i ≡ no_core = λ i b. elim (cases_lt i n) [ inl l ↦ v.emptied i l | inr ge ↦ v.rest i ge ∙ none i ge b ] in
+    let rest : (i : ℕ) → t ≤ i → core_in sets i ≡ core_in first i = λ i a. v.rest i (omega (arith, a, low)) in (
+      tt,
+      tt,
+      (
+        t + 1,
+        record {
+          within = omega (arith, below);
+          left = m.left;
+          near = e.near;
+          emptied = emptied_next sets new t (omega (arith, below, wide, count, k, q)) e.sets empty;
+          count = (let l = length-map c.place_rank.new.sets.items (core_of_set number) in let s = ap length e.sets in let r = length-set sets t no_core in omega (arith, l, k, s, r, q));
+          states = e.states;
+          more = omega (arith, old, more);
+          buckets = e.buckets;
+          lists = e.lists ∙ v.lists;
+          few = e.few;
+          less = (let p = e.less in let r = v.less in omega (arith, p, r));
+          quiet = λ h. e.quiet (v.quiet h);
+          rest = rest_next first sets new t e.sets rest;
+          handled = λ before gotos h. next_handled G before c.args.from t first sets (map (value_of number) c.ranks.states.items) (map (value_of number) c.place_rank.new.states.items) rest e.handled gotos
+              (skip_ranks G before c.args.from n t first (map (value_of number) c.ranks.states.items) low (omega (arith, below, wide)) gotos none (v.handled before gotos h));
+        },
+      ),
+    )
 
 pub returns-in_err-place_rank-clause-many : goal.returns-in_err-place_rank-clause-many
 returns-in_err-place_rank-clause-many g c = λ e before next gotos h.
+    let G = c.args.grm.now.grammar in
     let number = g.S.IndexStorage.number in
-    let v = c.ranks.invariant in
+    let bits = c.args.marks.now.bits in
+    let n = c.ranks.invariant.2.0 in
+    let v = c.ranks.invariant.2.1 in
+    let t = c.in-Some.number in
+    let m : IsNextMark bits n t c.next.new.self = next_mark bits n t c.ranks.number-iterator c.next.new.self v.within v.left c.in-Some.ensures.steps in
     let first = map (core_of_set number) c.args.sets.now.items in
-    c.place_rank.ensures.many (search rules) before next (subst (IsGotoAt c.args.grm.now.grammar before c.args.from c.ranks.number) (sym (v.rest c.ranks.number (omega arith))) (goto_at c.args.grm.now.grammar before c.args.from first gotos c.ranks.number)) (v.handled before gotos h)
-
-pub place_rank-requires-clause-cursor : goal.place_rank-requires-clause-cursor
-place_rank-requires-clause-cursor g c =
-    let less = c.ranks.invariant.less in
-    let more = c.ranks.invariant.more in
-    let le = c.requires.cursor in
-    omega (arith, less, more, le)
+    let below = m.below in
+    let low = m.low in
+    let wide = c.requires.wide in
+    let count = c.requires.count in
+    let long = length-map c.args.sets.now.items (core_of_set number) in
+    let none : (i : ℕ) → n ≤ i → i < t → core_in first i ≡ no_core = λ i a b. c.requires.marked i (omega (arith, b, below, wide, count, long)) (m.none i a b) in
+    c.place_rank.ensures.many (search rules) before next (subst (IsGotoAt G before c.args.from t) (sym (v.rest t low)) (goto_at G before c.args.from first gotos t))
+    (skip_ranks G before c.args.from n t first (map (value_of number) c.ranks.states.items) low (omega (arith, below, wide)) gotos none (v.handled before gotos h))
 
 pub returns-clause-emptied : goal.returns-clause-emptied
 returns-clause-emptied g c =
     let number = g.S.IndexStorage.number in
     let G = c.args.grm.now.grammar in
-    let v = c.ranks.invariant in
+    let bits = c.args.marks.now.bits in
+    let n = c.ranks.invariant.2.0 in
+    let v = c.ranks.invariant.2.1 in
+    let wide = c.requires.wide in
+    let count = c.requires.count in
+    let long = length-map c.args.sets.now.items (core_of_set number) in
     let k = length-map c.ranks.sets.items (core_of_set number) in
     let q = v.count in
+    all_empty (map (core_of_set number) c.ranks.sets.items) (G.rules + G.tokens) (omega (arith, k, q, count)) (λ i lt. elim (cases_lt i n) [
+      | inl l ↦ v.emptied i l
+      | inr ge ↦ v.rest i ge ∙ c.requires.marked i (omega (arith, lt, count, long)) (no_mark bits n c.ranks.number-iterator v.within v.left c.in-None.ensures.steps.0 i ge (omega (arith, lt, wide)))
+    ])
+
+pub returns-clause-handled : goal.returns-clause-handled
+returns-clause-handled g c = λ before gotos h.
+    let number = g.S.IndexStorage.number in
+    let G = c.args.grm.now.grammar in
+    let bits = c.args.marks.now.bits in
+    let n = c.ranks.invariant.2.0 in
+    let v = c.ranks.invariant.2.1 in
+    let wide = c.requires.wide in
+    let within = v.within in
     let count = c.requires.count in
-    let done = c.ranks-test.false in
-    all_empty (map (core_of_set number) c.ranks.sets.items) (G.rules + G.tokens) (omega (arith, k, q, count)) (λ n lt. v.emptied n (omega (arith, lt, done, count)))
+    let first = map (core_of_set number) c.args.sets.now.items in
+    let long = length-map c.args.sets.now.items (core_of_set number) in
+    skip_ranks G before c.args.from n (G.rules + G.tokens) first (map (value_of number) c.ranks.states.items) (omega (arith, within, wide)) (omega arith) gotos
+    (λ i a b. c.requires.marked i (omega (arith, b, count, long)) (no_mark bits n c.ranks.number-iterator v.within v.left c.in-None.ensures.steps.0 i a (omega (arith, b, wide)))) (v.handled before gotos h)

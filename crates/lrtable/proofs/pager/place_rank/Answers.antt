@@ -3,7 +3,7 @@ use Rattle.std.proofs.lemmas.List.{length-map}
 use Rattle.lrtable.specs.Gaining.{no_core, core_in}
 use Rattle.lrtable.specs.ItemRows.{Core}
 use Rattle.lrtable.specs.StateViews.{item_of, value_of, core_of_set}
-use Rattle.cfgrammar.specs.Symbols.{sym_of}
+use Rattle.cfg_numbered.specs.Symbols.{sym_of}
 use Rattle.lrtable.specs.Stepping.{FitsCore, IsGotoAt}
 use Rattle.lrtable.proofs.CoreSteps.{map_at}
 use Rattle.lrtable.proofs.Emptying.{map_twice, stays_empty}

@@ -1,4 +1,4 @@
-use Rattle.std.proofs.Common.{◌≡◌, refl, rules, ◌∙◌}
+use Rattle.std.proofs.Common.{refl, rules}
 use Rattle.lrtable.proofs.Starting.{start_seen}
 use Rattle.lrtable.proofs.pager.start_states.Goals as goal
 

@@ -1,6 +1,6 @@
-use Rattle.std.proofs.Common.{◌≡◌, ◌<◌, false, map, set, ap, ◌∙◌, sym}
+use Rattle.std.proofs.Common.{false, map, set, ap, ◌∙◌, sym}
 use Rattle.std.proofs.lemmas.List.{map-set}
-use Rattle.lrtable.specs.States.{StateValue, no_state, state_at}
+use Rattle.lrtable.specs.States.{StateValue, no_state}
 use Rattle.lrtable.specs.StateViews.{value_of}
 use Rattle.lrtable.proofs.CoreSteps.{map_at}
 use Rattle.lrtable.proofs.pager.take.Goals as goal

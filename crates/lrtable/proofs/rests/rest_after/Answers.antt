@@ -1,6 +1,6 @@
 use Rattle.std.proofs.Common.{◌+◌}
 use Rattle.std.proofs.lemmas.List.{take_rest}
-use Rattle.cfgrammar.specs.Symbols.{sym_of}
+use Rattle.cfg_numbered.specs.Symbols.{sym_of}
 use Rattle.lrtable.proofs.Exact.{slice_within, slice_rest}
 use Rattle.lrtable.proofs.rests.rest_after.Goals as goal
 

@@ -1,5 +1,5 @@
 use Rattle.std.proofs.Common.{◌<◌, length, sym, ap, ◌∙◌, arith}
-use Rattle.cfgrammar.specs.Sets.{is_set}
+use Rattle.cfg_numbered.specs.Sets.{is_set}
 use Rattle.lrtable.proofs.TokenReductions.{row_in}
 use Rattle.lrtable.proofs.state_rows.has_token.Goals as goal
 

@@ -1,5 +1,5 @@
 use Rattle.std.proofs.Common.{sym, ◌∙◌, ap, ◌≡◌, get_or, []}
-use Rattle.cfgrammar.specs.Sets.{is_set}
+use Rattle.cfg_numbered.specs.Sets.{is_set}
 use Rattle.lrtable.specs.CellViews.{pairs_of, production_of}
 use Rattle.lrtable.specs.Meeting.{rows_in}
 use Rattle.lrtable.proofs.TokenReductions.{first_noted, first_kept, pairs_noted, pairs_kept}

@@ -1,5 +1,5 @@
 use Rattle.std.proofs.Common.{sym, ◌∙◌}
-use Rattle.cfgrammar.specs.Symbols.{sym_of}
+use Rattle.cfg_numbered.specs.Symbols.{sym_of}
 use Rattle.lrtable.specs.GraphViews.{edge_seen}
 use Rattle.lrtable.proofs.Edges.{found_here, found_later}
 use Rattle.lrtable.proofs.stategraph.find_edge.Goals as goal

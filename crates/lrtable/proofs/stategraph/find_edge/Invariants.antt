@@ -1,5 +1,5 @@
 use Rattle.std.proofs.Common.{◌≡◌, drop}
-use Rattle.cfgrammar.specs.Symbols.{sym_of}
+use Rattle.cfg_numbered.specs.Symbols.{sym_of}
 use Rattle.lrtable.specs.GraphViews.{edges_seen}
 use Rattle.lrtable.specs.Graphs.{target_in}
 use Rattle.lrtable.proofs.stategraph.find_edge.Given as goal

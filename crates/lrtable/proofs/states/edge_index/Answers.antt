@@ -1,5 +1,5 @@
 use Rattle.std.proofs.Common.{get_or, sym, subst, below_more}
-use Rattle.cfgrammar.specs.Symbols.{sym_of}
+use Rattle.cfg_numbered.specs.Symbols.{sym_of}
 use Rattle.lrtable.specs.States.{Edge, SymBefore}
 use Rattle.lrtable.specs.StateViews.{edge_of_pair, edges_of}
 use Rattle.std.proofs.lemmas.List.{get_or-map}

@@ -1,5 +1,5 @@
 use Rattle.std.proofs.Common.{ℕ, ◌<◌, get_or}
-use Rattle.cfgrammar.specs.Symbols.{sym_of}
+use Rattle.cfg_numbered.specs.Symbols.{sym_of}
 use Rattle.lrtable.specs.States.{Edge, SymBefore}
 use Rattle.lrtable.specs.StateViews.{edges_of}
 use Rattle.lrtable.proofs.states.edge_index.Given as goal

@@ -9,7 +9,8 @@ pub returns : goal.returns
 returns g c =
     let number = g.S.IndexStorage.number in
     let G = c.args.grm.now.grammar in
-    let start = c.start_prod.ensures.value in
-    let lt = c.start_prod.ensures.well_formed.start_of.in_range in
+    let start = rw c.deref.ensures at c.start_prod.ensures.value in
+    let good = rw c.deref.ensures at c.start_prod.ensures.well_formed in
+    let lt = good.start_of.in_range in
     let first : number c.unwrap.result ≡ 0 = search rules in
     c.in_ok-add.ensures.fits G (c.new-set.ensures.fits G) (omega (arith, start, lt)) (omega (arith, first)) c.in_ok-end.ensures

@@ -1,7 +1,7 @@
 use Rattle.std.proofs.Common.{◌≡◌, IfOk, sym, ap, ◌∙◌, subst, length, arith}
 use Rattle.std.proofs.lemmas.List.{length-map}
 use Rattle.cfg_read.specs.AstModels as views
-use Rattle.cfgrammar.specs.Value.{GrammarValue, IsGrammar}
+use Rattle.cfg_numbered.specs.Value.{GrammarValue, IsGrammar}
 use Rattle.cfgrammar.proofs.FromAstValues.{value_is, start_fits}
 use Rattle.cfgrammar.proofs.FromAstWell.{made_well, apart_by, count_tokens}
 use Rattle.cfgrammar.proofs.yacc.from_ast.of_tree.Goals as goal

@@ -1,4 +1,4 @@
-use Rattle.cfgrammar.specs.Symbols.{sym_of}
+use Rattle.cfg_numbered.specs.Symbols.{sym_of}
 use Rattle.lr_theory.specs.Itemset.{HasItem, HasLook, GotoLook}
 use Rattle.lrtable.specs.Sharing.{shared_core, shared_map}
 use Rattle.lrtable.proofs.Fitting.{shared_fits, moved_fits}

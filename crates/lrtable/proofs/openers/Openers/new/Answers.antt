@@ -2,8 +2,8 @@ use Rattle.std.proofs.Common.{◌≡◌, ℕ, ◌+◌, ◌<◌, ◌≤◌, List,
 use Rattle.std.proofs.lemmas.List.{length-map, map_push}
 use Rattle.std.specs.declared.alloc.Global.{Global}
 use Rattle.std.specs.declared.vec.Vec.{Vec}
-use Rattle.cfgrammar.specs.Value.{productions_of}
-use Rattle.cfgrammar.proofs.RuleLists.{listed, alone}
+use Rattle.cfg_numbered.specs.Value.{productions_of}
+use Rattle.cfg_numbered.proofs.RuleLists.{listed, alone}
 use Rattle.lrtable.specs.Closes.{AreFrontsOf}
 use Rattle.lrtable.specs.Fronts.{front_of}
 use Rattle.lrtable.specs.Opening.{Front}

@@ -1,7 +1,7 @@
 use Rattle.std.proofs.Common.{◌≡◌, ℕ, ◌<◌, [], length, get_or, map}
 use Rattle.std.specs.declared.alloc.Global.{Global}
 use Rattle.std.specs.declared.vec.Vec.{Vec}
-use Rattle.cfgrammar.specs.Value.{productions_of}
+use Rattle.cfg_numbered.specs.Value.{productions_of}
 use Rattle.lrtable.specs.Closes.{AreFrontsOf}
 use Rattle.lrtable.specs.Fronts.{front_of}
 use Rattle.lrtable.specs.declared.openers.Opener.{Opener}

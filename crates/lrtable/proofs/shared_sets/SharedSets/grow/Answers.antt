@@ -1,6 +1,6 @@
 use Rattle.std.proofs.Common.{◌≡◌, ◌<◌, false, true, length, refl, ap, ◌∙◌, rules}
 use Rattle.std.specs.Vec.{with_item}
-use Rattle.cfgrammar.proofs.Bits.{join}
+use Rattle.cfg_numbered.proofs.Bits.{join}
 use Rattle.lrtable.specs.ItemRows.{Item}
 use Rattle.lrtable.specs.declared.shared_sets.SharedItem.{SharedItem}
 use Rattle.lrtable.specs.declared.shared_sets.SharedSets.{SharedSets}

@@ -1,5 +1,5 @@
 use Rattle.std.proofs.Common.{◌≡◌, length, refl, arith, subst, rules}
-use Rattle.cfgrammar.specs.Value.{productions_of}
+use Rattle.cfg_numbered.specs.Value.{productions_of}
 use Rattle.lrtable.specs.Meeting.{rows_in, row}
 use Rattle.lrtable.specs.Sharing.{TakesIn}
 use Rattle.lrtable.specs.declared.shared_sets.SharedSets.{SharedSets}

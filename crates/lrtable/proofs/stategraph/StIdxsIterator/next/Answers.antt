@@ -1,6 +1,6 @@
 use Rattle.std.proofs.Common.{◌≡◌, ◌<◌, ◌+◌, ◌-◌, ◌∷◌, length, sym, ap, ◌∙◌, arith, rules}
 use Rattle.std.specs.List.{range_with_len}
-use Rattle.cfgrammar.proofs.Ranges.{range_first}
+use Rattle.cfg_numbered.proofs.Ranges.{range_first}
 use Rattle.lrtable.proofs.stategraph.StIdxsIterator.next.Goals as goal
 
 pub returns-clause-steps : goal.returns-clause-steps

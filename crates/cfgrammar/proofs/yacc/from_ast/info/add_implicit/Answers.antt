@@ -1,5 +1,5 @@
 use Rattle.std.proofs.Common.{refl}
-use Rattle.cfgrammar.specs.Info.{rule_facts}
+use Rattle.cfg_numbered.specs.Info.{rule_facts}
 use Rattle.cfgrammar.specs.FromAst.{implicit_start_name, implicit_name, added_rule_facts}
 use Rattle.cfgrammar.proofs.ByName.{free_after}
 use Rattle.cfgrammar.proofs.yacc.from_ast.info.add_implicit.Goals as goal

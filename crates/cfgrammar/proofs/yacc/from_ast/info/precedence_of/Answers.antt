@@ -2,7 +2,7 @@ use Rattle.std.proofs.Common.{List, option_map, refl, ap, ◌∙◌}
 use Rattle.std.specs.List.{find}
 use Rattle.std.specs.Str.{bytes_eq}
 use Rattle.cfg_base.specs.SpanModel.{SpanModel}
-use Rattle.cfg_read.specs.declared.yacc.Precedence.{Precedence}
+use Rattle.cfg_base.specs.declared.precedence.Precedence.{Precedence}
 use Rattle.cfg_read.specs.Asts.{PrecedenceAst}
 use Rattle.cfg_read.specs.AstModels.{named_precedence}
 use Rattle.cfgrammar.proofs.FromAstLookups.{found_find}

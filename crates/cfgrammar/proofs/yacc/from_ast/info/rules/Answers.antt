@@ -1,7 +1,7 @@
 use Rattle.std.proofs.Common.{◌≡◌, ◌≤◌, Some, [], ◌∷◌, ◌++◌, suc, length, map, slice_get, if◌then◌else◌, refl, sym, ap, ◌∙◌, arith}
 use Rattle.std.proofs.lemmas.List.{length-map, map-append}
 use Rattle.cfg_read.specs.AstModels.{named_rule}
-use Rattle.cfgrammar.specs.Info.{rule_facts}
+use Rattle.cfg_numbered.specs.Info.{rule_facts}
 use Rattle.cfgrammar.specs.FromAst.{rules_of, file_rule_facts, added_rule_facts, start_name, implicit_start_name, implicit_name}
 use Rattle.cfgrammar.proofs.ByName.{later_is_free, get_left, get_behind, get_second}
 use Rattle.cfgrammar.proofs.FromAstLookups.{take_next}

@@ -1,5 +1,5 @@
 use Rattle.std.proofs.Common.{◌≡◌, suc, map, take}
-use Rattle.cfgrammar.specs.Info.{rule_facts}
+use Rattle.cfg_numbered.specs.Info.{rule_facts}
 use Rattle.cfgrammar.specs.FromAst.{rules_of}
 use Rattle.cfgrammar.proofs.yacc.from_ast.info.rules.Given as goal
 

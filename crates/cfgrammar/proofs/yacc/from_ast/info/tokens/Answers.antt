@@ -1,6 +1,6 @@
 use Rattle.std.proofs.Common.{[], ◌∷◌, ◌++◌, map, refl, sym, ap, ◌∙◌, arith}
 use Rattle.std.proofs.lemmas.List.{map-append}
-use Rattle.cfgrammar.specs.Info.{token_facts}
+use Rattle.cfg_numbered.specs.Info.{token_facts}
 use Rattle.cfgrammar.specs.FromAst.{file_token_facts}
 use Rattle.cfgrammar.proofs.ByName.{later_is_free, token_text, tokens_apart}
 use Rattle.cfgrammar.proofs.FromAstLookups.{take_next}

@@ -1,5 +1,5 @@
 use Rattle.std.proofs.Common.{◌≡◌, map, take}
-use Rattle.cfgrammar.specs.Info.{token_facts}
+use Rattle.cfg_numbered.specs.Info.{token_facts}
 use Rattle.cfgrammar.specs.FromAst.{file_token_facts}
 use Rattle.cfgrammar.proofs.yacc.from_ast.info.tokens.Given as goal
 

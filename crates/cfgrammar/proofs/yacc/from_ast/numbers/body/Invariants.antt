@@ -1,7 +1,7 @@
 use Rattle.std.proofs.Common.{◌≡◌, map, take}
 use Rattle.std.specs.List.{flat_map}
 use Rattle.cfg_read.specs.AstModels.{ast_symbol_of}
-use Rattle.cfgrammar.specs.Symbols as own
+use Rattle.cfg_numbered.specs.Symbols as own
 use Rattle.cfgrammar.specs.FromAst as tree
 use Rattle.cfgrammar.proofs.yacc.from_ast.numbers.body.Given as goal
 

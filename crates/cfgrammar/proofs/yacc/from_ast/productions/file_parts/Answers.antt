@@ -5,8 +5,8 @@ use Rattle.cfg_theory.specs.Grammar.{Production}
 use Rattle.cfg_read.specs.Asts.{ProductionAst}
 use Rattle.cfg_read.specs.AstModels as views
 use Rattle.cfg_read.specs.WellFormedAst.{NamesOne}
-use Rattle.cfgrammar.specs.Info.{production_of, production_facts}
-use Rattle.cfgrammar.specs.Value.{ProductionFacts}
+use Rattle.cfg_numbered.specs.Info.{production_of, production_facts}
+use Rattle.cfg_numbered.specs.Value.{ProductionFacts}
 use Rattle.cfgrammar.specs.FromAst.{file_head, file_body, file_productions, file_production_facts}
 use Rattle.cfgrammar.proofs.FromAstSymbols.{under}
 use Rattle.cfgrammar.proofs.FromAstHeads.{head_within}

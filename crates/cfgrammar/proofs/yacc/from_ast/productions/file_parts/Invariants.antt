@@ -1,5 +1,5 @@
 use Rattle.std.proofs.Common.{◌≡◌, map, take}
-use Rattle.cfgrammar.specs.Info.{production_of, production_facts}
+use Rattle.cfg_numbered.specs.Info.{production_of, production_facts}
 use Rattle.cfgrammar.specs.FromAst.{file_productions, file_production_facts}
 use Rattle.cfgrammar.proofs.yacc.from_ast.productions.file_parts.Given as goal
 

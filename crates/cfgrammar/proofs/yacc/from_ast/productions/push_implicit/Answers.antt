@@ -7,7 +7,7 @@ use Rattle.cfg_read.specs.Names.{texts}
 use Rattle.cfg_read.specs.AstModels.{named_span}
 use Rattle.cfg_read.specs.WellFormedAst.{names_of_tokens}
 use Rattle.cfgrammar.specs.FromAst.{implicit_production, token_number}
-use Rattle.cfgrammar.specs.Symbols.{syms_of}
+use Rattle.cfg_numbered.specs.Symbols.{syms_of}
 use Rattle.cfgrammar.specs.AddedProductions.{Adds}
 use Rattle.cfgrammar.proofs.FromAstLookups.{entry_at, entry_in, all_at}
 use Rattle.cfgrammar.proofs.yacc.from_ast.productions.push_implicit.Goals as goal

@@ -1,0 +1,29 @@
+//! Precedences of tokens and productions.
+
+ghost use Rattle.std.specs.Prelude.{◌≡◌, ◌↔◌, IsTrue};
+ghost use Rattle.cfg_base.specs.declared.precedence.AssocKind.{AssocKind};
+ghost use Rattle.cfg_base.specs.declared.precedence.Precedence.{Precedence};
+
+/// A level of precedence: the number of a precedence line, counted from 0.
+pub type PrecedenceLevel = u64;
+
+/// How tightly a token or production binds.
+#[derive(Clone, Copy, Debug, PartialEq, Eq)]
+pub struct Precedence {
+    pub level: PrecedenceLevel,
+    pub kind: AssocKind,
+}
+
+/// To which side the tokens of a precedence line group.
+#[derive(Clone, Copy, Debug, PartialEq, Eq)]
+pub enum AssocKind {
+    Left,
+    Right,
+    Nonassoc,
+}
+
+/// A law: precedences are equal where level and kind are, and kinds where they are the same.
+pub fn precedence_is_level_and_kind()
+    ensures precedence { (a b : Precedence) → IsTrue (⟦<Precedence as PartialEq>⟧.eq a b) ↔ (a ≡ b) }
+    ensures assoc { (a b : AssocKind) → IsTrue (⟦<AssocKind as PartialEq>⟧.eq a b) ↔ (a ≡ b) }
+{}

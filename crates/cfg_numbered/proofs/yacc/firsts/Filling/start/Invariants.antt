@@ -1,0 +1,13 @@
+use Rattle.std.proofs.Common.{◌≡◌, ℕ, ◌+◌, ◌<◌, ◌≤◌, length}
+use Rattle.cfg_numbered.specs.Firsts.{AreSoundOf, IsClosedOrWaits, room}
+use Rattle.cfg_numbered.proofs.yacc.firsts.Filling.start.Given as goal
+
+abbrev pub invariant-prods : goal.invariant-prods
+invariant-prods g l = record {
+  grammar : l.self.grm.now ≡ l.initial.self.grm.now;
+  naming : l.self.naming.now ≡ l.initial.self.naming.now;
+  sound : AreSoundOf l.self.grm.now.grammar l.self.firsts l.self.row.bits;
+  work : l.work.rules ≡ l.initial.work.rules;
+  closed : (p : ℕ) → l.count ≤ p + l.number → p < l.count → IsClosedOrWaits l.self.grm.now.grammar l.self.firsts l.work.list p;
+  room : room l.self.firsts + length l.work.list ≤ room l.initial.self.firsts + length l.initial.work.list;
+}

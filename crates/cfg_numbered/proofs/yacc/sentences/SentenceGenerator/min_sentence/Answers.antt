@@ -1,0 +1,42 @@
+use Rattle.std.proofs.Common.{◌<◌, length, refl, subst, arith}
+use Rattle.cfg_theory.specs.Grammar.{WellFormed}
+use Rattle.cfg_numbered.specs.CostTable.{cost_of}
+use Rattle.cfg_numbered.specs.Sentences.{Costed}
+use Rattle.cfg_numbered.specs.TokenLists.{tokens_of, lists_of}
+use Rattle.cfg_numbered.specs.CheapestTable.{IsFirstCheapest}
+use Rattle.cfg_numbered.proofs.CostSteps.{answers_none, answers_large}
+use Rattle.cfg_numbered.proofs.Dictionary.{tokens_count, lists_count, list_at}
+use Rattle.cfg_numbered.proofs.CheapestSteps.{is_first}
+use Rattle.cfg_numbered.proofs.yacc.sentences.SentenceGenerator.min_sentence.Goals as goal
+
+pub returns-then-not-all_cost-clause-ok : goal.returns-then-not-all_cost-clause-ok
+returns-then-not-all_cost-clause-ok g c =
+    let number = g.S.IndexStorage.number in
+    let xs = c.in_ok-lists.lists.items in
+    let some : 0 < length xs = c.in_ok-lists.ensures.some in
+    let count = lists_count number xs in
+    let w = c.swap_remove.result in
+    is_first c.args.self.now.grammar (cost_of c.args.self.now.costs) (number c.args.ridx.0) (lists_of number xs) c.in_ok-lists.ensures.ok (omega (arith, some, count)) (tokens_of number w.items)
+    (list_at number xs 0 w w.items some c.swap_remove.ensures.value refl)
+
+pub returns-in-None-clause-err : goal.returns-in-None-clause-err
+returns-in-None-clause-err g c =
+    let s = c.self.inside.least in
+    answers_none s c.stays_least.ensures.costs c.stays_least.ensures.closed c.args.self.now c.self.view_is (g.S.IndexStorage.number c.args.ridx.0) c.of_rule.result c.of_rule.ensures c.in-None.is
+
+pub returns-in-Some-2-clause-err : goal.returns-in-Some-2-clause-err
+returns-in-Some-2-clause-err g c =
+    let s = c.self.inside.least in
+    answers_large s c.stays_least.ensures.costs c.stays_least.ensures.closed c.args.self.now c.self.view_is (g.S.IndexStorage.number c.args.ridx.0) c.of_rule.result c.of_rule.ensures c.in-Some.cost c.stays_well_formed.ensures c.productive_rules_have_least_costs.ensures c.in-Some.is c.if-cost-lt-BOUND.false
+
+pub returns-in_ok-list-in-Some-clause-short : goal.returns-in_ok-list-in-Some-clause-short
+returns-in_ok-list-in-Some-clause-short g c costly =
+    let number = g.S.IndexStorage.number in
+    let G = c.args.self.now.grammar in
+    let w = tokens_of number c.in_ok-list-in-Some.list.items in
+    let good = subst (λ (v : Costed). WellFormed v.grammar) c.self.view_is c.stays_well_formed.ensures in
+    let first = subst (λ (v : Costed). IsFirstCheapest v.grammar (cost_of v.costs) (number c.args.ridx.0) w) c.self.view_is c.in_ok-list-in-Some.ensures in
+    let cheapest = first.cheapest in
+    let le = c.cheap_lists_are_short.ensures.short G (cost_of c.args.self.now.costs) good costly (number c.args.ridx.0) w cheapest.has in
+    let n = tokens_count number c.in_ok-list-in-Some.list.items in
+    omega (arith, le, n)

@@ -1,0 +1,15 @@
+use Rattle.std.proofs.Common.{◌++◌, ap, ◌∙◌}
+use Rattle.cfg_numbered.proofs.Dictionary.{still_ordered, still_sound}
+use Rattle.cfg_numbered.proofs.yacc.sentences.token_lists.TokenLists.insert.Goals as goal
+
+pub invariant_of-self-2 : goal.invariant_of-self-2
+invariant_of-self-2 g c =
+    let number = g.S.IndexStorage.number in
+    let same = c.in_ok-append.ensures ∙ ap (λ l. l ++ c.args.list.now) c.new-copy.ensures.items in
+    still_ordered number c.self.inside.lists.items c.insert.new.self.items c.append.new.list c.in-Some.index c.args.list.now c.in_ok-insert.ensures.items same c.as_slice.result.now c.as_slice.ensures.value c.in-Some.ensures c.self.invariant
+
+pub returns-clause-sound : goal.returns-clause-sound
+returns-clause-sound g c =
+    let number = g.S.IndexStorage.number in
+    let same = c.in_ok-append.ensures ∙ ap (λ l. l ++ c.args.list.now) c.new-copy.ensures.items in
+    still_sound number c.self.inside.lists.items c.insert.new.self.items c.append.new.list c.in-Some.index c.args.list.now c.in_ok-insert.ensures.items same c.as_slice.result.now c.as_slice.ensures.value c.in-Some.ensures c.args.self.now c.self.view_is

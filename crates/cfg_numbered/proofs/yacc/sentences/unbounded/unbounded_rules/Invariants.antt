@@ -1,0 +1,15 @@
+use Rattle.std.proofs.Common.{◌≡◌, ℕ, length}
+use Rattle.cfg_theory.specs.Greatest.{IsBoundedBy}
+use Rattle.cfg_numbered.specs.CostTable.{cost_of}
+use Rattle.cfg_numbered.specs.Sets.{is_set}
+use Rattle.cfg_numbered.specs.Greatest.{held}
+use Rattle.cfg_numbered.proofs.yacc.sentences.unbounded.unbounded_rules.Given as goal
+
+abbrev pub invariant-rounds : goal.invariant-rounds
+invariant-rounds g l = record {
+  width : length l.kept.bits ≡ l.costly.grammar.rules;
+  bounded : (n : ℕ) × IsBoundedBy l.costly.grammar (cost_of l.costly.costs) (is_set l.kept.bits) n;
+}
+
+abbrev pub decreases-rounds : goal.decreases-rounds
+decreases-rounds g l = held l.kept.bits

@@ -1,0 +1,16 @@
+pub mod Symbols
+pub mod Value
+pub mod Info
+pub mod PrettyPrint
+pub mod Sets
+pub mod WorkLists
+pub mod Firsts
+pub mod Follows
+pub mod Paths
+pub mod Passes
+pub mod CostTable
+pub mod Sentences
+pub mod Greatest
+pub mod TokenLists
+pub mod CheapestTable
+pub mod EarliestTable

@@ -1,0 +1,19 @@
+//! Grammars as values, and what their derivations show.
+//!
+//! A `NumberedGrammar` numbers rules, tokens and productions in an index type; contracts see it as a grammar of
+//! numbers, well formed, with names, spans, precedences and kept texts beside them. How it came about is left open: who
+//! has its parts makes it by `of_parts`, whose `requires` is what is so of each grammar value; `cfgrammar` makes it of
+//! texts. The contracts that matter most are those of `of_parts`; of `prod`, `prod_to_rule` and `start_prod`, with the law
+//! `yacc::grammar::laws::productions_stand_in_one_list` on the lists of `rule_to_prods`; of `firsts` and `follows`,
+//! whose sets hold exactly what derivations show; of `has_path`; and of `sentence_generator`, whose least and
+//! greatest costs and cheapest sentences are over all token lists that a rule derives.
+//!
+//! FIRST and FOLLOW sets and paths are found by takings from a list of rules that wait (`yacc::work_list`): what rests
+//! on a rule that is taken is brought up to date, and a rule of which that tells more waits again. So are least and
+//! greatest costs, and the rules that cheapest lists need with the first list of each (`yacc::by_prods`). All cheapest
+//! lists, and the rules without a greatest cost, come by passes over all productions, until one changes nothing. What
+//! takings and passes keep is true of derivations, what they end with is closed under the productions, and sets or
+//! costs that are both are exact by the laws of `cfg_theory`.
+#![tactic(auto)]
+
+pub mod yacc;

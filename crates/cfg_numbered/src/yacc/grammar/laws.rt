@@ -1,0 +1,22 @@
+//! Laws of the lists of productions, and of walks over numbers.
+
+ghost use Rattle.std.specs.Prelude.{◌≡◌, ◌<◌, ◌∷◌, ℕ, List, length, All};
+ghost use Rattle.std.specs.List.{AllPairs, Contains, range_with_len};
+ghost use Rattle.cfg_theory.specs.Grammar.{Grammar, head_of};
+ghost use Rattle.cfg_numbered.specs.Value.{productions_of};
+
+/// What `NumberedGrammar::rule_to_prods` lists: each production stands in the list of its own rule, which
+/// `NumberedGrammar::prod_to_rule` answers, and in that of no other, and numbers ascend in a list, so each stands there
+/// once.
+pub fn productions_stand_in_one_list()
+    ensures listed { (G : Grammar) (p : ℕ) → p < length G.productions → Contains (productions_of G (head_of G p)) p }
+    ensures alone { (G : Grammar) (A p : ℕ) → Contains (productions_of G A) p → (p < length G.productions) × (head_of G p ≡ A) }
+    ensures once { (G : Grammar) (A : ℕ) → AllPairs (λ p q. p < q) (productions_of G A) }
+{}
+
+/// What a loop over `NumberedGrammar::iter_rules`, `iter_pidxs` or `iter_tidxs` keeps: the numbers that are left to come
+/// are below the count. A caller states it as the loop's invariant.
+pub fn walks_stay_below()
+    ensures start { (n : ℕ) → All (λ p. p < n) (range_with_len 0 n) }
+    ensures rest { (n p : ℕ) (left : List ℕ) → All (λ q. q < n) (p ∷ left) → All (λ q. q < n) left }
+{}

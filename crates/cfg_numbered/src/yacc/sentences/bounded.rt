@@ -1,0 +1,112 @@
+//! Rules whose productions name no rule of a set: they are bounded where all rules outside of it are, so they
+//! leave it at once, without a round.
+
+ghost use Rattle.std.specs.Prelude.{◌≡◌, ℕ, ◌<◌, ◌≤◌, false, IsTrue, length};
+ghost use Rattle.cfg_theory.specs.Grammar.{IsOf};
+ghost use Rattle.cfg_theory.specs.Greatest.{IsBoundedBy};
+ghost use Rattle.cfg_numbered.specs.CostTable.{cost_of};
+ghost use Rattle.cfg_numbered.specs.Sets.{is_set};
+ghost use Rattle.cfg_numbered.specs.Passes.{PassStep, Anything};
+ghost use Rattle.cfg_numbered.specs.Greatest.{LeadsOut, held};
+
+use super::kept_costs::KeptCosts;
+use crate::yacc::grammar::index_of;
+use cfg_base::index::IndexStorage;
+use cfg_base::symbol::{PIdx, RIdx};
+use cfg_theory::cost::unbounded_rules_gain;
+use vob::Vob;
+
+/// Whether a production can't be used, or names no rule of the set.
+fn leads_out<S: IndexStorage>(costly: &KeptCosts<S>, pidx: PIdx<S>, set: &Vob) -> bool
+    requires production { S.number pidx.0 < length costly.now.grammar.productions }
+    requires width { length set.now.bits ≡ costly.now.grammar.rules }
+    ensures { IsTrue result → LeadsOut costly.now.grammar (cost_of costly.now.costs) costly.now.table set.now.bits (S.number pidx.0) }
+{
+    costly.stays_well_formed();
+    let Some(_) = costly.body_cost(pidx) else {
+        return true;
+    };
+    !costly.names_any(pidx, set)
+}
+
+/// Whether all productions of a rule do so.
+fn is_settled<S: IndexStorage>(costly: &KeptCosts<S>, ridx: RIdx<S>, set: &Vob) -> bool
+    requires rule { S.number ridx.0 < costly.now.grammar.rules }
+    requires width { length set.now.bits ≡ costly.now.grammar.rules }
+    ensures { IsTrue result → (p : ℕ) → IsOf costly.now.grammar p (S.number ridx.0) → LeadsOut costly.now.grammar (cost_of costly.now.costs) costly.now.table set.now.bits p }
+{
+    let prods = costly.rule_to_prods(ridx);
+    'prods: for index in 0..prods.len() {
+        if !leads_out(costly, prods[index], set) {
+            return false;
+        }
+    }
+    true
+}
+
+/// Takes such a rule out of the set, and says whether it did.
+fn take_rule<S: IndexStorage>(costly: &KeptCosts<S>, ridx: RIdx<S>, set: &mut Vob) -> bool
+    requires rule { S.number ridx.0 < costly.now.grammar.rules }
+    requires width { length set.old.bits ≡ costly.now.grammar.rules }
+    requires bounded { (n : ℕ) × IsBoundedBy costly.now.grammar (cost_of costly.now.costs) (is_set set.old.bits) n }
+    ensures width { length set.new.bits ≡ costly.now.grammar.rules }
+    ensures bounded { (n : ℕ) × IsBoundedBy costly.now.grammar (cost_of costly.now.costs) (is_set set.new.bits) n }
+    ensures steps { PassStep held Anything set.old.bits set.new.bits result }
+{
+    unbounded_rules_gain();
+    costly.stays_kept();
+    let rule = ridx.0.to_usize();
+    if !is_settled(costly, ridx, set) {
+        return false;
+    }
+    set.set(rule, false)
+}
+
+/// Takes them out from the first rule to the last, and says whether there was one.
+fn pass<S: IndexStorage>(costly: &KeptCosts<S>, set: &mut Vob) -> bool
+    requires width { length set.old.bits ≡ costly.now.grammar.rules }
+    requires bounded { (n : ℕ) × IsBoundedBy costly.now.grammar (cost_of costly.now.costs) (is_set set.old.bits) n }
+    ensures width { length set.new.bits ≡ costly.now.grammar.rules }
+    ensures bounded { (n : ℕ) × IsBoundedBy costly.now.grammar (cost_of costly.now.costs) (is_set set.new.bits) n }
+    ensures steps { PassStep held Anything set.old.bits set.new.bits result }
+{
+    let mut changed = false;
+    'rules: for number in 0..costly.rules_len().0.to_usize() {
+        changed |= take_rule(costly, RIdx(index_of(number)), set);
+    }
+    changed
+}
+
+/// The same, from the last rule to the first.
+fn pass_back<S: IndexStorage>(costly: &KeptCosts<S>, set: &mut Vob) -> bool
+    requires width { length set.old.bits ≡ costly.now.grammar.rules }
+    requires bounded { (n : ℕ) × IsBoundedBy costly.now.grammar (cost_of costly.now.costs) (is_set set.old.bits) n }
+    ensures width { length set.new.bits ≡ costly.now.grammar.rules }
+    ensures bounded { (n : ℕ) × IsBoundedBy costly.now.grammar (cost_of costly.now.costs) (is_set set.new.bits) n }
+    ensures steps { PassStep held Anything set.old.bits set.new.bits result }
+{
+    let count = costly.rules_len().0.to_usize();
+    let mut changed = false;
+    'rules: for number in 0..count {
+        let ridx = RIdx(index_of(count - 1 - number));
+        changed |= take_rule(costly, ridx, set);
+    }
+    changed
+}
+
+/// Both, until a pass takes out none.
+pub(super) fn settle<S: IndexStorage>(costly: &KeptCosts<S>, set: &mut Vob)
+    requires width { length set.old.bits ≡ costly.now.grammar.rules }
+    requires bounded { (n : ℕ) × IsBoundedBy costly.now.grammar (cost_of costly.now.costs) (is_set set.old.bits) n }
+    ensures width { length set.new.bits ≡ costly.now.grammar.rules }
+    ensures bounded { (n : ℕ) × IsBoundedBy costly.now.grammar (cost_of costly.now.costs) (is_set set.new.bits) n }
+    ensures held { held set.new.bits ≤ held set.old.bits }
+{
+    'passes: loop {
+        let back = pass_back(costly, set);
+        let on = pass(costly, set);
+        if !(back | on) {
+            return;
+        }
+    }
+}

@@ -1,6 +1,0 @@
-use Rattle.std.proofs.Common.{◌<◌, subst}
-use Rattle.cfgrammar.proofs.Lookups.{some_rule}
-use Rattle.cfgrammar.proofs.yacc.grammar.YaccGrammar.start_rule_idx.Goals as goal
-
-pub returns-clause-within : goal.returns-clause-within
-returns-clause-within g c = subst (λ v. 0 < v.grammar.rules) c.self.view_is (some_rule _ c.self.invariant.0.well_formed)

@@ -1,6 +1,0 @@
-use Rattle.cfgrammar.specs.Symbols.{syms_of}
-use Rattle.cfgrammar.specs.WorkLists.{AddsNamed, IsSomeBelow}
-use Rattle.cfgrammar.proofs.yacc.naming.Naming.add_all.Given as goal
-
-abbrev pub invariant-symbols : goal.invariant-symbols
-invariant-symbols g l = AddsNamed l.number (IsSomeBelow (syms_of g.S.IndexStorage.number l.symbols) l.index) l.initial.self l.self

@@ -1,0 +1,25 @@
+use Rattle.std.proofs.Common.{sym, ap, ◌∙◌, subst}
+use Rattle.std.proofs.lemmas.List.{length-map}
+use Rattle.vob.specs.Packed.{Contents}
+use Rattle.lrtable.specs.ItemRows.{IsCoreOf, map_of}
+use Rattle.lrtable.specs.Sharing.{shared_map}
+use Rattle.lrtable.specs.StateViews.{item_of, core_of_set}
+use Rattle.lrtable.proofs.Opened.{closed_is}
+use Rattle.lrtable.proofs.closures.closed_by.Goals as goal
+
+pub of_core-requires : goal.of_core-requires
+of_core-requires g c =
+    let n = length-map c.args.core.now.items.items (item_of g.S.IndexStorage.number) in
+    let m = length-map c.args.core.now.looks.items (λ (v : Contents). v.bits) in
+    sym m ∙ c.requires.fits.good.count ∙ n
+
+pub open_rules-requires-clause-core : goal.open_rules-requires-clause-core
+open_rules-requires-clause-core g c = subst (IsCoreOf c.args.grm.now.grammar.tokens) (sym c.in_ok-set.ensures.core) c.requires.fits.good
+
+pub returns-clause-is : goal.returns-clause-is
+returns-clause-is g c =
+    let number = g.S.IndexStorage.number in
+    let G = c.args.grm.now.grammar in
+    let grown = c.in_ok-open_rules.ensures in
+    closed_is G c.args.openers.now (core_of_set number c.args.core.now) c.close.new.self.opening c.start_prod.ensures.well_formed c.requires.openers c.in_ok-close.ensures.closed (shared_map number c.in_ok-set.set) (shared_map number c.open_rules.new.self)
+    (ap map_of c.in_ok-set.ensures.core) grown.extends.items grown.extends.looks

@@ -1,0 +1,9 @@
+-- What is so of each of some things, at one of them.
+use Rattle.std.proofs.Common.{Ok, Err}
+use Rattle.std.specs.Prelude.{Result, IfOk}
+
+-- of an answer within an answer
+pub within_at : {A X E F : Type 0} (Q R : A → Type 0) (P : A → X → Type 0) (a : A) → Q a → R a → (r : Result (Result X E) F) → IfOk r (λ s. IfOk s (λ p. (b : A) → Q b → R b → P b p)) → IfOk r (λ s. IfOk s (P a))
+within_at Q R P a q h (Ok (Ok p)) k = k a q h
+within_at Q R P a q h (Ok (Err e)) k = k
+within_at Q R P a q h (Err e) k = k

@@ -1,0 +1,17 @@
+use Rattle.std.proofs.Common.{◌+◌, ◌*◌, [], length}
+use Rattle.lr_theory.specs.Chains.{Reductions}
+use Rattle.lrtable.specs.Graphs.{GraphValue}
+use Rattle.lrtable.specs.Tables.{automaton_of}
+use Rattle.lrpar.specs.Replay.{overlaid, IsOver, Leads}
+use Rattle.lrpar.proofs.Room.{room}
+use Rattle.lrpar.proofs.overlay.reduce_all.Given as goal
+
+abbrev pub invariant-reductions : goal.invariant-reductions
+invariant-reductions g l = record {
+  over : IsOver g.S.IndexStorage.number l.stable l.base l.overlay;
+  short : (x : GraphValue) → Reductions l.grm.grammar (automaton_of x l.stable) (g.S.IndexStorage.number l.tidx.0) (length (overlaid g.S.IndexStorage.number l.base l.initial.overlay) * (l.limit + 1)) (overlaid g.S.IndexStorage.number l.base l.overlay) → ⊥;
+  leads : (x : GraphValue) → Leads l.grm.grammar (automaton_of x l.stable) (g.S.IndexStorage.number l.tidx.0) (overlaid g.S.IndexStorage.number l.base l.initial.overlay) (overlaid g.S.IndexStorage.number l.base l.overlay);
+}
+
+abbrev pub decreases-reductions : goal.decreases-reductions
+decreases-reductions g l = room l.grm.grammar (automaton_of (record { start = 0; cores = []; closed = []; edges = [] }) l.stable) (g.S.IndexStorage.number l.tidx.0) (length (overlaid g.S.IndexStorage.number l.base l.initial.overlay) * (l.limit + 1)) (overlaid g.S.IndexStorage.number l.base l.overlay)

@@ -1,0 +1,41 @@
+use Rattle.std.proofs.Common.{sym, ap, ◌∙◌}
+use Rattle.lrtable.specs.Tables.{automaton_of}
+use Rattle.lrpar.specs.Made.{made_by}
+use Rattle.lrpar.specs.Reducing.{stack_of}
+use Rattle.lrpar.specs.Run.{token_by}
+use Rattle.lrpar.specs.Taking.{sequences_of}
+use Rattle.lrpar.proofs.Mending.{first_taken, none_listed}
+use Rattle.lrpar.proofs.parse.mend.Goals as goal
+
+pub apply_steps-requires-clause-stand : goal.apply_steps-requires-clause-stand
+apply_steps-requires-clause-stand g c =
+    let h = c.requires.stand in
+    let number = g.S.IndexStorage.number in
+    let found = c.in_ok-found.ensures h.0 h.1 h.2 h.3 h.4.stands (h.4.states ∙ ap (stack_of number) (sym c.as_slice.ensures.value)) h.5 in
+    let first = first_taken number c.args.grm.now.grammar (automaton_of h.0 c.args.stable.now) (token_by g.L.Lexeme.lex) (made_by g.L.Lexeme.faulty_of g.L.Lexeme.lex c.args.end) h.2 found.offered c.in_ok-found.found.repairs.items c.deref.result.now c.in-Some.steps.now c.as_slice-in-Some.result.now found.told.are_repairs c.deref.ensures.value c.in-Some.ensures.value c.as_slice-in-Some.ensures.value in
+    (h.0, h.1, h.2, h.3, h.4, h.5, first.takes)
+
+pub returns-in_ok-next-in-Some-clause-mended : goal.returns-in_ok-next-in-Some-clause-mended
+returns-in_ok-next-in-Some-clause-mended g c = λ x input d safe stand rest.
+    let number = g.S.IndexStorage.number in
+    let found = c.in_ok-found.ensures x input d safe stand.stands (stand.states ∙ ap (stack_of number) (sym c.as_slice.ensures.value)) rest in
+    let first = first_taken number c.args.grm.now.grammar (automaton_of x c.args.stable.now) (token_by g.L.Lexeme.lex) (made_by g.L.Lexeme.faulty_of g.L.Lexeme.lex c.args.end) d found.offered c.in_ok-found.found.repairs.items c.deref.result.now c.in-Some.steps.now c.as_slice-in-Some.result.now found.told.are_repairs c.deref.ensures.value c.in-Some.ensures.value c.as_slice-in-Some.ensures.value in
+    let k = c.in_ok-next-in-Some.ensures.applied x input d safe stand rest first.takes in
+    record {
+      offered = found.offered;
+      told = found.told;
+      resumes = record { edits = _; first = first; input = _; steps = k.steps; goes = record { config = k.goes.config; goes = k.goes.goes; stand = k.goes.stand; rest_is = k.goes.rest_is ∙ k.left_is } };
+    }
+
+pub returns-in-None-clause-mended : goal.returns-in-None-clause-mended
+returns-in-None-clause-mended g c = λ x input d safe stand rest.
+    let number = g.S.IndexStorage.number in
+    let found = c.in_ok-found.ensures x input d safe stand.stands (stand.states ∙ ap (stack_of number) (sym c.as_slice.ensures.value)) rest in
+    record {
+      offered = found.offered;
+      told = found.told;
+      resumes = ap (sequences_of number) (sym c.deref.ensures.value) ∙ none_listed number c.deref.result.now c.in-None.ensures.value;
+    }
+
+pub returns-in-None-clause-keeps : goal.returns-in-None-clause-keeps
+returns-in-None-clause-keeps g c = g.V.ValueStack.keeps_all c.args.stacks.now.values

@@ -1,0 +1,13 @@
+use Rattle.std.proofs.Common.{◌≡◌, ◌<◌, ℕ}
+use Rattle.cfg_theory.specs.Grammar.{rule}
+use Rattle.lrtable.specs.Graphs.{target_in}
+use Rattle.lrtable.specs.GraphViews.{edges_seen}
+use Rattle.lrtable.specs.TableValues.{goto_at}
+use Rattle.lrpar.specs.Fitting.{Passed}
+use Rattle.lrpar.proofs.parserdata.cells.least_goto.Given as goal
+
+abbrev pub invariant-rules : goal.invariant-rules
+invariant-rules g l = record {
+  passed : Passed (edges_seen g.S.IndexStorage.number l.edges) l.place (rule l.number);
+  below : (t : ℕ) → t < l.number → t < l.stable.rules → goto_at l.stable (g.S.IndexStorage.number l.state.0) t ≡ target_in (edges_seen g.S.IndexStorage.number l.edges) (rule t);
+}

@@ -1,0 +1,8 @@
+use Rattle.std.proofs.Common.{drop}
+use Rattle.lrpar.specs.Reducing.{stack_of}
+use Rattle.lrpar.specs.Run.{token_by}
+use Rattle.lrpar.specs.Taking.{sequences_of, ListTells}
+use Rattle.lrpar.proofs.repair.taken_of.Given as goal
+
+abbrev pub invariant-sequences : goal.invariant-sequences
+invariant-sequences g l = ListTells g.S.IndexStorage.MAX l.grm.grammar l.stable (token_by g.L.Lexeme.lex) (stack_of g.S.IndexStorage.number l.base) (drop l.index l.lexemes) (sequences_of g.S.IndexStorage.number l.yielded) (sequences_of g.S.IndexStorage.number l.taken.items)

@@ -1,0 +1,33 @@
+-- Parses whose value is a flat tree.
+use Rattle.std.specs.Prelude.{◌≡◌, ℕ, List, map, Option, None, Some, Result}
+use Rattle.cfg_theory.specs.Grammar.{Grammar}
+use Rattle.cfg_theory.specs.Tree.{Tree}
+use Rattle.cfg_theory.specs.Fold.{Span}
+use Rattle.lr_theory.specs.Repair.{Edit}
+use Rattle.lrtable.specs.Graphs.{GraphValue}
+use Rattle.lrtable.specs.TableValues.{TableValue}
+use Rattle.lrtable.specs.Tables.{automaton_of}
+use Rattle.lrpar.specs.FlatTrees.{FlatValue, IsFlat}
+use Rattle.lrpar.specs.Lex.{Lex}
+use Rattle.lrpar.specs.Lexemes.{AreItems}
+use Rattle.lrpar.specs.Made.{end_of, made_by}
+use Rattle.lrpar.specs.Parses.{ErrorValue, IsParse}
+use Rattle.lrpar.specs.Run.{AreLexemes, token_by, span_by}
+use Rattle.lrpar.specs.Told.{told_of, as_told}
+use Rattle.lrpar.specs.declared.parse_error.ParseError.{ParseError}
+
+-- no flat tree where there is no tree, and else its own
+abbrev pub HasFlat : {L : Type 0} → (L → Span) → Option (FlatValue L) → Option (Tree L) → Type 0
+HasFlat at None None = Unit {0}
+HasFlat at (Some v) None = ⊥
+HasFlat at None (Some t) = ⊥
+HasFlat at (Some v) (Some t) = IsFlat at t v.pieces
+
+-- the parse of a list's lexemes, its flat tree or none, and its errors as they are told
+pub record IsFlatParse {S L E : Type 0} (number : S → ℕ) (lex : L → Lex) (faulty : ℕ → ℕ → ℕ → L) (G : Grammar) (g : GraphValue) (v : TableValue) (answers : ℕ → ℕ → L → List (List Edit) → Type 0) (items : List (Result L E)) (value : Option (FlatValue L)) (errors : List (ParseError L S)) : Type 0 where
+  pub lexemes : List L
+  pub are_items : AreItems items lexemes
+  pub are_lexemes : AreLexemes G lex lexemes
+  pub found : List (ErrorValue L)
+  pub parse : IsParse G (automaton_of g v) (token_by lex) (made_by faulty lex (end_of lex lexemes)) answers (HasFlat (span_by lex) value) lexemes found
+  pub told : map (told_of number) errors ≡ map (as_told lexemes) found

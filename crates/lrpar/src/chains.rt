@@ -1,0 +1,231 @@
+//! Chains of reductions: whether more than a cap of them come one after another on one token.
+
+ghost use Rattle.std.specs.Prelude.{◌≡◌, ◌<◌, ◌+◌, ℕ, Some, None, IfOk, OnOk, length};
+ghost use Rattle.lrtable.specs.Tables.{automaton_of};
+ghost use Rattle.lrpar.specs.Reducing.{states_of, stack_of, IsTableFor, AreStates, ReducesTo, TellsLong, TellsToken, TellsAbove, TellsOf, TellsChain, AreShorts, token_number, chain_states};
+ghost use Rattle.lrtable.specs.Graphs.{GraphValue};
+ghost use Rattle.lrtable.specs.CellViews.{state_of};
+
+use crate::numbers::index_below;
+use crate::shorts::{Short, all_shorts, is_quiet, short_at};
+use cfg_base::index::IndexStorage;
+use cfg_base::symbol::{RIdx, TIdx};
+use cfg_numbered::yacc::grammar::NumberedGrammar;
+use lrtable::{Action, StIdx, StateTable};
+use std::alloc::{AllocError, Global};
+
+/// A chain of reductions on a token that leave a state: from the state alone, or with its goto on the rule above it.
+#[derive(Clone, Copy, Debug, PartialEq, Eq)]
+pub struct LongChain<S> {
+    pub state: StIdx<S>,
+    pub ridx: Option<RIdx<S>>,
+    pub tidx: TIdx<S>,
+}
+
+/// One reduction on the token, where one can be made that leaves a state on the stack. The stack's top is last.
+pub(crate) fn reduce_once<S: IndexStorage>(
+    grm: &NumberedGrammar<S>,
+    stable: &StateTable<S>,
+    stack: &mut Vec<StIdx<S>>,
+    tidx: TIdx<S>,
+) -> Result<bool, AllocError>
+    requires table { IsTableFor grm.now.grammar stable.now }
+    requires token { S.number tidx.0 < stable.now.tokens }
+    requires states { AreStates stable.now (states_of S.number stack.old.items) }
+    requires some { 0 < length stack.old.items }
+    ensures ok { IfOk result (λ made. (g : GraphValue) → ReducesTo grm.now.grammar (automaton_of g stable.now) (S.number tidx.0) (stack_of S.number stack.old.items) (stack_of S.number stack.new.items) made) }
+    ensures states { IfOk result (λ made. AreStates stable.now (states_of S.number stack.new.items)) }
+    ensures some { IfOk result (λ made. 0 < length stack.new.items) }
+{
+    let top = stack[stack.len() - 1];
+    let Action::Reduce(pidx) = stable.action(top, tidx) else {
+        return Ok(false);
+    };
+    let count = grm.prod_len(pidx).0.to_usize();
+    if count >= stack.len() {
+        return Ok(false);
+    }
+    let left = stack.len() - count;
+    let below = stack[left - 1];
+    let Some(target) = stable.goto(below, grm.prod_to_rule(pidx)) else {
+        return Ok(false);
+    };
+    stack.truncate(left);
+    stack.push(target)?;
+    Ok(true)
+}
+
+/// Puts a chain's first stack in place of what the stack held: `state`, and `above` on it.
+fn refill<S: IndexStorage>(
+    stack: &mut Vec<StIdx<S>>,
+    state: StIdx<S>,
+    above: Option<StIdx<S>>,
+) -> Result<(), AllocError>
+    ensures { OnOk result (states_of S.number stack.new.items ≡ chain_states (S.number state.0) (state_of S.number above)) }
+{
+    stack.clear();
+    stack.push(state)?;
+    match above {
+        None => Ok(()),
+        Some(above) => {
+            stack.push(above)?;
+            Ok(())
+        }
+    }
+}
+
+/// Whether more than `limit` reductions come on the token that leave the state at the bottom: `state` alone, or with
+/// `above` on it. The stack serves as room.
+pub(crate) fn is_long<S: IndexStorage>(
+    grm: &NumberedGrammar<S>,
+    stable: &StateTable<S>,
+    limit: u16,
+    stack: &mut Vec<StIdx<S>>,
+    state: StIdx<S>,
+    above: Option<StIdx<S>>,
+    tidx: TIdx<S>,
+) -> Result<bool, AllocError>
+    requires table { IsTableFor grm.now.grammar stable.now }
+    requires token { S.number tidx.0 < stable.now.tokens }
+    requires state { S.number state.0 < stable.now.states }
+    requires above { (q : ℕ) → state_of S.number above ≡ Some q → q < stable.now.states }
+    ensures { IfOk result (λ long. (g : GraphValue) → TellsLong grm.now.grammar (automaton_of g stable.now) limit (S.number state.0) (state_of S.number above) (S.number tidx.0) long) }
+{
+    refill(stack, state, above)?;
+    let most = limit as usize + 1;
+    'chain: for _ in 0..most {
+        if !reduce_once(grm, stable, stack, tidx)? {
+            return Ok(false);
+        }
+    }
+    Ok(true)
+}
+
+/// The least token on which more than `limit` reductions come.
+pub(crate) fn long_token<S: IndexStorage>(
+    grm: &NumberedGrammar<S>,
+    stable: &StateTable<S>,
+    limit: u16,
+    stack: &mut Vec<StIdx<S>>,
+    state: StIdx<S>,
+    above: Option<StIdx<S>>,
+) -> Result<Option<TIdx<S>>, AllocError>
+    requires table { IsTableFor grm.now.grammar stable.now }
+    requires state { S.number state.0 < stable.now.states }
+    requires above { (q : ℕ) → state_of S.number above ≡ Some q → q < stable.now.states }
+    ensures { IfOk result (λ found. (g : GraphValue) → TellsToken grm.now.grammar (automaton_of g stable.now) limit stable.now.tokens (S.number state.0) (state_of S.number above) (token_number S.number found)) }
+{
+    let tokens = stable.tokens_len().0;
+    'tokens: for number in 0..tokens.to_usize() {
+        let tidx = TIdx(index_below(number, tokens));
+        if is_long(grm, stable, limit, stack, state, above, tidx)? {
+            return Ok(Some(tidx));
+        }
+    }
+    Ok(None)
+}
+
+/// The least token on which a chain of the state alone passes the limit. Such a chain begins with an empty reduction.
+fn long_alone<S: IndexStorage>(
+    grm: &NumberedGrammar<S>,
+    stable: &StateTable<S>,
+    shorts: &[Short<S>],
+    limit: u16,
+    stack: &mut Vec<StIdx<S>>,
+    state: StIdx<S>,
+) -> Result<Option<TIdx<S>>, AllocError>
+    requires table { IsTableFor grm.now.grammar stable.now }
+    requires shorts { AreShorts S.number grm.now.grammar stable.now shorts.now }
+    requires state { S.number state.0 < stable.now.states }
+    ensures { IfOk result (λ found. (g : GraphValue) → TellsToken grm.now.grammar (automaton_of g stable.now) limit stable.now.tokens (S.number state.0) None (token_number S.number found)) }
+{
+    match short_at(shorts, state) {
+        Short::Nothing => Ok(None),
+        Short::Unit(_) => Ok(None),
+        Short::Other => {
+            let found = long_token(grm, stable, limit, stack, state, None)?;
+            Ok(found)
+        }
+    }
+}
+
+/// The least chain of the state with a goto above it that passes the limit.
+fn long_above<S: IndexStorage>(
+    grm: &NumberedGrammar<S>,
+    stable: &StateTable<S>,
+    shorts: &[Short<S>],
+    limit: u16,
+    stack: &mut Vec<StIdx<S>>,
+    state: StIdx<S>,
+) -> Result<Option<LongChain<S>>, AllocError>
+    requires table { IsTableFor grm.now.grammar stable.now }
+    requires shorts { AreShorts S.number grm.now.grammar stable.now shorts.now }
+    requires state { S.number state.0 < stable.now.states }
+    ensures { IfOk result (λ found. (g : GraphValue) → TellsAbove S.number grm.now.grammar (automaton_of g stable.now) limit (S.number state.0) found) }
+{
+    let rules = stable.rules_len().0;
+    'rules: for number in 0..rules.to_usize() {
+        let ridx = RIdx(index_below(number, rules));
+        if is_quiet(grm, stable, shorts, limit, state, ridx) {
+            continue;
+        }
+        let Some(above) = stable.goto(state, ridx) else {
+            continue;
+        };
+        if let Some(tidx) = long_token(grm, stable, limit, stack, state, Some(above))? {
+            return Ok(Some(LongChain {
+                state,
+                ridx: Some(ridx),
+                tidx,
+            }));
+        }
+    }
+    Ok(None)
+}
+
+/// The least chain of the state that passes the limit.
+fn long_of<S: IndexStorage>(
+    grm: &NumberedGrammar<S>,
+    stable: &StateTable<S>,
+    shorts: &[Short<S>],
+    limit: u16,
+    stack: &mut Vec<StIdx<S>>,
+    state: StIdx<S>,
+) -> Result<Option<LongChain<S>>, AllocError>
+    requires table { IsTableFor grm.now.grammar stable.now }
+    requires shorts { AreShorts S.number grm.now.grammar stable.now shorts.now }
+    requires state { S.number state.0 < stable.now.states }
+    ensures { IfOk result (λ found. (g : GraphValue) → TellsOf S.number grm.now.grammar (automaton_of g stable.now) limit (S.number state.0) found) }
+{
+    if let Some(tidx) = long_alone(grm, stable, shorts, limit, stack, state)? {
+        return Ok(Some(LongChain {
+            state,
+            ridx: None,
+            tidx,
+        }));
+    }
+    let found = long_above(grm, stable, shorts, limit, stack, state)?;
+    Ok(found)
+}
+
+/// The least chain of reductions that passes the limit; none where all chains are within it.
+pub(crate) fn long_chain<S: IndexStorage>(
+    alloc: Global,
+    grm: &NumberedGrammar<S>,
+    stable: &StateTable<S>,
+    limit: u16,
+) -> Result<Option<LongChain<S>>, AllocError>
+    requires table { IsTableFor grm.now.grammar stable.now }
+    ensures { IfOk result (λ found. (g : GraphValue) → TellsChain S.number grm.now.grammar (automaton_of g stable.now) limit found) }
+{
+    let shorts = all_shorts(alloc, grm, stable)?;
+    let mut stack = Vec::new(alloc);
+    let states = stable.states_len().0;
+    'states: for number in 0..states.to_usize() {
+        let state = StIdx(index_below(number, states));
+        if let Some(found) = long_of(grm, stable, shorts.as_slice(), limit, &mut stack, state)? {
+            return Ok(Some(found));
+        }
+    }
+    Ok(None)
+}

@@ -1,0 +1,87 @@
+//! Parses whose value is a flat tree.
+
+ghost use Rattle.std.specs.Prelude.{◌≡◌, ℕ, List, Option, IfOk, IfErr, Err, MatchOption};
+ghost use Rattle.cfg_theory.specs.Tree.{Tree};
+ghost use Rattle.lr_theory.specs.Automaton.{Safe};
+ghost use Rattle.lr_theory.specs.Chains.{ChainsWithin};
+ghost use Rattle.lrtable.specs.Graphs.{GraphValue};
+ghost use Rattle.lrtable.specs.Tables.{automaton_of};
+ghost use Rattle.lrpar.specs.FlatParses.{HasFlat, IsFlatParse};
+ghost use Rattle.lrpar.specs.FlatTrees.{pieces_of};
+ghost use Rattle.lrpar.specs.FlatValues.{FlatStand};
+ghost use Rattle.lrpar.specs.Lexemes.{IsFirstLexError};
+ghost use Rattle.lrpar.specs.Parses.{HoldsValue};
+ghost use Rattle.lrpar.specs.Reducing.{IsTableFor};
+ghost use Rattle.lrpar.specs.Refusals.{IsParseRefusal};
+ghost use Rattle.lrpar.specs.Run.{span_by};
+
+use crate::flat::FlatTree;
+use crate::flat_values::FlatValues;
+use crate::folded_parse::tell_errors;
+use crate::lex_api::Lexeme;
+use crate::lexemes::ParseRefusal;
+use crate::parse::Parsed;
+use crate::parse_error::ParseError;
+use crate::parser::{Outcome, parse_items};
+use crate::recoverer::Recoverer;
+use cfg_base::index::IndexStorage;
+use cfg_numbered::yacc::grammar::NumberedGrammar;
+use lrtable::StateTable;
+use std::alloc::Global;
+
+/// The flat tree that a parse leaves, where it accepts.
+fn tree_left<S: IndexStorage, L: Lexeme<S>>(
+    values: FlatValues<S, L>,
+    accepted: bool,
+) -> Option<FlatTree<S, L>>
+    requires { (tree : Option (Tree L)) × HoldsValue (λ ts. FlatStand (span_by L.lex) ts (pieces_of S.number values.builder.nodes.items) values.builder.ends.items values.spans.items) accepted tree }
+    ensures { (tree : Option (Tree L)) → HoldsValue (λ ts. FlatStand (span_by L.lex) ts (pieces_of S.number values.builder.nodes.items) values.builder.ends.items values.spans.items) accepted tree → HasFlat (span_by L.lex) result tree }
+{
+    if accepted {
+        Some(values.finish())
+    } else {
+        None
+    }
+}
+
+/// The first fault of a lexer's list; else the flat tree of its parse, if it has one, and the errors.
+pub(crate) fn parse_flat<S: IndexStorage, L: Lexeme<S>, E: Copy, R: Recoverer<S, L>>(
+    alloc: Global,
+    grm: &NumberedGrammar<S>,
+    stable: &StateTable<S>,
+    limit: u16,
+    items: &[Result<L, E>],
+    recoverer: &R,
+) -> Result<Result<(Option<FlatTree<S, L>>, Vec<ParseError<L, S>>), E>, ParseRefusal>
+    requires table { IsTableFor grm.now.grammar stable.now }
+    requires chains { (g : GraphValue) → ChainsWithin grm.now.grammar (automaton_of g stable.now) limit }
+    requires safe { (g : GraphValue) × Safe grm.now.grammar (automaton_of g stable.now) × (stable.now.start ≡ g.start) }
+    ensures fault { IfOk result (λ r. IfErr r (IsFirstLexError items.now)) }
+    ensures parsed { IfOk result (λ r. IfOk r (λ p. (g : GraphValue) → Safe grm.now.grammar (automaton_of g stable.now) → stable.now.start ≡ g.start →
+        IsFlatParse S.number L.lex L.faulty_of grm.now.grammar g stable.now (R.answers recoverer.now) items.now p.0 p.1.items)) }
+    ensures refused { IfErr result (IsParseRefusal grm.now.grammar L.lex items.now) }
+{
+    match parse_items(
+        alloc,
+        grm,
+        stable,
+        limit,
+        items,
+        recoverer,
+        FlatValues::new(alloc),
+    )? {
+        Outcome::Fault(fault) => Ok(Err(fault)),
+        Outcome::Parsed(lexemes, parsed) => {
+            let Parsed {
+                values,
+                accepted,
+                errors,
+            } = parsed;
+            let tree = tree_left(values, accepted);
+            match tell_errors(alloc, lexemes.as_slice(), errors.as_slice()) {
+                Ok(errors) => Ok(Ok((tree, errors))),
+                Err(e) => Err(ParseRefusal::Memory(e)),
+            }
+        }
+    }
+}

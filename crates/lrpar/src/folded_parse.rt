@@ -1,0 +1,127 @@
+//! Parses whose value is a fold by functions that are handed in.
+
+ghost use Rattle.std.specs.Prelude.{◌≡◌, ℕ, List, Option, map, IfOk, IfErr};
+ghost use Rattle.cfg_theory.specs.Grammar.{Grammar};
+ghost use Rattle.cfg_theory.specs.Tree.{Tree};
+ghost use Rattle.lr_theory.specs.Automaton.{Safe};
+ghost use Rattle.lr_theory.specs.Chains.{ChainsWithin};
+ghost use Rattle.lrtable.specs.Graphs.{GraphValue};
+ghost use Rattle.lrtable.specs.Tables.{automaton_of};
+ghost use Rattle.lrpar.specs.Parses.{HasValue, HoldsValue};
+ghost use Rattle.lrpar.specs.Parsing.{errors_of};
+ghost use Rattle.lrpar.specs.Reducing.{IsTableFor};
+ghost use Rattle.lrpar.specs.Refusals.{IsParseRefusal};
+ghost use Rattle.lrpar.specs.Run.{span_by};
+ghost use Rattle.lrpar.specs.Stacks.{FoldedStand, values_by};
+ghost use Rattle.lrpar.specs.Told.{told_of, as_told, IsFoldedOutcome};
+
+use crate::folded::{FoldedValues, folded_value, no_folds};
+use crate::lex_api::Lexeme;
+use crate::lexemes::ParseRefusal;
+use crate::parse::{ErrorFound, Parsed};
+use crate::parse_error::ParseError;
+use crate::parse_repair::show_sequences;
+use crate::parser::{Outcome, parse_items};
+use crate::recoverer::Recoverer;
+use cfg_base::index::IndexStorage;
+use cfg_base::span::Span;
+use cfg_base::symbol::{PIdx, RIdx};
+use cfg_numbered::yacc::grammar::NumberedGrammar;
+use lrtable::StateTable;
+use std::alloc::{AllocError, Global};
+
+/// What the list of a lexer comes to: its first fault, or the value of its parse, if it has one, and the errors.
+#[derive(Drop)]
+pub enum FoldedOutcome<S: IndexStorage, L, E, V> {
+    /// The first fault of the lexer.
+    Fault(E),
+    /// The value, if there is one, and the errors.
+    Parsed(Option<V>, Vec<ParseError<L, S>>),
+}
+
+/// The errors of a parse of these lexemes, with the lexemes that their sequences delete or keep.
+pub(crate) fn tell_errors<S: IndexStorage, L: Lexeme<S>>(
+    alloc: Global,
+    lexemes: &[L],
+    found: &[ErrorFound<S, L>],
+) -> Result<Vec<ParseError<L, S>>, AllocError>
+    ensures { IfOk result (λ r. map (told_of S.number) r.items ≡ map (as_told lexemes.now) (errors_of S.number found.now)) }
+{
+    let mut told = Vec::new(alloc);
+    'errors: for error in found {
+        let repairs = show_sequences(alloc, lexemes, error.index, error.repairs.as_slice())?;
+        told.push(ParseError {
+            stidx: error.stidx,
+            lexeme: error.lexeme,
+            repairs,
+        })?;
+    }
+    Ok(told)
+}
+
+/// The value that a parse leaves, where it accepts.
+fn value_left<'a, S: IndexStorage, L: Lexeme<S>, V: Drop, F, H>(
+    folded: FoldedValues<'a, V, F, H>,
+    accepted: bool,
+) -> Option<V>
+where
+    F: Fn(Global, L) -> Result<V, AllocError>,
+    H: Fn(Global, PIdx<S>, RIdx<S>, Span, Vec<V>) -> Result<V, AllocError>,
+    ensures { (G : Grammar) (tree : Option (Tree L)) → HoldsValue (FoldedStand (F.IsAlwaysCallable folded.entry.fterm.now) (H.IsAlwaysCallable folded.entry.fnonterm.now) G (values_by S.number (F.post folded.entry.fterm.now) (H.post folded.entry.fnonterm.now)) (span_by L.lex) folded.entry.values.items folded.entry.spans.items) accepted tree →
+        HasValue G (values_by S.number (F.post folded.entry.fterm.now) (H.post folded.entry.fnonterm.now)) (span_by L.lex) result tree }
+{
+    if accepted {
+        folded_value::<S, L, V, F, H>(folded)
+    } else {
+        None
+    }
+}
+
+/// What the list of a lexer comes to, with the value that the functions give.
+pub(crate) fn parse_folded<
+    S: IndexStorage,
+    L: Lexeme<S>,
+    E: Copy,
+    V: Drop,
+    F,
+    H,
+    R: Recoverer<S, L>,
+>(
+    alloc: Global,
+    grm: &NumberedGrammar<S>,
+    stable: &StateTable<S>,
+    limit: u16,
+    items: &[Result<L, E>],
+    recoverer: &R,
+    fterm: &F,
+    fnonterm: &H,
+) -> Result<FoldedOutcome<S, L, E, V>, ParseRefusal>
+where
+    F: Fn(Global, L) -> Result<V, AllocError>,
+    H: Fn(Global, PIdx<S>, RIdx<S>, Span, Vec<V>) -> Result<V, AllocError>,
+    requires term { F.IsAlwaysCallable fterm.now }
+    requires nonterm { H.IsAlwaysCallable fnonterm.now }
+    requires table { IsTableFor grm.now.grammar stable.now }
+    requires chains { (g : GraphValue) → ChainsWithin grm.now.grammar (automaton_of g stable.now) limit }
+    requires safe { (g : GraphValue) × Safe grm.now.grammar (automaton_of g stable.now) × (stable.now.start ≡ g.start) }
+    ensures parsed { IfOk result (λ o. (g : GraphValue) → Safe grm.now.grammar (automaton_of g stable.now) → stable.now.start ≡ g.start →
+        IsFoldedOutcome S.number L.lex L.faulty_of grm.now.grammar g stable.now (values_by S.number (F.post fterm.now) (H.post fnonterm.now)) (R.answers recoverer.now) items.now o) }
+    ensures refused { IfErr result (IsParseRefusal grm.now.grammar L.lex items.now) }
+{
+    let values = no_folds::<S, L, V, F, H>(alloc, fterm, fnonterm);
+    match parse_items(alloc, grm, stable, limit, items, recoverer, values)? {
+        Outcome::Fault(fault) => Ok(FoldedOutcome::Fault(fault)),
+        Outcome::Parsed(lexemes, parsed) => {
+            let Parsed {
+                values,
+                accepted,
+                errors,
+            } = parsed;
+            let value = value_left::<S, L, V, F, H>(values, accepted);
+            match tell_errors(alloc, lexemes.as_slice(), errors.as_slice()) {
+                Ok(errors) => Ok(FoldedOutcome::Parsed(value, errors)),
+                Err(e) => Err(ParseRefusal::Memory(e)),
+            }
+        }
+    }
+}

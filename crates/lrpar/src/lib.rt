@@ -1,0 +1,48 @@
+//! LR parsing over checked tables: what checks them, the run with any repairs, values and trees.
+//!
+//! `ParserData` holds a grammar, a graph and a table that were checked against it, so that no call on it asks for more. A
+//! parser (`RTParserBuilder`) runs the lexemes of a lexer over them: it tells the first fault of the lexer, or the value
+//! and the errors of the machine with repairs, where a `Recoverer` hands in sequences at each error and the first that can
+//! be taken is applied. The contracts that matter most: `parserdata::ParserData::new` (a pair of a graph and a table is
+//! refused exactly where it isn't safe, at its least place, or where a chain of reductions passes the cap), and those of
+//! `builder::RTParserBuilder`, by `specs/Parses` (`IsParse`: what a parse comes to, and what follows of it).
+#![tactic(auto)]
+
+mod apply;
+pub mod builder;
+mod chains;
+mod error_texts;
+pub mod flat;
+mod flat_parse;
+mod flat_values;
+mod folded;
+pub mod folded_parse;
+mod handed_out;
+pub mod laws;
+pub mod lex_api;
+pub mod lexemes;
+pub mod node;
+mod numbers;
+mod overlay;
+mod parse;
+pub mod parse_error;
+pub mod parse_repair;
+mod parser;
+pub mod parserdata;
+pub mod recoverer;
+mod repair;
+mod run;
+mod shorts;
+mod stacks;
+mod values;
+
+pub use builder::RTParserBuilder;
+pub use flat::FlatTree;
+pub use folded_parse::FoldedOutcome;
+pub use lex_api::{LexError, Lexeme, Lexer, LexerTypes, NonStreamingLexer};
+pub use lexemes::ParseRefusal;
+pub use node::Node;
+pub use parse_error::{LexParseError, ParseError};
+pub use parse_repair::ParseRepair;
+pub use parserdata::{ParserData, ParserDataError};
+pub use recoverer::{NoRecovery, Recoverer, RepairStep};

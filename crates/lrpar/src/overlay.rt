@@ -1,0 +1,192 @@
+//! An overlay over the states of a run, on which turns are made without touching or copying the run's own stack.
+
+ghost use Rattle.std.specs.Prelude.{◌≡◌, ◌<◌, ◌≤◌, ◌∷◌, ℕ, false, length, drop, IfOk, OnOk};
+ghost use Rattle.cfg_theory.specs.Grammar.{end_token};
+ghost use Rattle.lr_theory.specs.Chains.{ChainsWithin};
+ghost use Rattle.lrtable.specs.Tables.{automaton_of};
+ghost use Rattle.lrpar.specs.Reducing.{IsTableFor, ReducesTo};
+ghost use Rattle.lrpar.specs.Replay.{overlaid, IsOver, first_of, Rests, TellsShift, TellsAccept};
+ghost use Rattle.lrpar.specs.Taking.{EditsAreTaken};
+ghost use Rattle.lrtable.specs.Graphs.{GraphValue};
+ghost use Rattle.lrtable.specs.CellViews.{state_of};
+
+use cfg_base::index::IndexStorage;
+use cfg_base::symbol::TIdx;
+use cfg_numbered::yacc::grammar::NumberedGrammar;
+use lrtable::{Action, StIdx, StateTable};
+use std::alloc::AllocError;
+
+/// The lowest `kept` states of a base, and those over them. The top is last.
+#[derive(Drop)]
+pub(crate) struct Overlay<S: IndexStorage> {
+    pub kept: usize,
+    pub over: Vec<StIdx<S>>,
+}
+
+/// The state with `count` others above it.
+pub(crate) fn under<S: IndexStorage>(
+    base: &[StIdx<S>],
+    overlay: &Overlay<S>,
+    count: usize,
+) -> Option<StIdx<S>>
+    requires within { overlay.now.kept ≤ length base.now }
+    ensures { state_of S.number result ≡ first_of (drop count (overlaid S.number base.now overlay.now)) }
+{
+    let over = overlay.over.len();
+    if count < over {
+        return Some(overlay.over[over - 1 - count]);
+    }
+    let more = count - over;
+    if more < overlay.kept {
+        return Some(base[overlay.kept - 1 - more]);
+    }
+    None
+}
+
+/// Takes the `count` topmost states off.
+fn cut<S: IndexStorage>(base: &[StIdx<S>], overlay: &mut Overlay<S>, count: usize)
+    requires within { overlay.old.kept ≤ length base.now }
+    requires enough { count ≤ length (overlaid S.number base.now overlay.old) }
+    ensures within { overlay.new.kept ≤ length base.now }
+    ensures stack { overlaid S.number base.now overlay.new ≡ drop count (overlaid S.number base.now overlay.old) }
+{
+    let over = overlay.over.len();
+    if count <= over {
+        overlay.over.truncate(over - count);
+        return;
+    }
+    overlay.kept -= count - over;
+    overlay.over.clear();
+}
+
+/// Puts a state in the place of the `count` topmost ones.
+pub(crate) fn replace<S: IndexStorage>(
+    base: &[StIdx<S>],
+    overlay: &mut Overlay<S>,
+    count: usize,
+    target: StIdx<S>,
+) -> Result<(), AllocError>
+    requires within { overlay.old.kept ≤ length base.now }
+    requires enough { count ≤ length (overlaid S.number base.now overlay.old) }
+    ensures within { OnOk result (overlay.new.kept ≤ length base.now) }
+    ensures stack { OnOk result (overlaid S.number base.now overlay.new ≡ S.number target.0 ∷ drop count (overlaid S.number base.now overlay.old)) }
+{
+    cut(base, overlay, count);
+    overlay.over.push(target)?;
+    Ok(())
+}
+
+/// One reduction on the token, where one can be made that leaves a state.
+pub(crate) fn reduce_on<S: IndexStorage>(
+    grm: &NumberedGrammar<S>,
+    stable: &StateTable<S>,
+    base: &[StIdx<S>],
+    overlay: &mut Overlay<S>,
+    tidx: TIdx<S>,
+) -> Result<bool, AllocError>
+    requires table { IsTableFor grm.now.grammar stable.now }
+    requires token { S.number tidx.0 < stable.now.tokens }
+    requires over { IsOver S.number stable.now base.now overlay.old }
+    ensures made { IfOk result (λ made. (g : GraphValue) → ReducesTo grm.now.grammar (automaton_of g stable.now) (S.number tidx.0) (overlaid S.number base.now overlay.old) (overlaid S.number base.now overlay.new) made) }
+    ensures same { IfOk result (λ made. made ≡ false → overlaid S.number base.now overlay.new ≡ overlaid S.number base.now overlay.old) }
+    ensures over { IfOk result (λ made. IsOver S.number stable.now base.now overlay.new) }
+{
+    let Some(top) = under(base, overlay, 0) else {
+        return Ok(false);
+    };
+    let Action::Reduce(pidx) = stable.action(top, tidx) else {
+        return Ok(false);
+    };
+    let count = grm.prod_len(pidx).0.to_usize();
+    let Some(below) = under(base, overlay, count) else {
+        return Ok(false);
+    };
+    let Some(target) = stable.goto(below, grm.prod_to_rule(pidx)) else {
+        return Ok(false);
+    };
+    replace(base, overlay, count, target)?;
+    Ok(true)
+}
+
+/// Reductions on the token until no more comes. As chains of them are within `limit`, this ends.
+pub(crate) fn reduce_all<S: IndexStorage>(
+    grm: &NumberedGrammar<S>,
+    stable: &StateTable<S>,
+    limit: u16,
+    base: &[StIdx<S>],
+    overlay: &mut Overlay<S>,
+    tidx: TIdx<S>,
+) -> Result<(), AllocError>
+    requires table { IsTableFor grm.now.grammar stable.now }
+    requires chains { (g : GraphValue) → ChainsWithin grm.now.grammar (automaton_of g stable.now) limit }
+    requires token { S.number tidx.0 < stable.now.tokens }
+    requires over { IsOver S.number stable.now base.now overlay.old }
+    requires some { 0 < length (overlaid S.number base.now overlay.old) }
+    ensures rests { OnOk result ((g : GraphValue) → Rests grm.now.grammar (automaton_of g stable.now) (S.number tidx.0) (overlaid S.number base.now overlay.old) (overlaid S.number base.now overlay.new)) }
+    ensures over { OnOk result (IsOver S.number stable.now base.now overlay.new) }
+{
+    'reductions: loop {
+        if !reduce_on(grm, stable, base, overlay, tidx)? {
+            return Ok(());
+        }
+    }
+}
+
+/// Whether the token is shifted after reductions on it; where it is, that is done.
+pub(crate) fn shift_on<S: IndexStorage>(
+    grm: &NumberedGrammar<S>,
+    stable: &StateTable<S>,
+    limit: u16,
+    base: &[StIdx<S>],
+    overlay: &mut Overlay<S>,
+    tidx: TIdx<S>,
+) -> Result<bool, AllocError>
+    requires table { IsTableFor grm.now.grammar stable.now }
+    requires chains { (g : GraphValue) → ChainsWithin grm.now.grammar (automaton_of g stable.now) limit }
+    requires token { S.number tidx.0 < stable.now.tokens }
+    requires over { IsOver S.number stable.now base.now overlay.old }
+    requires some { 0 < length (overlaid S.number base.now overlay.old) }
+    ensures shifts { IfOk result (λ shifted. (g : GraphValue) → TellsShift grm.now.grammar (automaton_of g stable.now) (S.number tidx.0) (overlaid S.number base.now overlay.old) (overlaid S.number base.now overlay.new) shifted) }
+    ensures over { IfOk result (λ shifted. IsOver S.number stable.now base.now overlay.new) }
+{
+    reduce_all(grm, stable, limit, base, overlay, tidx)?;
+    let Some(top) = under(base, overlay, 0) else {
+        return Ok(false);
+    };
+    let Action::Shift(target) = stable.action(top, tidx) else {
+        return Ok(false);
+    };
+    replace(base, overlay, 0, target)?;
+    Ok(true)
+}
+
+/// Whether the run accepts after reductions on the end token.
+pub(crate) fn accepts_on<S: IndexStorage>(
+    grm: &NumberedGrammar<S>,
+    stable: &StateTable<S>,
+    limit: u16,
+    base: &[StIdx<S>],
+    overlay: &mut Overlay<S>,
+) -> Result<bool, AllocError>
+    requires table { IsTableFor grm.now.grammar stable.now }
+    requires chains { (g : GraphValue) → ChainsWithin grm.now.grammar (automaton_of g stable.now) limit }
+    requires over { IsOver S.number stable.now base.now overlay.old }
+    requires some { 0 < length (overlaid S.number base.now overlay.old) }
+    ensures { IfOk result (λ accepts. (g : GraphValue) → TellsAccept grm.now.grammar (automaton_of g stable.now) (end_token grm.now.grammar) (overlaid S.number base.now overlay.old) accepts) }
+{
+    let eof = grm.eof_token_idx();
+    reduce_all(grm, stable, limit, base, overlay, eof)?;
+    let Some(top) = under(base, overlay, 0) else {
+        return Ok(false);
+    };
+    match stable.action(top, eof) {
+        Action::Accept => Ok(true),
+        _ => Ok(false),
+    }
+}
+
+/// What turns on one token come to on the states decides, edit by edit, whether a sequence of repairs can be taken.
+#[tactic(auto, using(crate::proofs::Taken::edits_are_taken))]
+pub fn edits_are_taken<L>()
+    ensures { EditsAreTaken L }
+{}

@@ -1,0 +1,229 @@
+//! Parses with repairs: a run, and at each of its errors the first sequence handed in that can be taken.
+
+ghost use Rattle.std.specs.Prelude.{◌≡◌, ◌≤◌, ◌<◌, ℕ, List, [], length, drop, IfOk, OnOk};
+ghost use Rattle.cfg_theory.specs.Grammar.{end_token};
+ghost use Rattle.lr_theory.specs.Automaton.{Safe};
+ghost use Rattle.lr_theory.specs.Chains.{ChainsWithin};
+ghost use Rattle.lr_theory.specs.Machine.{Config};
+ghost use Rattle.lr_theory.specs.Stack.{Stands};
+ghost use Rattle.lrtable.specs.Graphs.{GraphValue};
+ghost use Rattle.lrtable.specs.Tables.{automaton_of};
+ghost use Rattle.lrpar.specs.Made.{end_of, made_by, next_lexeme};
+ghost use Rattle.lrpar.specs.Parses.{HoldsValue, IsParse};
+ghost use Rattle.lrpar.specs.Parsing.{error_of, errors_of, IsFoundAt, ComesOf, StacksResume};
+ghost use Rattle.lrpar.specs.Reducing.{IsTableFor, stack_of, AreStates};
+ghost use Rattle.lrpar.specs.Run.{AreLexemes, StartsByNext, StandFor, AreStacks, token_by};
+
+use crate::apply::apply_steps;
+use crate::lex_api::Lexeme;
+use crate::recoverer::{Recoverer, RepairStep};
+use crate::repair::taken_of;
+use crate::run::{Ending, run_from};
+use crate::stacks::Stacks;
+use crate::values::ValueStack;
+use cfg_base::index::IndexStorage;
+use cfg_numbered::yacc::grammar::NumberedGrammar;
+use lrtable::{StIdx, StateTable};
+use std::alloc::{AllocError, Global};
+
+/// An error of a run: the state on top, the next lexeme or the one made up past the last, its index, and the sequences
+/// that can be taken there.
+#[derive(Drop)]
+pub(crate) struct ErrorFound<S: IndexStorage, L> {
+    pub stidx: StIdx<S>,
+    pub lexeme: L,
+    pub index: usize,
+    pub repairs: Vec<Vec<RepairStep<S>>>,
+}
+
+/// An error, and the index at which the run goes on after its first sequence, if it has one.
+#[derive(Drop)]
+pub(crate) struct Mended<S: IndexStorage, L> {
+    pub found: ErrorFound<S, L>,
+    pub next: Option<usize>,
+}
+
+/// What a parse comes to: its values, whether it accepts, and its errors.
+#[derive(Drop)]
+pub(crate) struct Parsed<S: IndexStorage, L, V> {
+    pub values: V,
+    pub accepted: bool,
+    pub errors: Vec<ErrorFound<S, L>>,
+}
+
+/// The offset at which the last lexeme ends, 0 where there is none.
+pub(crate) fn end_offset<S: IndexStorage, L: Lexeme<S>>(lexemes: &[L]) -> usize
+    ensures { result ≡ end_of L.lex lexemes.now }
+{
+    match lexemes.last() {
+        Some(lexeme) => lexeme.span().end(),
+        None => 0,
+    }
+}
+
+/// The lexeme at the index, or past the last one a faulty lexeme of the end token.
+fn lexeme_or_end<S: IndexStorage, L: Lexeme<S>>(
+    grm: &NumberedGrammar<S>,
+    lexemes: &[L],
+    index: usize,
+    end: usize,
+) -> L
+    ensures { result ≡ next_lexeme grm.now.grammar (made_by L.faulty_of L.lex end) (drop index lexemes.now) }
+{
+    match lexemes.get(index) {
+        Some(lexeme) => *lexeme,
+        None => L::new_faulty(grm.eof_token_idx().0, end, 0),
+    }
+}
+
+/// The error of a run that failed at the index: asks the recoverer, and lists what can be taken.
+fn find_error<S: IndexStorage, L: Lexeme<S>, R: Recoverer<S, L>>(
+    alloc: Global,
+    grm: &NumberedGrammar<S>,
+    stable: &StateTable<S>,
+    limit: u16,
+    states: &[StIdx<S>],
+    lexemes: &[L],
+    index: usize,
+    end: usize,
+    recoverer: &R,
+) -> Result<ErrorFound<S, L>, AllocError>
+    requires table { IsTableFor grm.now.grammar stable.now }
+    requires chains { (g : GraphValue) → ChainsWithin grm.now.grammar (automaton_of g stable.now) limit }
+    requires lexemes { AreLexemes grm.now.grammar L.lex lexemes.now }
+    requires index { index ≤ length lexemes.now }
+    requires states { AreStates stable.now (stack_of S.number states.now) }
+    requires some { 0 < length states.now }
+    ensures { IfOk result (λ e. (g : GraphValue) (input : List L) (d : Config L) → Safe grm.now.grammar (automaton_of g stable.now) →
+        Stands grm.now.grammar (automaton_of g stable.now) (token_by L.lex) input d → d.states ≡ stack_of S.number states.now → d.rest ≡ drop index lexemes.now →
+        IsFoundAt grm.now.grammar (automaton_of g stable.now) (token_by L.lex) (made_by L.faulty_of L.lex end) (R.answers recoverer.now) lexemes.now d (error_of S.number e)) }
+{
+    let stidx = states[states.len() - 1];
+    let lexeme = lexeme_or_end(grm, lexemes, index, end);
+    let offered = recoverer.sequences(alloc, stidx, index, lexeme)?;
+    let repairs = taken_of(alloc, grm, stable, limit, states, lexemes, index, offered)?;
+    Ok(ErrorFound {
+        stidx,
+        lexeme,
+        index,
+        repairs,
+    })
+}
+
+/// Finds the error of a run that failed at the index, and applies the first sequence that can be taken there.
+fn mend<S: IndexStorage, L: Lexeme<S>, V: ValueStack<S, L>, R: Recoverer<S, L>>(
+    alloc: Global,
+    grm: &NumberedGrammar<S>,
+    stable: &StateTable<S>,
+    limit: u16,
+    stacks: &mut Stacks<S, V>,
+    lexemes: &[L],
+    index: usize,
+    end: usize,
+    recoverer: &R,
+) -> Result<Mended<S, L>, AllocError>
+    requires table { IsTableFor grm.now.grammar stable.now }
+    requires chains { (g : GraphValue) → ChainsWithin grm.now.grammar (automaton_of g stable.now) limit }
+    requires lexemes { AreLexemes grm.now.grammar L.lex lexemes.now }
+    requires index { index ≤ length lexemes.now }
+    requires end { end ≡ end_of L.lex lexemes.now }
+    requires stacks { AreStacks S.number stable.now stacks.old }
+    requires starts { StartsByNext L.lex (V.starts_by stacks.old.values) lexemes.now index }
+    requires stand { (g : GraphValue) × (input : List L) × (d : Config L) × Safe grm.now.grammar (automaton_of g stable.now) × StandFor S.number L.lex grm.now.grammar g stable.now (V.stands grm.now.grammar) input stacks.old d × (d.rest ≡ drop index lexemes.now) }
+    ensures mended { IfOk result (λ m. (g : GraphValue) (input : List L) (d : Config L) → Safe grm.now.grammar (automaton_of g stable.now) →
+        StandFor S.number L.lex grm.now.grammar g stable.now (V.stands grm.now.grammar) input stacks.old d → d.rest ≡ drop index lexemes.now →
+        ComesOf S.number L.lex grm.now.grammar g stable.now (V.stands grm.now.grammar) (made_by L.faulty_of L.lex end) (R.answers recoverer.now) lexemes.now d stacks.new m) }
+    ensures keeps { OnOk result (V.keeps stacks.old.values stacks.new.values) }
+    ensures stacks { IfOk result (λ m. StacksResume S.number L.lex stable.now (V.starts_by stacks.new.values) stacks.new lexemes.now m.next) }
+{
+    let found = find_error(
+        alloc,
+        grm,
+        stable,
+        limit,
+        stacks.states.as_slice(),
+        lexemes,
+        index,
+        end,
+        recoverer,
+    )?;
+    match found.repairs.first() {
+        Some(steps) => {
+            let next = apply_steps(
+                alloc,
+                grm,
+                stable,
+                limit,
+                stacks,
+                lexemes,
+                index,
+                end,
+                steps.as_slice(),
+            )?;
+            Ok(Mended {
+                found,
+                next: Some(next),
+            })
+        }
+        None => Ok(Mended { found, next: None }),
+    }
+}
+
+/// What the lexemes come to, where at each error the first sequence handed in that can be taken is applied; where there
+/// is none, the parse ends.
+pub(crate) fn parse_lexemes<
+    S: IndexStorage,
+    L: Lexeme<S>,
+    V: ValueStack<S, L> + Drop,
+    R: Recoverer<S, L>,
+>(
+    alloc: Global,
+    grm: &NumberedGrammar<S>,
+    stable: &StateTable<S>,
+    limit: u16,
+    lexemes: &[L],
+    recoverer: &R,
+    values: V,
+) -> Result<Parsed<S, L, V>, AllocError>
+    requires table { IsTableFor grm.now.grammar stable.now }
+    requires chains { (g : GraphValue) → ChainsWithin grm.now.grammar (automaton_of g stable.now) limit }
+    requires lexemes { AreLexemes grm.now.grammar L.lex lexemes.now }
+    requires safe { (g : GraphValue) × Safe grm.now.grammar (automaton_of g stable.now) × (stable.now.start ≡ g.start) }
+    requires empty { V.stands grm.now.grammar values [] }
+    requires starts { (n : ℕ) → V.starts_by values n }
+    ensures keeps { IfOk result (λ p. V.keeps values p.values) }
+    ensures parse { IfOk result (λ p. (g : GraphValue) → Safe grm.now.grammar (automaton_of g stable.now) → stable.now.start ≡ g.start →
+        IsParse grm.now.grammar (automaton_of g stable.now) (token_by L.lex) (made_by L.faulty_of L.lex (end_of L.lex lexemes.now)) (R.answers recoverer.now) (HoldsValue (V.stands grm.now.grammar p.values) p.accepted) lexemes.now (errors_of S.number p.errors.items)) }
+{
+    let end = end_offset(lexemes);
+    let mut stack = Stacks::start(alloc, stable.start_state(), values)?;
+    let mut errors = Vec::new(alloc);
+    let mut at = 0;
+    'errors: loop {
+        match run_from(alloc, grm, stable, limit, &mut stack, lexemes, at)? {
+            Ending::Accepted => {
+                return Ok(Parsed {
+                    values: stack.values,
+                    accepted: true,
+                    errors,
+                });
+            }
+            Ending::Failed(index) => {
+                let Mended { found, next } = mend(
+                    alloc, grm, stable, limit, &mut stack, lexemes, index, end, recoverer,
+                )?;
+                errors.push(found)?;
+                match next {
+                    Some(index) => at = index,
+                    None => {
+                        return Ok(Parsed {
+                            values: stack.values,
+                            accepted: false,
+                            errors,
+                        });
+                    }
+                }
+            }
+        }
+    }
+}

@@ -1,0 +1,100 @@
+//! Errors of lexing and of parsing.
+
+ghost use Rattle.std.specs.Prelude.{◌≡◌};
+ghost use Rattle.lrpar.specs.declared.parse_error.LexParseError.TheVariants as errors;
+
+use crate::lex_api::{LexError, Lexeme, LexerTypes};
+use crate::parse_repair::ParseRepair;
+use cfg_base::index::IndexStorage;
+use lrtable::StIdx;
+use std::alloc::AllocError;
+use std::error::Error;
+use std::fmt;
+use std::fmt::{Debug, Display, Formatter, Write};
+
+/// An error of a parse.
+#[derive(Clone, Debug, Drop, PartialEq)]
+pub struct ParseError<L, S> {
+    /// The state on top of the stack.
+    pub stidx: StIdx<S>,
+    /// The next lexeme, or past the last one a lexeme of the end token.
+    pub lexeme: L,
+    /// The sequences of repairs that can be taken there, in the order in which they were handed in.
+    pub repairs: Vec<Vec<ParseRepair<L, S>>>,
+}
+
+impl<L: Copy, S: Copy> ParseError<L, S> {
+    /// The state on top of the stack.
+    pub fn stidx(&self) -> StIdx<S>
+        ensures { result ≡ self.now.stidx }
+    {
+        self.stidx
+    }
+
+    /// The next lexeme, or past the last one a lexeme of the end token.
+    pub fn lexeme(&self) -> &L
+        ensures { result.now ≡ self.now.lexeme }
+    {
+        &self.lexeme
+    }
+
+    /// The sequences of repairs that can be taken there, in the order in which they were handed in.
+    pub fn repairs(&self) -> &Vec<Vec<ParseRepair<L, S>>>
+        ensures { result.now ≡ self.now.repairs }
+    {
+        &self.repairs
+    }
+}
+
+impl<L: Debug, S> Display for ParseError<L, S> {
+    fn fmt<W: Write>(&self, f: &mut Formatter<W>) -> fmt::Result {
+        write!(f, "Parse error at lexeme {:?}", self.lexeme)
+    }
+}
+
+impl<L: Debug + Drop, S: Debug + Drop> Error for ParseError<L, S> {}
+
+/// An error of lexing or of parsing.
+#[derive(Drop)]
+pub enum LexParseError<T: LexerTypes> {
+    /// An error of lexing.
+    LexError(T::LexErrorT),
+    /// An error of parsing.
+    ParseError(ParseError<T::LexemeT, T::StorageT>),
+}
+
+impl<T: LexerTypes> Debug for LexParseError<T> {
+    fn fmt<W: Write>(&self, f: &mut Formatter<W>) -> fmt::Result {
+        match self {
+            LexParseError::LexError(e) => f.debug_tuple("LexError").field(e).finish(),
+            LexParseError::ParseError(e) => f.debug_tuple("ParseError").field(e).finish(),
+        }
+    }
+}
+
+impl<T: LexerTypes> Display for LexParseError<T> {
+    fn fmt<W: Write>(&self, f: &mut Formatter<W>) -> fmt::Result {
+        match self {
+            LexParseError::LexError(e) => write!(f, "{e}"),
+            LexParseError::ParseError(e) => write!(f, "{e}"),
+        }
+    }
+}
+
+impl<T: LexerTypes> Error for LexParseError<T> {}
+
+impl<T: LexerTypes> From<ParseError<T::LexemeT, T::StorageT>> for LexParseError<T> {
+    ghost from_gives = { λ e r. r ≡ errors.ParseError e };
+
+    fn from(e: ParseError<T::LexemeT, T::StorageT>) -> LexParseError<T> {
+        LexParseError::ParseError(e)
+    }
+}
+
+impl<E: LexError, T: LexerTypes<LexErrorT = E>> From<E> for LexParseError<T> {
+    ghost from_gives = { λ e r. r ≡ errors.LexError e };
+
+    fn from(e: E) -> LexParseError<T> {
+        LexParseError::LexError(e)
+    }
+}

@@ -1,0 +1,71 @@
+//! Parsers over checked data.
+
+ghost use Rattle.std.specs.Prelude.{◌≡◌, ◌<◌, ℕ, [], IfOk, IfErr};
+ghost use Rattle.lr_theory.specs.Automaton.{Safe};
+ghost use Rattle.lr_theory.specs.Chains.{ChainsWithin};
+ghost use Rattle.lrtable.specs.Graphs.{GraphValue};
+ghost use Rattle.lrtable.specs.Tables.{automaton_of};
+ghost use Rattle.lrpar.specs.Reducing.{IsTableFor};
+ghost use Rattle.lrpar.specs.Refusals.{IsParseRefusal};
+ghost use Rattle.lrpar.specs.Outcomes.{IsOutcome, OutcomeKeeps};
+
+use crate::lex_api::Lexeme;
+use crate::lexemes::{ParseRefusal, admit};
+use crate::parse::{Parsed, parse_lexemes};
+use crate::recoverer::Recoverer;
+use crate::values::ValueStack;
+use cfg_base::index::IndexStorage;
+use cfg_numbered::yacc::grammar::NumberedGrammar;
+use lrtable::StateTable;
+use std::alloc::Global;
+
+/// What the list of a lexer comes to: its first fault, or its lexemes with their parse.
+#[derive(Drop)]
+pub(crate) enum Outcome<S: IndexStorage, L, E, V> {
+    Fault(E),
+    Parsed(Vec<L>, Parsed<S, L, V>),
+}
+
+/// What the list of a lexer comes to. `values` is a stack without entries.
+pub(crate) fn parse_items<
+    S: IndexStorage,
+    L: Lexeme<S>,
+    E: Copy,
+    V: ValueStack<S, L> + Drop,
+    R: Recoverer<S, L>,
+>(
+    alloc: Global,
+    grm: &NumberedGrammar<S>,
+    stable: &StateTable<S>,
+    limit: u16,
+    items: &[Result<L, E>],
+    recoverer: &R,
+    values: V,
+) -> Result<Outcome<S, L, E, V>, ParseRefusal>
+    requires table { IsTableFor grm.now.grammar stable.now }
+    requires chains { (g : GraphValue) → ChainsWithin grm.now.grammar (automaton_of g stable.now) limit }
+    requires safe { (g : GraphValue) × Safe grm.now.grammar (automaton_of g stable.now) × (stable.now.start ≡ g.start) }
+    requires empty { V.stands grm.now.grammar values [] }
+    requires starts { (n : ℕ) → V.starts_by values n }
+    ensures parsed { IfOk result (λ o. (g : GraphValue) → Safe grm.now.grammar (automaton_of g stable.now) → stable.now.start ≡ g.start →
+        IsOutcome S.number L.lex L.faulty_of grm.now.grammar g stable.now (V.stands grm.now.grammar) (R.answers recoverer.now) items.now o) }
+    ensures keeps { IfOk result (OutcomeKeeps (V.keeps values)) }
+    ensures refused { IfErr result (IsParseRefusal grm.now.grammar L.lex items.now) }
+{
+    let lexemes = match admit(alloc, grm, items)? {
+        Ok(lexemes) => lexemes,
+        Err(fault) => return Ok(Outcome::Fault(fault)),
+    };
+    match parse_lexemes(
+        alloc,
+        grm,
+        stable,
+        limit,
+        lexemes.as_slice(),
+        recoverer,
+        values,
+    ) {
+        Ok(parsed) => Ok(Outcome::Parsed(lexemes, parsed)),
+        Err(e) => Err(ParseRefusal::Memory(e)),
+    }
+}

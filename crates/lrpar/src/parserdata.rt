@@ -1,0 +1,222 @@
+//! Checked data of a parser: a graph and a table that fit a grammar, and whose chains of reductions are within a cap.
+
+ghost use Rattle.std.specs.Prelude.{◌≡◌, ◌↔◌, IsTrue, IfOk, IfErr, OnOk};
+ghost use Rattle.lr_theory.specs.Automaton.{Complete};
+ghost use Rattle.lr_theory.specs.Chains.{ChainsWithin};
+ghost use Rattle.lrtable.specs.Graphs.{GraphValue};
+ghost use Rattle.lrtable.specs.Tables.{automaton_of};
+ghost use Rattle.lrpar.specs.Pair.{IsSafePair};
+ghost use Rattle.lrpar.specs.Reducing.{IsTableFor};
+ghost use Rattle.lrpar.specs.Checked.{IsDataRefusal, TellsVerdict};
+ghost use Rattle.lrpar.specs.Fitting.{Tells};
+ghost use Rattle.lrpar.specs.declared.parserdata.ParserDataError.TheVariants as errors;
+
+mod carrying;
+mod cells;
+mod complete;
+mod edges;
+mod fitting;
+mod items;
+mod safety;
+
+use crate::chains::{LongChain, long_chain};
+use crate::parserdata::complete::is_complete;
+pub use crate::parserdata::fitting::Cell;
+use crate::parserdata::fitting::Misfit;
+use crate::parserdata::safety::least_misfit;
+use cfg_base::index::IndexStorage;
+use cfg_base::symbol::{RIdx, TIdx};
+use cfg_numbered::yacc::grammar::NumberedGrammar;
+use lrtable::{StIdx, StateGraph, StateTable};
+use std::alloc::{AllocError, Global};
+use std::marker::Model;
+
+/// A grammar with a graph and a table that are safe for it. Contracts see the three and the cap.
+#[derive(Drop)]
+pub struct ParserData<S: IndexStorage> {
+    grm: NumberedGrammar<S>,
+    sgraph: StateGraph<S>,
+    stable: StateTable<S>,
+    cap: u16,
+    complete: bool,
+}
+
+impl<S: IndexStorage> Model for ParserData<S> {
+    ghost use Rattle.lr_theory.specs.Automaton.{Complete};
+    ghost use Rattle.lrtable.specs.Tables.{automaton_of};
+    ghost use Rattle.lrpar.specs.Checked.{ParserValue, IsData};
+    ghost use Rattle.lrpar.specs.Fitting.{Tells};
+
+    ghost Value = { ParserValue };
+
+    ghost view = { λ d. record { grammar = d.grm; graph = d.sgraph; table = d.stable; cap = d.cap } };
+
+    ghost invariant = { λ d. IsData d.grm.grammar d.sgraph d.stable d.cap × Tells (Complete d.grm.grammar (automaton_of d.sgraph d.stable)) d.complete };
+}
+
+/// The parts of data that were refused.
+#[derive(Drop)]
+pub struct Parts<S: IndexStorage> {
+    pub grm: NumberedGrammar<S>,
+    pub sgraph: StateGraph<S>,
+    pub stable: StateTable<S>,
+}
+
+/// Why data were refused. The parts are handed back.
+#[derive(Drop)]
+pub enum ParserDataError<S: IndexStorage> {
+    /// A run on the table could be stuck or accept what is no derivation: the least place that doesn't fit.
+    UnsafeTable {
+        state: StIdx<S>,
+        cell: Cell<S>,
+        parts: Parts<S>,
+    },
+    /// More than `cap` reductions come one after another: the least such chain.
+    TooManyReductions {
+        state: StIdx<S>,
+        rule: Option<RIdx<S>>,
+        token: TIdx<S>,
+        cap: u16,
+        parts: Parts<S>,
+    },
+    /// There is no memory.
+    Memory(AllocError),
+}
+
+impl<S: IndexStorage> From<AllocError> for ParserDataError<S> {
+    ghost from_gives = { λ x e. e ≡ errors.Memory x };
+
+    fn from(e: AllocError) -> ParserDataError<S> {
+        ParserDataError::Memory(e)
+    }
+}
+
+/// What a check comes to.
+#[derive(Clone, Copy, Debug, PartialEq, Eq)]
+enum Verdict<S> {
+    Checked(bool),
+    Unsafe(Misfit<S>),
+    Long(LongChain<S>),
+}
+
+/// Checks the pair, and then the chains.
+fn judge<S: IndexStorage>(
+    alloc: Global,
+    grm: &NumberedGrammar<S>,
+    sgraph: &StateGraph<S>,
+    stable: &StateTable<S>,
+    cap: u16,
+) -> Result<Verdict<S>, AllocError>
+    ensures { IfOk result (TellsVerdict S.number grm.now.grammar sgraph.now stable.now cap) }
+{
+    // Read, so that the proof may use what is so of each grammar, graph and table.
+    grm.start_prod();
+    sgraph.all_states_len();
+    stable.states_len();
+    if let Some(misfit) = least_misfit(alloc, grm, sgraph, stable)? {
+        return Ok(Verdict::Unsafe(misfit));
+    }
+    if let Some(chain) = long_chain(alloc, grm, stable, cap)? {
+        return Ok(Verdict::Long(chain));
+    }
+    let complete = is_complete(grm, sgraph, stable);
+    Ok(Verdict::Checked(complete))
+}
+
+impl<S: IndexStorage> ParserData<S> {
+    /// Checks a graph and a table against a grammar and a cap on chains of reductions.
+    pub fn new(
+        alloc: Global,
+        grm: NumberedGrammar<S>,
+        sgraph: StateGraph<S>,
+        stable: StateTable<S>,
+        cap: u16,
+    ) -> Result<ParserData<S>, ParserDataError<S>>
+        ensures holds { IfOk result (λ d. d ≡ record { grammar = grm; graph = sgraph; table = stable; cap = cap }) }
+        ensures safe { OnOk result (IsSafePair grm.grammar sgraph stable) }
+        ensures chains { OnOk result (ChainsWithin grm.grammar (automaton_of sgraph stable) cap) }
+        ensures refused { IfErr result (IsDataRefusal S.number grm sgraph stable cap) }
+    {
+        match judge(alloc, &grm, &sgraph, &stable, cap)? {
+            Verdict::Checked(complete) => Ok(ParserData {
+                grm,
+                sgraph,
+                stable,
+                cap,
+                complete,
+            }),
+            Verdict::Unsafe(misfit) => Err(ParserDataError::UnsafeTable {
+                state: misfit.state,
+                cell: misfit.cell,
+                parts: Parts {
+                    grm,
+                    sgraph,
+                    stable,
+                },
+            }),
+            Verdict::Long(chain) => Err(ParserDataError::TooManyReductions {
+                state: chain.state,
+                rule: chain.ridx,
+                token: chain.tidx,
+                cap,
+                parts: Parts {
+                    grm,
+                    sgraph,
+                    stable,
+                },
+            }),
+        }
+    }
+
+    /// Lends the grammar.
+    pub fn grm(&self) -> &NumberedGrammar<S>
+        ensures { result.now ≡ self.now.grammar }
+    {
+        &self.grm
+    }
+
+    /// Lends the graph.
+    pub fn sgraph(&self) -> &StateGraph<S>
+        ensures { result.now ≡ self.now.graph }
+    {
+        &self.sgraph
+    }
+
+    /// Lends the table.
+    pub fn stable(&self) -> &StateTable<S>
+        ensures { result.now ≡ self.now.table }
+    {
+        &self.stable
+    }
+
+    /// How many reductions a chain has at most.
+    pub fn cap(&self) -> u16
+        ensures { result ≡ self.now.cap }
+    {
+        self.cap
+    }
+
+    /// Whether each item's action stands in its cell, so that the run accepts each derivation.
+    pub fn complete(&self) -> bool
+        ensures { IsTrue result ↔ Complete self.now.grammar.grammar (automaton_of self.now.graph self.now.table) }
+    {
+        self.is_complete()
+    }
+
+    /// Whether the data are complete.
+    fn is_complete(&self) -> bool
+        ensures { Tells (Complete self.now.grammar.grammar (automaton_of self.now.graph self.now.table)) result }
+    {
+        self.complete
+    }
+
+    /// A law: what a run may rely on.
+    pub(crate) fn facts(&self)
+        ensures table { IsTableFor self.now.grammar.grammar self.now.table }
+        ensures pair { IsSafePair self.now.grammar.grammar self.now.graph self.now.table }
+        ensures chains { (g : GraphValue) → ChainsWithin self.now.grammar.grammar (automaton_of g self.now.table) self.now.cap }
+    {
+        // Read, so that the proof may use what is so of all data.
+        let _cap = self.cap;
+    }
+}

@@ -1,0 +1,231 @@
+//! Whether the cells and gotos of a state fit a grammar.
+
+ghost use Rattle.std.specs.Prelude.{◌≡◌, ◌<◌, length};
+ghost use Rattle.cfg_theory.specs.Grammar.{rule, token};
+ghost use Rattle.lrtable.specs.CellViews.{action_of, state_of};
+ghost use Rattle.lrtable.specs.declared.cells.Action.TheVariants as actions;
+ghost use Rattle.lrtable.specs.Graphs.{AreInOrder, target_in};
+ghost use Rattle.lrtable.specs.GraphViews.{edges_seen};
+ghost use Rattle.lrtable.specs.TableValues.{action_at, goto_at};
+ghost use Rattle.lrpar.specs.Reducing.{rule_number, token_number};
+ghost use Rattle.lrpar.specs.Fitting.{Tells, LeastNot, OfGrammar, IsFor, GoesFrom, HasGotos, least_of};
+
+use crate::numbers::index_below;
+use crate::parserdata::edges::{place_of, target_at};
+use crate::parserdata::items::has_end;
+use cfg_base::index::IndexStorage;
+use cfg_base::symbol::{PIdx, RIdx, SIdx, Symbol, TIdx};
+use cfg_numbered::yacc::grammar::NumberedGrammar;
+use lrtable::{Action, Itemset, StIdx, StateTable};
+
+/// Whether two states are one, or there is none on both sides.
+fn same_states<S: IndexStorage>(a: Option<StIdx<S>>, b: Option<StIdx<S>>) -> bool
+    ensures { Tells (state_of S.number a ≡ state_of S.number b) result }
+{
+    match (a, b) {
+        (Some(a), Some(b)) => a.0.to_usize() == b.0.to_usize(),
+        (None, None) => true,
+        _ => false,
+    }
+}
+
+/// Whether a shift on a token fits: it goes along the edge, and the token isn't the end token.
+fn shift_fits<S: IndexStorage>(
+    grm: &NumberedGrammar<S>,
+    items: &Itemset<S>,
+    edge: Option<StIdx<S>>,
+    tidx: TIdx<S>,
+    target: StIdx<S>,
+) -> bool
+    ensures { Tells (IsFor grm.now.grammar items.now (state_of S.number edge) (S.number tidx.0) (action_of S.number (actions.Shift target))) result }
+{
+    if !same_states(edge, Some(target)) {
+        return false;
+    }
+    tidx.0.to_usize() != grm.eof_token_idx().0.to_usize()
+}
+
+/// Whether a reduction fits: its production is complete there, and isn't the start production.
+fn reduce_fits<S: IndexStorage>(
+    grm: &NumberedGrammar<S>,
+    items: &Itemset<S>,
+    edge: Option<StIdx<S>>,
+    tidx: TIdx<S>,
+    pidx: PIdx<S>,
+) -> bool
+    requires { OfGrammar grm.now.grammar items.now }
+    ensures { Tells (IsFor grm.now.grammar items.now (state_of S.number edge) (S.number tidx.0) (action_of S.number (actions.Reduce pidx))) result }
+{
+    if pidx.0.to_usize() == grm.start_prod().0.to_usize() {
+        return false;
+    }
+    has_end(grm, items, pidx)
+}
+
+/// Whether accepting on a token fits: the start production is complete there, and it is the end token.
+fn accept_fits<S: IndexStorage>(
+    grm: &NumberedGrammar<S>,
+    items: &Itemset<S>,
+    edge: Option<StIdx<S>>,
+    tidx: TIdx<S>,
+) -> bool
+    requires { OfGrammar grm.now.grammar items.now }
+    ensures { Tells (IsFor grm.now.grammar items.now (state_of S.number edge) (S.number tidx.0) (action_of S.number actions.Accept)) result }
+{
+    if tidx.0.to_usize() != grm.eof_token_idx().0.to_usize() {
+        return false;
+    }
+    has_end(grm, items, grm.start_prod())
+}
+
+/// Whether an action on a token fits.
+fn action_fits<S: IndexStorage>(
+    grm: &NumberedGrammar<S>,
+    items: &Itemset<S>,
+    edge: Option<StIdx<S>>,
+    tidx: TIdx<S>,
+    action: Action<S>,
+) -> bool
+    requires { OfGrammar grm.now.grammar items.now }
+    ensures { Tells (IsFor grm.now.grammar items.now (state_of S.number edge) (S.number tidx.0) (action_of S.number action)) result }
+{
+    match action {
+        Action::Shift(target) => shift_fits(grm, items, edge, tidx, target),
+        Action::Reduce(pidx) => reduce_fits(grm, items, edge, tidx, pidx),
+        Action::Accept => accept_fits(grm, items, edge, tidx),
+        Action::Error => true,
+    }
+}
+
+/// The least token whose action doesn't fit.
+pub(crate) fn least_action<S: IndexStorage>(
+    grm: &NumberedGrammar<S>,
+    items: &Itemset<S>,
+    edges: &[(Symbol<S>, StIdx<S>)],
+    stable: &StateTable<S>,
+    state: StIdx<S>,
+) -> Option<TIdx<S>>
+    requires items { OfGrammar grm.now.grammar items.now }
+    requires order { AreInOrder (edges_seen S.number edges.now) }
+    requires state { S.number state.0 < stable.now.states }
+    ensures { LeastNot (λ t. t < stable.now.tokens → IsFor grm.now.grammar items.now (target_in (edges_seen S.number edges.now) (token t)) t (action_at stable.now (S.number state.0) t)) (token_number S.number result) }
+{
+    let tokens = stable.tokens_len().0;
+    let mut place = 0;
+    'tokens: for number in 0..tokens.to_usize() {
+        let tidx = TIdx(index_below(number, tokens));
+        place = place_of(edges, place, Symbol::Token(tidx));
+        let edge = target_at(edges, place, Symbol::Token(tidx));
+        if !action_fits(grm, items, edge, tidx, stable.action(state, tidx)) {
+            return Some(tidx);
+        }
+    }
+    None
+}
+
+/// The least rule whose goto isn't its edge.
+pub(crate) fn least_goto<S: IndexStorage>(
+    edges: &[(Symbol<S>, StIdx<S>)],
+    stable: &StateTable<S>,
+    state: StIdx<S>,
+) -> Option<RIdx<S>>
+    requires order { AreInOrder (edges_seen S.number edges.now) }
+    requires state { S.number state.0 < stable.now.states }
+    ensures { LeastNot (λ A. A < stable.now.rules → goto_at stable.now (S.number state.0) A ≡ target_in (edges_seen S.number edges.now) (rule A)) (rule_number S.number result) }
+{
+    let rules = stable.rules_len().0;
+    let mut place = 0;
+    'rules: for number in 0..rules.to_usize() {
+        let ridx = RIdx(index_below(number, rules));
+        place = place_of(edges, place, Symbol::Rule(ridx));
+        let edge = target_at(edges, place, Symbol::Rule(ridx));
+        if !same_states(stable.goto(state, ridx), edge) {
+            return Some(ridx);
+        }
+    }
+    None
+}
+
+/// The lesser of two rules, or the one that there is.
+pub(crate) fn lesser_rule<S: IndexStorage>(
+    a: Option<RIdx<S>>,
+    b: Option<RIdx<S>>,
+) -> Option<RIdx<S>>
+    ensures { rule_number S.number result ≡ least_of (rule_number S.number a) (rule_number S.number b) }
+{
+    match (a, b) {
+        (None, _) => b,
+        (Some(_), None) => a,
+        (Some(x), Some(y)) => {
+            if y.0.to_usize() < x.0.to_usize() {
+                return Some(y);
+            }
+            Some(x)
+        }
+    }
+}
+
+/// The lesser of two tokens, or the one that there is.
+pub(crate) fn lesser_token<S: IndexStorage>(
+    a: Option<TIdx<S>>,
+    b: Option<TIdx<S>>,
+) -> Option<TIdx<S>>
+    ensures { token_number S.number result ≡ least_of (token_number S.number a) (token_number S.number b) }
+{
+    match (a, b) {
+        (None, _) => b,
+        (Some(_), None) => a,
+        (Some(x), Some(y)) => {
+            if y.0.to_usize() < x.0.to_usize() {
+                return Some(y);
+            }
+            Some(x)
+        }
+    }
+}
+
+/// The rule of a production that begins where there is no goto on it.
+fn bare_of<S: IndexStorage>(
+    grm: &NumberedGrammar<S>,
+    stable: &StateTable<S>,
+    state: StIdx<S>,
+    pidx: PIdx<S>,
+    dot: SIdx<S>,
+) -> Option<RIdx<S>>
+    requires production { S.number pidx.0 < length grm.now.grammar.productions }
+    requires rules { stable.now.rules ≡ grm.now.grammar.rules }
+    requires state { S.number state.0 < stable.now.states }
+    ensures { LeastNot (λ A. GoesFrom grm.now.grammar stable.now (S.number state.0) A (S.number pidx.0) (S.number dot.0)) (rule_number S.number result) }
+{
+    if dot.0.to_usize() != 0 {
+        return None;
+    }
+    if pidx.0.to_usize() == grm.start_prod().0.to_usize() {
+        return None;
+    }
+    let ridx = grm.prod_to_rule(pidx);
+    match stable.goto(state, ridx) {
+        Some(_) => None,
+        None => Some(ridx),
+    }
+}
+
+/// The least rule with a production that begins where there is no goto on it.
+pub(crate) fn least_bare<S: IndexStorage>(
+    grm: &NumberedGrammar<S>,
+    items: &Itemset<S>,
+    stable: &StateTable<S>,
+    state: StIdx<S>,
+) -> Option<RIdx<S>>
+    requires items { OfGrammar grm.now.grammar items.now }
+    requires rules { stable.now.rules ≡ grm.now.grammar.rules }
+    requires state { S.number state.0 < stable.now.states }
+    ensures { LeastNot (HasGotos grm.now.grammar items.now stable.now (S.number state.0)) (rule_number S.number result) }
+{
+    let mut least = None;
+    'items: for index in 0..items.len() {
+        let (pidx, dot) = items.item_at(index);
+        least = lesser_rule(least, bare_of(grm, stable, state, pidx, dot));
+    }
+    least
+}

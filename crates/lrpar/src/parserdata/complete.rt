@@ -1,0 +1,196 @@
+//! Whether each item's action stands in its cell.
+
+ghost use Rattle.std.specs.Prelude.{◌≡◌, ◌<◌, ℕ, Some, true, length, option_map, slice_get};
+ghost use Rattle.cfg_theory.specs.Grammar.{token, symbol_at, IsNext};
+ghost use Rattle.lr_theory.specs.Automaton.{shift, reduce, accept, Complete};
+ghost use Rattle.lr_theory.specs.Itemset.{HasItem};
+ghost use Rattle.lrtable.specs.CellViews.{action_of};
+ghost use Rattle.lrtable.specs.TableValues.{action_at};
+ghost use Rattle.lrtable.specs.Tables.{automaton_of};
+ghost use Rattle.cfg_numbered.specs.Symbols.{sym_of};
+ghost use Rattle.lrpar.specs.Ranges.{IsTable};
+ghost use Rattle.lrpar.specs.Pair.{IsSafePair};
+ghost use Rattle.lrpar.specs.Reducing.{IsTableFor};
+ghost use Rattle.lrpar.specs.Fitting.{Tells, OfGrammar};
+ghost use Rattle.lrpar.specs.Completing.{ItemStands};
+
+use crate::numbers::index_below;
+use cfg_base::index::IndexStorage;
+use cfg_base::symbol::{PIdx, SIdx, Symbol, TIdx};
+use cfg_numbered::yacc::grammar::NumberedGrammar;
+use lrtable::{Action, Itemset, StIdx, StateGraph, StateTable};
+use vob::Vob;
+
+/// Whether an action shifts.
+fn is_shift<S: IndexStorage>(action: Action<S>) -> bool
+    ensures { Tells ((q : ℕ) × (action_of S.number action ≡ shift q)) result }
+{
+    match action {
+        Action::Shift(_) => true,
+        _ => false,
+    }
+}
+
+/// Whether an action reduces by a production.
+fn is_reduce<S: IndexStorage>(action: Action<S>, pidx: PIdx<S>) -> bool
+    ensures { Tells (action_of S.number action ≡ reduce (S.number pidx.0)) result }
+{
+    match action {
+        Action::Reduce(found) => found.0.to_usize() == pidx.0.to_usize(),
+        _ => false,
+    }
+}
+
+/// Whether an action accepts.
+fn is_accept<S: IndexStorage>(action: Action<S>) -> bool
+    ensures { Tells (action_of S.number action ≡ accept) result }
+{
+    match action {
+        Action::Accept => true,
+        _ => false,
+    }
+}
+
+/// The symbol behind a dot, if there is one.
+fn next_of<S: IndexStorage>(
+    grm: &NumberedGrammar<S>,
+    pidx: PIdx<S>,
+    dot: SIdx<S>,
+) -> Option<Symbol<S>>
+    requires { S.number pidx.0 < length grm.now.grammar.productions }
+    ensures { option_map (sym_of S.number) result ≡ symbol_at grm.now.grammar (S.number pidx.0) (S.number dot.0) }
+{
+    let symbols = grm.prod(pidx);
+    let place = dot.0.to_usize();
+    if place >= symbols.len() {
+        return None;
+    }
+    Some(symbols[place])
+}
+
+/// Whether a token behind the dot of an item is shifted.
+fn next_is_shifted<S: IndexStorage>(
+    grm: &NumberedGrammar<S>,
+    stable: &StateTable<S>,
+    state: StIdx<S>,
+    pidx: PIdx<S>,
+    dot: SIdx<S>,
+) -> bool
+    requires table { IsTableFor grm.now.grammar stable.now }
+    requires production { S.number pidx.0 < length grm.now.grammar.productions }
+    requires state { S.number state.0 < stable.now.states }
+    ensures { Tells ((t : ℕ) → IsNext grm.now.grammar (S.number pidx.0) (S.number dot.0) (token t) → (q : ℕ) × (action_at stable.now (S.number state.0) t ≡ shift q)) result }
+{
+    match next_of(grm, pidx, dot) {
+        None => true,
+        Some(Symbol::Rule(_)) => true,
+        Some(Symbol::Token(tidx)) => is_shift(stable.action(state, tidx)),
+    }
+}
+
+/// Whether a flag is set.
+fn is_set(looks: &Vob, index: usize) -> bool
+    ensures { Tells (slice_get looks.now.bits index ≡ Some true) result }
+{
+    match looks.get(index) {
+        Some(set) => set,
+        None => false,
+    }
+}
+
+/// Whether a state reduces by a production on each of these tokens.
+fn reduces_on<S: IndexStorage>(
+    stable: &StateTable<S>,
+    state: StIdx<S>,
+    pidx: PIdx<S>,
+    looks: &Vob,
+) -> bool
+    requires table { IsTable stable.now }
+    requires state { S.number state.0 < stable.now.states }
+    ensures { Tells ((t : ℕ) → slice_get looks.now.bits t ≡ Some true → action_at stable.now (S.number state.0) t ≡ reduce (S.number pidx.0)) result }
+{
+    let tokens = stable.tokens_len().0;
+    'tokens: for index in 0..looks.len() {
+        if !is_set(looks, index) {
+            continue;
+        }
+        if index >= tokens.to_usize() {
+            return false;
+        }
+        let tidx = TIdx(index_below(index, tokens));
+        if !is_reduce(stable.action(state, tidx), pidx) {
+            return false;
+        }
+    }
+    true
+}
+
+/// Whether the actions of an item stand in their cells.
+fn item_stands<S: IndexStorage>(
+    grm: &NumberedGrammar<S>,
+    items: &Itemset<S>,
+    stable: &StateTable<S>,
+    state: StIdx<S>,
+    pidx: PIdx<S>,
+    dot: SIdx<S>,
+) -> bool
+    requires table { IsTableFor grm.now.grammar stable.now }
+    requires production { S.number pidx.0 < length grm.now.grammar.productions }
+    requires state { S.number state.0 < stable.now.states }
+    ensures { Tells (ItemStands grm.now.grammar stable.now items.now (S.number state.0) (S.number pidx.0) (S.number dot.0)) result }
+{
+    if !next_is_shifted(grm, stable, state, pidx, dot) {
+        return false;
+    }
+    if dot.0.to_usize() != grm.prod_len(pidx).0.to_usize() {
+        return true;
+    }
+    if pidx.0.to_usize() == grm.start_prod().0.to_usize() {
+        return is_accept(stable.action(state, grm.eof_token_idx()));
+    }
+    match items.get(pidx, dot) {
+        Some(looks) => reduces_on(stable, state, pidx, looks),
+        None => true,
+    }
+}
+
+/// Whether those of each item of a state do.
+fn state_stands<S: IndexStorage>(
+    grm: &NumberedGrammar<S>,
+    items: &Itemset<S>,
+    stable: &StateTable<S>,
+    state: StIdx<S>,
+) -> bool
+    requires table { IsTableFor grm.now.grammar stable.now }
+    requires items { OfGrammar grm.now.grammar items.now }
+    requires state { S.number state.0 < stable.now.states }
+    ensures { Tells ((p d : ℕ) → HasItem items.now p d → ItemStands grm.now.grammar stable.now items.now (S.number state.0) p d) result }
+{
+    'items: for index in 0..items.len() {
+        let (pidx, dot) = items.item_at(index);
+        if !item_stands(grm, items, stable, state, pidx, dot) {
+            return false;
+        }
+    }
+    true
+}
+
+/// Whether those of each item of all states do.
+pub(crate) fn is_complete<S: IndexStorage>(
+    grm: &NumberedGrammar<S>,
+    sgraph: &StateGraph<S>,
+    stable: &StateTable<S>,
+) -> bool
+    requires table { IsTableFor grm.now.grammar stable.now }
+    requires pair { IsSafePair grm.now.grammar sgraph.now stable.now }
+    ensures { Tells (Complete grm.now.grammar (automaton_of sgraph.now stable.now)) result }
+{
+    let states = sgraph.all_states_len().0;
+    'states: for number in 0..states.to_usize() {
+        let state = StIdx(index_below(number, states));
+        if !state_stands(grm, sgraph.closed_state(state), stable, state) {
+            return false;
+        }
+    }
+    true
+}

@@ -1,0 +1,27 @@
+//! Places where a graph and a table don't fit a grammar.
+
+use cfg_base::symbol::{PIdx, RIdx, SIdx, TIdx};
+use lrtable::StIdx;
+
+/// The part of a state at which a graph and a table don't fit a grammar.
+#[derive(Clone, Copy, Debug, PartialEq, Eq)]
+pub enum Cell<S> {
+    Counts,
+    Items,
+    Token(TIdx<S>),
+    Rule(RIdx<S>),
+}
+
+/// A place at which a graph and a table don't fit a grammar.
+#[derive(Clone, Copy, Debug, PartialEq, Eq)]
+pub(crate) struct Misfit<S> {
+    pub state: StIdx<S>,
+    pub cell: Cell<S>,
+}
+
+/// An item past dot nought, by its production and the dot one less.
+#[derive(Clone, Copy, Debug, PartialEq, Eq)]
+pub(crate) struct PastItem<S> {
+    pub pidx: PIdx<S>,
+    pub before: SIdx<S>,
+}

@@ -1,0 +1,165 @@
+//! The run over checked tables: shifts and reductions, with values from functions that are handed in.
+
+ghost use Rattle.std.specs.Prelude.{◌≡◌, ◌≤◌, ◌+◌, ℕ, List, length, drop, slice_get, IfOk, OnOk};
+ghost use Rattle.lr_theory.specs.Automaton.{Safe};
+ghost use Rattle.lr_theory.specs.Machine.{Config};
+ghost use Rattle.lrtable.specs.Graphs.{GraphValue};
+ghost use Rattle.lrtable.specs.Tables.{automaton_of};
+ghost use Rattle.lrpar.specs.Reducing.{IsTableFor, stack_of};
+ghost use Rattle.lrpar.specs.Run.{AreLexemes, StartsByNext, StandFor, AreStacks, token_of, NextOf, NextInside, StartsBefore, Turned, StacksAfter, StartsAfter, TurnReduces, Advanced, StacksAdvanced, Ended, StacksEnded, token_by};
+ghost use Rattle.lr_theory.specs.Chains.{ChainsWithin};
+ghost use Rattle.cfg_theory.specs.Grammar.{end_token};
+
+use crate::lex_api::Lexeme;
+use crate::stacks::{Stacks, reduce_onto, shift_onto};
+use crate::values::ValueStack;
+use cfg_base::index::IndexStorage;
+use cfg_base::symbol::TIdx;
+use cfg_numbered::yacc::grammar::NumberedGrammar;
+use lrtable::{Action, StateTable};
+use std::alloc::{AllocError, Global};
+
+/// How a turn of a run ends.
+pub(crate) enum Turn {
+    Reduced,
+    Shifted,
+    Accepted,
+    Failed,
+}
+
+/// How the turns up to the next shift end.
+pub(crate) enum Advance {
+    Shifted,
+    Accepted,
+    Failed,
+}
+
+/// How a run ends: it accepts, or fails at the lexeme at this place (the number of lexemes: past the last one).
+pub(crate) enum Ending {
+    Accepted,
+    Failed(usize),
+}
+
+/// The lexeme at the place, or none past the last one.
+pub(crate) fn lexeme_at<S: IndexStorage, L: Lexeme<S>>(lexemes: &[L], place: usize) -> Option<L>
+    ensures { result ≡ slice_get lexemes.now place }
+{
+    lexemes.get(place).copied()
+}
+
+/// The token of the next lexeme, or the end token where there is none.
+fn next_token<S: IndexStorage, L: Lexeme<S>>(grm: &NumberedGrammar<S>, next: Option<L>) -> TIdx<S>
+    ensures { S.number result.0 ≡ token_of (token_by L.lex) (end_token grm.now.grammar) next }
+{
+    match next {
+        Some(lexeme) => TIdx(lexeme.tok_id()),
+        None => grm.eof_token_idx(),
+    }
+}
+
+/// One step of the machine, on the stacks.
+pub(crate) fn take_turn<S: IndexStorage, L: Lexeme<S>, V: ValueStack<S, L>>(
+    alloc: Global,
+    grm: &NumberedGrammar<S>,
+    stable: &StateTable<S>,
+    stacks: &mut Stacks<S, V>,
+    next: Option<L>,
+) -> Result<Turn, AllocError>
+    requires table { IsTableFor grm.now.grammar stable.now }
+    requires inside { NextInside grm.now.grammar L.lex next }
+    requires stacks { AreStacks S.number stable.now stacks.old }
+    requires starts { StartsBefore L.lex (V.starts_by stacks.old.values) next }
+    requires stand { (g : GraphValue) × (input : List L) × (d : Config L) × Safe grm.now.grammar (automaton_of g stable.now) × StandFor S.number L.lex grm.now.grammar g stable.now (V.stands grm.now.grammar) input stacks.old d × NextOf next d.rest }
+    ensures turned { IfOk result (λ t. (g : GraphValue) (input : List L) (d : Config L) → Safe grm.now.grammar (automaton_of g stable.now) →
+        StandFor S.number L.lex grm.now.grammar g stable.now (V.stands grm.now.grammar) input stacks.old d → NextOf next d.rest →
+        Turned S.number L.lex grm.now.grammar g stable.now (V.stands grm.now.grammar) input d stacks.new next t) }
+    ensures stacks { IfOk result (StacksAfter S.number stable.now stacks.new) }
+    ensures starts { IfOk result (StartsAfter L.lex (V.starts_by stacks.old.values) (V.starts_by stacks.new.values) next) }
+    ensures keeps { OnOk result (V.keeps stacks.old.values stacks.new.values) }
+    ensures reduces { IfOk result (λ t. (g : GraphValue) → TurnReduces grm.now.grammar (automaton_of g stable.now) (token_of (token_by L.lex) (end_token grm.now.grammar) next) (stack_of S.number stacks.old.states.items) (stack_of S.number stacks.new.states.items) t) }
+{
+    let top = stacks.states[stacks.states.len() - 1];
+    let tidx = next_token(grm, next);
+    match stable.action(top, tidx) {
+        Action::Shift(target) => match next {
+            Some(lexeme) => {
+                shift_onto(alloc, stacks, lexeme, target)?;
+                Ok(Turn::Shifted)
+            }
+            None => unreachable!(),
+        },
+        Action::Reduce(pidx) => {
+            reduce_onto(alloc, grm, stable, stacks, pidx)?;
+            Ok(Turn::Reduced)
+        }
+        Action::Accept => Ok(Turn::Accepted),
+        Action::Error => Ok(Turn::Failed),
+    }
+}
+
+/// Turns until a lexeme is shifted, the run accepts or it fails. As chains of reductions are within `limit`, it ends.
+pub(crate) fn advance_to<S: IndexStorage, L: Lexeme<S>, V: ValueStack<S, L>>(
+    alloc: Global,
+    grm: &NumberedGrammar<S>,
+    stable: &StateTable<S>,
+    limit: u16,
+    stacks: &mut Stacks<S, V>,
+    next: Option<L>,
+) -> Result<Advance, AllocError>
+    requires table { IsTableFor grm.now.grammar stable.now }
+    requires chains { (g : GraphValue) → ChainsWithin grm.now.grammar (automaton_of g stable.now) limit }
+    requires inside { NextInside grm.now.grammar L.lex next }
+    requires stacks { AreStacks S.number stable.now stacks.old }
+    requires starts { StartsBefore L.lex (V.starts_by stacks.old.values) next }
+    requires stand { (g : GraphValue) × (input : List L) × (d : Config L) × Safe grm.now.grammar (automaton_of g stable.now) × StandFor S.number L.lex grm.now.grammar g stable.now (V.stands grm.now.grammar) input stacks.old d × NextOf next d.rest }
+    ensures advanced { IfOk result (λ t. (g : GraphValue) (input : List L) (d : Config L) → Safe grm.now.grammar (automaton_of g stable.now) →
+        StandFor S.number L.lex grm.now.grammar g stable.now (V.stands grm.now.grammar) input stacks.old d → NextOf next d.rest →
+        Advanced S.number L.lex grm.now.grammar g stable.now (V.stands grm.now.grammar) input d stacks.new next t) }
+    ensures stacks { IfOk result (StacksAdvanced S.number L.lex stable.now (V.starts_by stacks.old.values) (V.starts_by stacks.new.values) stacks.new next) }
+    ensures keeps { OnOk result (V.keeps stacks.old.values stacks.new.values) }
+{
+    'turns: loop {
+        match take_turn(alloc, grm, stable, stacks, next)? {
+            Turn::Reduced => {}
+            Turn::Shifted => return Ok(Advance::Shifted),
+            Turn::Accepted => return Ok(Advance::Accepted),
+            Turn::Failed => return Ok(Advance::Failed),
+        }
+    }
+}
+
+/// Runs from a place on until the run accepts or fails.
+pub(crate) fn run_from<S: IndexStorage, L: Lexeme<S>, V: ValueStack<S, L>>(
+    alloc: Global,
+    grm: &NumberedGrammar<S>,
+    stable: &StateTable<S>,
+    limit: u16,
+    stacks: &mut Stacks<S, V>,
+    lexemes: &[L],
+    place: usize,
+) -> Result<Ending, AllocError>
+    requires table { IsTableFor grm.now.grammar stable.now }
+    requires chains { (g : GraphValue) → ChainsWithin grm.now.grammar (automaton_of g stable.now) limit }
+    requires lexemes { AreLexemes grm.now.grammar L.lex lexemes.now }
+    requires place { place ≤ length lexemes.now }
+    requires stacks { AreStacks S.number stable.now stacks.old }
+    requires starts { StartsByNext L.lex (V.starts_by stacks.old.values) lexemes.now place }
+    requires stand { (g : GraphValue) × (input : List L) × (d : Config L) × Safe grm.now.grammar (automaton_of g stable.now) × StandFor S.number L.lex grm.now.grammar g stable.now (V.stands grm.now.grammar) input stacks.old d × (d.rest ≡ drop place lexemes.now) }
+    ensures ended { IfOk result (λ e. (g : GraphValue) (input : List L) (d : Config L) → Safe grm.now.grammar (automaton_of g stable.now) →
+        StandFor S.number L.lex grm.now.grammar g stable.now (V.stands grm.now.grammar) input stacks.old d → d.rest ≡ drop place lexemes.now →
+        Ended S.number L.lex grm.now.grammar g stable.now (V.stands grm.now.grammar) input d stacks.new lexemes.now e) }
+    ensures stacks { IfOk result (StacksEnded S.number L.lex stable.now (V.starts_by stacks.new.values) stacks.new lexemes.now) }
+    ensures keeps { OnOk result (V.keeps stacks.old.values stacks.new.values) }
+{
+    // Read, so that the proof may use that the number of lexemes fits.
+    let _count = lexemes.len();
+    let mut at = place;
+    'lexemes: loop {
+        let next = lexeme_at(lexemes, at);
+        match advance_to(alloc, grm, stable, limit, stacks, next)? {
+            Advance::Shifted => at += 1,
+            Advance::Accepted => return Ok(Ending::Accepted),
+            Advance::Failed => return Ok(Ending::Failed(at)),
+        }
+    }
+}

@@ -1,6 +1,6 @@
 -- How rounds narrow the set of rules down to the unbounded ones.
-use Rattle.std.proofs.Common.{◌≡◌, ◌≢◌, ℕ, zero, suc, ◌+◌, ◌<◌, ◌≤◌, ◌⊎◌, inl, inr, ◌↔◌, Bool, true, false, cond, ◌&&◌, List, [], ◌∷◌, length, set, replicate, min, Option, Some, slice_get, refl, sym, ap, ◌∙◌, subst, arith}
-use Rattle.std.specs.Prelude.{IsTrue}
+use Rattle.std.proofs.Common.{◌≡◌, ◌≢◌, ℕ, zero, suc, ◌+◌, ◌<◌, ◌≤◌, ◌⊎◌, inl, inr, ◌↔◌, Bool, true, false, cond, ◌&&◌, List, [], ◌∷◌, length, set, replicate, min, Option, Some, None, slice_get, refl, sym, ap, ◌∙◌, subst, arith}
+use Rattle.std.specs.Prelude.{IsTrue, MatchOption}
 use Rattle.std.proofs.lemmas.List.{length-set}
 use Rattle.std.proofs.lemmas.List.Sums.{sum_by-cons}
 use Rattle.std.proofs.lemmas.Option.{slice_get_within}
@@ -15,10 +15,11 @@ use Rattle.cfg_theory.proofs.Derivation.{derives_rule}
 use Rattle.cfg_theory.proofs.CostTables.{chained, one_sum}
 use Rattle.cfg_theory.proofs.Kept.{named_costs, lists_from, has_in_range}
 use Rattle.cfg_numbered.specs.CostTable.{bound, cost_in}
-use Rattle.cfg_numbered.specs.Passes.{PassStep}
+use Rattle.cfg_numbered.specs.WorkLists.{TakesIn}
 use Rattle.cfg_numbered.specs.Sets.{is_set, missing}
 use Rattle.cfg_numbered.specs.Greatest.{IsAmong, AreGaining, IsNarrowedBy, held}
-use Rattle.cfg_numbered.proofs.Bits.{none_set, put_in, put_step}
+use Rattle.cfg_numbered.proofs.Bits.{none_set, put_in, put_fills, put_again}
+use Rattle.cfg_numbered.proofs.ProdSteps.{IsAt, idle, takes_in}
 
 sym_same : (X Y : Sym) → Some X ≡ Some Y → X ≡ Y
 sym_same X Y e = cc
@@ -86,33 +87,47 @@ module _ (G : Grammar) (f : ℕ → ℕ) (costs : List (Option ℕ)) (table : Is
 
 -- what a production does
 module _ (G : Grammar) (f : ℕ → ℕ) (costs : List (Option ℕ)) (old : List Bool) (p : ℕ) (new : List Bool) where
-  abbrev Step : List Bool → Bool → Type 0
-  Step to changed = PassStep missing (IsNarrowedBy G f costs old p) new to changed
+  abbrev pub Narrows : List Bool → Option ℕ → Type 0
+  Narrows to told = TakesIn G missing (λ b q. IsNarrowedBy G f costs old q b) p new to told
 
-  idle : IsNarrowedBy G f costs old p new → Step new false
-  idle closed = record { still = λ e. refl; closed = λ e. closed; fewer = λ e. cc }
+  closed_set : IsNarrowedBy G f costs old p new → Narrows new None
+  closed_set closed = idle G missing (λ b q. IsNarrowedBy G f costs old q b) p new closed
 
-  pub costless_step : ((n : ℕ) → Sums f (cost_in costs) (body_of G p) n → ⊥) → Step new false
-  costless_step none = idle (λ n s. absurd (none n s))
+  pub costless_step : ((n : ℕ) → Sums f (cost_in costs) (body_of G p) n → ⊥) → Narrows new None
+  costless_step none = closed_set (λ n s. absurd (none n s))
 
-  pub unnamed_step : (n k : ℕ) → Sums f (cost_in costs) (body_of G p) n → k ≡ min n bound → (2 ≤ k → (d R : ℕ) → IsNext G p d (rule R) → is_set old R ≡ false) → (k < 2 → (d R : ℕ) → IsNext G p d (rule R) → is_set new R ≡ false) → Step new false
-  unnamed_step n k sums is several single = idle closed
+  pub unnamed_step : (n k : ℕ) → Sums f (cost_in costs) (body_of G p) n → k ≡ min n bound → (2 ≤ k → (d R : ℕ) → IsNext G p d (rule R) → is_set old R ≡ false) → (k < 2 → (d R : ℕ) → IsNext G p d (rule R) → is_set new R ≡ false) → Narrows new None
+  unnamed_step n k sums is several single = closed_set closed
     where
       closed : IsNarrowedBy G f costs old p new
       closed m s d B next =
           let e = one_sum f (cost_in costs) (body_of G p) n m sums s in
           ((λ le h. absurd (true_false (sym h ∙ several (omega (arith, e, is, le)) d B next))), (λ lt h. absurd (true_false (sym h ∙ single (omega (arith, e, is, lt)) d B next))))
 
-  pub put_into : (A : ℕ) (changed : Bool) → head_of G p ≡ A → A < length new → IsTrue changed ↔ (is_set new A ≡ false) → Step (set new A true) changed
-  put_into A changed e lt tells =
-      let r = put_step new A changed lt tells in
-      record { still = r.still; closed = λ q n s d B next. ((λ le h. at (r.closed q)), (λ low h. at (r.closed q))); fewer = r.fewer }
-    where
-      at : IsTrue (is_set new A) → IsTrue (is_set new (head_of G p))
-      at h = subst (λ B. IsTrue (is_set new B)) (sym e) h
+  module _ (A : ℕ) (e : head_of G p ≡ A) (lt : A < length new) (in_range : A < G.rules) where
+    grows : (B : ℕ) → IsTrue (is_set new B) → IsTrue (is_set (set new A true) B)
+    grows B h = (put_in new A B lt).1 (inl h)
 
-pub into : (G : Grammar) (f : ℕ → ℕ) (costs : List (Option ℕ)) (old : List Bool) (p : ℕ) (new to : List Bool) (A : ℕ) (changed : Bool) → to ≡ set new A true → head_of G p ≡ A → A < length new → IsTrue changed ↔ (is_set new A ≡ false) → PassStep missing (IsNarrowedBy G f costs old p) new to changed
-into G f costs old p new to A changed made e lt tells = subst (λ b. PassStep missing (IsNarrowedBy G f costs old p) new b changed) (sym made) (put_into G f costs old p new A changed e lt tells)
+    still : (q : ℕ) → ((d : ℕ) → IsAt (body_of G q) A d → ⊥) → IsNarrowedBy G f costs old q new → IsNarrowedBy G f costs old q (set new A true)
+    still q not c n s d B next =
+        let r = c n s d B next in (
+          λ le h. grows (head_of G q) (r.0 le h),
+          λ low h. elim ((put_in new A B lt).0 h) [ inl x ↦ grows (head_of G q) (r.1 low x) | inr z ↦ absurd (not d (next.at ∙ ap (λ C. Some (rule C)) (sym z))) ],
+        )
+
+    has_head : IsTrue (is_set (set new A true) (head_of G p))
+    has_head = (put_in new A (head_of G p) lt).1 (inr (sym e))
+
+    pub put_into : (o : Option ℕ) → MatchOption o (is_set new A ≡ true) (λ B. (B ≡ A) × (is_set new A ≡ false)) → Narrows (set new A true) o
+    put_into None there = subst (λ b. Narrows b None) (sym (put_again new A lt there)) (closed_set (λ n s d B next. ((λ le h. at), (λ low h. at))))
+      where
+        at : IsTrue (is_set new (head_of G p))
+        at = ap (is_set new) e ∙ there
+    put_into (Some B) told = subst (λ C. Narrows (set new A true) (Some C)) (sym told.0)
+        (takes_in G missing (λ b q. IsNarrowedBy G f costs old q b) p new (set new A true) A in_range still (λ not n s d B next. ((λ le h. has_head), (λ low h. has_head))) (put_fills new A lt told.1))
+
+pub into : (G : Grammar) (f : ℕ → ℕ) (costs : List (Option ℕ)) (old : List Bool) (p : ℕ) (new to : List Bool) (A : ℕ) (o : Option ℕ) → to ≡ set new A true → head_of G p ≡ A → A < length new → A < G.rules → MatchOption o (is_set new A ≡ true) (λ B. (B ≡ A) × (is_set new A ≡ false)) → TakesIn G missing (λ b q. IsNarrowedBy G f costs old q b) p new to o
+into G f costs old p new to A o made e lt in_range told = subst (λ b. TakesIn G missing (λ c q. IsNarrowedBy G f costs old q c) p new b o) (sym made) (put_into G f costs old p new A e lt in_range o told)
 
 pub with_width : (bits : List Bool) (A : ℕ) → length (set bits A true) ≡ length bits
 with_width bits A = length-set bits A true

@@ -1,6 +1,8 @@
 -- Steps of a pass, one after another.
-use Rattle.std.proofs.Common.{◌≡◌, ℕ, ◌+◌, ◌<◌, ◌≤◌, inl, inr, Bool, true, false, ◌||◌, refl, sym, ap, ◌∙◌, subst, arith}
+use Rattle.std.proofs.Common.{◌≡◌, ℕ, zero, suc, ◌+◌, ◌<◌, ◌≤◌, inl, inr, Bool, true, false, ◌||◌, List, [], ◌∷◌, length, get_or, refl, sym, ap, ◌∙◌, subst, arith}
+use Rattle.std.specs.List.{Contains}
 use Rattle.std.proofs.lemmas.Bool.{cases_eq}
+use Rattle.cfg_numbered.specs.Orders.{IsOrder}
 use Rattle.cfg_numbered.specs.Passes.{PassStep, Anything}
 
 module _ {X : Type 0} (room : X → ℕ) where
@@ -49,3 +51,15 @@ module _ {X : Type 0} (room : X → ℕ) where
 
   pub step_last : (C : X → Type 0) (a b c : X) (x y : Bool) → PassStep room Anything a b x → PassStep room C b c y → PassStep room C a c (x || y)
   step_last C a b c x y h k = let r = step_and Anything C a b c x y h k in record { still = r.still; closed = λ e. (r.closed e).1; fewer = r.fewer }
+
+  -- closed at each number of an order
+  pub step_ordered : (C : X → ℕ → Type 0) (a b : X) (x : Bool) (n m : ℕ) (order : List ℕ) → IsOrder m order → length order ≤ n → PassStep room (λ s. (i : ℕ) → i < n → C s (get_or order i 0)) a b x → PassStep room (λ s. (p : ℕ) → p < m → C s p) a b x
+  step_ordered C a b x n m order o le h = record { still = h.still; closed = λ e p lt. at e p (o.all p lt); fewer = h.fewer }
+    where
+      same : (l : List ℕ) (k p : ℕ) → k < length l → get_or l k p ≡ get_or l k 0
+      same [] k p lt = absurd (omega (arith, lt))
+      same (y ∷ l) zero p lt = refl
+      same (y ∷ l) (suc k) p lt = same l k p (omega (arith, lt))
+
+      at : x ≡ false → (p : ℕ) → Contains order p → C a p
+      at e p (k, lt, q) = subst (C a) (sym (same order k p lt) ∙ q) (h.closed e k (omega (arith, lt, le)))

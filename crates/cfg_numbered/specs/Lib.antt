@@ -4,6 +4,7 @@ pub mod Info
 pub mod PrettyPrint
 pub mod Sets
 pub mod WorkLists
+pub mod Orders
 pub mod Firsts
 pub mod Follows
 pub mod Paths

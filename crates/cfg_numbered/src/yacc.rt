@@ -6,6 +6,7 @@ pub mod follows;
 pub mod grammar;
 pub mod info;
 mod naming;
+mod orders;
 mod paths;
 pub mod sentences;
 pub mod sets;

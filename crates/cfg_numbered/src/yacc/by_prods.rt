@@ -1,11 +1,13 @@
-//! Tables over the rules of a grammar that productions fill: each is taken in once, and again where it names a rule of
-//! which the table came to tell something else.
+//! Tables over the rules of a grammar that productions fill: each is taken in once, in an order, and again where it
+//! names a rule of which the table came to tell something else.
 
 ghost use Rattle.std.specs.Prelude.{◌≡◌, ℕ, ◌+◌, ◌<◌, ◌≤◌, ◌⊎◌, List, length, Option, IfOk, OnOk};
 ghost use Rattle.cfg_theory.specs.Grammar.{Grammar};
 ghost use Rattle.cfg_numbered.specs.WorkLists.{ListsNaming, NamesOne, TakesIn};
+ghost use Rattle.cfg_numbered.specs.Orders.{IsOrder};
 
 use crate::yacc::naming::Naming;
+use crate::yacc::orders::Order;
 use crate::yacc::work_list::{WorkList, WorkTable, fill};
 use cfg_base::steps::Steps;
 use std::alloc::{AllocError, Global};
@@ -102,20 +104,20 @@ impl<'n, T: ProdTable + Drop> WorkTable for ByProds<'n, T> {
     }
 }
 
-/// Takes in all productions once, from the last to the first.
-fn start<T: ProdTable>(table: &mut T, prods: usize, work: &mut WorkList) -> Result<(), AllocError>
-    requires prods { prods ≡ length (T.grammar table.old).productions }
+/// Takes in all productions once, in the order.
+fn start<T: ProdTable>(table: &mut T, order: &Order, work: &mut WorkList) -> Result<(), AllocError>
+    requires order { IsOrder (length (T.grammar table.old).productions) order.now }
     requires sound { T.is_sound table.old }
     requires work { work.old.rules ≡ (T.grammar table.old).rules }
     ensures grammar { OnOk result (T.grammar table.new ≡ T.grammar table.old) }
     ensures same { OnOk result (T.is_of_same table.old table.new) }
     ensures sound { OnOk result (T.is_sound table.new) }
     ensures work { OnOk result (work.new.rules ≡ work.old.rules) }
-    ensures closed { OnOk result ((p : ℕ) → p < prods → T.is_closed_by table.new p ⊎ NamesOne (T.grammar table.old) work.new.list p) }
+    ensures closed { OnOk result ((p : ℕ) → p < length (T.grammar table.old).productions → T.is_closed_by table.new p ⊎ NamesOne (T.grammar table.old) work.new.list p) }
     ensures room { OnOk result (T.room table.new + length work.new.list ≤ T.room table.old + length work.old.list) }
 {
-    'prods: for number in 0..prods {
-        take_in(table, prods - 1 - number, work)?;
+    'prods: for index in 0..order.len() {
+        take_in(table, order.at(index), work)?;
     }
     Ok(())
 }
@@ -124,20 +126,20 @@ fn start<T: ProdTable>(table: &mut T, prods: usize, work: &mut WorkList) -> Resu
 /// list: at most one for each change of the table.
 pub fn fill_by_prods<T: ProdTable + Drop, L: Ledger>(
     alloc: Global,
-    prods: usize,
+    order: &Order,
     filling: &mut ByProds<T>,
     steps: &mut Steps<L>,
 ) -> Result<(), AllocError>
-    requires prods { prods ≡ length (T.grammar filling.old.table).productions }
-    requires naming { ListsNaming (T.grammar filling.old.table) prods filling.old.naming.now }
+    requires order { IsOrder (length (T.grammar filling.old.table).productions) order.now }
+    requires naming { ListsNaming (T.grammar filling.old.table) (length (T.grammar filling.old.table).productions) filling.old.naming.now }
     requires sound { T.is_sound filling.old.table }
     ensures same { OnOk result (T.is_of_same filling.old.table filling.new.table) }
     ensures sound { OnOk result (T.is_sound filling.new.table) }
-    ensures closed { OnOk result ((p : ℕ) → p < prods → T.is_closed_by filling.new.table p) }
+    ensures closed { OnOk result ((p : ℕ) → p < length (T.grammar filling.old.table).productions → T.is_closed_by filling.new.table p) }
     ensures takings { steps.new ≤ steps.old + T.room filling.old.table }
 {
     let mut work = WorkList::new(alloc, filling.naming.len())?;
-    start(&mut filling.table, prods, &mut work)?;
+    start(&mut filling.table, order, &mut work)?;
     fill(filling, &mut work, steps)?;
     Ok(())
 }
@@ -145,35 +147,35 @@ pub fn fill_by_prods<T: ProdTable + Drop, L: Ledger>(
 /// The same, where nobody counts.
 pub fn close_by_prods<T: ProdTable + Drop>(
     alloc: Global,
-    prods: usize,
+    order: &Order,
     filling: &mut ByProds<T>,
 ) -> Result<(), AllocError>
-    requires prods { prods ≡ length (T.grammar filling.old.table).productions }
-    requires naming { ListsNaming (T.grammar filling.old.table) prods filling.old.naming.now }
+    requires order { IsOrder (length (T.grammar filling.old.table).productions) order.now }
+    requires naming { ListsNaming (T.grammar filling.old.table) (length (T.grammar filling.old.table).productions) filling.old.naming.now }
     requires sound { T.is_sound filling.old.table }
     ensures same { OnOk result (T.is_of_same filling.old.table filling.new.table) }
     ensures sound { OnOk result (T.is_sound filling.new.table) }
-    ensures closed { OnOk result ((p : ℕ) → p < prods → T.is_closed_by filling.new.table p) }
+    ensures closed { OnOk result ((p : ℕ) → p < length (T.grammar filling.old.table).productions → T.is_closed_by filling.new.table p) }
 {
-    fill_with_blank::<T, Brand>(alloc, prods, filling, Blank::new(1))
+    fill_with_blank::<T, Brand>(alloc, order, filling, Blank::new(1))
 }
 
 fn fill_with_blank<T: ProdTable + Drop, L: Ledger>(
     alloc: Global,
-    prods: usize,
+    order: &Order,
     filling: &mut ByProds<T>,
     blank: Blank,
 ) -> Result<(), AllocError>
-    requires prods { prods ≡ length (T.grammar filling.old.table).productions }
-    requires naming { ListsNaming (T.grammar filling.old.table) prods filling.old.naming.now }
+    requires order { IsOrder (length (T.grammar filling.old.table).productions) order.now }
+    requires naming { ListsNaming (T.grammar filling.old.table) (length (T.grammar filling.old.table).productions) filling.old.naming.now }
     requires sound { T.is_sound filling.old.table }
     requires name { blank.name ≡ L.name }
     requires parts { blank.parts ≡ L.parts }
     requires one { blank.parts ≡ 1 }
     ensures same { OnOk result (T.is_of_same filling.old.table filling.new.table) }
     ensures sound { OnOk result (T.is_sound filling.new.table) }
-    ensures closed { OnOk result ((p : ℕ) → p < prods → T.is_closed_by filling.new.table p) }
+    ensures closed { OnOk result ((p : ℕ) → p < length (T.grammar filling.old.table).productions → T.is_closed_by filling.new.table p) }
 {
     let mut steps = Steps::<L>::new(blank);
-    fill_by_prods(alloc, prods, filling, &mut steps)
+    fill_by_prods(alloc, order, filling, &mut steps)
 }

@@ -6,10 +6,12 @@ ghost use Rattle.cfg_theory.specs.First.{AllOf};
 ghost use Rattle.cfg_numbered.specs.Symbols.{sym_of, syms_of};
 ghost use Rattle.cfg_numbered.specs.Sets.{is_set, joined_to, HasAllOf};
 ghost use Rattle.cfg_numbered.specs.Firsts.{FirstSets, HasEpsilon, HasFirst, AreFirsts, AreSoundOf, IsClosedOrWaits, IsClosedBut, IsWithin, IsNullableIn, FirstBefore, SymbolFirst, FirstsOf, AllWithin, Adds, room};
+ghost use Rattle.cfg_numbered.specs.Orders.{IsOrder};
 ghost use Rattle.cfg_numbered.specs.Passes.{PassStep, Anything};
 
 use crate::yacc::grammar::NumberedGrammar;
 use crate::yacc::naming::Naming;
+use crate::yacc::orders::Order;
 use crate::yacc::sets::{TokenSets, clear_unless};
 use crate::yacc::work_list::{WorkList, WorkTable, fill};
 use cfg_base::index::IndexStorage;
@@ -356,8 +358,9 @@ impl<'a, S: IndexStorage> Filling<'a, S> {
         })
     }
 
-    /// Goes through all productions once, from the last to the first.
-    fn start(&mut self, work: &mut WorkList) -> Result<(), AllocError>
+    /// Goes through all productions once, in the order.
+    fn start(&mut self, order: &Order, work: &mut WorkList) -> Result<(), AllocError>
+        requires order { IsOrder (length self.old.grm.now.grammar.productions) order.now }
         requires sound { AreSoundOf self.old.grm.now.grammar self.old.firsts self.old.row.bits }
         requires work { work.old.rules ≡ self.old.grm.now.grammar.rules }
         ensures grammar { OnOk result (self.new.grm.now ≡ self.old.grm.now) }
@@ -367,10 +370,9 @@ impl<'a, S: IndexStorage> Filling<'a, S> {
         ensures closed { OnOk result (IsClosedBut self.old.grm.now.grammar self.new.firsts work.new.list) }
         ensures room { OnOk result (room self.new.firsts + length work.new.list ≤ room self.old.firsts + length work.old.list) }
     {
-        let count = self.grm.prods_len().0.to_usize();
-        'prods: for number in 0..count {
+        'prods: for index in 0..order.len() {
             self.firsts
-                .take_prod(self.grm, count - 1 - number, &mut self.row, work)?;
+                .take_prod(self.grm, order.at(index), &mut self.row, work)?;
         }
         Ok(())
     }
@@ -388,9 +390,10 @@ pub fn fill_firsts<S: IndexStorage, L: Ledger>(
 {
     first_tables_are_exact();
     let naming = Naming::new(alloc, grm)?;
+    let order = Order::named_first(alloc, grm)?;
     let mut filling = Filling::new(alloc, grm, &naming)?;
     let mut work = WorkList::full(alloc, grm.rules_len().0.to_usize())?;
-    filling.start(&mut work)?;
+    filling.start(&order, &mut work)?;
     fill(&mut filling, &mut work, steps)?;
     Ok(filling.firsts)
 }

@@ -6,10 +6,12 @@ ghost use Rattle.cfg_numbered.specs.Symbols.{sym_of, syms_of};
 ghost use Rattle.cfg_numbered.specs.Sets.{is_set, joined_to, HasAllOf};
 ghost use Rattle.cfg_numbered.specs.Firsts.{AreFirsts};
 ghost use Rattle.cfg_numbered.specs.Follows.{FollowSets, HasFollow, AreFollows, AreSoundOf, HoldsFirsts, HoldsAll, HandsOn, GoesOn, Hands, Adds, HasSet, HasAll, added, room};
+ghost use Rattle.cfg_numbered.specs.Orders.{IsOrder};
 ghost use Rattle.cfg_numbered.specs.Passes.{PassStep, Anything};
 
 use crate::yacc::firsts::YaccFirsts;
 use crate::yacc::grammar::NumberedGrammar;
+use crate::yacc::orders::Order;
 use crate::yacc::sets::TokenSets;
 use crate::yacc::work_list::{WorkList, WorkTable, fill};
 use cfg_base::index::IndexStorage;
@@ -299,8 +301,9 @@ impl<'a, S: IndexStorage> Filling<'a, S> {
         })
     }
 
-    /// Goes through all productions once.
-    fn start(&mut self)
+    /// Goes through all productions once, from the end of the order.
+    fn start(&mut self, mut order: Order)
+        requires order { IsOrder (length self.old.grm.now.grammar.productions) order }
         requires sound { AreSoundOf self.old.grm.now.grammar self.old.follows self.old.row.bits }
         requires firsts { AreFirsts self.old.grm.now.grammar self.old.firsts.now }
         requires end { (t : ℕ) → IsEnd self.old.grm.now.grammar t → HasFollow self.old.follows 0 t }
@@ -309,7 +312,10 @@ impl<'a, S: IndexStorage> Filling<'a, S> {
         ensures sound { AreSoundOf self.old.grm.now.grammar self.new.follows self.new.row.bits }
         ensures holds { HoldsAll self.old.grm.now.grammar self.old.firsts.now self.new.follows }
     {
-        'prods: for number in 0..self.grm.prods_len().0.to_usize() {
+        'prods: loop {
+            let Some(number) = order.pop() else {
+                return;
+            };
             let pidx = self.grm.prod_at(number);
             self.follows
                 .take_prod(self.grm, self.firsts, pidx, &mut self.row);
@@ -329,9 +335,10 @@ fn fill_follows<S: IndexStorage, L: Ledger>(
     follow_tables_are_exact();
     grm.stays_well_formed();
     let firsts = YaccFirsts::new(alloc, grm)?;
+    let order = Order::named_first(alloc, grm)?;
     let mut filling = Filling::new(alloc, grm, &firsts)?;
     let mut work = WorkList::full(alloc, grm.rules_len().0.to_usize())?;
-    filling.start();
+    filling.start(order);
     fill(&mut filling, &mut work, steps)?;
     Ok(filling.follows)
 }

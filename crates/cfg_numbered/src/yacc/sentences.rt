@@ -116,8 +116,9 @@ impl<'a, S: IndexStorage> SentenceGenerator<'a, S> {
     {
         let tokens = TokenCosts::new(grm, costs);
         let naming = tokens.naming(alloc)?;
-        let (unbounded, greatest) = greatest_tables(alloc, &tokens, &naming)?;
-        let least = LeastCosts::new(alloc, tokens, &naming)?;
+        let order = tokens.order(alloc)?;
+        let (unbounded, greatest) = greatest_tables(alloc, &tokens, &naming, &order)?;
+        let least = LeastCosts::new(alloc, tokens, &naming, &order)?;
         Ok(SentenceGenerator {
             least,
             unbounded,

@@ -2,7 +2,7 @@
 //! rests on the rule is brought up to date; a rule of which the table tells more by that enters the list.
 
 ghost use Rattle.std.specs.Prelude.{◌≡◌, ℕ, ◌+◌, ◌<◌, ◌≤◌, ◌⊎◌, List, [], ◌∷◌, ◌++◌, length, OnOk, IfOk, IfSome, MatchOption};
-ghost use Rattle.std.specs.List.{Contains};
+ghost use Rattle.std.specs.List.{All, Contains};
 ghost use Rattle.cfg_numbered.specs.WorkLists.{Work};
 
 use cfg_base::steps::Steps;
@@ -76,6 +76,22 @@ impl WorkList {
             }
             None => None,
         }
+    }
+
+    /// The rules of the list.
+    pub fn into_list(self) -> Vec<usize>
+        ensures list { result.items ≡ self.list }
+        ensures within { All (λ A. A < self.rules) self.list }
+    {
+        self.list
+    }
+
+    /// A law: the rules of the list are below their number.
+    pub fn stays_within(&self)
+        ensures { All (λ A. A < self.now.rules) self.now.list }
+    {
+        // Read, so that the proof may use what is so of each such list.
+        let _list = &self.list;
     }
 
     /// Creates a list in which all rules below `rules` wait, the least first.

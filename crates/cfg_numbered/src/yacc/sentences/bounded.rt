@@ -6,11 +6,12 @@ ghost use Rattle.cfg_theory.specs.Grammar.{IsOf};
 ghost use Rattle.cfg_theory.specs.Greatest.{IsBoundedBy};
 ghost use Rattle.cfg_numbered.specs.CostTable.{cost_of};
 ghost use Rattle.cfg_numbered.specs.Sets.{is_set};
+ghost use Rattle.cfg_numbered.specs.Orders.{IsOrder};
 ghost use Rattle.cfg_numbered.specs.Passes.{PassStep, Anything};
 ghost use Rattle.cfg_numbered.specs.Greatest.{LeadsOut, held};
 
 use super::kept_costs::KeptCosts;
-use crate::yacc::grammar::index_of;
+use crate::yacc::orders::Order;
 use cfg_base::index::IndexStorage;
 use cfg_base::symbol::{PIdx, RIdx};
 use cfg_theory::cost::unbounded_rules_gain;
@@ -62,51 +63,41 @@ fn take_rule<S: IndexStorage>(costly: &KeptCosts<S>, ridx: RIdx<S>, set: &mut Vo
     set.set(rule, false)
 }
 
-/// Takes them out from the first rule to the last, and says whether there was one.
-fn pass<S: IndexStorage>(costly: &KeptCosts<S>, set: &mut Vob) -> bool
-    requires width { length set.old.bits ≡ costly.now.grammar.rules }
-    requires bounded { (n : ℕ) × IsBoundedBy costly.now.grammar (cost_of costly.now.costs) (is_set set.old.bits) n }
-    ensures width { length set.new.bits ≡ costly.now.grammar.rules }
-    ensures bounded { (n : ℕ) × IsBoundedBy costly.now.grammar (cost_of costly.now.costs) (is_set set.new.bits) n }
-    ensures steps { PassStep held Anything set.old.bits set.new.bits result }
-{
-    let mut changed = false;
-    'rules: for number in 0..costly.rules_len().0.to_usize() {
-        changed |= take_rule(costly, RIdx(index_of(number)), set);
-    }
-    changed
-}
-
-/// The same, from the last rule to the first.
-fn pass_back<S: IndexStorage>(costly: &KeptCosts<S>, set: &mut Vob) -> bool
-    requires width { length set.old.bits ≡ costly.now.grammar.rules }
-    requires bounded { (n : ℕ) × IsBoundedBy costly.now.grammar (cost_of costly.now.costs) (is_set set.old.bits) n }
-    ensures width { length set.new.bits ≡ costly.now.grammar.rules }
-    ensures bounded { (n : ℕ) × IsBoundedBy costly.now.grammar (cost_of costly.now.costs) (is_set set.new.bits) n }
-    ensures steps { PassStep held Anything set.old.bits set.new.bits result }
-{
-    let count = costly.rules_len().0.to_usize();
-    let mut changed = false;
-    'rules: for number in 0..count {
-        let ridx = RIdx(index_of(count - 1 - number));
-        changed |= take_rule(costly, ridx, set);
-    }
-    changed
-}
-
-/// Both, until a pass takes out none.
-pub(super) fn settle<S: IndexStorage>(costly: &KeptCosts<S>, set: &mut Vob)
+/// The same with the rule of a production, where that isn't the one that was looked at last. Gives the rule.
+fn settle_rule_of<S: IndexStorage>(
+    costly: &KeptCosts<S>,
+    number: usize,
+    last: usize,
+    set: &mut Vob,
+) -> usize
+    requires production { number < length costly.now.grammar.productions }
     requires width { length set.old.bits ≡ costly.now.grammar.rules }
     requires bounded { (n : ℕ) × IsBoundedBy costly.now.grammar (cost_of costly.now.costs) (is_set set.old.bits) n }
     ensures width { length set.new.bits ≡ costly.now.grammar.rules }
     ensures bounded { (n : ℕ) × IsBoundedBy costly.now.grammar (cost_of costly.now.costs) (is_set set.new.bits) n }
     ensures held { held set.new.bits ≤ held set.old.bits }
 {
-    'passes: loop {
-        let back = pass_back(costly, set);
-        let on = pass(costly, set);
-        if !(back | on) {
-            return;
-        }
+    costly.stays_well_formed();
+    let ridx = costly.prod_to_rule(costly.prod_at(number));
+    let rule = ridx.0.to_usize();
+    if rule == last {
+        return rule;
+    }
+    take_rule(costly, ridx, set);
+    rule
+}
+
+/// Takes such rules out, in an order of the productions: behind the rules that they name, but for cycles.
+pub(super) fn settle<S: IndexStorage>(costly: &KeptCosts<S>, order: &Order, set: &mut Vob)
+    requires order { IsOrder (length costly.now.grammar.productions) order.now }
+    requires width { length set.old.bits ≡ costly.now.grammar.rules }
+    requires bounded { (n : ℕ) × IsBoundedBy costly.now.grammar (cost_of costly.now.costs) (is_set set.old.bits) n }
+    ensures width { length set.new.bits ≡ costly.now.grammar.rules }
+    ensures bounded { (n : ℕ) × IsBoundedBy costly.now.grammar (cost_of costly.now.costs) (is_set set.new.bits) n }
+    ensures held { held set.new.bits ≤ held set.old.bits }
+{
+    let mut last = costly.rules_len().0.to_usize();
+    'prods: for index in 0..order.len() {
+        last = settle_rule_of(costly, order.at(index), last, set);
     }
 }

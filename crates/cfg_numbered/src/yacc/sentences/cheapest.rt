@@ -1,7 +1,7 @@
 //! All cheapest token lists of a rule.
 //!
-//! Productions that give their rules the least cost put together lists of the rules that they name, in passes
-//! over the productions until no list is new. Only rules that the asked one needs take part, so each list is a
+//! Productions that give their rules the least cost put together lists of the rules that they name, each once in an
+//! order, and again until no list is new, as where names lead around in a cycle. Only rules that the asked one needs take part, so each list is a
 //! part of one that is answered.
 
 ghost use Rattle.std.specs.Prelude.{◌≡◌, ℕ, ◌<◌, ◌↔◌, ◌∷◌, IsTrue, IfOk, IfErr, List, [], length, get_or, replicate, Contains, Some};
@@ -9,7 +9,8 @@ ghost use Rattle.cfg_theory.specs.Grammar.{Grammar, body_of};
 ghost use Rattle.cfg_theory.specs.Cost.{AreCheapest};
 ghost use Rattle.cfg_theory.specs.CostTables.{Concatenates};
 ghost use Rattle.cfg_numbered.specs.Symbols.{sym_of, syms_of};
-ghost use Rattle.cfg_numbered.specs.Passes.{PassStep, Anything};
+ghost use Rattle.cfg_numbered.specs.Passes.{PassStep};
+ghost use Rattle.cfg_numbered.specs.Orders.{IsOrder};
 ghost use Rattle.cfg_numbered.specs.CostTable.{bound, cost_of, cost_in};
 ghost use Rattle.cfg_numbered.specs.TokenLists.{lists_of};
 ghost use Rattle.cfg_numbered.specs.CheapestTable.{ListsAreRefused, lists_in, lists_before, AllHaveLists, AreLists, IsJoined, spare_in};
@@ -19,7 +20,7 @@ use super::needed::wanted_rules;
 use super::token_costs::BOUND;
 use super::token_lists::{TokenLists, insert_all, join_all, put_before};
 use super::{SentenceError, SentenceGenerator};
-use crate::yacc::grammar::index_of;
+use crate::yacc::orders::Order;
 use cfg_base::index::IndexStorage;
 use cfg_base::symbol::{PIdx, RIdx, Symbol, TIdx};
 use cfg_theory::cost::{cheapest_lists_of_wanted_rules, productive_rules_have_least_costs};
@@ -141,61 +142,26 @@ fn take_prod<S: IndexStorage>(
     Ok(changed)
 }
 
-/// Takes in each production once, and says whether a list was new.
+/// Takes in each production once, in the order, and says whether a list was new.
 fn pass<S: IndexStorage>(
     alloc: Global,
     least: &LeastCosts<S>,
     wanted: &Vob,
+    order: &Order,
     table: &mut Vec<TokenLists<S>>,
 ) -> Result<bool, AllocError>
+    requires order { IsOrder (length least.now.grammar.productions) order.now }
     requires width { length wanted.now.bits ≡ least.now.grammar.rules }
     requires lists { AreLists least.now.grammar (cost_of least.now.costs) least.now.table table.old.items }
     ensures lists { IfOk result (λ _. AreLists least.now.grammar (cost_of least.now.costs) least.now.table table.new.items) }
     ensures steps { IfOk result (λ b. PassStep spare_in (λ t. (p : ℕ) → p < length least.now.grammar.productions → IsJoined least.now.grammar (cost_of least.now.costs) least.now.table wanted.now.bits p t) table.old.items table.new.items b) }
 {
     let mut changed = false;
-    'prods: for number in 0..least.prods_len().0.to_usize() {
-        changed |= take_prod(alloc, least, wanted, PIdx(index_of(number)), table)?;
-    }
-    Ok(changed)
-}
-
-/// The same, from the last production to the first.
-fn pass_back<S: IndexStorage>(
-    alloc: Global,
-    least: &LeastCosts<S>,
-    wanted: &Vob,
-    table: &mut Vec<TokenLists<S>>,
-) -> Result<bool, AllocError>
-    requires width { length wanted.now.bits ≡ least.now.grammar.rules }
-    requires lists { AreLists least.now.grammar (cost_of least.now.costs) least.now.table table.old.items }
-    ensures lists { IfOk result (λ _. AreLists least.now.grammar (cost_of least.now.costs) least.now.table table.new.items) }
-    ensures steps { IfOk result (λ b. PassStep spare_in Anything table.old.items table.new.items b) }
-{
-    let count = least.prods_len().0.to_usize();
-    let mut changed = false;
-    'prods: for number in 0..count {
-        let pidx = PIdx(index_of(count - 1 - number));
+    'prods: for index in 0..order.len() {
+        let pidx = least.prod_at(order.at(index));
         changed |= take_prod(alloc, least, wanted, pidx, table)?;
     }
     Ok(changed)
-}
-
-/// Both: lists of later rules, and of earlier ones, are then taken in at once.
-fn sweep<S: IndexStorage>(
-    alloc: Global,
-    least: &LeastCosts<S>,
-    wanted: &Vob,
-    table: &mut Vec<TokenLists<S>>,
-) -> Result<bool, AllocError>
-    requires width { length wanted.now.bits ≡ least.now.grammar.rules }
-    requires lists { AreLists least.now.grammar (cost_of least.now.costs) least.now.table table.old.items }
-    ensures lists { IfOk result (λ _. AreLists least.now.grammar (cost_of least.now.costs) least.now.table table.new.items) }
-    ensures steps { IfOk result (λ b. PassStep spare_in (λ t. (p : ℕ) → p < length least.now.grammar.productions → IsJoined least.now.grammar (cost_of least.now.costs) least.now.table wanted.now.bits p t) table.old.items table.new.items b) }
-{
-    let back = pass_back(alloc, least, wanted, table)?;
-    let on = pass(alloc, least, wanted, table)?;
-    Ok(back | on)
 }
 
 fn no_lists<S: IndexStorage>(alloc: Global, rules: usize) -> Result<Vec<TokenLists<S>>, AllocError>
@@ -218,9 +184,10 @@ fn cheapest_lists<S: IndexStorage>(
     ensures lists { IfOk result (λ v. AreLists least.now.grammar (cost_of least.now.costs) least.now.table v.items) }
     ensures joined { IfOk result (λ v. (p : ℕ) → p < length least.now.grammar.productions → IsJoined least.now.grammar (cost_of least.now.costs) least.now.table wanted.now.bits p v.items) }
 {
+    let order = least.order(alloc)?;
     let mut table = no_lists(alloc, least.rules_len().0.to_usize())?;
     'passes: loop {
-        let changed = sweep(alloc, least, wanted, &mut table)?;
+        let changed = pass(alloc, least, wanted, &order, &mut table)?;
         if !changed {
             return Ok(table);
         }

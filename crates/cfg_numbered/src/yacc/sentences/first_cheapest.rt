@@ -224,6 +224,7 @@ fn first_lists<S: IndexStorage>(
     ensures taken_in { IfOk result (λ v. (p : ℕ) → p < length least.now.grammar.productions → IsTakenIn least.now.grammar (cost_of least.now.costs) least.now.table wanted.now.bits p (found_lists S.number v.items)) }
 {
     let naming = least.naming(alloc)?;
+    let order = least.order(alloc)?;
     let lists = no_lists(alloc, least.rules_len().0.to_usize())?;
     let table = Finding {
         alloc,
@@ -233,6 +234,6 @@ fn first_lists<S: IndexStorage>(
     };
     let naming = &naming;
     let mut filling = ByProds { table, naming };
-    close_by_prods(alloc, least.prods_len().0.to_usize(), &mut filling)?;
+    close_by_prods(alloc, &order, &mut filling)?;
     Ok(filling.table.lists)
 }

@@ -66,16 +66,18 @@ impl<'t, 'a, S: IndexStorage> KeptCosts<'t, 'a, S> {
         self.tokens.stays_well_formed();
     }
 
-    pub fn prods_len(&self) -> PIdx<S>
-        ensures { S.number result.0 ≡ length self.now.grammar.productions }
-    {
-        self.tokens.prods_len()
-    }
-
     pub fn rules_len(&self) -> RIdx<S>
         ensures { S.number result.0 ≡ self.now.grammar.rules }
     {
         self.tokens.rules_len()
+    }
+
+    /// The production of a number.
+    pub fn prod_at(&self, number: usize) -> PIdx<S>
+        requires { number < length self.now.grammar.productions }
+        ensures { S.number result.0 ≡ number }
+    {
+        self.tokens.prod_at(number)
     }
 
     pub fn prod(&self, pidx: PIdx<S>) -> &[Symbol<S>]

@@ -7,11 +7,13 @@ ghost use Rattle.cfg_numbered.specs.Value.{productions_of};
 ghost use Rattle.cfg_numbered.specs.Sentences.{CostedTable};
 ghost use Rattle.cfg_numbered.specs.CostTable.{cost_of, cost_in, IsCost, HasNoCost, AreCosts, IsClosedBy, fall, IsLess};
 ghost use Rattle.cfg_numbered.specs.WorkLists.{ListsNaming, TakesIn};
+ghost use Rattle.cfg_numbered.specs.Orders.{IsOrder};
 ghost use Rattle.cfg_numbered.specs.CheapestTable.{GivesLeast};
 
 use super::token_costs::{BOUND, TokenCosts};
 use crate::yacc::by_prods::{ByProds, ProdTable, close_by_prods};
 use crate::yacc::naming::Naming;
+use crate::yacc::orders::Order;
 use cfg_base::index::IndexStorage;
 use cfg_base::symbol::{PIdx, RIdx, Symbol};
 use std::alloc::{AllocError, Global};
@@ -44,12 +46,14 @@ impl<'a, S: IndexStorage> LeastCosts<'a, S> {
         alloc: Global,
         tokens: TokenCosts<'a, S>,
         naming: &Naming,
+        order: &Order,
     ) -> Result<Self, AllocError>
         requires naming { ListsNaming tokens.grammar (length tokens.grammar.productions) naming.now }
+        requires order { IsOrder (length tokens.grammar.productions) order.now }
         ensures grammar { IfOk result (λ s. s.grammar ≡ tokens.entry.grammar) }
         ensures costs { IfOk result (λ s. s.costs ≡ tokens.entry.costs) }
     {
-        let least = least_costs(alloc, &tokens, naming)?;
+        let least = least_costs(alloc, &tokens, naming, order)?;
         Ok(LeastCosts { tokens, least })
     }
 
@@ -106,6 +110,12 @@ impl<'a, S: IndexStorage> LeastCosts<'a, S> {
         ensures { IfOk result (λ n. ListsNaming self.now.grammar (length self.now.grammar.productions) n) }
     {
         self.tokens.naming(alloc)
+    }
+
+    pub fn order(&self, alloc: Global) -> Result<Order, AllocError>
+        ensures { IfOk result (λ o. IsOrder (length self.now.grammar.productions) o) }
+    {
+        self.tokens.order(alloc)
     }
 
     pub fn rule_to_prods(&self, ridx: RIdx<S>) -> &[PIdx<S>]
@@ -242,14 +252,16 @@ fn least_costs<S: IndexStorage>(
     alloc: Global,
     tokens: &TokenCosts<S>,
     naming: &Naming,
+    order: &Order,
 ) -> Result<Vec<Option<u32>>, AllocError>
     requires naming { ListsNaming tokens.now.grammar (length tokens.now.grammar.productions) naming.now }
+    requires order { IsOrder (length tokens.now.grammar.productions) order.now }
     ensures costs { IfOk result (λ v. AreCosts tokens.now.grammar (cost_of tokens.now.costs) v.items) }
     ensures closed { IfOk result (λ v. (p : ℕ) → p < length tokens.now.grammar.productions → IsClosedBy tokens.now.grammar (cost_of tokens.now.costs) p v.items) }
 {
     let least = no_costs(alloc, tokens.rules_len().0.to_usize())?;
     let table = Lowering { tokens, least };
     let mut filling = ByProds { table, naming };
-    close_by_prods(alloc, tokens.prods_len().0.to_usize(), &mut filling)?;
+    close_by_prods(alloc, order, &mut filling)?;
     Ok(filling.table.least)
 }

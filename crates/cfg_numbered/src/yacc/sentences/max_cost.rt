@@ -6,6 +6,7 @@ ghost use Rattle.cfg_theory.specs.Greatest.{IsKeptTable};
 ghost use Rattle.cfg_numbered.specs.CostTable.{bound, cost_of, cost_in};
 ghost use Rattle.cfg_numbered.specs.Sets.{is_set};
 ghost use Rattle.cfg_numbered.specs.WorkLists.{ListsNaming, TakesIn};
+ghost use Rattle.cfg_numbered.specs.Orders.{IsOrder};
 ghost use Rattle.cfg_numbered.specs.Greatest.{AreRaised, IsRaisedBy, IsMore, rise, AreGreatest, GreatestIsRefused};
 
 use super::kept_costs::KeptCosts;
@@ -15,6 +16,7 @@ use super::unbounded::unbounded_rules;
 use super::{CostError, SentenceGenerator};
 use crate::yacc::by_prods::{ByProds, ProdTable, close_by_prods};
 use crate::yacc::naming::Naming;
+use crate::yacc::orders::Order;
 use cfg_base::index::IndexStorage;
 use cfg_base::symbol::RIdx;
 use cfg_theory::cost::{bounded_rules_have_greatest_costs, kept_tables_are_exact};
@@ -49,15 +51,17 @@ pub(super) fn greatest_tables<S: IndexStorage>(
     alloc: Global,
     tokens: &TokenCosts<S>,
     naming: &Naming,
+    order: &Order,
 ) -> Result<(Vob, Vec<Option<u32>>), AllocError>
     requires naming { ListsNaming tokens.now.grammar (length tokens.now.grammar.productions) naming.now }
+    requires order { IsOrder (length tokens.now.grammar.productions) order.now }
     ensures { IfOk result (λ r. AreGreatest tokens.now.grammar (cost_of tokens.now.costs) r.0.bits r.1.items) }
 {
     let none = Vob::from_elem(alloc, false, tokens.rules_len().0.to_usize())?;
-    let table = greatest_costs(alloc, tokens, naming, &none, 1)?;
+    let table = greatest_costs(alloc, tokens, naming, order, &none, 1)?;
     let costly = KeptCosts::new(tokens, table);
-    let unbounded = unbounded_rules(alloc, &costly)?;
-    let greatest = greatest_costs(alloc, tokens, naming, &unbounded, BOUND)?;
+    let unbounded = unbounded_rules(alloc, &costly, naming, order)?;
+    let greatest = greatest_costs(alloc, tokens, naming, order, &unbounded, BOUND)?;
     Ok((unbounded, greatest))
 }
 
@@ -151,10 +155,12 @@ fn greatest_costs<S: IndexStorage>(
     alloc: Global,
     tokens: &TokenCosts<S>,
     naming: &Naming,
+    order: &Order,
     skipped: &Vob,
     top: u32,
 ) -> Result<Vec<Option<u32>>, AllocError>
     requires naming { ListsNaming tokens.now.grammar (length tokens.now.grammar.productions) naming.now }
+    requires order { IsOrder (length tokens.now.grammar.productions) order.now }
     requires rules { length skipped.now.bits ≡ tokens.now.grammar.rules }
     requires top { top ≤ bound }
     ensures count { IfOk result (λ v. length v.items ≡ tokens.now.grammar.rules) }
@@ -168,6 +174,6 @@ fn greatest_costs<S: IndexStorage>(
         greatest,
     };
     let mut filling = ByProds { table, naming };
-    close_by_prods(alloc, tokens.prods_len().0.to_usize(), &mut filling)?;
+    close_by_prods(alloc, order, &mut filling)?;
     Ok(filling.table.greatest)
 }

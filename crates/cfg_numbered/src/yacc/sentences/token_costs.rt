@@ -6,10 +6,12 @@ ghost use Rattle.cfg_numbered.specs.Symbols.{sym_of, syms_of, numbers_of};
 ghost use Rattle.cfg_numbered.specs.Value.{productions_of};
 ghost use Rattle.cfg_numbered.specs.Sentences.{Costed};
 ghost use Rattle.cfg_numbered.specs.WorkLists.{ListsNaming};
+ghost use Rattle.cfg_numbered.specs.Orders.{IsOrder};
 ghost use Rattle.cfg_numbered.specs.CostTable.{bound, cost_of, cost_at, HasCost, AllHaveCosts, AreCapped, IsCost, HasNoCost};
 
 use crate::yacc::grammar::NumberedGrammar;
 use crate::yacc::naming::Naming;
+use crate::yacc::orders::Order;
 use cfg_base::index::IndexStorage;
 use cfg_base::symbol::{PIdx, RIdx, Symbol};
 use std::alloc::{AllocError, Global};
@@ -63,6 +65,13 @@ impl<'a, S: IndexStorage> TokenCosts<'a, S> {
         ensures { IfOk result (λ n. ListsNaming self.now.grammar (length self.now.grammar.productions) n) }
     {
         Naming::new(alloc, self.grm)
+    }
+
+    /// The productions, where it goes those of a rule behind those of the rules that they name.
+    pub fn order(&self, alloc: Global) -> Result<Order, AllocError>
+        ensures { IfOk result (λ o. IsOrder (length self.now.grammar.productions) o) }
+    {
+        Order::named_first(alloc, self.grm)
     }
 
     /// As of the grammar, and so the next ones.

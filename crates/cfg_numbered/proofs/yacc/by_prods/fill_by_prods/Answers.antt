@@ -14,14 +14,14 @@ pub fill-requires-clause-sound : goal.fill-requires-clause-sound
 fill-requires-clause-sound g c =
     let s = c.args.filling.now in
     let G = g.T.ProdTable.grammar s.table in
-    let lists : ListsNaming G (length G.productions) s.naming.now = subst (λ (n : ℕ). ListsNaming G n s.naming.now) c.requires.prods c.requires.naming in
+    let lists : ListsNaming G (length G.productions) s.naming.now = c.requires.naming in
     (c.in_ok-start.ensures.sound, subst (λ (H : Grammar). ListsNaming H (length H.productions) s.naming.now) (sym c.in_ok-start.ensures.grammar) lists)
 
 pub fill-requires-clause-closed : goal.fill-requires-clause-closed
 fill-requires-clause-closed g c =
     let G = g.T.ProdTable.grammar c.args.filling.now.table in
     let C = g.T.ProdTable.is_closed_by in
-    let all : (p : ℕ) → p < length G.productions → C c.start.new.table p ⊎ NamesOne G c.start.new.work.list p = λ p lt. c.in_ok-start.ensures.closed p (subst (λ (n : ℕ). p < n) (sym c.requires.prods) lt) in
+    let all : (p : ℕ) → p < length G.productions → C c.start.new.table p ⊎ NamesOne G c.start.new.work.list p = c.in_ok-start.ensures.closed in
     subst (λ (H : Grammar). (p : ℕ) → p < length H.productions → C c.start.new.table p ⊎ NamesOne H c.start.new.work.list p) (sym c.in_ok-start.ensures.grammar) all
 
 pub returns-clause-same : goal.returns-clause-same
@@ -32,8 +32,7 @@ returns-clause-closed g c = λ p lt.
     let t = c.fill.new.table.table in
     let same = c.in_ok-fill.ensures.same.0 ∙ c.in_ok-start.ensures.grammar in
     let count = ap (λ (H : Grammar). length H.productions) same in
-    let n = c.requires.prods in
-    closed_all (g.T.ProdTable.grammar t) g.T.ProdTable.is_closed_by t p (c.in_ok-fill.ensures.closed p (omega (arith, lt, count, n)))
+    closed_all (g.T.ProdTable.grammar t) g.T.ProdTable.is_closed_by t p (c.in_ok-fill.ensures.closed p (omega (arith, lt, count)))
 
 pub returns-clause-takings : goal.returns-clause-takings
 returns-clause-takings g c =

@@ -1,5 +1,6 @@
-use Rattle.std.proofs.Common.{◌≡◌, ℕ, ◌+◌, ◌<◌, ◌≤◌, length}
+use Rattle.std.proofs.Common.{◌≡◌, ℕ, ◌+◌, ◌<◌, ◌≤◌, ◌⊎◌, length}
 use Rattle.cfg_numbered.specs.Firsts.{AreSoundOf, IsClosedOrWaits, room}
+use Rattle.cfg_numbered.specs.WorkLists.{StandsFrom}
 use Rattle.cfg_numbered.proofs.yacc.firsts.Filling.start.Given as goal
 
 abbrev pub invariant-prods : goal.invariant-prods
@@ -8,6 +9,6 @@ invariant-prods g l = record {
   naming : l.self.naming.now ≡ l.initial.self.naming.now;
   sound : AreSoundOf l.self.grm.now.grammar l.self.firsts l.self.row.bits;
   work : l.work.rules ≡ l.initial.work.rules;
-  closed : (p : ℕ) → l.count ≤ p + l.number → p < l.count → IsClosedOrWaits l.self.grm.now.grammar l.self.firsts l.work.list p;
+  closed : (p : ℕ) → p < length l.self.grm.now.grammar.productions → IsClosedOrWaits l.self.grm.now.grammar l.self.firsts l.work.list p ⊎ StandsFrom l.order l.index p;
   room : room l.self.firsts + length l.work.list ≤ room l.initial.self.firsts + length l.initial.work.list;
 }

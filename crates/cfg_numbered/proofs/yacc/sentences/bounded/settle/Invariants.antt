@@ -5,12 +5,9 @@ use Rattle.cfg_numbered.specs.Sets.{is_set}
 use Rattle.cfg_numbered.specs.Greatest.{held}
 use Rattle.cfg_numbered.proofs.yacc.sentences.bounded.settle.Given as goal
 
-abbrev pub invariant-passes : goal.invariant-passes
-invariant-passes g l = record {
+abbrev pub invariant-prods : goal.invariant-prods
+invariant-prods g l = record {
   width : length l.set.bits ≡ l.costly.grammar.rules;
   bounded : (n : ℕ) × IsBoundedBy l.costly.grammar (cost_of l.costly.costs) (is_set l.set.bits) n;
   less : held l.set.bits ≤ held l.initial.set.bits;
 }
-
-abbrev pub decreases-passes : goal.decreases-passes
-decreases-passes g l = held l.set.bits

@@ -14,4 +14,4 @@ passes-init g c =
 pub returns-then-not-changed-clause-joined : goal.returns-then-not-changed-clause-joined
 returns-then-not-changed-clause-joined g c =
     let G = c.args.least.now.grammar in
-    done spare_in (λ (t : List (List (List ℕ))). (p : ℕ) → p < length G.productions → IsJoined G (cost_of c.args.least.now.costs) c.args.least.now.table c.args.wanted.now.bits p t) c.passes.table.items c.sweep.new.table.items c.in_ok-changed.changed c.if-not-changed.true c.in_ok-changed.ensures.steps
+    done spare_in (λ (t : List (List (List ℕ))). (p : ℕ) → p < length G.productions → IsJoined G (cost_of c.args.least.now.costs) c.args.least.now.table c.args.wanted.now.bits p t) c.passes.table.items c.pass.new.table.items c.in_ok-changed.changed c.if-not-changed.true c.in_ok-changed.ensures.steps

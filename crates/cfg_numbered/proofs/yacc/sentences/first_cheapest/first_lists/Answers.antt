@@ -1,14 +1,8 @@
-use Rattle.std.proofs.Common.{◌≡◌, ℕ, ◌<◌, length, sym, ◌∙◌, subst}
-use Rattle.cfg_numbered.specs.WorkLists.{ListsNaming}
+use Rattle.std.proofs.Common.{◌≡◌, ◌∙◌, subst}
 use Rattle.cfg_numbered.specs.CostTable.{cost_of}
 use Rattle.cfg_numbered.specs.EarliestTable.{found_lists, AreFound, IsTakenIn}
 use Rattle.cfg_numbered.proofs.EarliestSteps.{none_found}
 use Rattle.cfg_numbered.proofs.yacc.sentences.first_cheapest.first_lists.Goals as goal
-
-pub close_by_prods-requires-clause-naming : goal.close_by_prods-requires-clause-naming
-close_by_prods-requires-clause-naming g c =
-    let count : c.to_usize-2.result ≡ length c.args.least.now.grammar.productions = c.to_usize-2.ensures.value ∙ c.prods_len.ensures in
-    subst (λ (n : ℕ). ListsNaming c.args.least.now.grammar n c.in_ok-naming.naming) (sym count) c.in_ok-naming.ensures
 
 pub close_by_prods-requires-clause-sound : goal.close_by_prods-requires-clause-sound
 close_by_prods-requires-clause-sound g c =
@@ -29,6 +23,5 @@ returns-clause-taken_in g c = λ p lt.
     let t = c.close_by_prods.new.filling.table in
     let h = c.in_ok-close_by_prods.ensures in
     let least = t.least.now in
-    let count : c.to_usize-2.result ≡ length c.args.least.now.grammar.productions = c.to_usize-2.ensures.value ∙ c.prods_len.ensures in
     subst (λ v. IsTakenIn v.grammar (cost_of v.costs) v.table c.args.wanted.now.bits p (found_lists number t.lists.items)) h.same.0
-    (subst (λ v. IsTakenIn least.grammar (cost_of least.costs) least.table v.bits p (found_lists number t.lists.items)) h.same.1 (h.closed p (subst (λ (n : ℕ). p < n) (sym count) lt)))
+    (subst (λ v. IsTakenIn least.grammar (cost_of least.costs) least.table v.bits p (found_lists number t.lists.items)) h.same.1 (h.closed p lt))

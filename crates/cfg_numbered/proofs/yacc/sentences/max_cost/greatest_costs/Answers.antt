@@ -1,14 +1,8 @@
-use Rattle.std.proofs.Common.{◌≡◌, ℕ, ◌<◌, length, sym, ap, ◌∙◌, subst}
-use Rattle.cfg_numbered.specs.WorkLists.{ListsNaming}
+use Rattle.std.proofs.Common.{ℕ, ◌<◌, length, ap, ◌∙◌, subst}
 use Rattle.cfg_numbered.specs.CostTable.{cost_of}
 use Rattle.cfg_numbered.specs.Greatest.{AreRaised, IsRaisedBy}
 use Rattle.cfg_numbered.proofs.RaiseSteps.{kept_table}
 use Rattle.cfg_numbered.proofs.yacc.sentences.max_cost.greatest_costs.Goals as goal
-
-pub close_by_prods-requires-clause-naming : goal.close_by_prods-requires-clause-naming
-close_by_prods-requires-clause-naming g c =
-    let count : c.to_usize-2.result ≡ length c.args.tokens.now.grammar.productions = c.to_usize-2.ensures.value ∙ c.prods_len.ensures in
-    subst (λ (n : ℕ). ListsNaming c.args.tokens.now.grammar n c.args.naming.now) (sym count) c.requires.naming
 
 pub returns-clause-count : goal.returns-clause-count
 returns-clause-count g c = c.in_ok-close_by_prods.ensures.sound.2.count ∙ ap (λ v. v.grammar.rules) c.in_ok-close_by_prods.ensures.same.0
@@ -22,10 +16,9 @@ returns-clause-table g c =
     let bits = c.args.skipped.now.bits in
     let table = t.greatest.items in
     let h = c.in_ok-close_by_prods.ensures in
-    let count : c.to_usize-2.result ≡ length G.productions = c.to_usize-2.ensures.value ∙ c.prods_len.ensures in
     let sound : AreRaised G f top table = subst (λ v. AreRaised v.grammar (cost_of v.costs) top table) h.same.0 (subst (λ (k : ℕ). AreRaised t.tokens.now.grammar (cost_of t.tokens.now.costs) k table) h.same.2 h.sound.2) in
     let closed : (p : ℕ) → p < length G.productions → IsRaisedBy G f top bits p table = λ p lt.
     subst (λ v. IsRaisedBy v.grammar (cost_of v.costs) top bits p table) h.same.0
     (subst (λ (k : ℕ). IsRaisedBy t.tokens.now.grammar (cost_of t.tokens.now.costs) k bits p table) h.same.2
-    (subst (λ v. IsRaisedBy t.tokens.now.grammar (cost_of t.tokens.now.costs) t.top v.bits p table) h.same.1 (h.closed p (subst (λ (n : ℕ). p < n) (sym count) lt)))) in
+    (subst (λ v. IsRaisedBy t.tokens.now.grammar (cost_of t.tokens.now.costs) t.top v.bits p table) h.same.1 (h.closed p lt))) in
     kept_table G f top bits table sound closed

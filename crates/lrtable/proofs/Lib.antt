@@ -28,6 +28,7 @@ pub mod Numbering
 pub mod Cutting
 pub mod Renumbering
 pub mod Quiet
+pub mod PlainCells
 pub mod Precedences
 pub mod Gathered
 pub mod TokenReductions

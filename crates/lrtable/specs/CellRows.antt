@@ -1,5 +1,5 @@
 -- The row of cells of a state: by its reductions, its edges on tokens, and whether it accepts.
-use Rattle.std.specs.Prelude.{◌≡◌, ℕ, ◌<◌, Bool, true, false, ◌&&◌, cond, nat_eq, List, [], ◌∷◌, length, Option, Some, None}
+use Rattle.std.specs.Prelude.{◌≡◌, ◌⊎◌, ℕ, ◌<◌, Bool, true, false, ◌&&◌, cond, nat_eq, List, [], ◌∷◌, length, Option, Some, None}
 use Rattle.std.specs.List.{AllByRecursion}
 use Rattle.cfg_theory.specs.Grammar.{Grammar, end_token}
 use Rattle.cfg_numbered.specs.Sets.{is_set}
@@ -101,3 +101,7 @@ pub record IsBlank (G : Grammar) (x : PartsValue) (t : ℕ) : Type 0 where
   pub reductions : reductions_on x.reductions t ≡ []
   pub edge : at_of x.shifts t ≡ None
   pub no_end : t ≡ end_token G → ⊥
+
+-- one thing alone may stand in a cell: the shift of its edge, or one reduction
+abbrev pub IsPlain : List ℕ → Option ℕ → Action → Type 0
+IsPlain reductions edge a = ((k : ℕ) × (reductions ≡ []) × (edge ≡ Some k) × (a ≡ Action.shift k)) ⊎ ((p : ℕ) × (reductions ≡ p ∷ []) × (edge ≡ None) × (a ≡ Action.reduce p))

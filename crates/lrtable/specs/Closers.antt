@@ -10,4 +10,5 @@ pub record IsReady (G : Grammar) (c : Closer) : Type 0 where
   pub sizes : IsSized G c.opening
   pub tidy : IsTidy c.opening
   pub width : length c.looks.bits ≡ G.tokens
+  pub rest : length c.rest.first.bits ≡ G.tokens
   pub none_waits : c.waiting.items ≡ []

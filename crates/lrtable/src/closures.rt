@@ -66,9 +66,11 @@ pub fn closed_by<S: IndexStorage>(
     ensures within { IfOk result (λ s. PointIn (rows_in s.sets.items) s.entries.items) }
 {
     grm.start_prod();
-    closer.close(alloc, grm, firsts, openers, core)?;
-    let mut set = SharedSets::of_core(alloc, core)?;
+    closer.close(grm, firsts, openers, core)?;
+    let rules = closer.opening.opened().iter_set_bits(..).count();
+    let mut set = SharedSets::of_core(alloc, core, rules)?;
     set.open_rules(grm, &closer.opening)?;
+    set.fit();
     Ok(set)
 }
 

@@ -109,7 +109,7 @@ fn copied(spare: &mut Vec<Vob>, looks: &Vob) -> Result<Vob, AllocError>
 }
 
 /// Puts a value at an index of a list, most often at its end.
-fn put_in<T: Drop>(list: &mut Vec<T>, index: usize, value: T) -> Result<(), AllocError>
+pub fn put_in<T: Drop>(list: &mut Vec<T>, index: usize, value: T) -> Result<(), AllocError>
     requires { index ≤ length list.old.items }
     ensures { OnOk result (list.new.items ≡ insert list.old.items index value) }
 {

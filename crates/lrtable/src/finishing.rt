@@ -69,7 +69,7 @@ fn core_sets<S: IndexStorage>(
 {
     let mut sets = Vec::with_capacity(alloc, states.len())?;
     'states: for number in 0..states.len() {
-        sets.push(of_shared(SharedSets::of_core(alloc, &states[number].core)?))?;
+        sets.push(of_shared(SharedSets::of_core(alloc, &states[number].core, 0)?))?;
     }
     Ok(sets)
 }

@@ -147,14 +147,15 @@ fn keep_goto<S: IndexStorage>(
     }
 }
 
-/// The edges on rules, in order.
+/// The edges on rules, in order; so many others are on tokens.
 fn goto_row<S: IndexStorage>(
     alloc: Global,
     edges: &[(Symbol<S>, StIdx<S>)],
+    shifts: usize,
 ) -> Result<Vec<(usize, StIdx<S>)>, AllocError>
     ensures { IfOk result (λ v. targets_of S.number v.items ≡ rule_edges (edges_seen S.number edges.now)) }
 {
-    let mut gotos = Vec::new(alloc);
+    let mut gotos = Vec::with_capacity(alloc, edges.len().saturating_sub(shifts))?;
     'edges: for i in 0..edges.len() {
         keep_goto(edges[i], &mut gotos)?;
     }
@@ -207,7 +208,7 @@ fn add_row<S: IndexStorage>(
             pidx,
         })),
         None => {
-            let gotos = goto_row(alloc, edges)?;
+            let gotos = goto_row(alloc, edges, parts.shifts.len())?;
             rows.add_state(alloc, grm, stidx, parts, sets, gotos)?;
             Ok(())
         }

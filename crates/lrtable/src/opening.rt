@@ -19,7 +19,7 @@ ghost use Rattle.lrtable.specs.Opening.{Front, RuleSets, IsTidy, IsOpen, HasRule
 
 use crate::cores::{CoreItem, CoreSet};
 use crate::openers::{Opener, Openers};
-use crate::rests::{Rest, rest_after, rule_after};
+use crate::rests::{Rest, fill_rest, rule_after};
 use crate::rule_rows::RuleRows;
 use cfg_base::index::IndexStorage;
 use cfg_numbered::yacc::{NumberedGrammar, YaccFirsts};
@@ -254,25 +254,27 @@ impl Opening {
     /// Opens the rule behind the dot of an item, if there is one, with what follows it.
     fn seed_one<S: IndexStorage>(
         &mut self,
-        alloc: Global,
         grm: &NumberedGrammar<S>,
         firsts: &YaccFirsts<S>,
         item: &CoreItem<S>,
         looks: &Vob,
+        rest: &mut Rest,
         waiting: &mut Vec<usize>,
     ) -> Result<(), AllocError>
         requires production { S.number item.now.pidx.0 < length grm.now.grammar.productions }
         requires firsts { AreFirsts grm.now.grammar firsts.now }
         requires sizes { IsSized grm.now.grammar self.old }
         requires width { length looks.now.bits ≡ grm.now.grammar.tokens }
-        ensures { OnOk result (Follows (Seeds grm.now.grammar (One (S.number item.now.pidx.0) (S.number item.now.dot.0))) (SeedsLook grm.now.grammar (One (S.number item.now.pidx.0) (S.number item.now.dot.0)) (OneLooks (S.number item.now.pidx.0) (S.number item.now.dot.0) looks.now.bits)) self.old self.new waiting.old.items waiting.new.items) }
+        requires room { length rest.old.first.bits ≡ grm.now.grammar.tokens }
+        ensures room { length rest.new.first.bits ≡ grm.now.grammar.tokens }
+        ensures follows { OnOk result (Follows (Seeds grm.now.grammar (One (S.number item.now.pidx.0) (S.number item.now.dot.0))) (SeedsLook grm.now.grammar (One (S.number item.now.pidx.0) (S.number item.now.dot.0)) (OneLooks (S.number item.now.pidx.0) (S.number item.now.dot.0) looks.now.bits)) self.old self.new waiting.old.items waiting.new.items) }
     {
         grm.start_prod();
         let dot = item.dot.0.to_usize();
         match rule_after(grm, item.pidx, dot) {
             Some(ridx) => {
-                let rest = rest_after(alloc, grm, firsts, item.pidx, dot)?;
-                self.follow(ridx.0.to_usize(), &rest, looks, waiting)?;
+                fill_rest(grm, firsts, item.pidx, dot, rest);
+                self.follow(ridx.0.to_usize(), rest, looks, waiting)?;
                 Ok(())
             }
             None => Ok(()),
@@ -282,21 +284,23 @@ impl Opening {
     /// Opens the rules behind the dots of a core.
     fn seed<S: IndexStorage>(
         &mut self,
-        alloc: Global,
         grm: &NumberedGrammar<S>,
         firsts: &YaccFirsts<S>,
         set: &CoreSet<S>,
+        rest: &mut Rest,
         waiting: &mut Vec<usize>,
     ) -> Result<(), AllocError>
         requires fits { FitsCore grm.now.grammar (core_of_set S.number set.now) }
         requires firsts { AreFirsts grm.now.grammar firsts.now }
         requires sizes { IsSized grm.now.grammar self.old }
-        ensures { OnOk result (Follows (Seeds grm.now.grammar (HasItem (map_of (core_of_set S.number set.now)))) (SeedsLook grm.now.grammar (HasItem (map_of (core_of_set S.number set.now))) (HasLook (map_of (core_of_set S.number set.now)))) self.old self.new waiting.old.items waiting.new.items) }
+        requires room { length rest.old.first.bits ≡ grm.now.grammar.tokens }
+        ensures room { length rest.new.first.bits ≡ grm.now.grammar.tokens }
+        ensures follows { OnOk result (Follows (Seeds grm.now.grammar (HasItem (map_of (core_of_set S.number set.now)))) (SeedsLook grm.now.grammar (HasItem (map_of (core_of_set S.number set.now))) (HasLook (map_of (core_of_set S.number set.now)))) self.old self.new waiting.old.items waiting.new.items) }
     {
         'items: for k in 0..set.items.len() {
             let item = &set.items[k];
             let looks = &set.looks[k];
-            self.seed_one(alloc, grm, firsts, item, looks, waiting)?;
+            self.seed_one(grm, firsts, item, looks, rest, waiting)?;
         }
         Ok(())
     }
@@ -307,6 +311,7 @@ impl Opening {
 pub struct Closer {
     pub opening: Opening,
     pub looks: Vob,
+    pub rest: Rest,
     pub waiting: Vec<usize>,
 }
 
@@ -323,6 +328,7 @@ impl Closer {
         Ok(Closer {
             opening: Opening::empty(alloc, rules, tokens)?,
             looks: Vob::from_elem(alloc, false, tokens)?,
+            rest: Rest::empty(alloc, tokens)?,
             waiting: Vec::new(alloc),
         })
     }
@@ -330,7 +336,6 @@ impl Closer {
     /// Opens the rules that the closure of a core opens, with their lookaheads, and no others.
     pub fn close<S: IndexStorage>(
         &mut self,
-        alloc: Global,
         grm: &NumberedGrammar<S>,
         firsts: &YaccFirsts<S>,
         openers: &Openers,
@@ -345,7 +350,7 @@ impl Closer {
     {
         self.opening.clear();
         self.opening
-            .seed(alloc, grm, firsts, set, &mut self.waiting)?;
+            .seed(grm, firsts, set, &mut self.rest, &mut self.waiting)?;
         self.opening
             .close(openers, &mut self.looks, &mut self.waiting)?;
         Ok(())

@@ -23,7 +23,7 @@ use crate::moves::{empty_sets, goto_sets, symbol_at};
 use crate::openers::Openers;
 use crate::opening::Closer;
 use crate::pruning::prune;
-use crate::states::{BuildError, State, place};
+use crate::states::{BuildError, EdgeTo, State, place};
 use cfg_base::index::IndexStorage;
 use cfg_base::symbol::SIdx;
 use cfg_numbered::yacc::{NumberedGrammar, YaccFirsts};
@@ -121,7 +121,6 @@ fn place_all<S: IndexStorage>(
 
 /// Makes empty sets, one for each symbol, the goto sets of a core.
 fn gotos<S: IndexStorage>(
-    alloc: Global,
     grm: &NumberedGrammar<S>,
     firsts: &YaccFirsts<S>,
     openers: &Openers,
@@ -142,19 +141,34 @@ fn gotos<S: IndexStorage>(
     ensures marked { OnOk result (AreMarked marks.new.bits (map (core_of_set S.number) sets.new.items)) }
     ensures gotos { OnOk result (AreGotos grm.now.grammar (Closure grm.now.grammar (HasItem (map_of (core_of_set S.number core.now)))) (ClosureLook grm.now.grammar (HasItem (map_of (core_of_set S.number core.now))) (HasLook (map_of (core_of_set S.number core.now)))) (map (core_of_set S.number) sets.new.items)) }
 {
-    closer.close(alloc, grm, firsts, openers, core)?;
+    closer.close(grm, firsts, openers, core)?;
     marks.set_all(false);
     goto_sets(grm, core, &closer.opening, sets, marks, spare)?;
     Ok(())
 }
 
-/// Notes that a state is taken.
-fn take<S: IndexStorage>(states: &mut Vec<State<S>>, number: usize)
+/// How many edges a state is to have room for: one for each mark, if it has none yet.
+fn edges_wanted<S: IndexStorage>(edges: &[EdgeTo<S>], marks: &Vob) -> usize {
+    if edges.is_empty() {
+        return marks.iter_set_bits(..).count();
+    }
+    0
+}
+
+/// Notes that a state is taken, and makes room for its edges, of which each is on a marked symbol.
+fn take<S: IndexStorage>(
+    states: &mut Vec<State<S>>,
+    number: usize,
+    marks: &Vob,
+) -> Result<(), AllocError>
     requires { number < length states.old.items }
-    ensures { map (value_of S.number) states.new.items ≡ set_off (map (value_of S.number) states.old.items) number }
+    ensures { OnOk result (map (value_of S.number) states.new.items ≡ set_off (map (value_of S.number) states.old.items) number) }
 {
     let state = &mut states[number];
+    let room = edges_wanted(state.edges.as_slice(), marks);
+    state.edges.reserve_exact(room)?;
     state.todo = false;
+    Ok(())
 }
 
 /// A step: takes the first state that is to be taken, and gives a number below which none is then.
@@ -196,10 +210,8 @@ fn step<S: IndexStorage>(
 {
     grm.start_prod();
     let core = &states[number].core;
-    gotos(
-        alloc, grm, firsts, openers, closer, core, sets, marks, spare,
-    )?;
-    take(states, number);
+    gotos(grm, firsts, openers, closer, core, sets, marks, spare)?;
+    take(states, number, marks)?;
     let mut cursor = number;
     place_all(
         alloc,

@@ -19,6 +19,19 @@ pub struct Rest {
     pub nullable: bool,
 }
 
+impl Rest {
+    /// What nothing follows.
+    pub fn empty(alloc: Global, tokens: usize) -> Result<Rest, AllocError>
+        ensures { IfOk result (λ r. length r.first.bits ≡ tokens) }
+    {
+        let first = Vob::from_elem(alloc, false, tokens)?;
+        Ok(Rest {
+            first,
+            nullable: true,
+        })
+    }
+}
+
 /// The symbol behind a dot, if there is one.
 pub fn symbol_after<S: IndexStorage>(
     grm: &NumberedGrammar<S>,
@@ -53,6 +66,26 @@ pub fn rule_after<S: IndexStorage>(
     }
 }
 
+/// Writes what follows the symbol behind a dot over what followed another.
+pub fn fill_rest<S: IndexStorage>(
+    grm: &NumberedGrammar<S>,
+    firsts: &YaccFirsts<S>,
+    pidx: PIdx<S>,
+    dot: usize,
+    rest: &mut Rest,
+)
+    requires production { S.number pidx.0 < length grm.now.grammar.productions }
+    requires dot { dot < length (body_of grm.now.grammar (S.number pidx.0)) }
+    requires firsts { AreFirsts grm.now.grammar firsts.now }
+    requires width { length rest.old.first.bits ≡ grm.now.grammar.tokens }
+    ensures { IsRest grm.now.grammar (S.number pidx.0) dot rest.new.first.bits rest.new.nullable }
+{
+    grm.start_prod();
+    let symbols = grm.prod(pidx);
+    let nullable = firsts.first_of(&symbols[dot + 1..], &mut rest.first);
+    rest.nullable = nullable;
+}
+
 /// What follows the symbol behind a dot.
 pub fn rest_after<S: IndexStorage>(
     alloc: Global,
@@ -66,9 +99,7 @@ pub fn rest_after<S: IndexStorage>(
     requires firsts { AreFirsts grm.now.grammar firsts.now }
     ensures { IfOk result (λ r. IsRest grm.now.grammar (S.number pidx.0) dot r.first.bits r.nullable) }
 {
-    grm.start_prod();
-    let symbols = grm.prod(pidx);
-    let mut first = Vob::from_elem(alloc, false, grm.tokens_len().0.to_usize())?;
-    let nullable = firsts.first_of(&symbols[dot + 1..], &mut first);
-    Ok(Rest { first, nullable })
+    let mut rest = Rest::empty(alloc, grm.tokens_len().0.to_usize())?;
+    fill_rest(grm, firsts, pidx, dot, &mut rest);
+    Ok(rest)
 }

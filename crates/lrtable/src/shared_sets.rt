@@ -204,14 +204,27 @@ impl<S: IndexStorage> SharedSets<S> {
         Ok(())
     }
 
-    /// The items of a core, each with a set of its own.
-    pub fn of_core(alloc: Global, core: &CoreSet<S>) -> Result<SharedSets<S>, AllocError>
+    /// Gives back the room that no item takes.
+    pub fn fit(&mut self)
+        ensures core { shared_core S.number self.new ≡ shared_core S.number self.old }
+        ensures within { PointIn (rows_in self.old.sets.items) self.old.entries.items → PointIn (rows_in self.new.sets.items) self.new.entries.items }
+    {
+        self.entries.shrink_to_fit();
+    }
+
+    /// The items of a core, each with a set of its own, and room for the productions of so many rules.
+    pub fn of_core(
+        alloc: Global,
+        core: &CoreSet<S>,
+        rules: usize,
+    ) -> Result<SharedSets<S>, AllocError>
         requires { length core.now.looks.items ≡ length core.now.items.items }
         ensures core { IfOk result (λ s. shared_core S.number s ≡ core_of_set S.number core.now) }
         ensures within { IfOk result (λ s. PointIn (rows_in s.sets.items) s.entries.items) }
     {
-        let mut entries = Vec::with_capacity(alloc, core.items.len())?;
-        let mut sets = Vec::with_capacity(alloc, core.items.len())?;
+        let room = core.items.len().saturating_add(rules);
+        let mut entries = Vec::with_capacity(alloc, room.saturating_add(rules))?;
+        let mut sets = Vec::with_capacity(alloc, room)?;
         'items: for k in 0..core.items.len() {
             sets.push(core.looks[k].clone()?)?;
             entries.push(SharedItem {

@@ -1,12 +1,12 @@
 //! The row of cells of a state, and the conflicts that are listed of it.
 
-ghost use Rattle.std.specs.Prelude.{◌≡◌, ◌<◌, ◌+◌, ◌++◌, ◌&&◌, false, [], ℕ, length, nat_eq, get_or, None, Some, IfOk, OnOk, MatchOption};
+ghost use Rattle.std.specs.Prelude.{◌≡◌, ◌<◌, ◌+◌, ◌++◌, ◌∷◌, ◌&&◌, false, [], ℕ, length, nat_eq, get_or, None, Some, IfOk, IfSome, OnOk, MatchOption};
 ghost use Rattle.std.specs.Option.{option_or};
 ghost use Rattle.table_theory.specs.Cells.{pairs_at};
 ghost use Rattle.cfg_theory.specs.Grammar.{end_token};
 ghost use Rattle.cfg_numbered.specs.Sets.{is_set};
-ghost use Rattle.lrtable.specs.CellRows.{FitsParts, IsBlank, IsContested, cells_by, filled, filled_row, first_of, pair_with, pairs_in, pairs_on, reductions_on, shifts_in, shifts_on};
-ghost use Rattle.lrtable.specs.CellViews.{cells_of, pairs_of, parts_of, precedences_of, production_of, reductions_of, shifts_of, state_of, targets_of};
+ghost use Rattle.lrtable.specs.CellRows.{FitsParts, IsBlank, IsContested, IsPlain, cells_by, filled, filled_row, first_of, pair_with, pairs_in, pairs_on, reductions_on, shifts_in, shifts_on};
+ghost use Rattle.lrtable.specs.CellViews.{action_of, cells_of, pairs_of, parts_of, precedences_of, production_of, reduction_of, reductions_of, shifts_of, state_of, targets_of};
 ghost use Rattle.lrtable.specs.Marks.{LeavesOut};
 ghost use Rattle.lrtable.specs.Meeting.{rows_in};
 ghost use Rattle.lrtable.specs.Cursors.{IsCursor};
@@ -143,8 +143,8 @@ fn accepts_on<S: IndexStorage>(grm: &NumberedGrammar<S>, has_complete: bool, tid
     false
 }
 
-/// Puts the cell of a token and its listed conflicts behind those of the tokens before.
-fn put_token<S: IndexStorage>(
+/// Puts the cell of a token and its listed conflicts behind those of the tokens before, whatever may stand in the cell.
+fn settle_token<S: IndexStorage>(
     grm: &NumberedGrammar<S>,
     stidx: StIdx<S>,
     parts: &StateParts<S>,
@@ -168,6 +168,86 @@ fn put_token<S: IndexStorage>(
     let cell = cell_on(grm, tidx, accepts, first, edge);
     put_cell(row, tidx.0.to_usize(), cell)?;
     Ok(())
+}
+
+/// The cell of a token on which no production reduces, if it has an edge.
+fn shift_cell<S: IndexStorage>(edge: Option<StIdx<S>>) -> Option<Action<S>>
+    ensures { IfSome result (λ a. IsPlain [] (state_of S.number edge) (action_of S.number a)) }
+{
+    match edge {
+        Some(target) => Some(Action::Shift(target)),
+        None => None,
+    }
+}
+
+/// The cell of a token by the one reduction of a state, unless there is an edge as well, or neither.
+fn lone_cell<S: IndexStorage>(
+    reduction: Reduction<S>,
+    sets: &[Vob],
+    number: usize,
+    edge: Option<StIdx<S>>,
+) -> Option<Action<S>>
+    ensures { IfSome result (λ a. IsPlain (reductions_on (reduction_of S.number (rows_in sets.now) reduction ∷ []) number) (state_of S.number edge) (action_of S.number a)) }
+{
+    if !has_token(sets, reduction.set, number) {
+        return shift_cell(edge);
+    }
+    match edge {
+        Some(_) => None,
+        None => Some(Action::Reduce(reduction.pidx)),
+    }
+}
+
+/// The cell of a token for which nothing contends, of a state with one reduction at most that doesn't accept.
+fn plain_cell<S: IndexStorage>(
+    parts: &StateParts<S>,
+    sets: &[Vob],
+    number: usize,
+    edge: Option<StIdx<S>>,
+) -> Option<Action<S>>
+    ensures plain { IfSome result (λ a. IsPlain (reductions_on (reductions_of S.number (rows_in sets.now) parts.now.reductions.items) number) (state_of S.number edge) (action_of S.number a)) }
+    ensures quiet { IfSome result (λ a. parts.now.accepts ≡ false) }
+{
+    if parts.accepts {
+        return None;
+    }
+    let count = parts.reductions.len();
+    if count == 0 {
+        return shift_cell(edge);
+    }
+    if count == 1 {
+        return lone_cell(parts.reductions[0], sets, number, edge);
+    }
+    None
+}
+
+/// Puts the cell of a token and its listed conflicts behind those of the tokens before.
+fn put_token<S: IndexStorage>(
+    grm: &NumberedGrammar<S>,
+    stidx: StIdx<S>,
+    parts: &StateParts<S>,
+    sets: &[Vob],
+    tidx: TIdx<S>,
+    edge: Option<StIdx<S>>,
+    row: &mut Vec<(usize, Action<S>)>,
+    pairs: &mut Vec<ReduceReduce<S>>,
+    shifts: &mut Vec<ShiftReduce<S>>,
+) -> Result<(), AllocError>
+    requires token { S.number tidx.0 < grm.now.grammar.tokens }
+    requires fits { FitsParts grm.now.grammar (parts_of S.number (rows_in sets.now) parts.now) }
+    requires edge { state_of S.number edge ≡ at_of (targets_of S.number parts.now.shifts.items) (S.number tidx.0) }
+    ensures row { OnOk result (cells_of S.number row.new.items ≡ cells_of S.number row.old.items ++ filled (S.number tidx.0) (cells_by grm.now.grammar (precedences_of grm.now) (parts_of S.number (rows_in sets.now) parts.now) (S.number tidx.0))) }
+    ensures pairs { OnOk result (pairs_of S.number pairs.new.items ≡ pairs_of S.number pairs.old.items ++ pairs_on (S.number stidx.0) (parts_of S.number (rows_in sets.now) parts.now) (S.number tidx.0)) }
+    ensures shifts { OnOk result (shifts_of S.number shifts.new.items ≡ shifts_of S.number shifts.old.items ++ shifts_on (precedences_of grm.now) (S.number stidx.0) (parts_of S.number (rows_in sets.now) parts.now) (S.number tidx.0)) }
+{
+    let number = tidx.0.to_usize();
+    match plain_cell(parts, sets, number, edge) {
+        Some(cell) => {
+            put_cell(row, number, cell)?;
+            Ok(())
+        }
+        None => settle_token(grm, stidx, parts, sets, tidx, edge, row, pairs, shifts),
+    }
 }
 
 /// The target of the edge on a token, of a row of which all edges on tokens before were taken.
@@ -302,7 +382,7 @@ pub fn state_row<S: IndexStorage>(
     ensures shifts { OnOk result (shifts_of S.number shifts.new.items ≡ shifts_of S.number shifts.old.items ++ shifts_in (precedences_of grm.now) (S.number stidx.0) (parts_of S.number (rows_in sets.now) parts.now) grm.now.grammar.tokens) }
 {
     let marks = filled_tokens(alloc, grm, parts, sets)?;
-    let mut row = Vec::new(alloc);
+    let mut row = Vec::with_capacity(alloc, marks.iter_set_bits(..).count())?;
     put_tokens(grm, stidx, parts, sets, &marks, &mut row, pairs, shifts)?;
     Ok(row)
 }

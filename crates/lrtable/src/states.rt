@@ -1,6 +1,6 @@
 //! The states of a building, and the placing of a set among them.
 
-ghost use Rattle.std.specs.Prelude.{◌≡◌, ◌<◌, ◌↔◌, ℕ, Bool, true, false, [], length, map, get_or, slice_set, ◌≤◌, IsTrue, IfOk, OnOk, IsErrOf, MatchOption, alloc_error};
+ghost use Rattle.std.specs.Prelude.{◌≡◌, ◌<◌, ◌↔◌, ℕ, Bool, true, false, [], length, map, get_or, slice_set, ◌≤◌, IsTrue, IfOk, IfSome, None, Some, OnOk, IsErrOf, MatchOption, alloc_error};
 ghost use Rattle.std.specs.List.{Contains, AllPairs};
 ghost use Rattle.cfg_theory.specs.Grammar.{Sym};
 ghost use Rattle.cfg_numbered.specs.Symbols.{sym_of};
@@ -13,7 +13,7 @@ ghost use Rattle.lrtable.specs.declared.states.BuildError.TheVariants as faults;
 ghost use Rattle.lrtable.specs.StateViews.{item_of, items_of, core_of_set, edge_of_pair, edges_of, value_of};
 
 use crate::closures::same_symbols;
-use crate::cores::{CoreSet, emptied, same_items};
+use crate::cores::{CoreSet, emptied, put_in, same_items};
 use crate::meeting::{hold_all, weakly_compatible};
 use cfg_base::index::IndexStorage;
 use cfg_base::symbol::Symbol;
@@ -165,51 +165,47 @@ fn put_edge<S: IndexStorage>(
         edges[index] = edge;
         return Ok(());
     }
-    edges.insert(index, edge)?;
+    put_in(edges, index, edge)?;
     Ok(())
 }
 
-/// Tells whether the lookaheads of two items or more are all held. With one item there is no pair to compare, and nothing is
-/// gained by a test.
-fn hold_many(a: &[Vob], b: &[Vob]) -> bool
-    requires { AreAlike (rows_in a.now) (rows_in b.now) }
-    ensures { result ≡ true → CoversRows (rows_in a.now) (rows_in b.now) }
-{
-    if a.len() < 2 {
-        return false;
-    }
-    hold_all(a, b)
-}
-
-/// Tells whether a set joins a state. Where the state holds all its lookaheads, no pair of items is compared.
-fn joins<S: IndexStorage>(state: &State<S>, set: &CoreSet<S>) -> bool
+/// Tells whether a set joins a state, and if so, whether the state holds all its lookaheads: then no pair of items is
+/// compared.
+fn joins<S: IndexStorage>(state: &State<S>, set: &CoreSet<S>) -> Option<bool>
     requires state { (tokens : ℕ) × IsCoreOf tokens (core_of_set S.number state.now.core) × IsCoreOf tokens (core_of_set S.number set.now) }
-    ensures fits { result ≡ true → (items_of S.number state.now.core.items.items ≡ items_of S.number set.now.items.items) × RowsFit (rows_in state.now.core.looks.items) (rows_in set.now.looks.items) }
-    ensures apart { result ≡ false → IsApartFrom (core_of_set S.number state.now.core) (core_of_set S.number set.now) }
+    ensures fits { IfSome result (λ held. (items_of S.number state.now.core.items.items ≡ items_of S.number set.now.items.items) × RowsFit (rows_in state.now.core.looks.items) (rows_in set.now.looks.items)) }
+    ensures held { result ≡ Some true → CoversRows (rows_in state.now.core.looks.items) (rows_in set.now.looks.items) }
+    ensures apart { result ≡ None → IsApartFrom (core_of_set S.number state.now.core) (core_of_set S.number set.now) }
 {
     if !same_items(state.core.items.as_slice(), set.items.as_slice()) {
-        return false;
+        return None;
     }
-    if hold_many(state.core.looks.as_slice(), set.looks.as_slice()) {
-        return true;
+    let looks = state.core.looks.as_slice();
+    let new = set.looks.as_slice();
+    if hold_all(looks, new) {
+        return Some(true);
     }
-    weakly_compatible(state.core.looks.as_slice(), set.looks.as_slice())
+    if weakly_compatible(looks, new) {
+        return Some(false);
+    }
+    None
 }
 
-/// The first of the states that a set joins; `bucket` lists, ascending, those that may have its core.
+/// The first of the states that a set joins, and whether it holds all the set's lookaheads; `bucket` lists, ascending,
+/// those that may have its core.
 fn first_joined<S: IndexStorage>(
     states: &[State<S>],
     bucket: &[usize],
     set: &CoreSet<S>,
-) -> Option<usize>
+) -> Option<(usize, bool)>
     requires states { (tokens : ℕ) × AreStates tokens (map (value_of S.number) states.now) × IsCoreOf tokens (core_of_set S.number set.now) }
     requires bucket { ListsCore (map (value_of S.number) states.now) (items_of S.number set.now.items.items) bucket.now }
-    ensures { MatchOption result (JoinsNone (map (value_of S.number) states.now) (core_of_set S.number set.now)) (λ k. JoinsAt (map (value_of S.number) states.now) k (core_of_set S.number set.now)) }
+    ensures { MatchOption result (JoinsNone (map (value_of S.number) states.now) (core_of_set S.number set.now)) (λ k. JoinsAt (map (value_of S.number) states.now) k.0 (core_of_set S.number set.now) × (k.1 ≡ true → CoversRows (state_at (map (value_of S.number) states.now) k.0).core.rows (rows_in set.now.looks.items))) }
 {
     'each: for i in 0..bucket.len() {
         let number = bucket[i];
-        if joins(&states[number], set) {
-            return Some(number);
+        if let Some(held) = joins(&states[number], set) {
+            return Some((number, held));
         }
     }
     None
@@ -231,6 +227,27 @@ fn grow<S: IndexStorage>(states: &mut Vec<State<S>>, number: usize, set: &CoreSe
         return true;
     }
     false
+}
+
+/// The same, where it is known of a state that holds them all.
+fn grow_unless<S: IndexStorage>(
+    states: &mut Vec<State<S>>,
+    number: usize,
+    set: &CoreSet<S>,
+    held: bool,
+) -> bool
+    requires within { number < length states.old.items }
+    requires alike { AreAlike (state_at (map (value_of S.number) states.old.items) number).core.rows (rows_in set.now.looks.items) }
+    requires held { held ≡ true → CoversRows (state_at (map (value_of S.number) states.old.items) number).core.rows (rows_in set.now.looks.items) }
+    ensures covered { result ≡ false → CoversRows (state_at (map (value_of S.number) states.old.items) number).core.rows (rows_in set.now.looks.items) }
+    ensures kept { result ≡ false → map (value_of S.number) states.new.items ≡ map (value_of S.number) states.old.items }
+    ensures lacked { result ≡ true → LacksRows (state_at (map (value_of S.number) states.old.items) number).core.rows (rows_in set.now.looks.items) }
+    ensures grown { result ≡ true → map (value_of S.number) states.new.items ≡ grown_at (map (value_of S.number) states.old.items) number (rows_in set.now.looks.items) }
+{
+    if held {
+        return false;
+    }
+    grow(states, number, set)
 }
 
 /// Puts an edge to the state `target` with those of the state `number`; one on its symbol may stand at `near`.
@@ -263,7 +280,8 @@ fn lower(cursor: &mut usize, grew: bool, number: usize)
     }
 }
 
-/// Joins a set, made from the state `from` by a symbol, to the state `number`. No state below the cursor is to be taken.
+/// Joins a set, made from the state `from` by a symbol, to the state `number`, which may be known to hold all its
+/// lookaheads. No state below the cursor is to be taken.
 fn join<S: IndexStorage>(
     states: &mut Vec<State<S>>,
     cursor: &mut usize,
@@ -272,16 +290,18 @@ fn join<S: IndexStorage>(
     symbol: Symbol<S>,
     number: usize,
     set: &CoreSet<S>,
+    held: bool,
 ) -> Result<(), AllocError>
     requires from { from < length states.old.items }
     requires states { (tokens : ℕ) × AreStates tokens (map (value_of S.number) states.old.items) × IsCoreOf tokens (core_of_set S.number set.now) }
     requires joins { JoinsAt (map (value_of S.number) states.old.items) number (core_of_set S.number set.now) }
+    requires held { held ≡ true → CoversRows (state_at (map (value_of S.number) states.old.items) number).core.rows (rows_in set.now.looks.items) }
     ensures placed { OnOk result (IsPlaced (map (value_of S.number) states.old.items) from (sym_of S.number symbol) (core_of_set S.number set.now) (map (value_of S.number) states.new.items)) }
     ensures kept { OnOk result (KeepsItems (map (value_of S.number) states.old.items) (map (value_of S.number) states.new.items)) }
     ensures less { OnOk result (cursor.new ≤ cursor.old) }
     ensures quiet { OnOk result (AreQuiet (map (value_of S.number) states.old.items) cursor.old → AreQuiet (map (value_of S.number) states.new.items) cursor.new) }
 {
-    let grew = grow(states, number, set);
+    let grew = grow_unless(states, number, set, held);
     lower(cursor, grew, number);
     link(states, from, near, symbol, number)?;
     Ok(())
@@ -379,8 +399,8 @@ pub fn place<S: IndexStorage>(
 {
     let first = set.items[0].pidx.0.to_usize();
     match first_joined(states.as_slice(), begins[first].as_slice(), &set) {
-        Some(number) => {
-            join(states, cursor, from, near, symbol, number, &set)?;
+        Some((number, held)) => {
+            join(states, cursor, from, near, symbol, number, &set, held)?;
             let set = emptied(spare, set)?;
             Ok(set)
         }

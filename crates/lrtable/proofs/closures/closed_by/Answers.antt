@@ -1,7 +1,8 @@
 use Rattle.std.proofs.Common.{sym, ap, ◌∙◌, subst}
 use Rattle.std.proofs.lemmas.List.{length-map}
 use Rattle.vob.specs.Packed.{Contents}
-use Rattle.lrtable.specs.ItemRows.{IsCoreOf, map_of}
+use Rattle.lr_theory.specs.Itemset.{Closure, ClosureLook, HasItem, HasLook, Is}
+use Rattle.lrtable.specs.ItemRows.{Core, IsCoreOf, map_of}
 use Rattle.lrtable.specs.Sharing.{shared_map}
 use Rattle.lrtable.specs.StateViews.{item_of, core_of_set}
 use Rattle.lrtable.proofs.Opened.{closed_is}
@@ -20,6 +21,14 @@ pub returns-clause-is : goal.returns-clause-is
 returns-clause-is g c =
     let number = g.S.IndexStorage.number in
     let G = c.args.grm.now.grammar in
+    let core = core_of_set number c.args.core.now in
     let grown = c.in_ok-open_rules.ensures in
-    closed_is G c.args.openers.now (core_of_set number c.args.core.now) c.close.new.self.opening c.start_prod.ensures.well_formed c.requires.openers c.in_ok-close.ensures.closed (shared_map number c.in_ok-set.set) (shared_map number c.open_rules.new.self)
-    (ap map_of c.in_ok-set.ensures.core) grown.extends.items grown.extends.looks
+    subst (λ (m : Core). Is (map_of m) (Closure G (HasItem (map_of core))) (ClosureLook G (HasItem (map_of core)) (HasLook (map_of core)))) (sym c.fit.ensures.core)
+    (closed_is G c.args.openers.now core c.close.new.self.opening c.start_prod.ensures.well_formed c.requires.openers c.in_ok-close.ensures.closed (shared_map number c.in_ok-set.set) (shared_map number c.open_rules.new.self)
+    (ap map_of c.in_ok-set.ensures.core) grown.extends.items grown.extends.looks)
+
+pub returns-clause-core : goal.returns-clause-core
+returns-clause-core g c = subst (IsCoreOf c.args.grm.now.grammar.tokens) (sym c.fit.ensures.core) c.in_ok-open_rules.ensures.core
+
+pub returns-clause-within : goal.returns-clause-within
+returns-clause-within g c = c.fit.ensures.within c.in_ok-open_rules.ensures.within

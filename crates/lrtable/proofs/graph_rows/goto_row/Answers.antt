@@ -6,7 +6,7 @@ use Rattle.lrtable.proofs.GraphSteps.{rules_append, one_more}
 use Rattle.lrtable.proofs.graph_rows.goto_row.Goals as goal
 
 pub edges-init : goal.edges-init
-edges-init g c = ap (λ l. targets_of g.S.IndexStorage.number l) c.new-gotos.ensures.items
+edges-init g c = ap (λ l. targets_of g.S.IndexStorage.number l) c.in_ok-gotos.ensures.items
 
 pub edges-preserved : goal.edges-preserved
 edges-preserved g c =

@@ -31,7 +31,7 @@ place_all-requires-clause-states g c =
     let n = length-map c.args.states.now.items (value_of number) in
     let low = c.requires.number in
     let h = c.requires.reached in
-    subst (λ (l : List StateValue). AreStates G.tokens l) (sym c.take.ensures) (off_states states h.building c.args.number h.matches (omega (arith, n, low)) G.tokens h.cores)
+    subst (λ (l : List StateValue). AreStates G.tokens l) (sym c.in_ok-take.ensures) (off_states states h.building c.args.number h.matches (omega (arith, n, low)) G.tokens h.cores)
 
 pub place_all-requires-clause-sets : goal.place_all-requires-clause-sets
 place_all-requires-clause-sets g c =
@@ -46,7 +46,7 @@ place_all-requires-clause-buckets g c =
     let states = map (value_of number) c.args.states.now.items in
     let n = length-map c.args.states.now.items (value_of number) in
     let low = c.requires.number in
-    subst (λ (l : List StateValue). AreBuckets l (map (λ (v : Vec ℕ Global). v.items) c.args.begins.now.items)) (sym c.take.ensures) (off_buckets states c.args.number (map (λ (v : Vec ℕ Global). v.items) c.args.begins.now.items) (omega (arith, n, low)) c.requires.buckets)
+    subst (λ (l : List StateValue). AreBuckets l (map (λ (v : Vec ℕ Global). v.items) c.args.begins.now.items)) (sym c.in_ok-take.ensures) (off_buckets states c.args.number (map (λ (v : Vec ℕ Global). v.items) c.args.begins.now.items) (omega (arith, n, low)) c.requires.buckets)
 
 pub returns-in_err-place_all-clause-many : goal.returns-in_err-place_all-clause-many
 returns-in_err-place_all-clause-many g c = λ e.
@@ -59,7 +59,7 @@ returns-in_err-place_all-clause-many g c = λ e.
     let at = map_at (value_of number) c.args.states.now.items c.args.number c.index.result.now no_state low c.index.ensures in
     let sets = map (core_of_set number) c.gotos.new.sets.items in
     let gotos = gotos_of G states h.building c.args.number sets h.matches (subst (λ (v : StateValue). AreGotos G (Closure G (HasItem (map_of v.core))) (ClosureLook G (HasItem (map_of v.core)) (HasLook (map_of v.core))) sets) (sym at) c.in_ok-gotos.ensures.gotos) in
-    let begun = subst (λ (l : List StateValue). AreHandled G h.building c.args.number 0 l) (sym c.take.ensures) (none_handled states h.building c.args.number h.matches (omega (arith, n, low)) G h.cores) in
+    let begun = subst (λ (l : List StateValue). AreHandled G h.building c.args.number 0 l) (sym c.in_ok-take.ensures) (none_handled states h.building c.args.number h.matches (omega (arith, n, low)) G h.cores) in
     c.place_all.ensures.many (search rules) h.building (next_taken G states h c.args.number c.requires.todo c.requires.lowest) gotos begun
 
 pub returns-clause-reached : goal.returns-clause-reached
@@ -73,7 +73,7 @@ returns-clause-reached g c =
     let at = map_at (value_of number) c.args.states.now.items c.args.number c.index.result.now no_state low c.index.ensures in
     let sets = map (core_of_set number) c.gotos.new.sets.items in
     let gotos = gotos_of G states h.building c.args.number sets h.matches (subst (λ (v : StateValue). AreGotos G (Closure G (HasItem (map_of v.core))) (ClosureLook G (HasItem (map_of v.core)) (HasLook (map_of v.core))) sets) (sym at) c.in_ok-gotos.ensures.gotos) in
-    let begun = subst (λ (l : List StateValue). AreHandled G h.building c.args.number 0 l) (sym c.take.ensures) (none_handled states h.building c.args.number h.matches (omega (arith, n, low)) G h.cores) in
+    let begun = subst (λ (l : List StateValue). AreHandled G h.building c.args.number 0 l) (sym c.in_ok-take.ensures) (none_handled states h.building c.args.number h.matches (omega (arith, n, low)) G h.cores) in
     step_reached G states (map (value_of number) c.place_all.new.states.items) c.args.number h (omega (arith, n, low)) c.requires.todo c.requires.lowest (c.in_ok-place_all.ensures.handled h.building gotos begun)
 
 pub returns-clause-less : goal.returns-clause-less
@@ -87,7 +87,7 @@ returns-clause-less g c =
     let at = map_at (value_of number) c.args.states.now.items c.args.number c.index.result.now no_state low c.index.ensures in
     let sets = map (core_of_set number) c.gotos.new.sets.items in
     let gotos = gotos_of G states h.building c.args.number sets h.matches (subst (λ (v : StateValue). AreGotos G (Closure G (HasItem (map_of v.core))) (ClosureLook G (HasItem (map_of v.core)) (HasLook (map_of v.core))) sets) (sym at) c.in_ok-gotos.ensures.gotos) in
-    let begun = subst (λ (l : List StateValue). AreHandled G h.building c.args.number 0 l) (sym c.take.ensures) (none_handled states h.building c.args.number h.matches (omega (arith, n, low)) G h.cores) in
+    let begun = subst (λ (l : List StateValue). AreHandled G h.building c.args.number 0 l) (sym c.in_ok-take.ensures) (none_handled states h.building c.args.number h.matches (omega (arith, n, low)) G h.cores) in
     let m = length-map c.place_all.new.states.items (value_of number) in
     let few = c.in_ok-place_all.ensures.few in
     step_less G g.S.IndexStorage.MAX states (map (value_of number) c.place_all.new.states.items) c.args.number h c.start_prod.ensures.well_formed c.requires.todo c.requires.lowest (c.in_ok-place_all.ensures.handled h.building gotos begun) (omega (arith, m, few))
@@ -98,7 +98,7 @@ place_all-requires-clause-cursor g c =
     let states = map (value_of number) c.args.states.now.items in
     let n = length-map c.args.states.now.items (value_of number) in
     let m = length-map c.take.new.states.items (value_of number) in
-    let e = ap length c.take.ensures in
+    let e = ap length c.in_ok-take.ensures in
     let k = length-set states c.args.number (record { core = (state_at states c.args.number).core; edges = (state_at states c.args.number).edges; todo = false }) in
     let low = c.requires.number in
     omega (arith, n, m, e, k, low)
@@ -107,4 +107,4 @@ pub returns-clause-quiet : goal.returns-clause-quiet
 returns-clause-quiet g c =
     let number = g.S.IndexStorage.number in
     let states = map (value_of number) c.args.states.now.items in
-    c.in_ok-place_all.ensures.quiet (subst (λ (l : List StateValue). AreQuiet l c.args.number) (sym c.take.ensures) (quiet_off states c.args.number c.args.number c.requires.lowest (omega arith)))
+    c.in_ok-place_all.ensures.quiet (subst (λ (l : List StateValue). AreQuiet l c.args.number) (sym c.in_ok-take.ensures) (quiet_off states c.args.number c.args.number c.requires.lowest (omega arith)))

@@ -2,7 +2,7 @@ use Rattle.std.proofs.Common.{◌+◌}
 use Rattle.std.proofs.lemmas.List.{take_rest}
 use Rattle.cfg_numbered.specs.Symbols.{sym_of}
 use Rattle.lrtable.proofs.Exact.{slice_within, slice_rest}
-use Rattle.lrtable.proofs.rests.rest_after.Goals as goal
+use Rattle.lrtable.proofs.rests.fill_rest.Goals as goal
 
 pub first_of-nullable-requires-clause-within : goal.first_of-nullable-requires-clause-within
 first_of-nullable-requires-clause-within g c =

@@ -39,3 +39,5 @@ pub mod ErrorParts
 pub mod EscapedTexts
 pub mod Completed
 pub mod Instances
+pub mod BuiltPairs
+pub mod OneParse

@@ -46,3 +46,9 @@ abbrev pub IsDataRefusal : {S : Type 0} → (S → ℕ) → GrammarValue → Gra
 IsDataRefusal number v g t limit (errors.UnsafeTable state cell parts) = IsLeastMisfit (CountsAgree v.grammar g t) v.grammar (automaton_of g t) (number state.0) (cell_of number cell) × AreParts v g t parts
 IsDataRefusal number v g t limit (errors.TooManyReductions state above on cap parts) = IsSafePair v.grammar g t × IsLeastChain v.grammar (automaton_of g t) limit (record { state = number state.0; rule = rule_number number above; token = number on.0 }) × (cap ≡ limit) × AreParts v g t parts
 IsDataRefusal number v g t limit (errors.Memory e) = Unit {0}
+
+-- it says that the pair isn't safe
+abbrev pub IsUnsafeTable : {S : Type 0} → ParserDataError S → Type 0
+IsUnsafeTable (errors.UnsafeTable state cell parts) = Unit {0}
+IsUnsafeTable (errors.TooManyReductions state above on cap parts) = ⊥
+IsUnsafeTable (errors.Memory e) = ⊥

@@ -13,6 +13,7 @@ pub mod LexemeViews
 pub mod Shown
 pub mod Refusals
 pub mod Parses
+pub mod ParseLaws
 pub mod Applied
 pub mod Parsing
 pub mod Outcomes

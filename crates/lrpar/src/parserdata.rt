@@ -1,13 +1,15 @@
 //! Checked data of a parser: a graph and a table that fit a grammar, and whose chains of reductions are within a cap.
 
-ghost use Rattle.std.specs.Prelude.{◌≡◌, ◌↔◌, IsTrue, IfOk, IfErr, OnOk};
+ghost use Rattle.std.specs.Prelude.{◌≡◌, ◌↔◌, IsNone, IsTrue, IfOk, IfErr, OnOk};
 ghost use Rattle.lr_theory.specs.Automaton.{Complete};
 ghost use Rattle.lr_theory.specs.Chains.{ChainsWithin};
 ghost use Rattle.lrtable.specs.Graphs.{GraphValue};
-ghost use Rattle.lrtable.specs.Tables.{automaton_of};
+ghost use Rattle.lrtable.specs.CellViews.{precedences_of};
+ghost use Rattle.lrtable.specs.Tables.{IsTableOf, automaton_of};
+ghost use Rattle.table_theory.specs.Cells.{NoPrecedences};
 ghost use Rattle.lrpar.specs.Pair.{IsSafePair};
 ghost use Rattle.lrpar.specs.Reducing.{IsTableFor};
-ghost use Rattle.lrpar.specs.Checked.{IsDataRefusal, TellsVerdict};
+ghost use Rattle.lrpar.specs.Checked.{IsDataRefusal, IsUnsafeTable, TellsVerdict};
 ghost use Rattle.lrpar.specs.Fitting.{Tells};
 ghost use Rattle.lrpar.specs.declared.parserdata.ParserDataError.TheVariants as errors;
 
@@ -124,7 +126,8 @@ fn judge<S: IndexStorage>(
 }
 
 impl<S: IndexStorage> ParserData<S> {
-    /// Checks a graph and a table against a grammar and a cap on chains of reductions.
+    /// Checks a graph and a table against a grammar and a cap on chains of reductions. What the builder made of the
+    /// grammar is never refused as unsafe.
     pub fn new(
         alloc: Global,
         grm: NumberedGrammar<S>,
@@ -136,7 +139,10 @@ impl<S: IndexStorage> ParserData<S> {
         ensures safe { OnOk result (IsSafePair grm.grammar sgraph stable) }
         ensures chains { OnOk result (ChainsWithin grm.grammar (automaton_of sgraph stable) cap) }
         ensures refused { IfErr result (IsDataRefusal S.number grm sgraph stable cap) }
+        ensures of_builder { IfErr result (λ e. IsTableOf grm sgraph stable → IsUnsafeTable e → ⊥) }
     {
+        // Read, so that the proof may use what is so of each grammar.
+        grm.start_prod();
         match judge(alloc, &grm, &sgraph, &stable, cap)? {
             Verdict::Checked(complete) => Ok(ParserData {
                 grm,
@@ -196,10 +202,13 @@ impl<S: IndexStorage> ParserData<S> {
         self.cap
     }
 
-    /// Whether each item's action stands in its cell, so that the run accepts each derivation.
+    /// Whether each item's action stands in its cell, so that the run accepts each derivation. Of what the builder made
+    /// of a grammar without precedences this is so exactly where no conflict is listed.
     pub fn complete(&self) -> bool
-        ensures { IsTrue result ↔ Complete self.now.grammar.grammar (automaton_of self.now.graph self.now.table) }
+        ensures value { IsTrue result ↔ Complete self.now.grammar.grammar (automaton_of self.now.graph self.now.table) }
+        ensures listed { IsTableOf self.now.grammar self.now.graph self.now.table → NoPrecedences (precedences_of self.now.grammar) → IsTrue result ↔ IsNone self.now.table.conflicts }
     {
+        self.facts();
         self.is_complete()
     }
 

@@ -1,5 +1,6 @@
 -- Trees whose nodes stand in a list.
-use Rattle.std.proofs.Common.{◌≡◌, ℕ, suc, ◌-◌, ◌+◌, ◌≤◌, ◌<◌, List, [], ◌∷◌, ◌++◌, length, drop, reverse, Some, None, subst, refl, sym, ap, ◌∙◌, arith, append_assoc, append-nil, length-append}
+use Rattle.std.proofs.Common.{◌≡◌, ℕ, suc, ◌-◌, ◌+◌, ◌≤◌, ◌<◌, List, [], ◌∷◌, ◌++◌, length, drop, reverse, Some, None, subst, refl, sym, ap, ◌∙◌, arith, append_assoc, append-nil, length-append, ⊎_elim}
+use Rattle.std.proofs.lemmas.Bool.{cases_lt}
 use Rattle.std.specs.Prelude.{slice_get, option_map}
 use Rattle.std.proofs.lemmas.List.{reverse-append, reverse-reverse}
 use Rattle.std.proofs.lemmas.Option.{slice_get_within}
@@ -155,6 +156,16 @@ module _ {L : Type 0} where
           nothing none z = refl
           nothing (before u f) z = absurd (omega (arith, size_is u))
 
+      mutual
+        -- each node among a tree's is the root of some tree
+        pub root_in : (k i : ℕ) (t : Tree L) → StandsAt at pieces k t → k ≤ i → i < k + size t → (j : ℕ) × (u : Tree L) × StandsAt at pieces j u × (i + 1 ≡ j + size u)
+        root_in k i (leaf x) s le lt = (k, leaf x, s, omega arith)
+        root_in k i (node p f) s le lt = ⊎_elim (λ h. root_among k i f (children_at k (node p f) s) le h) (λ h. (k, node p f, s, omega arith)) (cases_lt i (k + sizes f))
+
+        root_among : (k i : ℕ) (f : Forest L) → StandAt at pieces k f → k ≤ i → i < k + sizes f → (j : ℕ) × (u : Tree L) × StandsAt at pieces j u × (i + 1 ≡ j + size u)
+        root_among k i none s le lt = absurd (omega arith)
+        root_among k i (before t f) s le lt = ⊎_elim (λ h. root_in k i t (first_at k t f s) le h) (λ h. root_among (k + size t) i f (others_at k t f s) h (omega arith)) (cases_lt i (k + size t))
+
       -- what waits, the next one first, stands for what is to come
       abbrev pub Waits : List Visit → List Visit → Type 0
       Waits [] todo = todo ≡ []
@@ -243,3 +254,8 @@ module _ {L : Type 0} where
     found_less pieces t found found' waiting waiting' v flat_is w is =
         let long : length pieces ≡ size t = ap length flat_is.pieces_are ∙ flat_length no_span t in
         omega (arith, long, preorder_length 0 0 t, ap length w.is, length-append found' w.todo, ap length is, length-append found (v ∷ []))
+
+    pub any_root : (pieces : List (Piece L)) (t : Tree L) (i : ℕ) → IsFlat at t pieces → i < length pieces → (j : ℕ) × (u : Tree L) × StandsAt at pieces j u × (i + 1 ≡ j + size u)
+    any_root pieces t i flat_is lt =
+        let long : length pieces ≡ size t = ap length flat_is.pieces_are ∙ flat_length no_span t in
+        root_in pieces 0 i t (record { left = no_span; behind = []; is = flat_is.pieces_are ∙ sym (append-nil (flat at no_span t)) }) (omega arith) (omega (arith, long, lt))

@@ -27,6 +27,8 @@ pub mod FlatStacks
 pub mod FlatWalks
 pub mod FlatSpans
 pub mod NodeLines
+pub mod NodeLists
+pub mod OnlyTree
 pub mod FlatLines
 pub mod Valued
 pub mod ItemLists

@@ -1,7 +1,7 @@
 -- The texts of errors.
 use Rattle.std.specs.Prelude.{◌≡◌, ◌≤◌, ℕ, suc, ◌+◌, ◌-◌, ◌==◌, List, [], ◌∷◌, ◌++◌, length, map, replicate, slice_range, if◌then◌else◌, codes, Option, Some, None}
 use Rattle.std.specs.Borrow.{Bor}
-use Rattle.std.specs.List.{flat_map}
+use Rattle.std.specs.List.{flat_map, AllByRecursion}
 use Rattle.std.specs.Fmt.{decimal}
 use Rattle.std.specs.Str.{IsCharBoundary}
 use Rattle.cfg_base.specs.SpanModel.{SpanModel}
@@ -9,9 +9,11 @@ use Rattle.cfg_base.specs.Newlines.{line_of, column_of}
 use Rattle.cfg_base.specs.Text.{is_line_feed}
 use Rattle.cfg_base.specs.declared.symbol.TIdx.{TIdx}
 use Rattle.lrpar.specs.Lex.{Lex}
-use Rattle.lrpar.specs.Shown.{ShownEdit, inserted, deleted, shifted}
+use Rattle.lrpar.specs.Shown.{ShownEdit, inserted, deleted, shifted, shown_lists}
 use Rattle.lrpar.specs.declared.error_texts.Piece.{Piece}
 use Rattle.lrpar.specs.declared.error_texts.Piece.TheVariants as pieces
+use Rattle.lrpar.specs.declared.parse_error.LexParseError.{LexParseError}
+use Rattle.lrpar.specs.declared.parse_error.LexParseError.TheVariants as errors
 
 -- what is shown of a sequence: a token put in, and parts of the input that are left out or taken
 pub data Shown : Type 0 where
@@ -116,3 +118,13 @@ seen_as number (pieces.Shift start end) = taken start end
 abbrev pub Touches : ℕ → List Shown → Option ℕ → Type 0
 Touches end ps None = (start : ℕ) → join start end ps ≡ left_out start end ∷ ps
 Touches end ps (Some to) = (qs : List Shown) × (ps ≡ left_out end to ∷ qs)
+
+module _ {T S L E : Type 0} (number : S → ℕ) (input : List ℕ) (lex : L → Lex) (places : E → SpanModel) where
+  abbrev pub error_text : (ℕ → List ℕ) → LexParseError T L S E → List ℕ
+  error_text names (errors.LexError e) = lexing_error_text input (places e)
+  error_text names (errors.ParseError e) = parsing_error_text names input lex e.lexeme (shown_lists number e.repairs.items)
+
+  -- its span lies within the input, and what its repairs show fits the input
+  abbrev pub ErrorFits : LexParseError T L S E → Type 0
+  ErrorFits (errors.LexError e) = (places e).end ≤ length input
+  ErrorFits (errors.ParseError e) = ((lex e.lexeme).places.end ≤ length input) × AllByRecursion (AllByRecursion (EditFits input lex)) (shown_lists number e.repairs.items)

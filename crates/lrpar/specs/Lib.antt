@@ -20,6 +20,7 @@ pub mod Outcomes
 pub mod FlatTrees
 pub mod FlatValues
 pub mod Shapes
+pub mod NodeLists
 pub mod FlatLines
 pub mod Checked
 pub mod Told

@@ -5,7 +5,7 @@ ghost use Rattle.std.specs.List.{flat_map, AllByRecursion};
 ghost use Rattle.std.specs.Fmt.{decimal};
 ghost use Rattle.std.specs.String.{string_bytes};
 ghost use Rattle.lrpar.specs.Shown.{shown_of, shown_lists};
-ghost use Rattle.lrpar.specs.ErrorTexts.{seen_as, join, before_shown, shown_parts, Touches, escaped, comma_joined, number_front, sequence_lines, repairs_text, part_text, sequence_text, parsing_error_text, AnswersNames, ShownFits, EditFits};
+ghost use Rattle.lrpar.specs.ErrorTexts.{seen_as, join, before_shown, shown_parts, Touches, escaped, comma_joined, number_front, sequence_lines, repairs_text, part_text, sequence_text, lexing_error_text, parsing_error_text, AnswersNames, ShownFits, EditFits};
 
 use crate::lex_api::{Lexeme, LexerTypes, NonStreamingLexer};
 use crate::parse_error::ParseError;
@@ -355,5 +355,19 @@ pub(crate) fn parsing_text<
     let mut text = format!(in alloc; "Parsing error at line {line} column {column}.")?;
     let sequences = sequences_of(alloc, lexer, epp, error.repairs.as_slice())?;
     push_repairs(alloc, &mut text, sequences.as_slice())?;
+    Ok(text)
+}
+
+/// The text of an error of lexing.
+pub(crate) fn lexing_text<'input, T: LexerTypes, X: NonStreamingLexer<'input, T>>(
+    alloc: Global,
+    lexer: &X,
+    span: Span,
+) -> Result<String, AllocError>
+    requires { span.end ≤ length (X.text lexer.now) }
+    ensures { IfOk result (λ text. string_bytes text ≡ lexing_error_text (X.text lexer.now) span) }
+{
+    let ((line, column), _) = lexer.line_col(span);
+    let text = format!(in alloc; "Lexing error at line {line} column {column}.")?;
     Ok(text)
 }

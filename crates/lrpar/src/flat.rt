@@ -110,6 +110,7 @@ impl<S: IndexStorage, L: Lexeme<S>> FlatTree<S, L> {
     pub fn nodes(&self) -> &[FlatNode<S, L>]
         ensures value { pieces_of S.number result.now ≡ self.now.pieces }
         ensures tree { IsSomeTree (span_by L.lex) self.now }
+        ensures only { (t u : Tree L) → IsFlat (span_by L.lex) t self.now.pieces → IsFlat (span_by L.lex) u self.now.pieces → t ≡ u }
     {
         self.nodes.as_slice()
     }
@@ -119,6 +120,20 @@ impl<S: IndexStorage, L: Lexeme<S>> FlatTree<S, L> {
         ensures { (t : Tree L) → IsFlat (span_by L.lex) t self.now.pieces → IfOk result (λ visits. visits.items ≡ preorder 0 0 t) }
     {
         let visits = preorder_of(alloc, self.nodes())?;
+        Ok(visits)
+    }
+
+    /// Answers the children of a visited node, from left to right.
+    pub fn children(&self, alloc: Global, at: Visit) -> Result<Vec<Visit>, AllocError>
+        requires index { at.index < length self.now.pieces }
+        requires depth { at.depth < length self.now.pieces }
+        ensures root { (k : ℕ) × (t : Tree L) × StandsAt (span_by L.lex) self.now.pieces k t × (at.index + 1 ≡ k + size t) }
+        ensures children { (k : ℕ) (t : Tree L) → StandsAt (span_by L.lex) self.now.pieces k t → at.index + 1 ≡ k + size t →
+            IfOk result (λ visits. visits.items ≡ root_visits k (at.depth + 1) (below t)) }
+    {
+        let mut visits = Vec::new(alloc);
+        push_children(self.nodes(), at, &mut visits)?;
+        visits.reverse();
         Ok(visits)
     }
 

@@ -22,6 +22,7 @@ pub mod laws;
 pub mod lex_api;
 pub mod lexemes;
 pub mod node;
+mod node_lists;
 mod numbers;
 mod overlay;
 mod parse;

@@ -2,11 +2,13 @@
 
 ghost use Rattle.std.specs.Prelude.{◌≡◌, ◌<◌, ◌≤◌, ◌++◌, ℕ, List, length, reverse, IfSome, IfOk, OnOk, string_bytes, replicate};
 ghost use Rattle.cfg_theory.specs.Grammar.{end_token};
+ghost use Rattle.lrpar.specs.NodeLists.{same_shape};
 ghost use Rattle.lrpar.specs.Shapes.{rule_line, lexeme_line, token_text, HasText, CanShow, CanShowAll, CanShowWaiting, tree_text, trees_text, waiting_text, shape_of, shapes_of};
 ghost use Rattle.cfg_numbered.specs.Value.{GrammarValue};
 ghost use Rattle.lrpar.specs.declared.node.Node.TheVariants as variants;
 
 use crate::lex_api::Lexeme;
+use crate::node_lists::{built, entries_of, same_lists};
 use cfg_base::index::IndexStorage;
 use cfg_base::symbol::{RIdx, TIdx};
 use cfg_numbered::yacc::grammar::NumberedGrammar;
@@ -55,6 +57,24 @@ impl<L: Lexeme<S>, S: IndexStorage> Node<L, S> {
             show_next(&mut text, grm, input, node, depth, &mut waiting)?;
         }
         Ok(text)
+    }
+
+    /// Answers a copy.
+    pub fn clone(&self, alloc: Global) -> Result<Node<L, S>, AllocError>
+        ensures { IfOk result (λ node. shape_of S.number node ≡ shape_of S.number self.now) }
+    {
+        let entries = entries_of(alloc, self)?;
+        let node = built(alloc, entries.as_slice())?;
+        Ok(node)
+    }
+
+    /// Says whether the nodes have the same rules at the same places, and equal lexemes.
+    pub fn equals(&self, alloc: Global, other: &Node<L, S>) -> Result<bool, AllocError>
+        ensures { IfOk result (λ same. same ≡ same_shape L.eq (shape_of S.number self.now) (shape_of S.number other.now)) }
+    {
+        let one = entries_of(alloc, self)?;
+        let two = entries_of(alloc, other)?;
+        Ok(same_lists(one.as_slice(), two.as_slice()))
     }
 
     /// Answers the nodes below, and the rule; a lexeme has none.

@@ -1,13 +1,16 @@
 //! Errors of lexing and of parsing.
 
-ghost use Rattle.std.specs.Prelude.{◌≡◌};
+ghost use Rattle.std.specs.Prelude.{◌≡◌, ℕ, List, IfOk, string_bytes};
+ghost use Rattle.lrpar.specs.ErrorTexts.{AnswersNames, ErrorFits, error_text};
 ghost use Rattle.lrpar.specs.declared.parse_error.LexParseError.TheVariants as errors;
 
-use crate::lex_api::{LexError, Lexeme, LexerTypes};
+use crate::error_texts::{lexing_text, parsing_text};
+use crate::lex_api::{LexError, Lexeme, LexerTypes, NonStreamingLexer};
 use crate::parse_repair::ParseRepair;
 use cfg_base::index::IndexStorage;
+use cfg_base::symbol::TIdx;
 use lrtable::StIdx;
-use std::alloc::AllocError;
+use std::alloc::{AllocError, Global};
 use std::error::Error;
 use std::fmt;
 use std::fmt::{Debug, Display, Formatter, Write};
@@ -61,6 +64,31 @@ pub enum LexParseError<T: LexerTypes> {
     LexError(T::LexErrorT),
     /// An error of parsing.
     ParseError(ParseError<T::LexemeT, T::StorageT>),
+}
+
+impl<T: LexerTypes> LexParseError<T> {
+    /// Answers where the error is, by line and column, and of an error of parsing the sequences of repairs that can be
+    /// taken. `epp` answers the text of a token; one without is shown by its number.
+    pub fn pp<
+        'input,
+        X: NonStreamingLexer<'input, T>,
+        F: Fn(TIdx<T::StorageT>) -> Option<&'input str>,
+    >(&self, alloc: Global, lexer: &X, epp: &F) -> Result<String, AllocError>
+        requires names { F.IsAlwaysCallable epp.now }
+        requires fits { ErrorFits T.StorageT.number (X.text lexer.now) T.LexemeT.lex T.LexErrorT.places self.now }
+        ensures { IfOk result (λ text. (names : ℕ → List ℕ) → AnswersNames T.StorageT.number (F.post epp.now) names → string_bytes text ≡ error_text T.StorageT.number (X.text lexer.now) T.LexemeT.lex T.LexErrorT.places names self.now) }
+    {
+        match self {
+            LexParseError::LexError(error) => {
+                let text = lexing_text(alloc, lexer, error.span())?;
+                Ok(text)
+            }
+            LexParseError::ParseError(error) => {
+                let text = parsing_text(alloc, lexer, epp, error)?;
+                Ok(text)
+            }
+        }
+    }
 }
 
 impl<T: LexerTypes> Debug for LexParseError<T> {

@@ -41,5 +41,6 @@ pub mod ErrorParts
 pub mod EscapedTexts
 pub mod Completed
 pub mod Instances
+pub mod FoldsOver
 pub mod BuiltPairs
 pub mod OneParse

@@ -1,5 +1,5 @@
 -- Nodes as lists, and what is made of these again.
-use Rattle.std.proofs.Common.{◌≡◌, ℕ, zero, suc, ◌+◌, ◌-◌, ◌≤◌, ◌<◌, List, [], ◌∷◌, ◌++◌, length, take, drop, reverse, Option, None, Some, map, refl, sym, ap, ◌∙◌, subst, arith, append_assoc, append-nil, length-append, Vec, Global, rules, get_or, length-drop}
+use Rattle.std.proofs.Common.{◌≡◌, ℕ, zero, suc, ◌+◌, ◌≤◌, ◌<◌, List, [], ◌∷◌, ◌++◌, length, take, drop, reverse, Option, None, Some, map, refl, sym, ap, ◌∙◌, arith, append_assoc, append-nil, length-append, Vec, Global, rules, get_or, length-drop}
 use Rattle.std.specs.Prelude.{option_and_then, option_map, ◌==◌, ◌&&◌, Bool, true, false, IsSome, slice_get}
 use Rattle.std.specs.Option.{option_map_or}
 use Rattle.std.proofs.lemmas.Bool.{eqb-true, eq-eqb}

@@ -51,11 +51,11 @@ told_more number lexemes xs k x ts ts' p so lt is told e =
     ∙ ap (λ t. map (as_told lexemes) (errors_of number (take k xs)) ++ t ∷ []) told
     ∙ sym (ap (λ l. map (as_told lexemes) (errors_of number l)) longer ∙ ap (map (as_told lexemes)) (map_one (error_of number) (take k xs) x) ∙ map_one (as_told lexemes) (errors_of number (take k xs)) (error_of number x))
 
--- a parse says as much of what its tree gives
-pub parse_gives : {L : Type 0} (G : Grammar) (a : Automaton) (tok : L → ℕ) (make : ℕ → List L → L) (answers : ℕ → ℕ → L → List (List Edit) → Type 0) (gives gives' : Option (Tree L) → Type 0) (lexemes : List L) (errors : List (ErrorValue L)) →
-    ((tree : Option (Tree L)) → gives tree → gives' tree) → IsParse G a tok make answers gives lexemes errors → IsParse G a tok make answers gives' lexemes errors
-parse_gives G a tok make answers gives gives' lexemes errors f p = record {
-  parsed = record { handed = p.parsed.handed; places = p.parsed.places; tree = p.parsed.tree; repaired = p.parsed.repaired; parses = p.parsed.parses; told = p.parsed.told; gives_tree = f p.parsed.tree p.parsed.gives_tree };
+-- what its tree gives is all that a parse says by it
+pub parse_gives_at : {L : Type 0} (G : Grammar) (a : Automaton) (tok : L → ℕ) (make : ℕ → List L → L) (answers : ℕ → ℕ → L → List (List Edit) → Type 0) (gives gives' : Option (Tree L) → Type 0) (lexemes : List L) (errors : List (ErrorValue L)) →
+    (p : IsParse G a tok make answers gives lexemes errors) → gives' p.parsed.tree → IsParse G a tok make answers gives' lexemes errors
+parse_gives_at G a tok make answers gives gives' lexemes errors p k = record {
+  parsed = record { handed = p.parsed.handed; places = p.parsed.places; tree = p.parsed.tree; repaired = p.parsed.repaired; parses = p.parsed.parses; told = p.parsed.told; gives_tree = k };
   derives = p.derives;
   by_repairs = p.by_repairs;
   few = p.few;
@@ -66,3 +66,8 @@ parse_gives G a tok make answers gives gives' lexemes errors f p = record {
   same_value = p.same_value;
   true_errors = p.true_errors;
 }
+
+-- a parse says as much of what its tree gives
+pub parse_gives : {L : Type 0} (G : Grammar) (a : Automaton) (tok : L → ℕ) (make : ℕ → List L → L) (answers : ℕ → ℕ → L → List (List Edit) → Type 0) (gives gives' : Option (Tree L) → Type 0) (lexemes : List L) (errors : List (ErrorValue L)) →
+    ((tree : Option (Tree L)) → gives tree → gives' tree) → IsParse G a tok make answers gives lexemes errors → IsParse G a tok make answers gives' lexemes errors
+parse_gives G a tok make answers gives gives' lexemes errors f p = parse_gives_at G a tok make answers gives gives' lexemes errors p (f p.parsed.tree p.parsed.gives_tree)

@@ -28,3 +28,5 @@ pub mod Fitting
 pub mod ErrorTexts
 pub mod Completing
 pub mod FlatParses
+pub mod NodeValues
+pub mod Acting

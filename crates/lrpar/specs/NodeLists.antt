@@ -1,5 +1,5 @@
 -- Trees by rules as lists of their nodes.
-use Rattle.std.specs.Prelude.{◌≡◌, ℕ, zero, suc, ◌+◌, ◌==◌, ◌&&◌, Bool, true, false, List, [], ◌∷◌, ◌++◌, map, reverse, Option, None, Some, option_map}
+use Rattle.std.specs.Prelude.{ℕ, zero, suc, ◌==◌, ◌&&◌, Bool, true, false, List, [], ◌∷◌, ◌++◌, map, reverse, Option, None, Some, option_map}
 use Rattle.std.specs.Borrow.{Bor}
 use Rattle.lrpar.specs.Shapes.{Shape, Shapes, lexeme, over, nothing, along, shape_of}
 use Rattle.lrpar.specs.declared.node.Node.{Node}

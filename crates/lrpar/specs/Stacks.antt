@@ -51,6 +51,14 @@ pub record StartBy (spans : List SpanModel) (place : ℕ) : Type 0 where
 abbrev pub values_by : {S L V : Type 0} → (S → ℕ) → (Global → L → Result V AllocError → Type 0) → (Global → PIdx S → RIdx S → SpanModel → Vec V Global → Result V AllocError → Type 0) → Answers L V
 values_by number term nonterm = record { term = λ x v. (alloc : Global) × TermGives term alloc x v; says = λ p r span vs v. (alloc : Global) × NodeGives number nonterm alloc p r span vs v }
 
+-- v is an answer of a function for nodes that looks at a rule and the children's values alone, with memory at hand
+abbrev pub RuleGives : {S V : Type 0} → (S → ℕ) → (Global → RIdx S → Vec V Global → Result V AllocError → Type 0) → Global → ℕ → List V → V → Type 0
+RuleGives {S} {V} number post alloc r vs v = (j : RIdx S) × (args : Vec V Global) × (number j.0 ≡ r) × (args.items ≡ vs) × post alloc j args (Ok v)
+
+-- what such functions give
+abbrev pub mapped_by : {S L V : Type 0} → (S → ℕ) → (Global → L → Result V AllocError → Type 0) → (Global → RIdx S → Vec V Global → Result V AllocError → Type 0) → Answers L V
+mapped_by number term nonterm = record { term = λ x v. (alloc : Global) × TermGives term alloc x v; says = λ p r span vs v. (alloc : Global) × RuleGives number nonterm alloc r vs v }
+
 -- the values and spans are those of the trees, starts ascend, and the functions may be called
 pub record FoldedStand {L V : Type 0} (term nonterm : Type 0) (G : Grammar) (by : Answers L V) (at : L → Span) (values : List V) (spans : List SpanModel) (ts : List (Tree L)) : Type 0 where
   pub term_callable : term

@@ -1,18 +1,29 @@
 //! Parsers: checked data, with who is asked for repairs at errors.
 
-ghost use Rattle.std.specs.Prelude.{◌≡◌, IfOk, IfErr};
+ghost use Rattle.std.specs.Prelude.{◌≡◌, Option, IfOk, IfErr};
+ghost use Rattle.lrpar.specs.Acting.{HasAction};
 ghost use Rattle.lrpar.specs.FlatParses.{IsFlatParse};
 ghost use Rattle.lrpar.specs.Lexemes.{IsFirstLexError};
+ghost use Rattle.lrpar.specs.NodeValues.{HasNode};
+ghost use Rattle.lrpar.specs.Parses.{HasValue};
 ghost use Rattle.lrpar.specs.Refusals.{IsParseRefusal};
-ghost use Rattle.lrpar.specs.Stacks.{values_by};
-ghost use Rattle.lrpar.specs.Told.{IsFoldedOutcome};
+ghost use Rattle.lrpar.specs.Run.{span_by};
+ghost use Rattle.lrpar.specs.Stacks.{mapped_by, values_by};
+ghost use Rattle.lrpar.specs.Told.{IsFoldedOutcome, IsHandedOut};
+ghost use Rattle.lrpar.specs.declared.parse_error.LexParseError.TheVariants as errors;
 
 use crate::flat::FlatTree;
 use crate::flat_parse;
 use crate::folded_parse::{FoldedOutcome, parse_folded};
+use crate::handed_out::hand_out;
 use crate::lex_api::{Lexer, LexerTypes};
 use crate::lexemes::ParseRefusal;
-use crate::parse_error::ParseError;
+use crate::node::Node;
+use crate::parse_actions::{Actions, parse_acted};
+use crate::parse_error::{LexParseError, ParseError};
+use crate::parse_generictree::parse_nodes;
+use crate::parse_map::parse_mapped;
+use crate::parse_noaction::parse_unvalued;
 use crate::parserdata::ParserData;
 use crate::recoverer::{NoRecovery, Recoverer};
 use cfg_base::span::Span;
@@ -129,5 +140,124 @@ impl<'a, T: LexerTypes, R: Recoverer<T::StorageT, T::LexemeT>> RTParserBuilder<'
             items,
             self.recoverer,
         )
+    }
+
+    /// Parses, with a value by the functions that are handed in: `fterm` for each lexeme that is shifted, `fnonterm` for each
+    /// reduction, by its rule and the values of its symbols. Answers the value, if there is one, and the errors; where the lexer
+    /// found a fault, the first one alone.
+    pub fn parse_map<N: Drop, X: Lexer<T>, F, H>(
+        &self,
+        alloc: Global,
+        lexer: &X,
+        fterm: &F,
+        fnonterm: &H,
+    ) -> Result<(Option<N>, Vec<LexParseError<T>>), ParseRefusal>
+    where
+        F: Fn(Global, T::LexemeT) -> Result<N, AllocError>,
+        H: Fn(Global, RIdx<T::StorageT>, Vec<N>) -> Result<N, AllocError>,
+        requires term { F.IsAlwaysCallable fterm.now }
+        requires nonterm { H.IsAlwaysCallable fnonterm.now }
+        ensures parsed { IfOk result (λ r. IsHandedOut errors.LexError errors.ParseError T.StorageT.number T.LexemeT.lex T.LexemeT.faulty_of self.now.checked.now.grammar.grammar self.now.checked.now.graph self.now.checked.now.table (HasValue self.now.checked.now.grammar.grammar (mapped_by T.StorageT.number (F.post fterm.now) (H.post fnonterm.now)) (span_by T.LexemeT.lex)) (R.answers self.now.recoverer.now) (X.lexed lexer.now) r.0 r.1.items) }
+        ensures refused { IfErr result (IsParseRefusal self.now.checked.now.grammar.grammar T.LexemeT.lex (X.lexed lexer.now)) }
+    {
+        self.checked.facts();
+        let items = lexer.iter().as_slice();
+        let outcome = parse_mapped(
+            alloc,
+            self.checked.grm(),
+            self.checked.stable(),
+            self.checked.cap(),
+            items,
+            self.recoverer,
+            fterm,
+            fnonterm,
+        )?;
+        match hand_out::<T, N>(alloc, outcome) {
+            Ok(told) => Ok(told),
+            Err(e) => Err(ParseRefusal::Memory(e)),
+        }
+    }
+
+    /// Parses, with a tree by rules for its value. Answers the tree, if there is one, and the errors; where the lexer found a
+    /// fault, the first one alone.
+    pub fn parse_generictree<X: Lexer<T>>(
+        &self,
+        alloc: Global,
+        lexer: &X,
+    ) -> Result<(Option<Node<T::LexemeT, T::StorageT>>, Vec<LexParseError<T>>), ParseRefusal>
+        ensures parsed { IfOk result (λ r. IsHandedOut errors.LexError errors.ParseError T.StorageT.number T.LexemeT.lex T.LexemeT.faulty_of self.now.checked.now.grammar.grammar self.now.checked.now.graph self.now.checked.now.table (HasNode T.StorageT.number self.now.checked.now.grammar.grammar) (R.answers self.now.recoverer.now) (X.lexed lexer.now) r.0 r.1.items) }
+        ensures refused { IfErr result (IsParseRefusal self.now.checked.now.grammar.grammar T.LexemeT.lex (X.lexed lexer.now)) }
+    {
+        self.checked.facts();
+        let items = lexer.iter().as_slice();
+        let outcome = parse_nodes(
+            alloc,
+            self.checked.grm(),
+            self.checked.stable(),
+            self.checked.cap(),
+            items,
+            self.recoverer,
+        )?;
+        match hand_out::<T, Node<T::LexemeT, T::StorageT>>(alloc, outcome) {
+            Ok(told) => Ok(told),
+            Err(e) => Err(ParseRefusal::Memory(e)),
+        }
+    }
+
+    /// Parses, with a value by actions. Answers what was answered at the root, if there is a tree, and the errors; where the
+    /// lexer found a fault, the first one alone.
+    pub fn parse_actions<X: Lexer<T>, A: Actions<T, X>>(
+        &self,
+        alloc: Global,
+        lexer: &X,
+        actions: &A,
+    ) -> Result<(Option<A::ActionT>, Vec<LexParseError<T>>), ParseRefusal>
+        ensures parsed { IfOk result (λ r. IsHandedOut errors.LexError errors.ParseError T.StorageT.number T.LexemeT.lex T.LexemeT.faulty_of self.now.checked.now.grammar.grammar self.now.checked.now.graph self.now.checked.now.table (HasAction self.now.checked.now.grammar.grammar (A.answers actions.now lexer.now) (span_by T.LexemeT.lex)) (R.answers self.now.recoverer.now) (X.lexed lexer.now) r.0 r.1.items) }
+        ensures refused { IfErr result (IsParseRefusal self.now.checked.now.grammar.grammar T.LexemeT.lex (X.lexed lexer.now)) }
+    {
+        self.checked.facts();
+        let items = lexer.iter().as_slice();
+        let outcome = parse_acted::<T, X, A, R>(
+            alloc,
+            self.checked.grm(),
+            self.checked.stable(),
+            self.checked.cap(),
+            items,
+            self.recoverer,
+            lexer,
+            actions,
+        )?;
+        match hand_out::<T, A::ActionT>(alloc, outcome) {
+            Ok(told) => Ok(told),
+            Err(e) => Err(ParseRefusal::Memory(e)),
+        }
+    }
+
+    /// Parses without making a value. Answers the errors; where the lexer found a fault, the first one alone.
+    pub fn parse_noaction<X: Lexer<T>>(
+        &self,
+        alloc: Global,
+        lexer: &X,
+    ) -> Result<Vec<LexParseError<T>>, ParseRefusal>
+        ensures parsed { IfOk result (λ r. (value : Option (Unit {0})) × IsHandedOut errors.LexError errors.ParseError T.StorageT.number T.LexemeT.lex T.LexemeT.faulty_of self.now.checked.now.grammar.grammar self.now.checked.now.graph self.now.checked.now.table (λ value tree. Unit {0}) (R.answers self.now.recoverer.now) (X.lexed lexer.now) value r.items) }
+        ensures refused { IfErr result (IsParseRefusal self.now.checked.now.grammar.grammar T.LexemeT.lex (X.lexed lexer.now)) }
+    {
+        self.checked.facts();
+        let items = lexer.iter().as_slice();
+        let outcome = parse_unvalued(
+            alloc,
+            self.checked.grm(),
+            self.checked.stable(),
+            self.checked.cap(),
+            items,
+            self.recoverer,
+        )?;
+        match hand_out::<T, ()>(alloc, outcome) {
+            Ok(told) => {
+                let (_, errors) = told;
+                Ok(errors)
+            }
+            Err(e) => Err(ParseRefusal::Memory(e)),
+        }
     }
 }

@@ -1,4 +1,4 @@
-use Rattle.std.proofs.Common.{reverse, arith, ◌∙◌, ap, length}
+use Rattle.std.proofs.Common.{reverse, arith}
 use Rattle.lrpar.specs.NodeLists.{waiting_entries}
 use Rattle.lrpar.proofs.NodeLists.{term_listed, nonterm_listed}
 use Rattle.lrpar.proofs.node_lists.list_next.Goals as goal

@@ -1,0 +1,59 @@
+//! Parses whose value is given by functions of rules alone.
+
+ghost use Rattle.std.specs.Prelude.{◌≡◌, IfOk, IfErr};
+ghost use Rattle.lr_theory.specs.Automaton.{Safe};
+ghost use Rattle.lr_theory.specs.Chains.{ChainsWithin};
+ghost use Rattle.lrtable.specs.Graphs.{GraphValue};
+ghost use Rattle.lrtable.specs.Tables.{automaton_of};
+ghost use Rattle.lrpar.specs.Reducing.{IsTableFor};
+ghost use Rattle.lrpar.specs.Refusals.{IsParseRefusal};
+ghost use Rattle.lrpar.specs.Stacks.{mapped_by};
+ghost use Rattle.lrpar.specs.Told.{IsFoldedOutcome};
+
+use crate::folded_parse::{FoldedOutcome, parse_folded};
+use crate::lex_api::Lexeme;
+use crate::lexemes::ParseRefusal;
+use crate::recoverer::Recoverer;
+use cfg_base::index::IndexStorage;
+use cfg_base::span::Span;
+use cfg_base::symbol::{PIdx, RIdx};
+use cfg_numbered::yacc::grammar::NumberedGrammar;
+use lrtable::StateTable;
+use std::alloc::{AllocError, Global};
+
+/// What the list of a lexer comes to, with the value that functions of lexemes, and of rules and values, give.
+pub(crate) fn parse_mapped<
+    S: IndexStorage,
+    L: Lexeme<S>,
+    E: Copy,
+    N: Drop,
+    F,
+    H,
+    R: Recoverer<S, L>,
+>(
+    alloc: Global,
+    grm: &NumberedGrammar<S>,
+    stable: &StateTable<S>,
+    limit: u16,
+    items: &[Result<L, E>],
+    recoverer: &R,
+    fterm: &F,
+    fnonterm: &H,
+) -> Result<FoldedOutcome<S, L, E, N>, ParseRefusal>
+where
+    F: Fn(Global, L) -> Result<N, AllocError>,
+    H: Fn(Global, RIdx<S>, Vec<N>) -> Result<N, AllocError>,
+    requires term { F.IsAlwaysCallable fterm.now }
+    requires nonterm { H.IsAlwaysCallable fnonterm.now }
+    requires table { IsTableFor grm.now.grammar stable.now }
+    requires chains { (g : GraphValue) → ChainsWithin grm.now.grammar (automaton_of g stable.now) limit }
+    requires safe { (g : GraphValue) × Safe grm.now.grammar (automaton_of g stable.now) × (stable.now.start ≡ g.start) }
+    ensures parsed { IfOk result (λ o. (g : GraphValue) → Safe grm.now.grammar (automaton_of g stable.now) → stable.now.start ≡ g.start →
+        IsFoldedOutcome S.number L.lex L.faulty_of grm.now.grammar g stable.now (mapped_by S.number (F.post fterm.now) (H.post fnonterm.now)) (R.answers recoverer.now) items.now o) }
+    ensures refused { IfErr result (IsParseRefusal grm.now.grammar L.lex items.now) }
+{
+    let by_rule = |alloc: Global, _pidx: PIdx<S>, ridx: RIdx<S>, _span: Span, args: Vec<N>| {
+        fnonterm(alloc, ridx, args)
+    };
+    parse_folded(alloc, grm, stable, limit, items, recoverer, fterm, &by_rule)
+}

@@ -5,7 +5,7 @@ use crate::make::data;
 use crate::spell::leaf;
 use cfg_base::index::IndexStorage;
 use lrpar::flat::FlatNode;
-use lrpar::{FlatTree, RTParserBuilder};
+use lrpar::{FlatTree, ParserData, RTParserBuilder};
 use std::alloc::{AllocError, Global};
 use std::test::*;
 
@@ -44,23 +44,31 @@ fn tree_text<S: IndexStorage>(
     Ok(text)
 }
 
-/// The flat tree of the lexemes.
+/// The flat tree of the lexemes over checked data.
+fn told_by<S: IndexStorage>(
+    alloc: Global,
+    checked: &ParserData<S>,
+    lexemes: &[(u8, u16, u16)],
+) -> Result<String, AllocError> {
+    let lexer = lexer_of::<S>(alloc, lexemes)?;
+    let parser = RTParserBuilder::<RowTypes<S>, _>::new(checked);
+    match &parser.parse_flat(alloc, &lexer) {
+        Ok(Ok((Some(tree), _))) => tree_text(alloc, tree),
+        Ok(Ok((None, _))) => format!(in alloc; "none"),
+        _ => format!(in alloc; "refused"),
+    }
+}
+
+/// The flat tree of the lexemes by the grammar of a text.
 fn flat<S: IndexStorage>(
     alloc: Global,
     text: &str,
     lexemes: &[(u8, u16, u16)],
 ) -> Result<String, Fail> {
-    let data = data::<S>(alloc, text)?;
-    let lexer = lexer_of::<S>(alloc, lexemes)?;
-    let parser = RTParserBuilder::<RowTypes<S>, _>::new(&data);
-    let Ok(Ok((tree, errors))) = parser.parse_flat(alloc, &lexer) else {
-        return Err("refused".into());
-    };
-    drop(errors);
-    match &tree {
-        Some(tree) => Ok(tree_text(alloc, tree)?),
-        None => Ok(format!(in alloc; "none")?),
-    }
+    let checked = data::<S>(alloc, text)?;
+    let found = told_by(alloc, &checked, lexemes);
+    drop(checked);
+    Ok(found?)
 }
 
 const SUMS: &str = "%start E %% E: T '+' E | T; T: 'ID';";

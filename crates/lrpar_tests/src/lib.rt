@@ -1,4 +1,4 @@
-//! Tests of `lrpar`: what lines come to, with repairs and without, and what is refused.
+//! Tests of `lrpar`: what lines come to, with repairs and without, and which lexemes are refused.
 #![tactic(auto)]
 
 #[cfg(test)]
@@ -9,8 +9,6 @@ mod lexer;
 mod make;
 #[cfg(test)]
 mod parses;
-#[cfg(test)]
-mod refusals;
 #[cfg(test)]
 mod repairs;
 #[cfg(test)]

@@ -10,7 +10,7 @@ use std::test::*;
 const TREE: YaccKind = YaccKind::Original(YaccOriginalActionKind::GenericParseTree);
 
 /// The grammar of a text that has one.
-pub fn grammar<S: IndexStorage>(alloc: Global, text: &str) -> Result<YaccGrammar<S>, Fail> {
+fn grammar<S: IndexStorage>(alloc: Global, text: &str) -> Result<YaccGrammar<S>, Fail> {
     match YaccGrammar::new_with_storaget(alloc, TREE, text) {
         Ok(grm) => Ok(grm),
         Err(YaccGrammarMakeError::Memory(e)) => Err(e.into()),
@@ -18,33 +18,36 @@ pub fn grammar<S: IndexStorage>(alloc: Global, text: &str) -> Result<YaccGrammar
     }
 }
 
-/// The graph and the table of a text's grammar.
-pub fn tables<S: IndexStorage>(
+/// The graph and the table of a grammar.
+fn tables<S: IndexStorage>(
     alloc: Global,
-    text: &str,
+    grm: &YaccGrammar<S>,
 ) -> Result<(StateGraph<S>, StateTable<S>), Fail> {
-    let grm = grammar::<S>(alloc, text)?;
-    match from_yacc(alloc, &grm, Minimiser::Pager) {
+    match from_yacc(alloc, grm, Minimiser::Pager) {
         Ok(parts) => Ok(parts),
         Err(FromYaccError::Memory(e)) => Err(e.into()),
         Err(_) => Err("no table".into()),
     }
 }
 
-/// The data of one text's grammar and another's tables, or their refusal.
-pub fn judged<S: IndexStorage>(
+/// The data of a text, or their refusal.
+fn judged<S: IndexStorage>(
     alloc: Global,
     text: &str,
-    tabled: &str,
 ) -> Result<Result<ParserData<S>, ParserDataError<S>>, Fail> {
     let grm = grammar::<S>(alloc, text)?;
-    let (graph, table) = tables::<S>(alloc, tabled)?;
-    Ok(ParserData::new(alloc, grm.into_numbered(), graph, table, 1000))
+    match tables::<S>(alloc, &grm) {
+        Ok((graph, table)) => Ok(ParserData::new(alloc, grm.into_numbered(), graph, table, 1000)),
+        Err(fail) => {
+            drop(grm);
+            Err(fail)
+        }
+    }
 }
 
 /// The data of a text that has them.
 pub fn data<S: IndexStorage>(alloc: Global, text: &str) -> Result<ParserData<S>, Fail> {
-    match judged(alloc, text, text)? {
+    match judged(alloc, text)? {
         Ok(data) => Ok(data),
         Err(ParserDataError::Memory(e)) => Err(e.into()),
         Err(_) => Err("refused".into()),

@@ -6,25 +6,36 @@ use crate::spell::{branch, leaf, told};
 use cfg_base::index::IndexStorage;
 use cfg_base::span::Span;
 use cfg_base::symbol::{PIdx, RIdx};
-use lrpar::RTParserBuilder;
-use std::alloc::Global;
+use lrpar::{ParserData, RTParserBuilder};
+use std::alloc::{AllocError, Global};
 use std::test::*;
 
-/// What the lexemes come to, where nothing is handed in.
-fn parsed<S: IndexStorage>(
+/// What the lexemes come to over checked data, where nothing is handed in.
+fn told_by<S: IndexStorage>(
     alloc: Global,
-    text: &str,
+    checked: &ParserData<S>,
     lexemes: &[(u8, u16, u16)],
-) -> Result<String, Fail> {
-    let data = data::<S>(alloc, text)?;
+) -> Result<String, AllocError> {
     let lexer = lexer_of::<S>(alloc, lexemes)?;
-    let parser = RTParserBuilder::<RowTypes<S>, _>::new(&data);
+    let parser = RTParserBuilder::<RowTypes<S>, _>::new(checked);
     let fterm = |alloc: Global, lexeme: RowLexeme<S>| leaf(alloc, lexeme);
     let fnonterm = |alloc: Global, pidx: PIdx<S>, ridx: RIdx<S>, span: Span, args: Vec<String>| {
         branch(alloc, pidx, ridx, span, args)
     };
     let outcome = parser.parse_fold(alloc, &lexer, &fterm, &fnonterm);
-    Ok(told(alloc, outcome)?)
+    told(alloc, outcome)
+}
+
+/// What the lexemes come to by the grammar of a text.
+fn parsed<S: IndexStorage>(
+    alloc: Global,
+    text: &str,
+    lexemes: &[(u8, u16, u16)],
+) -> Result<String, Fail> {
+    let checked = data::<S>(alloc, text)?;
+    let found = told_by(alloc, &checked, lexemes);
+    drop(checked);
+    Ok(found?)
 }
 
 const SUMS: &str = "%start E %% E: T '+' E | T; T: 'ID';";

@@ -8,7 +8,7 @@ use crate::spell::{branch, leaf, told};
 use cfg_base::index::IndexStorage;
 use cfg_base::span::Span;
 use cfg_base::symbol::{PIdx, RIdx, TIdx};
-use lrpar::{RTParserBuilder, Recoverer, RepairStep};
+use lrpar::{ParserData, RTParserBuilder, Recoverer, RepairStep};
 use lrtable::StIdx;
 use std::alloc::{AllocError, Global};
 use std::test::*;
@@ -60,23 +60,35 @@ fn lines_of<S: IndexStorage>(alloc: Global, letters: &str) -> Result<Lines<S>, A
     Ok(Lines { sequences })
 }
 
-/// What the lexemes come to with these sequences.
+/// What the lexemes come to over checked data with these sequences.
+fn told_by<S: IndexStorage>(
+    alloc: Global,
+    checked: &ParserData<S>,
+    lexemes: &[(u8, u16, u16)],
+    lines: &Lines<S>,
+) -> Result<String, AllocError> {
+    let lexer = lexer_of::<S>(alloc, lexemes)?;
+    let parser = RTParserBuilder::<RowTypes<S>, _>::new(checked).recoverer(lines);
+    let fterm = |alloc: Global, lexeme: RowLexeme<S>| leaf(alloc, lexeme);
+    let fnonterm = |alloc: Global, pidx: PIdx<S>, ridx: RIdx<S>, span: Span, args: Vec<String>| {
+        branch(alloc, pidx, ridx, span, args)
+    };
+    let outcome = parser.parse_fold(alloc, &lexer, &fterm, &fnonterm);
+    told(alloc, outcome)
+}
+
+/// What the lexemes come to by the grammar of a text.
 fn mended<S: IndexStorage>(
     alloc: Global,
     text: &str,
     lexemes: &[(u8, u16, u16)],
     letters: &str,
 ) -> Result<String, Fail> {
-    let data = data::<S>(alloc, text)?;
-    let lexer = lexer_of::<S>(alloc, lexemes)?;
     let lines = lines_of::<S>(alloc, letters)?;
-    let parser = RTParserBuilder::<RowTypes<S>, _>::new(&data).recoverer(&lines);
-    let fterm = |alloc: Global, lexeme: RowLexeme<S>| leaf(alloc, lexeme);
-    let fnonterm = |alloc: Global, pidx: PIdx<S>, ridx: RIdx<S>, span: Span, args: Vec<String>| {
-        branch(alloc, pidx, ridx, span, args)
-    };
-    let outcome = parser.parse_fold(alloc, &lexer, &fterm, &fnonterm);
-    Ok(told(alloc, outcome)?)
+    let checked = data::<S>(alloc, text)?;
+    let found = told_by(alloc, &checked, lexemes, &lines);
+    drop(checked);
+    Ok(found?)
 }
 
 const SUMS: &str = "%start E %% E: T '+' E | T; T: 'ID';";

@@ -1,0 +1,3 @@
+pub mod KitParses
+pub mod Tabled
+mod Searches

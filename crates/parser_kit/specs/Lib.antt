@@ -1,0 +1,4 @@
+pub mod Productive
+pub mod Searching
+pub mod Tabled
+pub mod KitParses

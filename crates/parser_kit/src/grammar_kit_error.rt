@@ -1,0 +1,86 @@
+//! Why a grammar has no kit.
+
+ghost use Rattle.std.specs.Prelude.{◌≡◌};
+ghost use Rattle.parser_kit.specs.declared.grammar_kit_error.GrammarKitError.TheVariants as errors;
+
+use cfg_base::index::IndexStorage;
+use cfg_base::symbol::{PIdx, RIdx, TIdx};
+use lrtable::StIdx;
+use std::alloc::AllocError;
+use std::error::Error;
+use std::fmt;
+use std::fmt::{Debug, Display, Formatter, Write};
+
+/// Why a grammar has no kit: want of memory aside, the first of these that is so.
+#[derive(Clone, Copy, Debug, PartialEq, Eq)]
+pub enum GrammarKitError<S> {
+    /// While the states are built more of them stand than the index type has numbers for but nought: so many.
+    TooManyStates(usize),
+    /// Where a text has ended this production, the least such one, can be reduced too.
+    AcceptReduce(PIdx<S>),
+    /// For each state a cell for each token and one for each rule are more than `usize::MAX`.
+    TooLarge,
+    /// More than `cap` reductions come on a token one after another: from a state, or, with a rule, after its goto on the
+    /// rule. The least such place is told.
+    TooManyReductions {
+        state: StIdx<S>,
+        rule: Option<RIdx<S>>,
+        token: TIdx<S>,
+        cap: u16,
+    },
+    /// There is no memory.
+    Memory(AllocError),
+}
+
+impl<S> From<AllocError> for GrammarKitError<S> {
+    ghost from_gives = { λ x e. e ≡ errors.Memory x };
+
+    fn from(e: AllocError) -> GrammarKitError<S> {
+        GrammarKitError::Memory(e)
+    }
+}
+
+impl<S: IndexStorage> Display for GrammarKitError<S> {
+    fn fmt<W: Write>(&self, f: &mut Formatter<W>) -> fmt::Result {
+        match self {
+            GrammarKitError::TooManyStates(n) => write!(f, "too many states: {n}"),
+            GrammarKitError::AcceptReduce(pidx) => {
+                let number = pidx.0.to_usize();
+                write!(f, "Accept/reduce conflict, production {number}")
+            }
+            GrammarKitError::TooLarge => write!(f, "table too large"),
+            GrammarKitError::TooManyReductions {
+                state,
+                rule,
+                token,
+                cap,
+            } => write_chain(f, *cap, *state, *token, *rule),
+            GrammarKitError::Memory(_) => write!(f, "out of memory"),
+        }
+    }
+}
+
+/// A chain of reductions.
+fn write_chain<S: IndexStorage, W: Write>(
+    f: &mut Formatter<W>,
+    cap: u16,
+    state: StIdx<S>,
+    token: TIdx<S>,
+    rule: Option<RIdx<S>>,
+) -> fmt::Result {
+    let state = state.0.to_usize();
+    let token = token.0.to_usize();
+    write!(
+        f,
+        "more than {cap} reductions in state {state} on token {token}"
+    )?;
+    match rule {
+        Some(ridx) => {
+            let rule = ridx.0.to_usize();
+            write!(f, " after rule {rule}")
+        }
+        None => Ok(()),
+    }
+}
+
+impl<S: IndexStorage> Error for GrammarKitError<S> {}

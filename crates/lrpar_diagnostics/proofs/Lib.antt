@@ -1,0 +1,3 @@
+pub mod CharStarts
+pub mod LineStarts
+mod LaterTexts

@@ -3,7 +3,7 @@ use Rattle.std.proofs.Common.{◌≡◌, ℕ, zero, suc, ◌+◌, ◌<◌, ◌�
 use Rattle.std.specs.Prelude.{IsTrue, Contains, MatchOption}
 use Rattle.std.proofs.Math.Nat.{mul_comm}
 use Rattle.std.proofs.lemmas.Nat.{mul-add-lt}
-use Rattle.std.proofs.lemmas.List.{get_or-set_same, get_or-set_other, get_or-map, length-set, length-replicate, map-set, map-append}
+use Rattle.std.proofs.lemmas.List.{get_or-set_same, get_or-set_other, length-set, length-replicate}
 use Rattle.std.proofs.lemmas.List.Sums.{sum_by-set}
 use Rattle.std.proofs.lemmas.Bool.{cases_eq, cases_lt}
 use Rattle.cfg_theory.specs.Grammar.{Sym, rule, token, Grammar, WellFormed, head_of, body_of}
@@ -14,17 +14,13 @@ use Rattle.cfg_theory.specs.CheapestLists.{HaveCosts, ListsOfWantedRules, ListsA
 use Rattle.cfg_theory.specs.FirstLists.{HasUpTo, IsClosedUpTo, FirstsOfWantedRules}
 use Rattle.cfg_theory.proofs.Lists.{get_from_drop}
 use Rattle.cfg_theory.proofs.FirstLists.{before_on}
-use Rattle.std.specs.declared.alloc.Global.{Global}
-use Rattle.std.specs.declared.vec.Vec.{Vec}
-use Rattle.cfg_base.specs.declared.symbol.TIdx.{TIdx}
 use Rattle.cfg_base.specs.declared.symbol.Symbol.{Symbol}
 use Rattle.cfg_numbered.specs.Symbols.{sym_of, syms_of}
-use Rattle.cfg_numbered.specs.TokenLists.{tokens_of}
 use Rattle.cfg_numbered.specs.Sets.{is_set}
 use Rattle.cfg_numbered.specs.WorkLists.{TakesIn}
 use Rattle.cfg_numbered.specs.CostTable.{bound, cost_in, AreCosts, IsClosedBy}
 use Rattle.cfg_numbered.specs.CheapestTable.{GivesLeast, IsHandedOn, IsFirstCheapest}
-use Rattle.cfg_numbered.specs.EarliestTable.{found_list, found_lists, as_lists, found_in, GivesNone, GivesOne, ComesFirst, AreFound, IsTakenIn, lists_up_to, lists_ahead, room_of, room_in}
+use Rattle.cfg_numbered.specs.EarliestTable.{as_lists, found_in, GivesNone, GivesOne, ComesFirst, AreFound, IsTakenIn, lists_up_to, lists_ahead, room_of, room_in}
 use Rattle.cfg_numbered.proofs.ProdSteps.{IsAt, idle, concatenates_same, takes_in}
 use Rattle.cfg_numbered.proofs.CostSteps.{is_least}
 use Rattle.cfg_numbered.proofs.CheapestSteps.{none_cheaper, gives, wanted_head, named_wanted}
@@ -180,23 +176,13 @@ module _ {S : Type 0} (number : S → ℕ) where
       from (y ∷ l) zero less q = ap (λ z. sym_of number z ∷ syms_of number l) q
       from (y ∷ l) (suc k) less q = from l k (omega (arith, less)) q
 
-  pub found_at : (table : List (Option (Vec (TIdx S) Global))) (k A : ℕ) (r : Option (Vec (TIdx S) Global)) → k ≡ A → A < length table → r ≡ get_or table k r → found_list number r ≡ get_or (found_lists number table) A None
-  found_at table k A r e lt is = ap (found_list number) (is ∙ ap (λ i. get_or table i r) e) ∙ sym (get_or-map (found_list number) table A r None lt)
+-- what the making of a body's list tells
+module _ (K : List (Option (List ℕ))) (lists : List (List ℕ)) (symbols body : List Sym) (o : Option ℕ) (q : symbols ≡ body) (h : MatchOption o (GivesNone K symbols) (λ k. (k < length lists) × GivesOne K symbols (get_or lists k []))) where
+  pub gave_none : o ≡ None → GivesNone K body
+  gave_none is = subst (GivesNone K) q (subst (λ (r : Option ℕ). MatchOption r (GivesNone K symbols) (λ k. (k < length lists) × GivesOne K symbols (get_or lists k []))) is h)
 
-  pub found_set : (table : List (Option (Vec (TIdx S) Global))) (k A : ℕ) (list : Vec (TIdx S) Global) → k ≡ A → found_lists number (set table k (Some list)) ≡ set (found_lists number table) A (Some (tokens_of number list.items))
-  found_set table k A list e = map-set (found_list number) table k (Some list) ∙ ap (λ i. set (found_lists number table) i (Some (tokens_of number list.items))) e
-
-  pub tokens_more : (xs ys zs : List (TIdx S)) → xs ≡ ys ++ zs → tokens_of number xs ≡ tokens_of number ys ++ tokens_of number zs
-  tokens_more xs ys zs e = ap (tokens_of number) e ∙ map-append (λ (t : TIdx S). number t.0) ys zs
-
-  module _ (now table : List (Option (Vec (TIdx S) Global))) (symbols body : List Sym) (o : Option (Vec (TIdx S) Global)) (e : now ≡ table) (q : symbols ≡ body) (h : MatchOption o (GivesNone (found_lists number now) symbols) (λ w. GivesOne (found_lists number now) symbols (tokens_of number w.items))) where
-    pub gave_none : o ≡ None → GivesNone (found_lists number table) body
-    gave_none is = subst (λ a. GivesNone (found_lists number table) a) q (subst (λ (t : List (Option (Vec (TIdx S) Global))). GivesNone (found_lists number t) symbols) e
-        (subst (λ (r : Option (Vec (TIdx S) Global)). MatchOption r (GivesNone (found_lists number now) symbols) (λ w. GivesOne (found_lists number now) symbols (tokens_of number w.items))) is h))
-
-    pub gave_one : (list : Vec (TIdx S) Global) → o ≡ Some list → GivesOne (found_lists number table) body (tokens_of number list.items)
-    gave_one list is = subst (λ a. GivesOne (found_lists number table) a (tokens_of number list.items)) q (subst (λ (t : List (Option (Vec (TIdx S) Global))). GivesOne (found_lists number t) symbols (tokens_of number list.items)) e
-        (subst (λ (r : Option (Vec (TIdx S) Global)). MatchOption r (GivesNone (found_lists number now) symbols) (λ w. GivesOne (found_lists number now) symbols (tokens_of number w.items))) is h))
+  pub gave_one : (k : ℕ) → o ≡ Some k → (k < length lists) × GivesOne K body (get_or lists k [])
+  gave_one k is = subst (λ a. (k < length lists) × GivesOne K a (get_or lists k [])) q (subst (λ (r : Option ℕ). MatchOption r (GivesNone K symbols) (λ k. (k < length lists) × GivesOne K symbols (get_or lists k []))) is h)
 
 -- ---- one production
 
@@ -303,18 +289,11 @@ none_at zero A = refl
 none_at (suc k) zero = refl
 none_at (suc k) (suc A) = none_at k A
 
-map_none : {S : Type 0} (number : S → ℕ) (n : ℕ) → found_lists number (replicate n None) ≡ replicate n None
-map_none number zero = refl
-map_none number (suc n) = ap (λ l. None ∷ l) (map_none number n)
-
-pub none_found : {S : Type 0} (number : S → ℕ) (G : Grammar) (f : ℕ → ℕ) (least : List (Option ℕ)) (n : ℕ) (table : List (Option (Vec (TIdx S) Global))) → n ≡ G.rules → table ≡ replicate n None → AreFound G f least (found_lists number table)
-none_found number G f least n table count is = all_none (found_lists number table) (ap (found_lists number) is ∙ map_none number n)
+pub none_found : (G : Grammar) (f : ℕ → ℕ) (least : List (Option ℕ)) (n : ℕ) (K : List (Option (List ℕ))) → n ≡ G.rules → K ≡ replicate n None → AreFound G f least K
+none_found G f least n K count e = record { count = ap length e ∙ length-replicate n None ∙ count; costs = λ A w c. absurd (nothing w (sym (ap (λ t. get_or t A None) e ∙ none_at n A) ∙ is_only (get_or K A None) w c)) }
   where
     nothing : (w : List ℕ) → None ≡ Some w → ⊥
     nothing w q = cc
-
-    all_none : (K : List (Option (List ℕ))) → K ≡ replicate n None → AreFound G f least K
-    all_none K e = record { count = ap length e ∙ length-replicate n None ∙ count; costs = λ A w c. absurd (nothing w (sym (ap (λ t. get_or t A None) e ∙ none_at n A) ∙ is_only (get_or K A None) w c)) }
 
 -- ---- at the end
 

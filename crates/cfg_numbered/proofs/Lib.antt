@@ -25,3 +25,4 @@ pub mod Dictionary
 pub mod WantedSteps
 pub mod CheapestSteps
 pub mod EarliestSteps
+pub mod SharedSteps

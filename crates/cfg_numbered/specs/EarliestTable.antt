@@ -1,10 +1,6 @@
 -- A table of one token list a rule, the first that was found, as passes fill it.
-use Rattle.std.specs.Prelude.{◌≡◌, ℕ, ◌+◌, ◌*◌, zero, suc, ◌↔◌, List, [], ◌∷◌, Bool, IsTrue, length, map, get_or, Option, Some, None}
+use Rattle.std.specs.Prelude.{◌≡◌, ℕ, ◌+◌, ◌*◌, zero, suc, ◌↔◌, List, [], ◌∷◌, Bool, IsTrue, length, get_or, Option, Some, None}
 use Rattle.std.specs.List.{sum_by}
-use Rattle.std.specs.Option.{option_map}
-use Rattle.std.specs.declared.alloc.Global.{Global}
-use Rattle.std.specs.declared.vec.Vec.{Vec}
-use Rattle.cfg_base.specs.declared.symbol.TIdx.{TIdx}
 use Rattle.cfg_theory.specs.Grammar.{Sym, Grammar, head_of, body_of}
 use Rattle.cfg_theory.specs.Cost.{IsBefore}
 use Rattle.cfg_theory.specs.CostTables.{Concatenates}
@@ -12,15 +8,7 @@ use Rattle.cfg_theory.specs.CheapestLists.{HaveCosts}
 use Rattle.cfg_theory.specs.FirstLists.{HasUpTo}
 use Rattle.cfg_numbered.specs.CostTable.{bound, cost_in}
 use Rattle.cfg_numbered.specs.Sets.{is_set}
-use Rattle.cfg_numbered.specs.TokenLists.{tokens_of}
 use Rattle.cfg_numbered.specs.CheapestTable.{GivesLeast}
-
--- a list as a program keeps it, where there is one
-abbrev pub found_list : {S : Type 0} → (S → ℕ) → Option (Vec (TIdx S) Global) → Option (List ℕ)
-found_list number kept = option_map (λ l. tokens_of number l.items) kept
-
-abbrev pub found_lists : {S : Type 0} → (S → ℕ) → List (Option (Vec (TIdx S) Global)) → List (Option (List ℕ))
-found_lists number table = map (found_list number) table
 
 -- the one list, or none
 abbrev pub as_lists : Option (List ℕ) → List (List ℕ)

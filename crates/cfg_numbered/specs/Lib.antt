@@ -15,3 +15,4 @@ pub mod Greatest
 pub mod TokenLists
 pub mod CheapestTable
 pub mod EarliestTable
+pub mod SharedLists

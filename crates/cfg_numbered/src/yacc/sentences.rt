@@ -13,6 +13,7 @@ mod kept_costs;
 mod least;
 mod max_cost;
 mod needed;
+mod shared_lists;
 mod token_costs;
 mod token_lists;
 mod unbounded;

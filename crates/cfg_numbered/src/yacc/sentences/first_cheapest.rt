@@ -2,9 +2,10 @@
 //!
 //! Where each token costs at least one, no cheapest list of a rule is the beginning of another one, so that the
 //! first list of a rule is put together of the first lists of the rules that it needs. Each rule then keeps one
-//! list, where all cheapest ones could be too many to be listed.
+//! list, where all cheapest ones could be too many to be listed, and lists share their parts, so that they take no
+//! more room than the productions.
 
-ghost use Rattle.std.specs.Prelude.{◌≡◌, ℕ, ◌<◌, ◌≤◌, ◌↔◌, IsTrue, IfOk, IfErr, MatchOption, length, replicate, Some, None};
+ghost use Rattle.std.specs.Prelude.{◌≡◌, ℕ, ◌<◌, ◌≤◌, ◌↔◌, IsTrue, IfOk, IfErr, MatchOption, [], length, get_or, Some, None};
 ghost use Rattle.cfg_theory.specs.Productive.{RulesIn};
 ghost use Rattle.cfg_theory.specs.Cost.{cost};
 ghost use Rattle.cfg_numbered.specs.Symbols.{syms_of};
@@ -12,12 +13,13 @@ ghost use Rattle.cfg_numbered.specs.WorkLists.{TakesIn};
 ghost use Rattle.cfg_numbered.specs.CostTable.{bound, cost_of, cost_in};
 ghost use Rattle.cfg_numbered.specs.TokenLists.{tokens_of};
 ghost use Rattle.cfg_numbered.specs.CheapestTable.{ListsAreRefused, IsFirstCheapest};
-ghost use Rattle.cfg_numbered.specs.EarliestTable.{found_list, found_lists, GivesNone, GivesOne, ComesFirst, AreFound, IsTakenIn, room_in};
+ghost use Rattle.cfg_numbered.specs.EarliestTable.{GivesNone, GivesOne, ComesFirst, AreFound, IsTakenIn, room_in};
 
 use super::least::LeastCosts;
 use super::needed::wanted_rules;
+use super::shared_lists::{SharedLists, write};
 use super::token_costs::BOUND;
-use super::token_lists::{append, is_before};
+use super::token_lists::is_before;
 use super::{SentenceError, SentenceGenerator};
 use crate::yacc::by_prods::{ByProds, ProdTable, close_by_prods};
 use cfg_base::index::IndexStorage;
@@ -85,44 +87,58 @@ fn list_of_rule<S: IndexStorage>(
     least.stays_least();
     least.token_costs();
     let wanted = wanted_rules(alloc, least, ridx)?;
-    let mut table = first_lists(alloc, least, &wanted)?;
-    match table.swap_remove(ridx.0.to_usize()) {
-        Some(list) => Ok(list),
+    let shared = first_lists(alloc, least, &wanted)?;
+    match shared.of_rule(ridx.0.to_usize()) {
+        Some(number) => {
+            let list = write(alloc, &shared, number)?;
+            Ok(list)
+        }
         None => unreachable!(),
     }
 }
 
-/// What symbols put together of the kept lists; none where a rule has no list.
+/// Makes the list that symbols put together of the rules' lists; none where a rule has no list.
 fn body_list<S: IndexStorage>(
-    alloc: Global,
     symbols: &[Symbol<S>],
-    table: &[Option<Vec<TIdx<S>>>],
-) -> Result<Option<Vec<TIdx<S>>>, AllocError>
-    requires { RulesIn (λ A. A < length table.now) (syms_of S.number symbols.now) }
-    ensures { IfOk result (λ o. MatchOption o (GivesNone (found_lists S.number table.now) (syms_of S.number symbols.now)) (λ w. GivesOne (found_lists S.number table.now) (syms_of S.number symbols.now) (tokens_of S.number w.items))) }
+    shared: &mut SharedLists<S>,
+) -> Result<Option<usize>, AllocError>
+    requires { RulesIn (λ A. A < length shared.old.table) (syms_of S.number symbols.now) }
+    ensures table { IfOk result (λ o. shared.new.table ≡ shared.old.table) }
+    ensures list { IfOk result (λ o. MatchOption o (GivesNone shared.old.table (syms_of S.number symbols.now)) (λ k. (k < length shared.new.lists) × GivesOne shared.old.table (syms_of S.number symbols.now) (get_or shared.new.lists k []))) }
 {
-    let mut list = Vec::new(alloc);
+    let mut list = shared.empty();
     'symbols: for index in 0..symbols.len() {
         match symbols[index] {
             Symbol::Rule(rule) => {
-                let Some(own) = &table[rule.0.to_usize()] else {
+                let Some(own) = shared.of_rule(rule.0.to_usize()) else {
                     return Ok(None);
                 };
-                append(own.as_slice(), &mut list)?;
+                list = shared.join(list, own)?;
             }
-            Symbol::Token(token) => list.push(token)?,
+            Symbol::Token(token) => list = shared.join_token(list, token)?,
         }
     }
     Ok(Some(list))
 }
 
-/// Whether a list is before the one that is kept.
-fn comes_first<S: IndexStorage>(list: &[TIdx<S>], kept: &Option<Vec<TIdx<S>>>) -> bool
-    ensures { IsTrue result ↔ ComesFirst (tokens_of S.number list.now) (found_list S.number kept.now) }
+/// Whether a list is before the one that the rule has.
+fn comes_first<S: IndexStorage>(
+    alloc: Global,
+    shared: &SharedLists<S>,
+    list: usize,
+    rule: usize,
+) -> Result<bool, AllocError>
+    requires list { list < length shared.now.lists }
+    requires rule { rule < length shared.now.table }
+    ensures { IfOk result (λ b. IsTrue b ↔ ComesFirst (get_or shared.now.lists list []) (get_or shared.now.table rule None)) }
 {
-    match kept {
-        None => true,
-        Some(kept) => is_before(list, kept.as_slice()),
+    match shared.of_rule(rule) {
+        None => Ok(true),
+        Some(kept) => {
+            let list = write(alloc, shared, list)?;
+            let kept = write(alloc, shared, kept)?;
+            Ok(is_before(list.as_slice(), kept.as_slice()))
+        }
     }
 }
 
@@ -132,14 +148,14 @@ fn take_prod<S: IndexStorage>(
     least: &LeastCosts<S>,
     wanted: &Vob,
     number: usize,
-    table: &mut Vec<Option<Vec<TIdx<S>>>>,
+    shared: &mut SharedLists<S>,
 ) -> Result<Option<usize>, AllocError>
     requires production { number < length least.now.grammar.productions }
     requires costly { (t : ℕ) → t < length least.now.costs → 1 ≤ cost_of least.now.costs t }
     requires width { length wanted.now.bits ≡ least.now.grammar.rules }
-    requires lists { AreFound least.now.grammar (cost_of least.now.costs) least.now.table (found_lists S.number table.old.items) }
-    ensures lists { IfOk result (λ _. AreFound least.now.grammar (cost_of least.now.costs) least.now.table (found_lists S.number table.new.items)) }
-    ensures takes { IfOk result (λ o. TakesIn least.now.grammar (room_in least.now.grammar.tokens) (λ t p. IsTakenIn least.now.grammar (cost_of least.now.costs) least.now.table wanted.now.bits p t) number (found_lists S.number table.old.items) (found_lists S.number table.new.items) o) }
+    requires lists { AreFound least.now.grammar (cost_of least.now.costs) least.now.table shared.old.table }
+    ensures lists { IfOk result (λ _. AreFound least.now.grammar (cost_of least.now.costs) least.now.table shared.new.table) }
+    ensures takes { IfOk result (λ o. TakesIn least.now.grammar (room_in least.now.grammar.tokens) (λ t p. IsTakenIn least.now.grammar (cost_of least.now.costs) least.now.table wanted.now.bits p t) number shared.old.table shared.new.table o) }
 {
     cheap_lists_are_short();
     cheapest_lists_of_wanted_rules();
@@ -155,13 +171,13 @@ fn take_prod<S: IndexStorage>(
     if !least.gives_least(pidx) {
         return Ok(None);
     }
-    let Some(list) = body_list(alloc, least.prod(pidx), table.as_slice())? else {
+    let Some(list) = body_list(least.prod(pidx), shared)? else {
         return Ok(None);
     };
-    if !comes_first(list.as_slice(), &table[rule]) {
+    if !comes_first(alloc, shared, list, rule)? {
         return Ok(None);
     }
-    table[rule] = Some(list);
+    shared.put(rule, list);
     Ok(Some(rule))
 }
 
@@ -171,22 +187,22 @@ struct Finding<'t, 'a, S: IndexStorage> {
     alloc: Global,
     least: &'t LeastCosts<'a, S>,
     wanted: &'t Vob,
-    lists: Vec<Option<Vec<TIdx<S>>>>,
+    lists: SharedLists<S>,
 }
 
 impl<'t, 'a, S: IndexStorage> ProdTable for Finding<'t, 'a, S> {
     ghost use Rattle.std.specs.Prelude.{◌≡◌, ℕ, ◌<◌, ◌≤◌, length, refl};
     ghost use Rattle.std.proofs.Common.{◌∙◌};
     ghost use Rattle.cfg_numbered.specs.CostTable.{cost_of};
-    ghost use Rattle.cfg_numbered.specs.EarliestTable.{found_lists, AreFound, IsTakenIn, room_in};
+    ghost use Rattle.cfg_numbered.specs.EarliestTable.{AreFound, IsTakenIn, room_in};
 
     ghost grammar = { λ s. s.least.now.grammar };
 
-    ghost is_sound = { λ s. ((t : ℕ) → t < length s.least.now.costs → 1 ≤ cost_of s.least.now.costs t) × (length s.wanted.now.bits ≡ s.least.now.grammar.rules) × AreFound s.least.now.grammar (cost_of s.least.now.costs) s.least.now.table (found_lists S.number s.lists.items) };
+    ghost is_sound = { λ s. ((t : ℕ) → t < length s.least.now.costs → 1 ≤ cost_of s.least.now.costs t) × (length s.wanted.now.bits ≡ s.least.now.grammar.rules) × AreFound s.least.now.grammar (cost_of s.least.now.costs) s.least.now.table s.lists.table };
 
-    ghost room = { λ s. room_in s.least.now.grammar.tokens (found_lists S.number s.lists.items) };
+    ghost room = { λ s. room_in s.least.now.grammar.tokens s.lists.table };
 
-    ghost is_closed_by = { λ s p. IsTakenIn s.least.now.grammar (cost_of s.least.now.costs) s.least.now.table s.wanted.now.bits p (found_lists S.number s.lists.items) };
+    ghost is_closed_by = { λ s p. IsTakenIn s.least.now.grammar (cost_of s.least.now.costs) s.least.now.table s.wanted.now.bits p s.lists.table };
 
     ghost is_of_same = { λ s t. (t.least.now ≡ s.least.now) × (t.wanted.now ≡ s.wanted.now) };
 
@@ -199,33 +215,20 @@ impl<'t, 'a, S: IndexStorage> ProdTable for Finding<'t, 'a, S> {
     }
 }
 
-fn no_lists<S: IndexStorage>(
-    alloc: Global,
-    rules: usize,
-) -> Result<Vec<Option<Vec<TIdx<S>>>>, AllocError>
-    ensures { IfOk result (λ v. v.items ≡ replicate rules None) }
-{
-    let mut table = Vec::new(alloc);
-    'rules: for _ in 0..rules {
-        table.push(None)?;
-    }
-    Ok(table)
-}
-
 /// The first lists of the wanted rules.
 fn first_lists<S: IndexStorage>(
     alloc: Global,
     least: &LeastCosts<S>,
     wanted: &Vob,
-) -> Result<Vec<Option<Vec<TIdx<S>>>>, AllocError>
+) -> Result<SharedLists<S>, AllocError>
     requires costly { (t : ℕ) → t < length least.now.costs → 1 ≤ cost_of least.now.costs t }
     requires width { length wanted.now.bits ≡ least.now.grammar.rules }
-    ensures lists { IfOk result (λ v. AreFound least.now.grammar (cost_of least.now.costs) least.now.table (found_lists S.number v.items)) }
-    ensures taken_in { IfOk result (λ v. (p : ℕ) → p < length least.now.grammar.productions → IsTakenIn least.now.grammar (cost_of least.now.costs) least.now.table wanted.now.bits p (found_lists S.number v.items)) }
+    ensures lists { IfOk result (λ v. AreFound least.now.grammar (cost_of least.now.costs) least.now.table v.table) }
+    ensures taken_in { IfOk result (λ v. (p : ℕ) → p < length least.now.grammar.productions → IsTakenIn least.now.grammar (cost_of least.now.costs) least.now.table wanted.now.bits p v.table) }
 {
     let naming = least.naming(alloc)?;
     let order = least.order(alloc)?;
-    let lists = no_lists(alloc, least.rules_len().0.to_usize())?;
+    let lists = SharedLists::new(alloc, least.rules_len().0.to_usize())?;
     let table = Finding {
         alloc,
         least,

@@ -1,71 +1,64 @@
-use Rattle.std.proofs.Common.{◌+◌, [], ◌∷◌, ◌++◌, length, drop, refl, sym, ap, ◌∙◌, arith}
+use Rattle.std.proofs.Common.{◌≡◌, ℕ, ◌+◌, ◌<◌, List, [], ◌∷◌, ◌++◌, Option, None, length, drop, get_or, refl, sym, ap, ◌∙◌, subst, arith}
 use Rattle.std.proofs.lemmas.List.{drop_all, length-map}
 use Rattle.cfg_base.specs.declared.symbol.Symbol.TheVariants.{Rule, Token}
 use Rattle.cfg_numbered.specs.Symbols.{sym_of, syms_of}
-use Rattle.cfg_numbered.specs.TokenLists.{tokens_of}
-use Rattle.cfg_numbered.specs.EarliestTable.{found_list, found_lists}
-use Rattle.cfg_numbered.proofs.EarliestSteps.{rests_all, rests_rule, rests_token, rests_none, rests_done, rule_below, symbols_next, found_at, tokens_more}
-use Rattle.cfg_numbered.proofs.yacc.sentences.first_cheapest.body_list.Goals.{in-Rule+in-Some+in_ok-append-in-Rule, in-Token+in_ok-push-in-Token}
+use Rattle.cfg_numbered.specs.SharedLists.{Shared}
+use Rattle.cfg_numbered.proofs.EarliestSteps.{rests_all, rests_rule, rests_token, rests_none, rests_done, rule_below, symbols_next}
+use Rattle.cfg_numbered.proofs.yacc.sentences.first_cheapest.body_list.Goals.{in-Rule+in-Some+in_ok-list-in-Rule, in-Token+in_ok-list-in-Token}
 use Rattle.cfg_numbered.proofs.yacc.sentences.first_cheapest.body_list.Goals as goal
 
-pub symbols-init : goal.symbols-init
-symbols-init g c =
-    let number = g.S.IndexStorage.number in
-    let a = syms_of number c.args.symbols.now in
-    rests_all (found_lists number c.args.table.now) a a (tokens_of number c.new-list.result.items) refl (ap (tokens_of number) c.new-list.ensures.items)
-
-pub bounds-table-to_usize : goal.bounds-table-to_usize
-bounds-table-to_usize g c =
+pub of_rule-requires : goal.of_rule-requires
+of_rule-requires g c =
     let number = g.S.IndexStorage.number in
     let xs = c.args.symbols.now in
     let i = c.symbols.index in
     let next = symbols_next number xs i (Rule c.in-Rule.rule) _ c.symbols-test.true c.in-Rule.is in
-    let lt = rule_below (length c.args.table.now) (syms_of number xs) i (number c.in-Rule.rule.0) (drop (i + 1) (syms_of number xs)) c.requires next in
+    let lt = rule_below (length c.args.shared.now.table) (syms_of number xs) i (number c.in-Rule.rule.0) (drop (i + 1) (syms_of number xs)) c.requires next in
     let e = c.to_usize.ensures.value in
-    omega (arith, lt, e)
+    let t = ap length c.symbols.invariant.table in
+    omega (arith, lt, e, t)
 
-pub returns-in_default : goal.returns-in_default
-returns-in_default g c =
+pub returns-in_default-clause-list : goal.returns-in_default-clause-list
+returns-in_default-clause-list g c =
     let number = g.S.IndexStorage.number in
     let xs = c.args.symbols.now in
     let i = c.symbols.index in
     let A = number c.in-Rule.rule.0 in
-    let K = found_lists number c.args.table.now in
+    let K = c.args.shared.now.table in
     let next = symbols_next number xs i (Rule c.in-Rule.rule) _ c.symbols-test.true c.in-Rule.is in
-    let lt = rule_below (length c.args.table.now) (syms_of number xs) i A (drop (i + 1) (syms_of number xs)) c.requires next in
-    let here = found_at number c.args.table.now c.to_usize.result A c.index-table-to_usize.result c.to_usize.ensures.value lt c.index-table-to_usize.is in
-    rests_none K (syms_of number xs) A (drop (i + 1) (syms_of number xs)) (drop i (syms_of number xs)) (tokens_of number c.symbols.list.items) (sym here ∙ ap (found_list number) c.in_default.is) next c.symbols.invariant
+    let kept = ap (λ (t : List (Option (List ℕ))). get_or t A None) (sym c.symbols.invariant.table) ∙ ap (λ (k : ℕ). get_or c.symbols.shared.table k None) (sym c.to_usize.ensures.value) ∙ c.in_default.ensures in
+    rests_none K (syms_of number xs) A (drop (i + 1) (syms_of number xs)) (drop i (syms_of number xs)) (get_or c.symbols.shared.lists c.symbols.list []) kept next c.symbols.invariant.rests
 
 pub symbols-preserved : goal.symbols-preserved
 symbols-preserved g c = elim c.match-symbols-index.branch [
-  | in-Rule+in-Some+in_ok-append-in-Rule w ↦
+  | in-Rule+in-Some+in_ok-list-in-Rule w ↦
       (let number = g.S.IndexStorage.number in
       let xs = c.args.symbols.now in
       let i = c.symbols.index in
       let A = number w.in-Rule.rule.0 in
-      let K = found_lists number c.args.table.now in
-      let own = w.in-Some.own.items in
+      let K = c.args.shared.now.table in
       let next = symbols_next number xs i (Rule w.in-Rule.rule) _ c.symbols-test.true w.in-Rule.is in
-      let lt = rule_below (length c.args.table.now) (syms_of number xs) i A (drop (i + 1) (syms_of number xs)) c.requires next in
-      let here = found_at number c.args.table.now w.to_usize.result A w.index-table-to_usize.result w.to_usize.ensures.value lt w.index-table-to_usize.is in
-      let more = ap (λ l. l.items) w.list-is ∙ w.in_ok-append-in-Rule.ensures ∙ ap (λ l. c.symbols.list.items ++ l) w.as_slice.ensures.value in
-      rests_rule K (syms_of number xs) A (drop (i + 1) (syms_of number xs)) (drop i (syms_of number xs)) (tokens_of number c.symbols.list.items) (tokens_of number own) (tokens_of number c.match-symbols-index.list.items)
-      (sym here ∙ ap (found_list number) w.in-Some.is) next (tokens_more number c.match-symbols-index.list.items c.symbols.list.items own more) c.symbols.invariant)
-  | in-Token+in_ok-push-in-Token w ↦
+      let kept = ap (λ (t : List (Option (List ℕ))). get_or t A None) (sym c.symbols.invariant.table) ∙ ap (λ (k : ℕ). get_or c.symbols.shared.table k None) (sym w.to_usize.ensures.value) ∙ w.in-Some.ensures.1 in
+      let k = c.match-symbols-index.list in
+      let lists = w.join.new.self.lists in
+      let more = ap (λ (v : Shared). get_or v.lists k []) w.shared-is ∙ ap (λ (j : ℕ). get_or lists j []) w.list-is ∙ w.in_ok-list-in-Rule.ensures.list in
+      record {
+        table = ap (λ (v : Shared). v.table) w.shared-is ∙ w.in_ok-list-in-Rule.ensures.table ∙ c.symbols.invariant.table;
+        within = subst (λ (v : Shared). k < length v.lists) (sym w.shared-is) (subst (λ (j : ℕ). j < length lists) (sym w.list-is) w.in_ok-list-in-Rule.ensures.within);
+        rests = rests_rule K (syms_of number xs) A (drop (i + 1) (syms_of number xs)) (drop i (syms_of number xs)) (get_or c.symbols.shared.lists c.symbols.list []) (get_or c.symbols.shared.lists w.in-Some.own []) (get_or c.match-symbols-index.shared.lists k []) kept next more c.symbols.invariant.rests;
+      })
+  | in-Token+in_ok-list-in-Token w ↦
       (let number = g.S.IndexStorage.number in
       let xs = c.args.symbols.now in
       let i = c.symbols.index in
-      let K = found_lists number c.args.table.now in
+      let K = c.args.shared.now.table in
       let next = symbols_next number xs i (Token w.in-Token.token) _ c.symbols-test.true w.in-Token.is in
-      let more = ap (λ l. l.items) w.list-is ∙ w.in_ok-push-in-Token.ensures.items in
-      rests_token K (syms_of number xs) (number w.in-Token.token.0) (drop (i + 1) (syms_of number xs)) (drop i (syms_of number xs)) (tokens_of number c.symbols.list.items) (tokens_of number c.match-symbols-index.list.items)
-      next (tokens_more number c.match-symbols-index.list.items c.symbols.list.items (w.in-Token.token ∷ []) more) c.symbols.invariant)
+      let k = c.match-symbols-index.list in
+      let lists = w.join_token.new.self.lists in
+      let more = ap (λ (v : Shared). get_or v.lists k []) w.shared-is ∙ ap (λ (j : ℕ). get_or lists j []) w.list-is ∙ w.in_ok-list-in-Token.ensures.list in
+      record {
+        table = ap (λ (v : Shared). v.table) w.shared-is ∙ w.in_ok-list-in-Token.ensures.table ∙ c.symbols.invariant.table;
+        within = subst (λ (v : Shared). k < length v.lists) (sym w.shared-is) (subst (λ (j : ℕ). j < length lists) (sym w.list-is) w.in_ok-list-in-Token.ensures.within);
+        rests = rests_token K (syms_of number xs) (number w.in-Token.token.0) (drop (i + 1) (syms_of number xs)) (drop i (syms_of number xs)) (get_or c.symbols.shared.lists c.symbols.list []) (get_or c.match-symbols-index.shared.lists k []) next more c.symbols.invariant.rests;
+      })
 ]
-
-pub returns : goal.returns
-returns g c =
-    let number = g.S.IndexStorage.number in
-    let a = syms_of number c.args.symbols.now in
-    let end = c.symbols-test.false in
-    let count = length-map c.args.symbols.now (sym_of number) in
-    rests_done (found_lists number c.args.table.now) a (drop c.symbols.index a) (tokens_of number c.symbols.list.items) (drop_all c.symbols.index a (omega (arith, end, count))) c.symbols.invariant

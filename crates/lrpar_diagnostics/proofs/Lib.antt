@@ -1,3 +1,4 @@
 pub mod CharStarts
 pub mod LineStarts
 mod LaterTexts
+mod TextLines

@@ -1,3 +1,5 @@
 pub mod Places
 pub mod Underlines
 pub mod Occurrences
+pub mod ProductionMarks
+pub mod ConflictTexts

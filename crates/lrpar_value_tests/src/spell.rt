@@ -1,0 +1,124 @@
+//! Values and errors of parses as texts.
+
+use crate::lexer::{RowLexeme, RowTypes};
+use cfg_base::index::IndexStorage;
+use lrpar::{LexParseError, Lexeme, ParseError, ParseRefusal, ParseRepair};
+use std::alloc::{AllocError, Global};
+
+/// A lexeme as its token and its start.
+pub fn leaf<S: IndexStorage>(alloc: Global, lexeme: RowLexeme<S>) -> Result<String, AllocError> {
+    let token = lexeme.token.to_usize();
+    let start = lexeme.span.start();
+    format!(in alloc; "{token}@{start}")
+}
+
+/// A repair.
+fn push_repair<S: IndexStorage>(
+    alloc: Global,
+    text: &mut String,
+    repair: ParseRepair<RowLexeme<S>, S>,
+) -> Result<(), AllocError> {
+    match repair {
+        ParseRepair::Insert(tidx) => {
+            let token = tidx.0.to_usize();
+            text.push_str(format!(in alloc; " insert {token}")?.as_str())
+        }
+        ParseRepair::Delete(lexeme) => {
+            text.push_str(" delete ")?;
+            text.push_str(leaf(alloc, lexeme)?.as_str())
+        }
+        ParseRepair::Shift(lexeme) => {
+            text.push_str(" shift ")?;
+            text.push_str(leaf(alloc, lexeme)?.as_str())
+        }
+    }
+}
+
+/// An error of a parse: its lexeme, whether that was made up, and the listed sequences.
+fn push_parse_error<S: IndexStorage>(
+    alloc: Global,
+    text: &mut String,
+    error: &ParseError<RowLexeme<S>, S>,
+) -> Result<(), AllocError> {
+    text.push_str("; error at ")?;
+    text.push_str(leaf(alloc, *error.lexeme())?.as_str())?;
+    if error.lexeme().faulty() {
+        text.push_str(" faulty")?;
+    }
+    for sequence in error.repairs().as_slice() {
+        text.push(',')?;
+        for repair in sequence.as_slice() {
+            push_repair(alloc, text, *repair)?;
+        }
+    }
+    Ok(())
+}
+
+/// An error of lexing or of parsing.
+fn push_error<S: IndexStorage>(
+    alloc: Global,
+    text: &mut String,
+    error: &LexParseError<RowTypes<S>>,
+) -> Result<(), AllocError> {
+    match error {
+        LexParseError::LexError(fault) => {
+            let start = fault.span.start();
+            text.push_str(format!(in alloc; "; fault at {start}")?.as_str())
+        }
+        LexParseError::ParseError(error) => push_parse_error(alloc, text, error),
+    }
+}
+
+/// The errors behind the text of a value.
+pub fn push_errors<S: IndexStorage>(
+    alloc: Global,
+    text: &mut String,
+    errors: &[LexParseError<RowTypes<S>>],
+) -> Result<(), AllocError> {
+    for error in errors {
+        push_error(alloc, text, error)?;
+    }
+    Ok(())
+}
+
+/// A refusal.
+pub fn refusal(alloc: Global, refusal: &ParseRefusal) -> Result<String, AllocError> {
+    match refusal {
+        ParseRefusal::Memory(e) => Err(*e),
+        ParseRefusal::LexemeOutside(index) => format!(in alloc; "outside {index}"),
+        ParseRefusal::StartDecreases(index) => format!(in alloc; "decreases {index}"),
+    }
+}
+
+/// The value, or that there is none, and the errors.
+pub fn told<S: IndexStorage>(
+    alloc: Global,
+    outcome: &Result<(Option<String>, Vec<LexParseError<RowTypes<S>>>), ParseRefusal>,
+) -> Result<String, AllocError> {
+    match outcome {
+        Err(e) => refusal(alloc, e),
+        Ok((value, errors)) => {
+            let mut text = match value {
+                Some(value) => String::from_str(alloc, value.as_str())?,
+                None => String::from_str(alloc, "none")?,
+            };
+            push_errors(alloc, &mut text, errors.as_slice())?;
+            Ok(text)
+        }
+    }
+}
+
+/// The errors.
+pub fn errors_told<S: IndexStorage>(
+    alloc: Global,
+    outcome: &Result<Vec<LexParseError<RowTypes<S>>>, ParseRefusal>,
+) -> Result<String, AllocError> {
+    match outcome {
+        Err(e) => refusal(alloc, e),
+        Ok(errors) => {
+            let mut text = String::new(alloc);
+            push_errors(alloc, &mut text, errors.as_slice())?;
+            Ok(text)
+        }
+    }
+}

@@ -1,0 +1,22 @@
+//! Parses lists of a million lexemes, left- and right-recursive ones, drops their trees, and answers an error at the end of
+//! such a line. A tree is as deep as its line is long: what recursed by depth would end the program by a stack overflow.
+#![tactic(auto)]
+
+mod lexer;
+mod make;
+mod runs;
+
+use std::io;
+
+const GRAMMARS: &[&str] = &[
+    "%start S %% S: S 'a' | 'a'; T: 'b';",
+    "%start S %% S: 'a' S | 'a'; T: 'b';",
+];
+
+fn main(rt: HostRuntime) -> io::Result<()> {
+    for text in GRAMMARS {
+        let told = runs::tell(rt.alloc(), text)?;
+        print!(rt; "{text}\n{told}")?;
+    }
+    Ok(())
+}

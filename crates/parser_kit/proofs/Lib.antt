@@ -1,3 +1,4 @@
 pub mod KitParses
+pub mod Kits
 pub mod Tabled
 mod Searches

@@ -2,3 +2,5 @@ pub mod Productive
 pub mod Searching
 pub mod Tabled
 pub mod KitParses
+pub mod Kit
+pub mod KitErrors

@@ -61,7 +61,7 @@ impl<S: IndexStorage> Display for GrammarKitError<S> {
 }
 
 /// A chain of reductions.
-fn write_chain<S: IndexStorage, W: Write>(
+pub(crate) fn write_chain<S: IndexStorage, W: Write>(
     f: &mut Formatter<W>,
     cap: u16,
     state: StIdx<S>,

@@ -1,9 +1,12 @@
 //! Laws of kits.
 
-ghost use Rattle.std.specs.Prelude.{◌≡◌, ℕ};
+ghost use Rattle.std.specs.Prelude.{◌≡◌, ℕ, List};
+ghost use Rattle.cfg_read.specs.declared.yacc.YaccKind.{YaccKind};
 ghost use Rattle.lrpar.specs.Checked.{ParserValue};
+ghost use Rattle.parser_kit.specs.Kit.{IsKitOf, KitValue};
 ghost use Rattle.parser_kit.specs.Tabled.{IsTabled};
 
+use cfg_read::yacc::one_answer;
 use lrtable::laws::tables_are_one;
 
 /// A grammar has one kit of a cap, whatever type its numbers are stored in: kits of `u8`, `u16` and `u32` have the same
@@ -12,4 +15,12 @@ pub fn kits_are_one()
     ensures { (top top' : ℕ) (k l : ParserValue) → IsTabled top k → IsTabled top' l → k.grammar ≡ l.grammar → k.cap ≡ l.cap → k ≡ l }
 {
     tables_are_one();
+}
+
+/// A text of a kind has one kit of a cap, whatever type its numbers are stored in.
+pub fn kits_of_texts_are_one()
+    ensures { (top top' cap : ℕ) (kind : YaccKind) (text : List ℕ) (k l : KitValue) → IsKitOf top kind text cap k → IsKitOf top' kind text cap l → k ≡ l }
+{
+    one_answer();
+    kits_are_one();
 }

@@ -1,19 +1,24 @@
-//! A parser from a grammar: its graph, its table and checked data in one value.
+//! A parser from the text of a grammar: what is kept of the text, its grammar, graph, table and checked data in one value.
 //!
-//! `GrammarKit` stands on the public contracts of the crates below it alone. Those of `GrammarKit::new` say which kit a
-//! grammar has and why it has none; `conflicts`, `complete` and `all_productive` tell what a caller may rely on; a parse
-//! folds derivations of the lexemes as repaired, and where the grammar has no precedences and no conflict is listed it has
-//! no errors exactly where the lexemes are a sentence.
+//! `ParserKit` stands on the public contracts of the crates below it alone. Those of `ParserKit::new` say which kit a text
+//! gives and why it gives none; `conflicts`, `complete` and `all_productive` tell what a caller may rely on. `kit` lends the
+//! `GrammarKit`, the same of a grammar that is at hand: its parses fold derivations of the lexemes as repaired, and where
+//! no precedence is declared and no conflict is listed they have no errors exactly where the lexemes are a sentence.
 #![tactic(auto)]
 
 pub mod grammar_kit;
 pub mod grammar_kit_error;
+pub mod kit;
+pub mod kit_error;
 pub mod laws;
 mod making;
 mod naming;
 mod parsing;
 mod productive;
+mod text_making;
 
 pub use grammar_kit::GrammarKit;
 pub use grammar_kit_error::GrammarKitError;
+pub use kit::ParserKit;
+pub use kit_error::KitError;
 pub use productive::all_productive;

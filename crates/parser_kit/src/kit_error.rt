@@ -1,0 +1,106 @@
+//! Why a text gives no kit.
+
+ghost use Rattle.std.specs.Prelude.{◌≡◌};
+ghost use Rattle.parser_kit.specs.KitErrors.{told_as};
+ghost use Rattle.parser_kit.specs.declared.kit_error.KitError.TheVariants as errors;
+
+use crate::grammar_kit_error::{GrammarKitError, write_chain};
+use cfg_base::index::IndexStorage;
+use cfg_base::symbol::{PIdx, RIdx, TIdx};
+use cfgrammar::yacc::{TooMany, YaccGrammarError};
+use lrtable::StIdx;
+use std::alloc::{AllocError, Global};
+use std::error::Error;
+use std::fmt;
+use std::fmt::{Debug, Display, Formatter, Write};
+
+/// Why a text gives no kit: want of memory aside, the first of these that is so.
+#[derive(Debug, Drop)]
+pub enum KitError<S: IndexStorage> {
+    /// All that is wrong with the text.
+    Grammar(Vec<YaccGrammarError>),
+    /// A count of the grammar that the index type has no number for.
+    TooMany(TooMany),
+    /// While the states are built more of them stand than the index type has numbers for but nought: so many.
+    TooManyStates(usize),
+    /// Where a text has ended this production, the least such one, can be reduced too.
+    AcceptReduce(PIdx<S>),
+    /// For each state a cell for each token and one for each rule are more than `usize::MAX`.
+    TooLarge,
+    /// More than `cap` reductions come on a token one after another: from a state, or, with a rule, after its goto on the
+    /// rule. The least such place is told.
+    TooManyReductions {
+        state: StIdx<S>,
+        rule: Option<RIdx<S>>,
+        token: TIdx<S>,
+        cap: u16,
+    },
+    /// There is no memory.
+    Memory(AllocError),
+}
+
+impl<S: IndexStorage> From<AllocError> for KitError<S> {
+    ghost from_gives = { λ x e. e ≡ errors.Memory x };
+
+    fn from(e: AllocError) -> KitError<S> {
+        KitError::Memory(e)
+    }
+}
+
+impl<S: IndexStorage> From<GrammarKitError<S>> for KitError<S> {
+    ghost from_gives = { λ x e. e ≡ told_as x };
+
+    fn from(e: GrammarKitError<S>) -> KitError<S> {
+        match e {
+            GrammarKitError::TooManyStates(n) => KitError::TooManyStates(n),
+            GrammarKitError::AcceptReduce(pidx) => KitError::AcceptReduce(pidx),
+            GrammarKitError::TooLarge => KitError::TooLarge,
+            GrammarKitError::TooManyReductions {
+                state,
+                rule,
+                token,
+                cap,
+            } => KitError::TooManyReductions {
+                state,
+                rule,
+                token,
+                cap,
+            },
+            GrammarKitError::Memory(e) => KitError::Memory(e),
+        }
+    }
+}
+
+/// What has too many, and how many these are.
+fn write_count<W: Write>(f: &mut Formatter<W>, count: TooMany) -> fmt::Result {
+    match count {
+        TooMany::TooManyRules(n) => write!(f, "too many rules: {n}"),
+        TooMany::TooManyProds(n) => write!(f, "too many productions: {n}"),
+        TooMany::TooManyTokens(n) => write!(f, "too many tokens: {n}"),
+        TooMany::TooManySymbols(n) => write!(f, "too many symbols: {n}"),
+    }
+}
+
+impl<S: IndexStorage> Display for KitError<S> {
+    fn fmt<W: Write>(&self, f: &mut Formatter<W>) -> fmt::Result {
+        match self {
+            KitError::Grammar(_) => write!(f, "invalid grammar"),
+            KitError::TooMany(count) => write_count(f, *count),
+            KitError::TooManyStates(n) => write!(f, "too many states: {n}"),
+            KitError::AcceptReduce(pidx) => {
+                let number = pidx.0.to_usize();
+                write!(f, "Accept/reduce conflict, production {number}")
+            }
+            KitError::TooLarge => write!(f, "table too large"),
+            KitError::TooManyReductions {
+                state,
+                rule,
+                token,
+                cap,
+            } => write_chain(f, *cap, *state, *token, *rule),
+            KitError::Memory(_) => write!(f, "out of memory"),
+        }
+    }
+}
+
+impl<S: IndexStorage> Error for KitError<S> {}

@@ -41,6 +41,7 @@ pub trait Lexeme<S: IndexStorage>: Debug + Display + Eq + Hash + Copy {
     ghost faulty_is: { (token start len : ℕ) → token ≤ S.MAX → lex (faulty_of token start len) ≡ lex_at token start len true };
 }
 
+/// A place of the input at which no lexeme begins.
 pub trait LexError: Error + Copy {
     ghost places: { Self → SpanModel };
 
@@ -48,6 +49,7 @@ pub trait LexError: Error + Copy {
         ensures { result ≡ places self.now };
 }
 
+/// The types that go with a lexer: its lexemes, the numbers of their tokens, its errors.
 pub trait LexerTypes {
     type LexemeT: Lexeme<Self::StorageT>;
 
@@ -56,6 +58,7 @@ pub trait LexerTypes {
     type LexErrorT: LexError;
 }
 
+/// What gives the lexemes of an input, or where it has none. Its list stays the same from call to call.
 pub trait Lexer<T: LexerTypes> {
     ghost lexed: { Self → List (Result T.LexemeT T.LexErrorT) };
 
@@ -63,6 +66,7 @@ pub trait Lexer<T: LexerTypes> {
         ensures { iter_rest result ≡ lexed self.now };
 }
 
+/// A lexer with the whole input at hand. Offsets and lengths are in bytes, columns in characters; lines and columns count from 1.
 pub trait NonStreamingLexer<'input, T: LexerTypes>: Lexer<T> {
     ghost text: { Self → List ℕ };
 

@@ -66,6 +66,7 @@ impl<'t, 'a, S: IndexStorage> KeptCosts<'t, 'a, S> {
         self.tokens.stays_well_formed();
     }
 
+    /// How many rules the grammar has.
     pub fn rules_len(&self) -> RIdx<S>
         ensures { S.number result.0 ≡ self.now.grammar.rules }
     {
@@ -80,6 +81,7 @@ impl<'t, 'a, S: IndexStorage> KeptCosts<'t, 'a, S> {
         self.tokens.prod_at(number)
     }
 
+    /// The symbols of a production.
     pub fn prod(&self, pidx: PIdx<S>) -> &[Symbol<S>]
         requires { S.number pidx.0 < length self.now.grammar.productions }
         ensures { syms_of S.number result.now ≡ body_of self.now.grammar (S.number pidx.0) }
@@ -87,6 +89,7 @@ impl<'t, 'a, S: IndexStorage> KeptCosts<'t, 'a, S> {
         self.tokens.prod(pidx)
     }
 
+    /// The rule of a production.
     pub fn prod_to_rule(&self, pidx: PIdx<S>) -> RIdx<S>
         requires { S.number pidx.0 < length self.now.grammar.productions }
         ensures { S.number result.0 ≡ head_of self.now.grammar (S.number pidx.0) }
@@ -94,6 +97,7 @@ impl<'t, 'a, S: IndexStorage> KeptCosts<'t, 'a, S> {
         self.tokens.prod_to_rule(pidx)
     }
 
+    /// The productions of a rule.
     pub fn rule_to_prods(&self, ridx: RIdx<S>) -> &[PIdx<S>]
         requires { S.number ridx.0 < self.now.grammar.rules }
         ensures { numbers_of S.number result.now ≡ productions_of self.now.grammar (S.number ridx.0) }

@@ -73,6 +73,7 @@ impl<'a, S: IndexStorage> LeastCosts<'a, S> {
         self.tokens.stays_well_formed();
     }
 
+    /// The costs, one for each token.
     pub fn token_costs(&self) -> &[u8]
         ensures value { result.now ≡ self.now.costs }
         ensures count { length self.now.costs ≡ self.now.grammar.tokens }
@@ -80,18 +81,21 @@ impl<'a, S: IndexStorage> LeastCosts<'a, S> {
         self.tokens.costs()
     }
 
+    /// How many productions the grammar has.
     pub fn prods_len(&self) -> PIdx<S>
         ensures { S.number result.0 ≡ length self.now.grammar.productions }
     {
         self.tokens.prods_len()
     }
 
+    /// How many rules the grammar has.
     pub fn rules_len(&self) -> RIdx<S>
         ensures { S.number result.0 ≡ self.now.grammar.rules }
     {
         self.tokens.rules_len()
     }
 
+    /// The rule of a number.
     pub fn rule_at(&self, number: usize) -> RIdx<S>
         requires { number < self.now.grammar.rules }
         ensures { S.number result.0 ≡ number }
@@ -99,6 +103,7 @@ impl<'a, S: IndexStorage> LeastCosts<'a, S> {
         self.tokens.rule_at(number)
     }
 
+    /// The production of a number.
     pub fn prod_at(&self, number: usize) -> PIdx<S>
         requires { number < length self.now.grammar.productions }
         ensures { S.number result.0 ≡ number }
@@ -106,18 +111,21 @@ impl<'a, S: IndexStorage> LeastCosts<'a, S> {
         self.tokens.prod_at(number)
     }
 
+    /// Lists for each rule the productions that name it.
     pub fn naming(&self, alloc: Global) -> Result<Naming, AllocError>
         ensures { IfOk result (λ n. ListsNaming self.now.grammar (length self.now.grammar.productions) n) }
     {
         self.tokens.naming(alloc)
     }
 
+    /// Lists the productions so that those of named rules come first, as far as that goes.
     pub fn order(&self, alloc: Global) -> Result<Order, AllocError>
         ensures { IfOk result (λ o. IsOrder (length self.now.grammar.productions) o) }
     {
         self.tokens.order(alloc)
     }
 
+    /// The productions of a rule.
     pub fn rule_to_prods(&self, ridx: RIdx<S>) -> &[PIdx<S>]
         requires { S.number ridx.0 < self.now.grammar.rules }
         ensures { numbers_of S.number result.now ≡ productions_of self.now.grammar (S.number ridx.0) }
@@ -125,6 +133,7 @@ impl<'a, S: IndexStorage> LeastCosts<'a, S> {
         self.tokens.rule_to_prods(ridx)
     }
 
+    /// The symbols of a production.
     pub fn prod(&self, pidx: PIdx<S>) -> &[Symbol<S>]
         requires { S.number pidx.0 < length self.now.grammar.productions }
         ensures { syms_of S.number result.now ≡ body_of self.now.grammar (S.number pidx.0) }
@@ -132,6 +141,7 @@ impl<'a, S: IndexStorage> LeastCosts<'a, S> {
         self.tokens.prod(pidx)
     }
 
+    /// The rule of a production.
     pub fn prod_to_rule(&self, pidx: PIdx<S>) -> RIdx<S>
         requires { S.number pidx.0 < length self.now.grammar.productions }
         ensures { S.number result.0 ≡ head_of self.now.grammar (S.number pidx.0) }

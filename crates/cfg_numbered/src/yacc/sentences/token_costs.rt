@@ -81,6 +81,7 @@ impl<'a, S: IndexStorage> TokenCosts<'a, S> {
         self.grm.prods_len()
     }
 
+    /// How many rules the grammar has.
     pub fn rules_len(&self) -> RIdx<S>
         ensures { S.number result.0 ≡ self.now.grammar.rules }
     {
@@ -103,6 +104,7 @@ impl<'a, S: IndexStorage> TokenCosts<'a, S> {
         self.grm.prod_at(number)
     }
 
+    /// The symbols of a production.
     pub fn prod(&self, pidx: PIdx<S>) -> &[Symbol<S>]
         requires { S.number pidx.0 < length self.now.grammar.productions }
         ensures { syms_of S.number result.now ≡ body_of self.now.grammar (S.number pidx.0) }
@@ -110,6 +112,7 @@ impl<'a, S: IndexStorage> TokenCosts<'a, S> {
         self.grm.prod(pidx)
     }
 
+    /// The rule of a production.
     pub fn prod_to_rule(&self, pidx: PIdx<S>) -> RIdx<S>
         requires { S.number pidx.0 < length self.now.grammar.productions }
         ensures { S.number result.0 ≡ head_of self.now.grammar (S.number pidx.0) }
@@ -117,6 +120,7 @@ impl<'a, S: IndexStorage> TokenCosts<'a, S> {
         self.grm.prod_to_rule(pidx)
     }
 
+    /// The productions of a rule.
     pub fn rule_to_prods(&self, ridx: RIdx<S>) -> &[PIdx<S>]
         requires { S.number ridx.0 < self.now.grammar.rules }
         ensures { numbers_of S.number result.now ≡ productions_of self.now.grammar (S.number ridx.0) }

@@ -38,12 +38,14 @@ impl<S: IndexStorage> TokenLists<S> {
         }
     }
 
+    /// Lends the lists.
     pub fn as_slice(&self) -> &[Vec<TIdx<S>>]
         ensures { lists_of S.number result.now ≡ self.now }
     {
         self.lists.as_slice()
     }
 
+    /// Hands the lists over.
     pub fn into_vec(self) -> Vec<Vec<TIdx<S>>>
         ensures lists { lists_of S.number result.items ≡ self }
         ensures ordered { AllPairs IsBefore self }

@@ -1,0 +1,100 @@
+//! What gives bytes, and an input as a whole.
+
+ghost use Rattle.std.specs.Prelude.{◌≡◌, ℕ, ◌≤◌, ◌+◌, ◌-◌, List, Option, IfOk, IfErr, OnOk, OnErr, vec_len, string_bytes, string_len};
+ghost use Rattle.std.specs.Io.KnownBytes.{IsAtEnd};
+ghost use Rattle.byte_streams.specs.Source.{Reads, IsWhole};
+ghost use Rattle.byte_streams.specs.Inputs.{most_bytes, IsInputFault, IsReadFault, TakesAtMost, Moves};
+
+use std::alloc::{AllocError, Global};
+use std::io;
+
+/// The greatest number of bytes of an input.
+pub const MOST_BYTES: usize = 67_108_864;
+
+/// What gives bytes, tells them where they are known, and counts its failures: each one, and nothing
+/// else, raises the count by one, or finds it at `u64::MAX`.
+pub trait Source {
+    // The bytes that reads will give from here on, where they are known.
+    ghost known: { Self → Option (List ℕ) };
+
+    ghost faults: { Self → ℕ };
+
+    /// As `std::io::Read::read`.
+    fn read(&mut self, buf: &mut [u8]) -> io::Result<usize>
+        ensures { Reads (known self.old) (faults self.old) (known self.new) (faults self.new) result buf.new };
+
+    /// How many reads have failed.
+    fn failures(&self) -> u64
+        ensures { result ≡ faults self.now };
+}
+
+/// Why an input is no text.
+#[derive(Debug, Drop)]
+pub enum InputFault {
+    Read,
+    TooLong,
+    NotUtf8,
+    Memory(AllocError),
+}
+
+impl From<AllocError> for InputFault {
+    ghost use Rattle.byte_streams.specs.declared.reading.InputFault.TheVariants.{Memory};
+
+    ghost from_gives = { λ x e. e ≡ Memory x };
+
+    fn from(e: AllocError) -> InputFault {
+        InputFault::Memory(e)
+    }
+}
+
+/// Reads an input to its end. It takes at most one byte more than an input may have.
+fn read_whole<S: Source>(alloc: Global, source: &mut S) -> Result<Vec<u8>, InputFault>
+    ensures whole { IfOk result (λ v. IsWhole (S.known source.old) v.items) }
+    ensures short { IfOk result (λ v. vec_len v ≤ most_bytes) }
+    ensures took { TakesAtMost (most_bytes + 1) (S.known source.old) (S.known source.new) }
+    ensures cause { IfErr result (IsInputFault (S.known source.old) (S.faults source.old) (S.faults source.new)) }
+{
+    let mut bytes = Vec::new(alloc);
+    'reads: while bytes.len() <= MOST_BYTES {
+        if read_more(source, &mut bytes)? == 0 {
+            return Ok(bytes);
+        }
+    }
+    Err(InputFault::TooLong)
+}
+
+// One read, of no more bytes than an input may still have, and one more.
+fn read_more<S: Source>(source: &mut S, bytes: &mut Vec<u8>) -> Result<usize, InputFault>
+    requires { vec_len bytes.old ≤ most_bytes }
+    ensures moves { OnOk result (Moves (S.known source.old) (S.known source.new) bytes.old.items bytes.new.items) }
+    ensures count { IfOk result (λ n. vec_len bytes.new ≡ vec_len bytes.old + n) }
+    ensures end { IfOk result (λ n. n ≡ 0 → IsAtEnd (S.known source.new)) }
+    ensures room { vec_len bytes.new ≤ most_bytes + 1 }
+    ensures counted { OnOk result (S.faults source.new ≡ S.faults source.old) }
+    ensures took { OnErr result (TakesAtMost (most_bytes + 1 - vec_len bytes.old) (S.known source.old) (S.known source.new)) }
+    ensures cause { IfErr result (IsReadFault (S.faults source.old) (S.faults source.new)) }
+{
+    let mut buffer = [0u8; 8192];
+    let room = (MOST_BYTES + 1 - bytes.len()).min(buffer.len());
+    match source.read(&mut buffer[..room]) {
+        Ok(n) => {
+            bytes.extend_from_slice(&buffer[..n])?;
+            Ok(n)
+        }
+        Err(_) => Err(InputFault::Read),
+    }
+}
+
+/// Reads an input to its end as a text.
+pub fn read_text<S: Source>(alloc: Global, source: &mut S) -> Result<String, InputFault>
+    ensures whole { IfOk result (λ t. IsWhole (S.known source.old) (string_bytes t)) }
+    ensures short { IfOk result (λ t. string_len t ≤ most_bytes) }
+    ensures took { TakesAtMost (most_bytes + 1) (S.known source.old) (S.known source.new) }
+    ensures cause { IfErr result (IsInputFault (S.known source.old) (S.faults source.old) (S.faults source.new)) }
+{
+    let bytes = read_whole(alloc, source)?;
+    match String::from_utf8(bytes) {
+        Ok(text) => Ok(text),
+        Err(_) => Err(InputFault::NotUtf8),
+    }
+}

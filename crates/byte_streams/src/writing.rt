@@ -1,0 +1,48 @@
+//! What takes bytes, and a text written as a whole.
+
+ghost use Rattle.std.specs.Prelude.{◌≡◌, ℕ, List, Option, length, OnOk, OnErr};
+ghost use Rattle.std.specs.Io.KnownBytes.{Appends};
+ghost use Rattle.byte_streams.specs.Sink.{Writes, BeginningWritten};
+ghost use Rattle.byte_streams.specs.Source.{one_more};
+
+use std::io;
+
+/// What takes bytes, tells them where they are known, and counts its failures: each one, and nothing
+/// else, raises the count by one, or finds it at `u64::MAX`. An error is a failure, and so is a write that takes nothing
+/// of a text that isn't empty.
+pub trait Sink {
+    // The bytes that were taken, where they are known.
+    ghost known: { Self → Option (List ℕ) };
+
+    ghost faults: { Self → ℕ };
+
+    /// As `std::io::Write::write`.
+    fn write(&mut self, bytes: &[u8]) -> io::Result<usize>
+        ensures { Writes (known self.old) (faults self.old) (known self.new) (faults self.new) result bytes.now };
+
+    /// How many writes have failed, or took nothing of a text that isn't empty.
+    fn failures(&self) -> u64
+        ensures { result ≡ faults self.now };
+}
+
+/// A write failed, or took nothing of a text that isn't empty.
+#[derive(Clone, Copy, Debug)]
+pub struct WriteFault;
+
+/// Writes all of the bytes. Only what `write` tells as taken is out.
+pub fn write_all<W: Sink>(out: &mut W, bytes: &[u8]) -> Result<(), WriteFault>
+    ensures ok { OnOk result (Appends (W.known out.old) (W.known out.new) bytes.now) }
+    ensures kept { OnOk result (W.faults out.new ≡ W.faults out.old) }
+    ensures err { OnErr result (BeginningWritten (W.known out.old) (W.known out.new) bytes.now) }
+    ensures cause { OnErr result (W.faults out.new ≡ one_more (W.faults out.old)) }
+{
+    let mut rest = bytes;
+    'writes: while !rest.is_empty() {
+        match out.write(rest) {
+            Ok(0) => return Err(WriteFault),
+            Ok(n) => rest = &rest[n..],
+            Err(_) => return Err(WriteFault),
+        }
+    }
+    Ok(())
+}

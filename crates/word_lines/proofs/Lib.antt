@@ -1,0 +1,6 @@
+mod NamedTokens
+mod LexedParts
+mod SaidEdits
+mod ReadLines
+mod TakenLexemes
+mod LineCuts

@@ -1,0 +1,4 @@
+pub mod Words
+pub mod Lexing
+pub mod Repairs
+pub mod RepairReading

@@ -1,0 +1,99 @@
+//! Words as lexemes.
+
+use cfg_base::index::IndexStorage;
+use cfg_base::span::Span;
+use lrpar::{LexError, Lexeme, LexerTypes};
+use std::fmt;
+use std::fmt::{Display, Formatter, Write};
+use std::hash::Hash;
+use std::marker::PhantomData;
+use thiserror::Error;
+
+/// A word of a line that is a token's name, or a lexeme that a repair made up. It is shown as its offsets.
+#[derive(Clone, Copy, Debug, PartialEq, Eq, Hash)]
+pub struct WordLexeme<S> {
+    /// The token's number.
+    pub token: S,
+    /// The word's bytes in the line.
+    pub span: Span,
+    /// Whether it was made up.
+    pub faulty: bool,
+}
+
+impl<S: IndexStorage> Display for WordLexeme<S> {
+    fn fmt<W: Write>(&self, f: &mut Formatter<W>) -> fmt::Result {
+        write!(f, "{}..{}", self.span.start(), self.span.end())
+    }
+}
+
+impl<S: IndexStorage> Lexeme<S> for WordLexeme<S> {
+    ghost use Rattle.std.specs.Prelude.{true, ◌+◌};
+    ghost use Rattle.std.proofs.Common.{ap};
+    ghost use Rattle.lrpar.specs.Lex.{lex_at};
+    ghost use Rattle.word_lines.specs.Lexing.{lex_of};
+
+    ghost lex = { lex_of S.number };
+
+    ghost faulty_of = { λ token start len. record { token = S.of_number token; span = record { start = start; end = start + len }; faulty = true } };
+
+    ghost faulty_is = { λ token start len fits. ap (λ n. lex_at n start len true) (S.of_number_is token fits) };
+
+    fn new(tok_id: S, start: usize, len: usize) -> Self {
+        WordLexeme {
+            token: tok_id,
+            span: Span::new(start, start + len),
+            faulty: false,
+        }
+    }
+
+    fn new_faulty(tok_id: S, start: usize, len: usize) -> Self {
+        // Read, so that the proof may use that the number fits.
+        tok_id.to_usize();
+        WordLexeme {
+            token: tok_id,
+            span: Span::new(start, start + len),
+            faulty: true,
+        }
+    }
+
+    fn tok_id(&self) -> S {
+        self.token
+    }
+
+    fn span(&self) -> Span {
+        self.span
+    }
+
+    fn faulty(&self) -> bool {
+        self.faulty
+    }
+}
+
+/// A word that is no token's name.
+#[derive(Clone, Copy, Debug, PartialEq, Eq, Error)]
+#[error("no token has this name")]
+pub struct WordLexError {
+    /// The word's bytes in the line.
+    pub span: Span,
+}
+
+impl LexError for WordLexError {
+    ghost places = { λ e. e.span };
+
+    fn span(&self) -> Span {
+        self.span
+    }
+}
+
+/// The types of a lexer of words.
+pub struct WordLexerTypes<S> {
+    storage: PhantomData<S>,
+}
+
+impl<S: IndexStorage> LexerTypes for WordLexerTypes<S> {
+    type LexemeT = WordLexeme<S>;
+
+    type StorageT = S;
+
+    type LexErrorT = WordLexError;
+}

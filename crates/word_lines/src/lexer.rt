@@ -1,0 +1,171 @@
+//! The words of a line as the list of a lexer.
+
+ghost use Rattle.std.specs.Prelude.{◌≡◌, ◌+◌, ◌<◌, ◌≤◌, ◌^◌, [], ◌∷◌, ◌++◌, IfOk, OnOk, length, slice_range};
+ghost use Rattle.cfg_base.specs.Newlines.{newlines_of, line_of, line_start, column_of};
+ghost use Rattle.cfg_base.specs.Text.{line_end};
+ghost use Rattle.word_lines.specs.Lexing.{items_of, items_in, item_of};
+
+use crate::lexeme::{WordLexError, WordLexeme, WordLexerTypes};
+use crate::names::find_token;
+use cfg_base::index::{IndexStorage, each_number_is_of_one_value};
+use cfg_base::newlinecache::NewlineCache;
+use cfg_base::span::Span;
+use cfg_numbered::yacc::grammar::NumberedGrammar;
+use lrpar::{Lexer, NonStreamingLexer};
+use std::alloc::{AllocError, Global};
+use std::marker::Model;
+use std::slice::Iter;
+
+/// The lexemes and lexing errors of a line of words. Contracts see the line and this list.
+#[derive(Drop)]
+pub struct WordLexer<'input, S: IndexStorage> {
+    line: &'input str,
+    items: Vec<Result<WordLexeme<S>, WordLexError>>,
+    newlines: NewlineCache,
+}
+
+impl<'input, S: IndexStorage> Model for WordLexer<'input, S> {
+    ghost use Rattle.std.specs.Prelude.{◌≡◌};
+    ghost use Rattle.cfg_base.specs.Newlines.{newlines_of};
+    ghost use Rattle.word_lines.specs.Lexing.{LexedLine};
+
+    ghost Value = { LexedLine S };
+
+    ghost view = { λ l. record { text = l.line.now; items = l.items.items } };
+
+    ghost invariant = { λ l. l.newlines ≡ newlines_of l.line.now };
+}
+
+impl<'input, S: IndexStorage> WordLexer<'input, S> {
+    /// Makes the lexer of a line. Words are the nonempty parts between spaces (U+0020 alone). One is the lexeme of the token
+    /// with this name, or a lexing error where no token has it.
+    pub fn new(
+        alloc: Global,
+        grm: &NumberedGrammar<S>,
+        line: &'input str,
+    ) -> Result<WordLexer<'input, S>, AllocError>
+        ensures text { IfOk result (λ l. l.text ≡ line.entry.now) }
+        ensures items { IfOk result (λ l. l.items ≡ items_of S.of_number grm.now line.entry.now) }
+    {
+        let items = lex_line(alloc, grm, line)?;
+        let newlines = NewlineCache::from_str(alloc, line)?;
+        Ok(WordLexer {
+            line,
+            items,
+            newlines,
+        })
+    }
+}
+
+/// The items of a line's words.
+fn lex_line<S: IndexStorage>(
+    alloc: Global,
+    grm: &NumberedGrammar<S>,
+    line: &str,
+) -> Result<Vec<Result<WordLexeme<S>, WordLexError>>, AllocError>
+    ensures { IfOk result (λ v. v.items ≡ items_of S.of_number grm.now line.now) }
+{
+    // So the place behind the last part is a number too.
+    let length = line.len();
+    prove!(length < usize::MAX);
+    let mut items = Vec::new(alloc);
+    let mut start = 0;
+    'parts: for part in line.split(' ') {
+        let end = start + part.len();
+        push_part(grm, part, start, &mut items)?;
+        start = end + 1;
+    }
+    Ok(items)
+}
+
+/// Puts the item of a part between spaces, if it is a word.
+fn push_part<S: IndexStorage>(
+    grm: &NumberedGrammar<S>,
+    part: &str,
+    start: usize,
+    items: &mut Vec<Result<WordLexeme<S>, WordLexError>>,
+) -> Result<(), AllocError>
+    requires { start + length part.now < 2 ^ 64 }
+    ensures { OnOk result (items.new.items ≡ items.old.items ++ items_in S.of_number grm.now start (part.now ∷ [])) }
+{
+    if part.is_empty() {
+        return Ok(());
+    }
+    items.push(item_at(grm, part, start))?;
+    Ok(())
+}
+
+/// The item of a word.
+fn item_at<S: IndexStorage>(
+    grm: &NumberedGrammar<S>,
+    word: &str,
+    start: usize,
+) -> Result<WordLexeme<S>, WordLexError>
+    requires { start + length word.now < 2 ^ 64 }
+    ensures { result ≡ item_of S.of_number grm.now (record { start = start; text = word.now }) }
+{
+    let span = Span::new(start, start + word.len());
+    match find_token(grm, word) {
+        Some(tidx) => {
+            let token = tidx.0;
+            // Read, so that the proof may use that the number fits, and is that of this value alone.
+            token.to_usize();
+            each_number_is_of_one_value::<S>();
+            Ok(WordLexeme {
+                token,
+                span,
+                faulty: false,
+            })
+        }
+        None => Err(WordLexError { span }),
+    }
+}
+
+impl<'input, S: IndexStorage> Lexer<WordLexerTypes<S>> for WordLexer<'input, S> {
+    ghost lexed = { λ l. l.items };
+
+    fn iter<'a>(&'a self) -> Iter<'a, Result<WordLexeme<S>, WordLexError>> {
+        self.items.iter()
+    }
+}
+
+impl<'input, S: IndexStorage> NonStreamingLexer<'input, WordLexerTypes<S>>
+    for WordLexer<'input, S> {
+    ghost text = { λ l. l.text };
+
+    fn span_str(&self, span: Span) -> &'input str {
+        &self.line[span.start()..span.end()]
+    }
+
+    fn span_lines_str(&self, span: Span) -> &'input str {
+        lines_part(&self.newlines, self.line, span)
+    }
+
+    fn line_col(&self, span: Span) -> ((usize, usize), (usize, usize)) {
+        (
+            place_of(&self.newlines, self.line, span.start()),
+            place_of(&self.newlines, self.line, span.end()),
+        )
+    }
+}
+
+/// The line and the column of an offset.
+fn place_of(newlines: &NewlineCache, line: &str, offset: usize) -> (usize, usize)
+    requires cache { newlines.now ≡ newlines_of line.now }
+    requires within { offset ≤ length line.now }
+    ensures { result ≡ (line_of line.now offset, column_of line.now line.now offset) }
+{
+    newlines.byte_to_line_num_and_col_num(line, offset).unwrap()
+}
+
+/// The lines that a span is on.
+fn lines_part<'a>(newlines: &NewlineCache, line: &'a str, span: Span) -> &'a str
+    requires cache { newlines.now ≡ newlines_of line.now }
+    requires within { span.end ≤ length line.now }
+    ensures { result.now ≡ slice_range line.now (line_start line.now span.start) (line_end line.now span.end) }
+{
+    // Read, so that the proof may use that it ends behind its start.
+    span.start();
+    let (start, end) = newlines.span_line_bytes(span);
+    &line[start..end]
+}

@@ -1,0 +1,110 @@
+//! Inputs read to their ends.
+
+use byte_streams::{Counted, InputFault, Source, read_text};
+use std::io;
+use std::io::{ErrorKind, Read};
+use std::test::Fail;
+
+/// Gives its bytes, some at a time, and then fails or ends.
+#[derive(Drop)]
+struct Parts<'a> {
+    rest: &'a [u8],
+    at_once: usize,
+    fault: Option<ErrorKind>,
+}
+
+impl Read for Parts<'_> {
+    fn read(&mut self, buf: &mut [u8]) -> io::Result<usize> {
+        let count = self.at_once.min(buf.len()).min(self.rest.len());
+        if count == 0 {
+            return match self.fault {
+                Some(kind) => Err(io::Error::from(kind)),
+                None => Ok(0),
+            };
+        }
+        let (front, rest) = self.rest.split_at(count);
+        buf[..count].copy_from_slice(front);
+        self.rest = rest;
+        Ok(count)
+    }
+}
+
+/// Gives spaces without an end, and counts them.
+#[derive(Drop)]
+struct Endless {
+    given: usize,
+}
+
+impl Read for Endless {
+    fn read(&mut self, buf: &mut [u8]) -> io::Result<usize> {
+        for b in buf.iter_mut() {
+            *b = b' ';
+        }
+        self.given = self.given.saturating_add(buf.len());
+        Ok(buf.len())
+    }
+}
+
+fn source(bytes: &[u8], at_once: usize, fault: Option<ErrorKind>) -> Counted<Parts<'_>> {
+    Counted::new(Parts {
+        rest: bytes,
+        at_once,
+        fault,
+    })
+}
+
+#[test]
+fn texts_come_whole(rt: HostRuntime) -> Result<(), Fail> {
+    for at_once in [1, 3, 8192, 10_000] {
+        for text in ["", "a", "ID + ID\n", "é\u{1F600}"] {
+            let mut input = source(text.as_bytes(), at_once, None);
+            match read_text(rt.alloc(), &mut input) {
+                Ok(read) => assert_eq!(rt; read.as_str(), text),
+                Err(InputFault::Memory(e)) => return Err(e.into()),
+                Err(_) => assert!(rt; false),
+            }
+            assert_eq!(rt; Source::failures(&input), 0);
+        }
+    }
+    Ok(())
+}
+
+#[test]
+fn a_failing_read_is_told_and_counted(rt: HostRuntime) -> Result<(), Fail> {
+    for kind in [ErrorKind::Interrupted, ErrorKind::NotFound] {
+        for text in ["", "ID"] {
+            let mut input = source(text.as_bytes(), 1, Some(kind));
+            match read_text(rt.alloc(), &mut input) {
+                Err(InputFault::Read) => assert_eq!(rt; Source::failures(&input), 1),
+                Err(InputFault::Memory(e)) => return Err(e.into()),
+                _ => assert!(rt; false),
+            }
+        }
+    }
+    Ok(())
+}
+
+#[test]
+fn bytes_that_are_no_text_are_told(rt: HostRuntime) -> Result<(), Fail> {
+    let cases: [&[u8]; 3] = [b"\xFF", b"ab\xC3", b"\xE2\x82 "];
+    for bytes in cases {
+        let mut input = source(bytes, 2, None);
+        match read_text(rt.alloc(), &mut input) {
+            Err(InputFault::NotUtf8) => assert_eq!(rt; Source::failures(&input), 0),
+            Err(InputFault::Memory(e)) => return Err(e.into()),
+            _ => assert!(rt; false),
+        }
+    }
+    Ok(())
+}
+
+#[test]
+fn an_input_can_be_too_long(rt: HostRuntime) -> Result<(), Fail> {
+    let mut input = Counted::new(Endless { given: 0 });
+    match read_text(rt.alloc(), &mut input) {
+        Err(InputFault::TooLong) => assert_eq!(rt; input.into_inner().given, 67_108_865),
+        Err(InputFault::Memory(e)) => return Err(e.into()),
+        _ => assert!(rt; false),
+    }
+    Ok(())
+}

@@ -2,3 +2,5 @@ pub mod KitParses
 pub mod Kits
 pub mod Tabled
 mod Searches
+mod HandedOut
+pub mod TextKinds

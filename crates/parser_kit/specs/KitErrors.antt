@@ -7,6 +7,7 @@ use Rattle.cfg_numbered.specs.Value.{GrammarValue}
 use Rattle.cfgrammar.specs.FromAst.{too_many}
 use Rattle.parser_kit.specs.Kit.{grammar_of}
 use Rattle.parser_kit.specs.Tabled.{HasTabledCause, IsTabledRefusal}
+use Rattle.parser_kit.specs.TextKinds.{FailsToTell, IsKindOfText}
 use Rattle.parser_kit.specs.declared.grammar_kit_error.GrammarKitError.{GrammarKitError}
 use Rattle.parser_kit.specs.declared.grammar_kit_error.GrammarKitError.TheVariants as tabled
 use Rattle.parser_kit.specs.declared.kit_error.KitError.{KitError}
@@ -57,3 +58,18 @@ IsKitRefusal number top kind text cap = IsTextRefusal top kind text (λ v. IsTab
 -- the same of canonical LR(1), with no word of how states are built
 abbrev pub HasKitCause : {S : Type 0} → (S → ℕ) → ℕ → YaccKind → List ℕ → KitError S → Type 0
 HasKitCause number top kind text = IsTextRefusal top kind text (λ v. HasTabledCause number top v)
+
+-- what keeps a text from telling its kind, unless there was no memory
+abbrev pub IsUntold : {S : Type 0} → List ℕ → KitError S → Type 0
+IsUntold text (errors.Grammar es) = FailsToTell text (failures_in es.items)
+IsUntold text (errors.TooMany n) = ⊥
+IsUntold text (errors.TooManyStates n) = ⊥
+IsUntold text (errors.AcceptReduce p) = ⊥
+IsUntold text errors.TooLarge = ⊥
+IsUntold text (errors.TooManyReductions s r t n) = ⊥
+IsUntold text (errors.Memory e) = Unit {0}
+
+-- why a text whose section may tell its kind gives no kit: it fails to tell it; or P of its kind
+pub data IsToldRefusal {S : Type 0} (text : List ℕ) (P : YaccKind → KitError S → Type 0) (e : KitError S) : Type 0 where
+  untold : IsUntold text e → IsToldRefusal text P e
+  of_kind : (kind : YaccKind) → IsKindOfText text kind → P kind e → IsToldRefusal text P e

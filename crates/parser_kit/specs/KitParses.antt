@@ -1,5 +1,5 @@
 -- What parses of a kit come to, past what is so of each checked table.
-use Rattle.std.specs.Prelude.{◌≡◌, ◌↔◌, ℕ, List, [], map, Option, Some, Result}
+use Rattle.std.specs.Prelude.{◌≡◌, ◌↔◌, ℕ, List, [], ◌∷◌, map, Option, None, Some, Result}
 use Rattle.std.specs.List.{AllByRecursion, AllZip}
 use Rattle.cfg_theory.specs.Derivation.{AllProductive, IsSentence}
 use Rattle.cfg_theory.specs.Fold.{Answers}
@@ -51,14 +51,14 @@ WhereParsed P (folded.Fault e) = Unit {0}
 WhereParsed P (folded.Parsed value es) = P value es.items
 
 -- lexemes come through with no errors exactly where they are a sentence, and then with their only tree
-pub record FollowsSentences {S L : Type 0} (G : Grammar) (tok : L → ℕ) (gives : Option (Tree L) → Type 0) (lexemes : List L) (errors : List (ParseError L S)) : Type 0 where
+pub record FollowsSentences {L X : Type 0} (G : Grammar) (tok : L → ℕ) (gives : Option (Tree L) → Type 0) (lexemes : List L) (errors : List X) : Type 0 where
   pub sentences : (errors ≡ []) ↔ IsSentence G (start_symbol G) (map tok lexemes)
   pub value : (t : Tree L) → IsDerivation G tok (start_symbol G) lexemes t → gives (Some t)
   pub only_tree : (t u : Tree L) → IsDerivation G tok (start_symbol G) lexemes t → IsDerivation G tok (start_symbol G) lexemes u → t ≡ u
 
 -- the same of the lexemes of a lexer's list
-abbrev pub ItemsFollowSentences : {S L E : Type 0} → (L → Lex) → Grammar → List (Result L E) → (Option (Tree L) → Type 0) → List (ParseError L S) → Type 0
-ItemsFollowSentences {S} {L} lex G items gives errors = (lexemes : List L) → AreItems items lexemes → FollowsSentences G (token_by lex) gives lexemes errors
+abbrev pub ItemsFollowSentences : {L E X : Type 0} → (L → Lex) → Grammar → List (Result L E) → (Option (Tree L) → Type 0) → List X → Type 0
+ItemsFollowSentences {L} lex G items gives errors = (lexemes : List L) → AreItems items lexemes → FollowsSentences G (token_by lex) gives lexemes errors
 
 -- Repairs leave no trace: the value is that of a run with no repairs on the lexemes as repaired, and each error stands
 -- where what came before it, earlier errors repaired, begins a sentence, and with the next lexeme none.
@@ -70,3 +70,8 @@ pub record LeavesNoTrace {S L E : Type 0} (number : S → ℕ) (lex : L → Lex)
   pub told : map (told_of number) errors ≡ map (as_told lexemes) found
   pub same_value : (t : Tree L) → parse.parsed.tree ≡ Some t → (n : ℕ) × (run d.grammar.grammar (automaton_of d.graph d.table) (token_by lex) n (start_config (automaton_of d.graph d.table) parse.parsed.repaired) ≡ accepted t)
   pub true_errors : AllByRecursion (IsTrueError d.grammar.grammar (automaton_of d.graph d.table) (token_by lex) (start_symbol d.grammar.grammar)) parse.parsed.places
+
+-- what is handed out of a lexer's list: its first fault alone; or a value or none and the errors of a parse, of which P holds
+pub data IsHanded {S L E V X : Type 0} (fault : E → X) (wrong : ParseError L S → X) (items : List (Result L E)) (P : Option V → List (ParseError L S) → Type 0) (value : Option V) (errors : List X) : Type 0 where
+  faulty : (e : E) → IsFirstLexError items e → value ≡ None → errors ≡ fault e ∷ [] → IsHanded fault wrong items P value errors
+  parsed : (es : List (ParseError L S)) → errors ≡ map wrong es → P value es → IsHanded fault wrong items P value errors

@@ -4,3 +4,4 @@ pub mod Tabled
 pub mod KitParses
 pub mod Kit
 pub mod KitErrors
+pub mod TextKinds

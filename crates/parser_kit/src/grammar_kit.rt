@@ -8,25 +8,27 @@ ghost use Rattle.lrpar.specs.Lexemes.{IsFirstLexError};
 ghost use Rattle.lrpar.specs.Parses.{HasValue};
 ghost use Rattle.lrpar.specs.Refusals.{IsParseRefusal};
 ghost use Rattle.lrpar.specs.Run.{span_by};
-ghost use Rattle.lrpar.specs.Stacks.{values_by};
+ghost use Rattle.lrpar.specs.Stacks.{mapped_by, values_by};
+ghost use Rattle.lrpar.specs.declared.parse_error.LexParseError.TheVariants as errors;
 ghost use Rattle.lrtable.specs.CellViews.{precedences_of};
 ghost use Rattle.lrtable.specs.Tables.{AreContested, automaton_of};
 ghost use Rattle.table_theory.specs.CellLaws.{SomeContested};
 ghost use Rattle.table_theory.specs.Cells.{NoPrecedences};
 ghost use Rattle.parser_kit.specs.Tabled.{HasTabledCause, IsTabled, IsTabledRefusal, NeverAcceptsAndReduces};
 ghost use Rattle.parser_kit.specs.Productive.{EachProductive, Tells};
-ghost use Rattle.parser_kit.specs.KitParses.{IsKitOutcome, IsKitParse, ItemsFollowSentences, LeavesNoTrace, WhereParsed};
+ghost use Rattle.parser_kit.specs.KitParses.{IsHanded, IsKitOutcome, IsKitParse, ItemsFollowSentences, LeavesNoTrace, WhereParsed};
 
 use crate::grammar_kit_error::GrammarKitError;
 use crate::making::{data_of, tables_of};
-use crate::parsing::{flat, folded};
+use crate::parsing::{flat, folded, mapped};
 use crate::productive::all_productive;
 use cfg_base::index::IndexStorage;
 use cfg_base::span::Span;
 use cfg_base::symbol::{PIdx, RIdx};
 use cfg_numbered::yacc::NumberedGrammar;
 use lrpar::{
-    FlatTree, FoldedOutcome, Lexer, LexerTypes, ParseError, ParseRefusal, ParserData, Recoverer,
+    FlatTree, FoldedOutcome, LexParseError, Lexer, LexerTypes, ParseError, ParseRefusal,
+    ParserData, Recoverer,
 };
 use lrtable::laws::conflicts_are_canonical;
 use lrtable::{Conflicts, StateGraph, StateTable};
@@ -195,6 +197,38 @@ impl<S: IndexStorage> GrammarKit<S> {
     {
         self.stays_tabled();
         flat::<T, X, R>(alloc, self.parser_data(), lexer, recoverer)
+    }
+
+    /// Parses, with a value by the functions that are handed in: `fterm` for each lexeme that is shifted, `fnonterm` for each
+    /// reduction, by its rule and the values of its symbols. Answers the value, if there is one, and the errors; where the lexer
+    /// found a fault, the first one alone.
+    pub fn parse_map<
+        T: LexerTypes<StorageT = S>,
+        N: Drop,
+        X: Lexer<T>,
+        R: Recoverer<S, T::LexemeT>,
+        F,
+        H,
+    >(
+        &self,
+        alloc: Global,
+        lexer: &X,
+        recoverer: &R,
+        fterm: &F,
+        fnonterm: &H,
+    ) -> Result<(Option<N>, Vec<LexParseError<T>>), ParseRefusal>
+    where
+        F: Fn(Global, T::LexemeT) -> Result<N, AllocError>,
+        H: Fn(Global, RIdx<S>, Vec<N>) -> Result<N, AllocError>,
+        requires term { F.IsAlwaysCallable fterm.now }
+        requires nonterm { H.IsAlwaysCallable fnonterm.now }
+        ensures parsed { IfOk result (λ r. IsHanded errors.LexError errors.ParseError (X.lexed lexer.now) (λ value es. IsKitParse S.number T.LexemeT.lex T.LexemeT.faulty_of self.now (R.answers recoverer.now) (X.lexed lexer.now) (HasValue self.now.grammar.grammar (mapped_by S.number (F.post fterm.now) (H.post fnonterm.now)) (span_by T.LexemeT.lex) value) es) r.0 r.1.items) }
+        ensures refused { IfErr result (IsParseRefusal self.now.grammar.grammar T.LexemeT.lex (X.lexed lexer.now)) }
+        ensures sentences { NoPrecedences (precedences_of self.now.grammar) → IsNone self.now.table.conflicts → IfOk result (λ r. ItemsFollowSentences T.LexemeT.lex self.now.grammar.grammar (X.lexed lexer.now) (HasValue self.now.grammar.grammar (mapped_by S.number (F.post fterm.now) (H.post fnonterm.now)) (span_by T.LexemeT.lex) r.0) r.1.items) }
+        ensures traceless { NoPrecedences (precedences_of self.now.grammar) → IsNone self.now.table.conflicts → AllProductive self.now.grammar.grammar → IfOk result (λ r. IsHanded errors.LexError errors.ParseError (X.lexed lexer.now) (λ value es. LeavesNoTrace S.number T.LexemeT.lex T.LexemeT.faulty_of self.now (R.answers recoverer.now) (X.lexed lexer.now) (HasValue self.now.grammar.grammar (mapped_by S.number (F.post fterm.now) (H.post fnonterm.now)) (span_by T.LexemeT.lex) value) es) r.0 r.1.items) }
+    {
+        self.stays_tabled();
+        mapped::<T, N, X, R, F, H>(alloc, self.parser_data(), lexer, recoverer, fterm, fnonterm)
     }
 
     /// Whether each rule derives some text, as it was found.

@@ -3,25 +3,41 @@
 ghost use Rattle.std.specs.Prelude.{◌≡◌, ◌↔◌, IfOk, IfErr, IfSome, IsNone, IsSome, IsTrue, option_map};
 ghost use Rattle.cfg_theory.specs.Derivation.{AllProductive};
 ghost use Rattle.lr_theory.specs.Automaton.{Complete};
+ghost use Rattle.cfg_read.specs.declared.yacc.YaccKind.{YaccKind};
+ghost use Rattle.lrpar.specs.FlatParses.{HasFlat};
+ghost use Rattle.lrpar.specs.Lexemes.{IsFirstLexError};
+ghost use Rattle.lrpar.specs.Parses.{HasValue};
+ghost use Rattle.lrpar.specs.Refusals.{IsParseRefusal};
+ghost use Rattle.lrpar.specs.Run.{span_by};
+ghost use Rattle.lrpar.specs.Stacks.{mapped_by, values_by};
+ghost use Rattle.lrpar.specs.declared.parse_error.LexParseError.TheVariants as errors;
 ghost use Rattle.lrtable.specs.CellViews.{precedences_of};
 ghost use Rattle.lrtable.specs.Tables.{AreContested, automaton_of};
 ghost use Rattle.table_theory.specs.CellLaws.{SomeContested};
 ghost use Rattle.table_theory.specs.Cells.{NoPrecedences};
 ghost use Rattle.parser_kit.specs.Kit.{IsKit, IsKitOf};
 ghost use Rattle.parser_kit.specs.Tabled.{NeverAcceptsAndReduces};
-ghost use Rattle.parser_kit.specs.KitErrors.{HasKitCause, IsKitRefusal};
+ghost use Rattle.parser_kit.specs.KitErrors.{HasKitCause, IsKitRefusal, IsToldRefusal};
+ghost use Rattle.parser_kit.specs.KitParses.{IsHanded, IsKitOutcome, IsKitParse, ItemsFollowSentences, LeavesNoTrace, WhereParsed};
 ghost use Rattle.parser_kit.specs.Productive.{EachProductive};
+ghost use Rattle.parser_kit.specs.TextKinds.{IsKindOfText};
 
 use crate::grammar_kit::GrammarKit;
+use crate::kind_telling::kept_of;
 use crate::kit_error::KitError;
 use crate::text_making::kit_in;
 use cfg_base::index::IndexStorage;
+use cfg_base::span::Span;
+use cfg_base::symbol::{PIdx, RIdx};
 use cfg_numbered::yacc::NumberedGrammar;
 use cfg_read::yacc::ast::GrammarAST;
 use cfg_read::yacc::{ASTWithValidityInfo, YaccKind};
-use lrpar::ParserData;
+use lrpar::{
+    FlatTree, FoldedOutcome, LexParseError, Lexer, LexerTypes, ParseError, ParseRefusal,
+    ParserData, Recoverer,
+};
 use lrtable::{Conflicts, StateGraph, StateTable};
-use std::alloc::Global;
+use std::alloc::{AllocError, Global};
 use std::marker::Model;
 
 /// A parser of the grammar of a text. Contracts see what is kept of the text, and the checked data.
@@ -56,6 +72,25 @@ impl<S: IndexStorage> ParserKit<S> {
         ensures accepts { IfOk result (λ k. NeverAcceptsAndReduces k.parser.grammar.grammar) }
     {
         let kept = ASTWithValidityInfo::new(alloc, kind, text)?;
+        match kit_in(alloc, &kept, cap) {
+            Ok(kit) => Ok(ParserKit { kept, kit }),
+            Err(e) => {
+                drop(kept);
+                Err(e)
+            }
+        }
+    }
+
+    /// The kit of a text whose kind is its section's `yacckind`, or, where this key is missing,
+    /// `Original(GenericParseTree)`. A faulty section or value of the key is told by its errors. No chain of reductions on one
+    /// token goes past `cap`.
+    pub fn of_text(alloc: Global, text: &str, cap: u16) -> Result<ParserKit<S>, KitError<S>>
+        ensures kit { IfOk result (λ k. (kind : YaccKind) × IsKindOfText text.now kind × IsKitOf S.MAX kind text.now cap k) }
+        ensures refused { IfErr result (IsToldRefusal text.now (λ kind. IsKitRefusal S.number S.MAX kind text.now cap)) }
+        ensures crowded { IfErr result (IsToldRefusal text.now (λ kind. HasKitCause S.number S.MAX kind text.now)) }
+        ensures accepts { IfOk result (λ k. NeverAcceptsAndReduces k.parser.grammar.grammar) }
+    {
+        let kept = kept_of(alloc, text)?;
         match kit_in(alloc, &kept, cap) {
             Ok(kit) => Ok(ParserKit { kept, kit }),
             Err(e) => {
@@ -131,6 +166,100 @@ impl<S: IndexStorage> ParserKit<S> {
         ensures named { IsTrue result → AllProductive self.now.parser.grammar.grammar }
     {
         self.kit.all_productive()
+    }
+
+    /// Parses, with a value by the functions that are handed in: `fterm` for each lexeme that is shifted, `fnonterm` for each
+    /// reduction, by its production, rule, span and the values of its symbols. At each error the recoverer is asked for
+    /// sequences of repairs, and the first that can be taken is applied. Answers the lexer's first fault, or the value, if
+    /// there is one, and the errors.
+    ///
+    /// Without precedences and listed conflicts lexemes come through without errors exactly where they are a sentence, and
+    /// then with the value of their only tree. Where each rule derives some text too, repairs leave no trace.
+    pub fn parse_fold<
+        T: LexerTypes<StorageT = S>,
+        V: Drop,
+        X: Lexer<T>,
+        R: Recoverer<S, T::LexemeT>,
+        F,
+        H,
+    >(
+        &self,
+        alloc: Global,
+        lexer: &X,
+        recoverer: &R,
+        fterm: &F,
+        fnonterm: &H,
+    ) -> Result<FoldedOutcome<S, T::LexemeT, T::LexErrorT, V>, ParseRefusal>
+    where
+        F: Fn(Global, T::LexemeT) -> Result<V, AllocError>,
+        H: Fn(Global, PIdx<S>, RIdx<S>, Span, Vec<V>) -> Result<V, AllocError>,
+        requires term { F.IsAlwaysCallable fterm.now }
+        requires nonterm { H.IsAlwaysCallable fnonterm.now }
+        ensures parsed { IfOk result (IsKitOutcome S.number T.LexemeT.lex T.LexemeT.faulty_of self.now.parser (values_by S.number (F.post fterm.now) (H.post fnonterm.now)) (R.answers recoverer.now) (X.lexed lexer.now)) }
+        ensures refused { IfErr result (IsParseRefusal self.now.parser.grammar.grammar T.LexemeT.lex (X.lexed lexer.now)) }
+        ensures sentences { NoPrecedences (precedences_of self.now.parser.grammar) → IsNone self.now.parser.table.conflicts → IfOk result (WhereParsed (λ value errors. ItemsFollowSentences T.LexemeT.lex self.now.parser.grammar.grammar (X.lexed lexer.now) (HasValue self.now.parser.grammar.grammar (values_by S.number (F.post fterm.now) (H.post fnonterm.now)) (span_by T.LexemeT.lex) value) errors)) }
+        ensures traceless { NoPrecedences (precedences_of self.now.parser.grammar) → IsNone self.now.parser.table.conflicts → AllProductive self.now.parser.grammar.grammar → IfOk result (WhereParsed (λ value errors. LeavesNoTrace S.number T.LexemeT.lex T.LexemeT.faulty_of self.now.parser (R.answers recoverer.now) (X.lexed lexer.now) (HasValue self.now.parser.grammar.grammar (values_by S.number (F.post fterm.now) (H.post fnonterm.now)) (span_by T.LexemeT.lex) value) errors)) }
+    {
+        self.kit()
+            .parse_fold::<T, V, X, R, F, H>(alloc, lexer, recoverer, fterm, fnonterm)
+    }
+
+    /// Parses, with the tree as one list of nodes for its value. Answers the lexer's first fault, or the tree, if there is one,
+    /// and the errors.
+    pub fn parse_flat<T: LexerTypes<StorageT = S>, X: Lexer<T>, R: Recoverer<S, T::LexemeT>>(
+        &self,
+        alloc: Global,
+        lexer: &X,
+        recoverer: &R,
+    ) -> Result<
+        Result<
+            (
+                Option<FlatTree<S, T::LexemeT>>,
+                Vec<ParseError<T::LexemeT, S>>,
+            ),
+            T::LexErrorT,
+        >,
+        ParseRefusal,
+    >
+        ensures fault { IfOk result (λ r. IfErr r (IsFirstLexError (X.lexed lexer.now))) }
+        ensures parsed { IfOk result (λ r. IfOk r (λ p. IsKitParse S.number T.LexemeT.lex T.LexemeT.faulty_of self.now.parser (R.answers recoverer.now) (X.lexed lexer.now) (HasFlat (span_by T.LexemeT.lex) p.0) p.1.items)) }
+        ensures refused { IfErr result (IsParseRefusal self.now.parser.grammar.grammar T.LexemeT.lex (X.lexed lexer.now)) }
+        ensures sentences { NoPrecedences (precedences_of self.now.parser.grammar) → IsNone self.now.parser.table.conflicts → IfOk result (λ r. IfOk r (λ p. ItemsFollowSentences T.LexemeT.lex self.now.parser.grammar.grammar (X.lexed lexer.now) (HasFlat (span_by T.LexemeT.lex) p.0) p.1.items)) }
+        ensures traceless { NoPrecedences (precedences_of self.now.parser.grammar) → IsNone self.now.parser.table.conflicts → AllProductive self.now.parser.grammar.grammar → IfOk result (λ r. IfOk r (λ p. LeavesNoTrace S.number T.LexemeT.lex T.LexemeT.faulty_of self.now.parser (R.answers recoverer.now) (X.lexed lexer.now) (HasFlat (span_by T.LexemeT.lex) p.0) p.1.items)) }
+    {
+        self.kit().parse_flat::<T, X, R>(alloc, lexer, recoverer)
+    }
+
+    /// Parses, with a value by the functions that are handed in: `fterm` for each lexeme that is shifted, `fnonterm` for each
+    /// reduction, by its rule and the values of its symbols. Answers the value, if there is one, and the errors; where the lexer
+    /// found a fault, the first one alone.
+    pub fn parse<
+        T: LexerTypes<StorageT = S>,
+        N: Drop,
+        X: Lexer<T>,
+        R: Recoverer<S, T::LexemeT>,
+        F,
+        H,
+    >(
+        &self,
+        alloc: Global,
+        lexer: &X,
+        recoverer: &R,
+        fterm: &F,
+        fnonterm: &H,
+    ) -> Result<(Option<N>, Vec<LexParseError<T>>), ParseRefusal>
+    where
+        F: Fn(Global, T::LexemeT) -> Result<N, AllocError>,
+        H: Fn(Global, RIdx<S>, Vec<N>) -> Result<N, AllocError>,
+        requires term { F.IsAlwaysCallable fterm.now }
+        requires nonterm { H.IsAlwaysCallable fnonterm.now }
+        ensures parsed { IfOk result (λ r. IsHanded errors.LexError errors.ParseError (X.lexed lexer.now) (λ value es. IsKitParse S.number T.LexemeT.lex T.LexemeT.faulty_of self.now.parser (R.answers recoverer.now) (X.lexed lexer.now) (HasValue self.now.parser.grammar.grammar (mapped_by S.number (F.post fterm.now) (H.post fnonterm.now)) (span_by T.LexemeT.lex) value) es) r.0 r.1.items) }
+        ensures refused { IfErr result (IsParseRefusal self.now.parser.grammar.grammar T.LexemeT.lex (X.lexed lexer.now)) }
+        ensures sentences { NoPrecedences (precedences_of self.now.parser.grammar) → IsNone self.now.parser.table.conflicts → IfOk result (λ r. ItemsFollowSentences T.LexemeT.lex self.now.parser.grammar.grammar (X.lexed lexer.now) (HasValue self.now.parser.grammar.grammar (mapped_by S.number (F.post fterm.now) (H.post fnonterm.now)) (span_by T.LexemeT.lex) r.0) r.1.items) }
+        ensures traceless { NoPrecedences (precedences_of self.now.parser.grammar) → IsNone self.now.parser.table.conflicts → AllProductive self.now.parser.grammar.grammar → IfOk result (λ r. IsHanded errors.LexError errors.ParseError (X.lexed lexer.now) (λ value es. LeavesNoTrace S.number T.LexemeT.lex T.LexemeT.faulty_of self.now.parser (R.answers recoverer.now) (X.lexed lexer.now) (HasValue self.now.parser.grammar.grammar (mapped_by S.number (F.post fterm.now) (H.post fnonterm.now)) (span_by T.LexemeT.lex) value) es) r.0 r.1.items) }
+    {
+        self.kit()
+            .parse_map::<T, N, X, R, F, H>(alloc, lexer, recoverer, fterm, fnonterm)
     }
 
     /// A law: each kit is that of some text, kind and cap.

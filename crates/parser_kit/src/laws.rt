@@ -5,8 +5,9 @@ ghost use Rattle.cfg_read.specs.declared.yacc.YaccKind.{YaccKind};
 ghost use Rattle.lrpar.specs.Checked.{ParserValue};
 ghost use Rattle.parser_kit.specs.Kit.{IsKitOf, KitValue};
 ghost use Rattle.parser_kit.specs.Tabled.{IsTabled};
+ghost use Rattle.parser_kit.specs.TextKinds.{IsKindOfText};
 
-use cfg_read::yacc::one_answer;
+use cfg_read::yacc::{one_answer, one_kind};
 use lrtable::laws::tables_are_one;
 
 /// A grammar has one kit of a cap, whatever type its numbers are stored in: kits of `u8`, `u16` and `u32` have the same
@@ -23,4 +24,12 @@ pub fn kits_of_texts_are_one()
 {
     one_answer();
     kits_are_one();
+}
+
+/// A text has one kind at most: the one that its section tells, or, where it has no key for it, that of Yacc's own syntax
+/// with trees.
+pub fn kinds_of_texts_are_one()
+    ensures { (text : List ℕ) (k l : YaccKind) → IsKindOfText text k → IsKindOfText text l → k ≡ l }
+{
+    one_kind();
 }

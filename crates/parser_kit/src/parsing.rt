@@ -8,17 +8,18 @@ ghost use Rattle.lrpar.specs.Lexemes.{IsFirstLexError};
 ghost use Rattle.lrpar.specs.Parses.{HasValue};
 ghost use Rattle.lrpar.specs.Refusals.{IsParseRefusal};
 ghost use Rattle.lrpar.specs.Run.{span_by};
-ghost use Rattle.lrpar.specs.Stacks.{values_by};
+ghost use Rattle.lrpar.specs.Stacks.{mapped_by, values_by};
+ghost use Rattle.lrpar.specs.declared.parse_error.LexParseError.TheVariants as errors;
 ghost use Rattle.lrtable.specs.CellViews.{precedences_of};
 ghost use Rattle.lrtable.specs.Tables.{IsTableOf};
 ghost use Rattle.table_theory.specs.Cells.{NoPrecedences};
-ghost use Rattle.parser_kit.specs.KitParses.{IsKitOutcome, IsKitParse, ItemsFollowSentences, LeavesNoTrace, WhereParsed};
+ghost use Rattle.parser_kit.specs.KitParses.{IsHanded, IsKitOutcome, IsKitParse, ItemsFollowSentences, LeavesNoTrace, WhereParsed};
 
 use cfg_base::span::Span;
 use cfg_base::symbol::{PIdx, RIdx};
 use lrpar::{
-    FlatTree, FoldedOutcome, Lexer, LexerTypes, ParseError, ParseRefusal, ParserData,
-    RTParserBuilder, Recoverer,
+    FlatTree, FoldedOutcome, LexParseError, Lexer, LexerTypes, ParseError, ParseRefusal,
+    ParserData, RTParserBuilder, Recoverer,
 };
 use std::alloc::{AllocError, Global};
 
@@ -80,4 +81,36 @@ pub(crate) fn flat<T: LexerTypes, X: Lexer<T>, R: Recoverer<T::StorageT, T::Lexe
 {
     let parser = RTParserBuilder::<T, _>::new(checked).recoverer(recoverer);
     parser.parse_flat(alloc, lexer)
+}
+
+/// The parse of the lexemes of a lexer, with a value by functions of lexemes and of rules that are handed in.
+pub(crate) fn mapped<
+    T: LexerTypes,
+    N: Drop,
+    X: Lexer<T>,
+    R: Recoverer<T::StorageT, T::LexemeT>,
+    F,
+    H,
+>(
+    alloc: Global,
+    checked: &ParserData<T::StorageT>,
+    lexer: &X,
+    recoverer: &R,
+    fterm: &F,
+    fnonterm: &H,
+) -> Result<(Option<N>, Vec<LexParseError<T>>), ParseRefusal>
+where
+    F: Fn(Global, T::LexemeT) -> Result<N, AllocError>,
+    H: Fn(Global, RIdx<T::StorageT>, Vec<N>) -> Result<N, AllocError>,
+    requires term { F.IsAlwaysCallable fterm.now }
+    requires nonterm { H.IsAlwaysCallable fnonterm.now }
+    requires well_formed { WellFormed checked.now.grammar.grammar }
+    requires table { IsTableOf checked.now.grammar checked.now.graph checked.now.table }
+    ensures parsed { IfOk result (λ r. IsHanded errors.LexError errors.ParseError (X.lexed lexer.now) (λ value es. IsKitParse T.StorageT.number T.LexemeT.lex T.LexemeT.faulty_of checked.now (R.answers recoverer.now) (X.lexed lexer.now) (HasValue checked.now.grammar.grammar (mapped_by T.StorageT.number (F.post fterm.now) (H.post fnonterm.now)) (span_by T.LexemeT.lex) value) es) r.0 r.1.items) }
+    ensures refused { IfErr result (IsParseRefusal checked.now.grammar.grammar T.LexemeT.lex (X.lexed lexer.now)) }
+    ensures sentences { NoPrecedences (precedences_of checked.now.grammar) → IsNone checked.now.table.conflicts → IfOk result (λ r. ItemsFollowSentences T.LexemeT.lex checked.now.grammar.grammar (X.lexed lexer.now) (HasValue checked.now.grammar.grammar (mapped_by T.StorageT.number (F.post fterm.now) (H.post fnonterm.now)) (span_by T.LexemeT.lex) r.0) r.1.items) }
+    ensures traceless { NoPrecedences (precedences_of checked.now.grammar) → IsNone checked.now.table.conflicts → AllProductive checked.now.grammar.grammar → IfOk result (λ r. IsHanded errors.LexError errors.ParseError (X.lexed lexer.now) (λ value es. LeavesNoTrace T.StorageT.number T.LexemeT.lex T.LexemeT.faulty_of checked.now (R.answers recoverer.now) (X.lexed lexer.now) (HasValue checked.now.grammar.grammar (mapped_by T.StorageT.number (F.post fterm.now) (H.post fnonterm.now)) (span_by T.LexemeT.lex) value) es) r.0 r.1.items) }
+{
+    let parser = RTParserBuilder::<T, _>::new(checked).recoverer(recoverer);
+    parser.parse_map(alloc, lexer, fterm, fnonterm)
 }

@@ -1,0 +1,23 @@
+use Rattle.std.proofs.Common.{sym, subst}
+use Rattle.cfg_theory.specs.Grammar.{WellFormed}
+use Rattle.lrpar.specs.Checked.{ParserValue}
+use Rattle.lrtable.specs.Tables.{IsTableOf}
+use Rattle.parser_kit.proofs.grammar_kit.GrammarKit.parse_map.Goals as goal
+
+pub mapped-requires-clause-well_formed : goal.mapped-requires-clause-well_formed
+mapped-requires-clause-well_formed g c = subst (λ (d : ParserValue). WellFormed d.grammar.grammar) (sym c.parser_data.ensures) c.stays_tabled.ensures.well_formed
+
+pub mapped-requires-clause-table : goal.mapped-requires-clause-table
+mapped-requires-clause-table g c = subst (λ (d : ParserValue). IsTableOf d.grammar d.graph d.table) (sym c.parser_data.ensures) c.stays_tabled.ensures.table
+
+pub returns-clause-parsed : goal.returns-clause-parsed
+returns-clause-parsed g c = rw c.parser_data.ensures at c.mapped.ensures.parsed
+
+pub returns-clause-refused : goal.returns-clause-refused
+returns-clause-refused g c = rw c.parser_data.ensures at c.mapped.ensures.refused
+
+pub returns-clause-sentences : goal.returns-clause-sentences
+returns-clause-sentences g c = rw c.parser_data.ensures at c.mapped.ensures.sentences
+
+pub returns-clause-traceless : goal.returns-clause-traceless
+returns-clause-traceless g c = rw c.parser_data.ensures at c.mapped.ensures.traceless

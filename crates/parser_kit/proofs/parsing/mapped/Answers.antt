@@ -1,0 +1,34 @@
+use Rattle.std.proofs.Common.{◌∙◌}
+use Rattle.lrpar.specs.Stacks.{mapped_by}
+use Rattle.lrpar.specs.declared.parse_error.LexParseError.TheVariants as errors
+use Rattle.parser_kit.proofs.HandedOut.{handed_follows, handed_ok, handed_traceless}
+use Rattle.parser_kit.proofs.parsing.mapped.Goals as goal
+
+pub returns-clause-parsed : goal.returns-clause-parsed
+returns-clause-parsed g c =
+    let same = c.recoverer-parser.ensures.same ∙ c.new.ensures in
+    let told = rw (same, c.recoverer-parser.ensures.recoverer) at c.parse_map.ensures.parsed in
+    let number = g.T.StorageT.IndexStorage.number in
+    handed_ok c.args.checked.now c.requires.well_formed c.requires.table {S = g.row.T-StorageT.Denot} {L = g.row.T-LexemeT.Denot} {E = g.row.T-LexErrorT.Denot} {V = g.row.N.Denot} errors.LexError errors.ParseError number g.T.LexemeT.Lexeme.lex g.T.LexemeT.Lexeme.faulty_of
+    (g.R.Recoverer.answers c.args.recoverer.now) (mapped_by number (goal.F-post g c.args.fterm.now) (goal.H-post g c.args.fnonterm.now)) (g.X.Lexer.lexed c.args.lexer.now) c.parse_map.result told
+
+pub returns-clause-sentences : goal.returns-clause-sentences
+returns-clause-sentences g c =
+    let same = c.recoverer-parser.ensures.same ∙ c.new.ensures in
+    let told = rw (same, c.recoverer-parser.ensures.recoverer) at c.parse_map.ensures.parsed in
+    let number = g.T.StorageT.IndexStorage.number in
+    handed_follows c.args.checked.now c.requires.well_formed c.requires.table {S = g.row.T-StorageT.Denot} {L = g.row.T-LexemeT.Denot} {E = g.row.T-LexErrorT.Denot} {V = g.row.N.Denot} errors.LexError errors.ParseError number g.T.LexemeT.Lexeme.lex g.T.LexemeT.Lexeme.faulty_of
+    (g.R.Recoverer.answers c.args.recoverer.now) (mapped_by number (goal.F-post g c.args.fterm.now) (goal.H-post g c.args.fnonterm.now)) (g.X.Lexer.lexed c.args.lexer.now) c.parse_map.result told
+
+pub returns-clause-traceless : goal.returns-clause-traceless
+returns-clause-traceless g c =
+    let same = c.recoverer-parser.ensures.same ∙ c.new.ensures in
+    let told = rw (same, c.recoverer-parser.ensures.recoverer) at c.parse_map.ensures.parsed in
+    let number = g.T.StorageT.IndexStorage.number in
+    handed_traceless c.args.checked.now c.requires.well_formed c.requires.table {S = g.row.T-StorageT.Denot} {L = g.row.T-LexemeT.Denot} {E = g.row.T-LexErrorT.Denot} {V = g.row.N.Denot} errors.LexError errors.ParseError number g.T.LexemeT.Lexeme.lex g.T.LexemeT.Lexeme.faulty_of
+    (g.R.Recoverer.answers c.args.recoverer.now) (mapped_by number (goal.F-post g c.args.fterm.now) (goal.H-post g c.args.fnonterm.now)) (g.X.Lexer.lexed c.args.lexer.now) c.parse_map.result told
+
+pub returns-clause-refused : goal.returns-clause-refused
+returns-clause-refused g c =
+    let same = c.recoverer-parser.ensures.same ∙ c.new.ensures in
+    rw same at c.parse_map.ensures.refused

@@ -27,6 +27,7 @@ impl<T> Counted<T> {
         Counted { inner, failures: 0 }
     }
 
+    /// The reader or the writer, as it stands.
     pub fn into_inner(self) -> T
         ensures { result ≡ inner_of self }
     {

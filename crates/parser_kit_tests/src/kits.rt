@@ -1,0 +1,185 @@
+//! What texts come to: a kit with its counts, or why there is none.
+
+use crate::texts::{declared, repeated};
+use cfg_base::index::IndexStorage;
+use cfg_read::yacc::{YaccGrammarError, YaccKind, YaccOriginalActionKind};
+use parser_kit::{KitError, ParserKit};
+use std::alloc::{AllocError, Global};
+use std::test::*;
+
+const TREE: YaccKind = YaccKind::Original(YaccOriginalActionKind::GenericParseTree);
+
+/// How many conflicts are listed, of shifts and of pairs of reductions.
+fn counts<S: IndexStorage>(kit: &ParserKit<S>) -> (usize, usize) {
+    match kit.conflicts() {
+        Some(conflicts) => (conflicts.sr_len(), conflicts.rr_len()),
+        None => (0, 0),
+    }
+}
+
+/// What a kit tells of its text.
+fn kit_text<S: IndexStorage>(alloc: Global, kit: &ParserKit<S>) -> Result<String, AllocError> {
+    let (sr, rr) = counts(kit);
+    let complete = kit.complete();
+    let productive = kit.all_productive();
+    format!(in alloc; "{sr} {rr} {complete} {productive}")
+}
+
+/// An error of a text with its spans.
+fn push_error(
+    alloc: Global,
+    text: &mut String,
+    error: &YaccGrammarError,
+) -> Result<(), AllocError> {
+    text.push_str(format!(in alloc; "{error}")?.as_str())?;
+    for span in error.spans.as_slice() {
+        let start = span.start();
+        let end = span.end();
+        text.push_str(format!(in alloc; " {start}-{end}")?.as_str())?;
+    }
+    Ok(())
+}
+
+/// Why there is none.
+fn error_text<S: IndexStorage>(alloc: Global, error: &KitError<S>) -> Result<String, AllocError> {
+    let mut text = format!(in alloc; "{error}")?;
+    if let KitError::Grammar(errors) = error {
+        for error in errors.as_slice() {
+            text.push_str("; ")?;
+            push_error(alloc, &mut text, error)?;
+        }
+    }
+    Ok(text)
+}
+
+/// What is told of a kit, or of why there is none.
+fn told<S: IndexStorage>(
+    alloc: Global,
+    made: Result<ParserKit<S>, KitError<S>>,
+) -> Result<String, AllocError> {
+    let text = match &made {
+        Ok(kit) => kit_text(alloc, kit),
+        Err(error) => error_text(alloc, error),
+    };
+    drop(made);
+    text
+}
+
+/// What comes of a text of Yacc's own syntax with trees.
+fn judged<S: IndexStorage>(alloc: Global, text: &str) -> Result<String, AllocError> {
+    told(alloc, ParserKit::<S>::new(alloc, text, TREE, 1000))
+}
+
+/// What comes of a text whose section may tell its kind.
+fn judged_by_section<S: IndexStorage>(alloc: Global, text: &str) -> Result<String, AllocError> {
+    told(alloc, ParserKit::<S>::of_text(alloc, text, 1000))
+}
+
+/// Texts, and what comes of them: counts of conflicts, whether the table is complete and each rule productive; or errors.
+const TEXTS: &[(&str, &str)] = &[
+    (
+        "%start S %% S: 'a' A 'd' | 'b' B 'd' | 'a' B 'e' | 'b' A 'e'; A: 'c'; B: 'c';",
+        "0 0 true true",
+    ),
+    ("%start E %% E: E '+' E | 'n';", "1 0 false true"),
+    (
+        "%start S %% S: A 'x' 'y' | B 'x' 'z'; A: 'a'; B: 'a';",
+        "0 1 false true",
+    ),
+    (
+        "%start S %% S: S | 'x';",
+        "Accept/reduce conflict, production 0",
+    ),
+    (
+        "%nonassoc 'a'\n%nonassoc 'p'\n%start S %% S: E S 'b' | 'a'; E: %prec 'p';",
+        "more than 1000 reductions in state 0 on token 1",
+    ),
+    (
+        "%start S %% S: T;",
+        "invalid grammar; Unknown reference to rule 'T' 15-16",
+    ),
+    ("%start S %% S: 'a' U | 'b'; U: 'u' U;", "0 0 true false"),
+    ("%start S", "invalid grammar; File ends prematurely 8-8"),
+    ("%% S: 'a'", "invalid grammar; Incomplete rule 9-9"),
+    ("", "invalid grammar; File ends prematurely 0-0"),
+    (
+        "%start S %start S %% S: 'a';",
+        "invalid grammar; Duplicated %start declaration 7-8 16-17",
+    ),
+    (
+        "%start A %% A : 'a' 'b' | B 'b'; B : 'a' | C; C : 'a';",
+        "1 1 false true",
+    ),
+    (
+        "%left '+'\n%left '*'\n%start E %% E: E '+' E | E '*' E | 'n';",
+        "0 0 false true",
+    ),
+];
+
+/// Texts with a section and without.
+const SECTIONS: &[(&str, &str)] = &[
+    (
+        "%grmtools{yacckind: Eco}\n%implicit_tokens ws\n%% S: 'a' 'b';",
+        "0 0 true true",
+    ),
+    (
+        "%implicit_tokens ws\n%% S: 'a' 'b';",
+        "invalid grammar; Unknown declaration 0-0",
+    ),
+    (
+        "%grmtools{yacckind: Foo} %% S: 'a';",
+        "invalid grammar; Cannot convert to YaccKind: Unknown variant 20-23",
+    ),
+    ("%% S: 'a';", "0 0 true true"),
+];
+
+/// The first of these rows whose text comes to something else, or as many as there are.
+fn first_wrong<S: IndexStorage>(
+    alloc: Global,
+    rows: &[(&str, &str)],
+    by_section: bool,
+) -> Result<usize, AllocError> {
+    for index in 0..rows.len() {
+        let (text, answer) = rows[index];
+        let found = if by_section {
+            judged_by_section::<S>(alloc, text)?
+        } else {
+            judged::<S>(alloc, text)?
+        };
+        if found.as_str() != answer {
+            return Ok(index);
+        }
+    }
+    Ok(rows.len())
+}
+
+#[test]
+fn kits_tell_of_their_texts(rt: HostRuntime) -> Result<(), Fail> {
+    let found = first_wrong::<u8>(rt.alloc(), TEXTS, false)?;
+    assert_eq!(rt; found, TEXTS.len());
+    let found = first_wrong::<u16>(rt.alloc(), TEXTS, false)?;
+    assert_eq!(rt; found, TEXTS.len());
+    let found = first_wrong::<u32>(rt.alloc(), TEXTS, false)?;
+    assert_eq!(rt; found, TEXTS.len());
+    let found = first_wrong::<u8>(rt.alloc(), SECTIONS, true)?;
+    assert_eq!(rt; found, SECTIONS.len());
+    Ok(())
+}
+
+#[test]
+fn numbers_have_an_end(rt: HostRuntime) -> Result<(), Fail> {
+    let text = declared(rt.alloc(), 255)?;
+    let found = judged::<u8>(rt.alloc(), text.as_str())?;
+    assert_eq!(rt; found.as_str(), "too many tokens: 256");
+    let found = judged::<u16>(rt.alloc(), text.as_str())?;
+    assert_eq!(rt; found.as_str(), "0 0 true true");
+    let found = judged::<u8>(rt.alloc(), declared(rt.alloc(), 254)?.as_str())?;
+    assert_eq!(rt; found.as_str(), "0 0 true true");
+    let found = judged::<u8>(rt.alloc(), repeated(rt.alloc(), 253)?.as_str())?;
+    assert_eq!(rt; found.as_str(), "0 0 true true");
+    let found = judged::<u8>(rt.alloc(), repeated(rt.alloc(), 254)?.as_str())?;
+    assert_eq!(rt; found.as_str(), "too many states: 256");
+    let found = judged::<u8>(rt.alloc(), repeated(rt.alloc(), 256)?.as_str())?;
+    assert_eq!(rt; found.as_str(), "too many symbols: 256");
+    Ok(())
+}

@@ -1,0 +1,160 @@
+//! Values and errors of parses as texts.
+
+use crate::lexer::{RowError, RowLexeme, RowTypes};
+use cfg_base::index::IndexStorage;
+use cfg_base::span::Span;
+use cfg_base::symbol::{PIdx, RIdx};
+use lrpar::{
+    FlatTree, FoldedOutcome, LexParseError, Lexeme, ParseError, ParseRefusal, ParseRepair,
+};
+use std::alloc::{AllocError, Global};
+use std::test::*;
+
+/// A lexeme as its token and its start.
+pub fn leaf<S: IndexStorage>(alloc: Global, lexeme: RowLexeme<S>) -> Result<String, AllocError> {
+    let token = lexeme.token.to_usize();
+    let start = lexeme.span.start();
+    format!(in alloc; "{token}@{start}")
+}
+
+/// A node as its production, its rule and span, and its children.
+pub fn branch<S: IndexStorage>(
+    alloc: Global,
+    pidx: PIdx<S>,
+    ridx: RIdx<S>,
+    span: Span,
+    args: Vec<String>,
+) -> Result<String, AllocError> {
+    let production = pidx.0.to_usize();
+    let rule = ridx.0.to_usize();
+    let start = span.start();
+    let end = span.end();
+    let mut text = format!(in alloc; "{production}:{rule}[{start},{end}](")?;
+    for arg in args.as_slice() {
+        text.push(' ')?;
+        text.push_str(arg.as_str())?;
+    }
+    text.push_str(" )")?;
+    Ok(text)
+}
+
+/// A repair.
+fn push_repair<S: IndexStorage>(
+    alloc: Global,
+    text: &mut String,
+    repair: ParseRepair<RowLexeme<S>, S>,
+) -> Result<(), AllocError> {
+    match repair {
+        ParseRepair::Insert(tidx) => {
+            let token = tidx.0.to_usize();
+            text.push_str(format!(in alloc; " insert {token}")?.as_str())
+        }
+        ParseRepair::Delete(lexeme) => {
+            text.push_str(" delete ")?;
+            text.push_str(leaf(alloc, lexeme)?.as_str())
+        }
+        ParseRepair::Shift(lexeme) => {
+            text.push_str(" shift ")?;
+            text.push_str(leaf(alloc, lexeme)?.as_str())
+        }
+    }
+}
+
+/// An error: its lexeme, whether that was made up, and the listed sequences.
+fn push_error<S: IndexStorage>(
+    alloc: Global,
+    text: &mut String,
+    error: &ParseError<RowLexeme<S>, S>,
+) -> Result<(), AllocError> {
+    text.push_str("; error at ")?;
+    text.push_str(leaf(alloc, error.lexeme)?.as_str())?;
+    if error.lexeme.faulty {
+        text.push_str(" faulty")?;
+    }
+    for sequence in error.repairs.as_slice() {
+        text.push(',')?;
+        for repair in sequence.as_slice() {
+            push_repair(alloc, text, *repair)?;
+        }
+    }
+    Ok(())
+}
+
+/// What a parse comes to.
+pub fn told<S: IndexStorage>(
+    alloc: Global,
+    outcome: Result<FoldedOutcome<S, RowLexeme<S>, RowError, String>, ParseRefusal>,
+) -> Result<String, AllocError> {
+    match outcome {
+        Err(ParseRefusal::Memory(e)) => Err(e),
+        Err(ParseRefusal::LexemeOutside(index)) => format!(in alloc; "outside {index}"),
+        Err(ParseRefusal::StartDecreases(index)) => format!(in alloc; "decreases {index}"),
+        Ok(FoldedOutcome::Fault(_)) => format!(in alloc; "fault"),
+        Ok(FoldedOutcome::Parsed(value, errors)) => {
+            let mut text = match value {
+                Some(value) => value,
+                None => format!(in alloc; "none")?,
+            };
+            for error in errors.as_slice() {
+                push_error(alloc, &mut text, error)?;
+            }
+            Ok(text)
+        }
+    }
+}
+
+/// A node as its rule and its children.
+pub fn by_rule<S: IndexStorage>(
+    alloc: Global,
+    ridx: RIdx<S>,
+    args: Vec<String>,
+) -> Result<String, AllocError> {
+    let rule = ridx.0.to_usize();
+    let mut text = format!(in alloc; "{rule}(")?;
+    for arg in args.as_slice() {
+        text.push(' ')?;
+        text.push_str(arg.as_str())?;
+    }
+    text.push_str(" )")?;
+    Ok(text)
+}
+
+/// What a parse by rule comes to: its value, and how many errors there are.
+pub fn mapped_told<S: IndexStorage>(
+    alloc: Global,
+    outcome: Result<(Option<String>, Vec<LexParseError<RowTypes<S>>>), ParseRefusal>,
+) -> Result<String, AllocError> {
+    match &outcome {
+        Err(_) => format!(in alloc; "refused"),
+        Ok((Some(value), errors)) if errors.is_empty() => value.clone(),
+        Ok((value, errors)) => {
+            let count = errors.len();
+            let value = if value.is_some() { "value" } else { "none" };
+            format!(in alloc; "{value}, {count} errors")
+        }
+    }
+}
+
+/// What a parse to a flat tree comes to: how many nodes there are.
+pub fn flat_told<S: IndexStorage>(
+    alloc: Global,
+    outcome: Result<
+        Result<
+            (
+                Option<FlatTree<S, RowLexeme<S>>>,
+                Vec<ParseError<RowLexeme<S>, S>>,
+            ),
+            RowError,
+        >,
+        ParseRefusal,
+    >,
+) -> Result<String, AllocError> {
+    match &outcome {
+        Ok(Ok((Some(tree), _))) => {
+            let count = tree.nodes().len();
+            format!(in alloc; "{count} nodes")
+        }
+        Ok(Ok((None, _))) => format!(in alloc; "none"),
+        _ => format!(in alloc; "refused"),
+    }
+}

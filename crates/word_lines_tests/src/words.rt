@@ -1,0 +1,81 @@
+//! Lines and their items.
+
+use crate::make::{SUMS, grammar};
+use cfg_base::index::IndexStorage;
+use cfg_base::span::Span;
+use lrpar::{LexError, Lexeme, Lexer, NonStreamingLexer};
+use std::alloc::{AllocError, Global};
+use std::fmt::Write;
+use std::test::*;
+use word_lines::{WordLexError, WordLexeme, WordLexer};
+
+/// Puts an item: the token's number, or `?` for a word that is no token, its span, and its text.
+fn put_item<S: IndexStorage>(
+    alloc: Global,
+    out: &mut String,
+    lexer: &WordLexer<S>,
+    item: Result<WordLexeme<S>, WordLexError>,
+) -> Result<(), AllocError> {
+    let shown = match item {
+        Ok(lexeme) => {
+            let span = lexeme.span();
+            let token = lexeme.tok_id().to_usize();
+            format!(in alloc; "{token}[{},{}] ", span.start(), span.end())?
+        }
+        Err(fault) => {
+            let span = fault.span();
+            format!(in alloc; "?[{},{}] ", span.start(), span.end())?
+        }
+    };
+    out.push_str(shown.as_str())?;
+    Ok(())
+}
+
+/// The items of a line.
+fn shown<S: IndexStorage>(alloc: Global, line: &str) -> Result<String, Fail> {
+    let grm = grammar::<S>(alloc, SUMS)?;
+    let lexer = WordLexer::new(alloc, &grm, line)?;
+    let mut out = String::new(alloc);
+    for item in lexer.iter() {
+        put_item(alloc, &mut out, &lexer, *item)?;
+    }
+    drop(grm);
+    Ok(out)
+}
+
+/// Lines, and their items: only U+0020 ends a word.
+const ITEMS: &[(&str, &str)] = &[
+    ("", ""),
+    ("   ", ""),
+    ("ID + + ID", "1[0,2] 0[3,4] 0[5,6] 1[7,9] "),
+    ("  ID  +", "1[2,4] 0[6,7] "),
+    ("ID * ID", "1[0,2] ?[3,4] 1[5,7] "),
+    ("ID\t+", "?[0,4] "),
+    ("ä + äö", "2[0,2] 0[3,4] ?[5,9] "),
+    ("id IDs", "?[0,2] ?[3,6] "),
+];
+
+#[test]
+fn words_are_items(rt: HostRuntime) -> Result<(), Fail> {
+    for row in ITEMS {
+        assert_eq!(rt; shown::<u8>(rt.alloc(), row.0)?.as_str(), row.1);
+    }
+    assert_eq!(rt;
+        shown::<u32>(rt.alloc(), "ID +")?.as_str(),
+        "1[0,2] 0[3,4] "
+    );
+    Ok(())
+}
+
+#[test]
+fn columns_count_characters(rt: HostRuntime) -> Result<(), Fail> {
+    let alloc = rt.alloc();
+    let grm = grammar::<u16>(alloc, SUMS)?;
+    let lexer = WordLexer::new(alloc, &grm, "ä 语 ID")?;
+    let span = Span::new(7, 9);
+    assert_eq!(rt; lexer.line_col(span), ((1, 5), (1, 7)));
+    assert_eq!(rt; lexer.span_str(span), "ID");
+    assert_eq!(rt; lexer.span_lines_str(span), "ä 语 ID");
+    drop(grm);
+    Ok(())
+}

@@ -1,7 +1,6 @@
-//! Tests of `lrpar_diagnostics`, one file a module. They stand apart from it since a crate with tests is checked twice.
+//! Tests of `lrpar_diagnostics` of what the rows of `diagnostic_rows` don't ask. They stand apart from it since a crate with
+//! tests is checked twice.
 #![tactic(auto)]
 
 #[cfg(test)]
-mod places;
-#[cfg(test)]
-mod underlines;
+mod bounds;

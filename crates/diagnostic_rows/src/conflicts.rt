@@ -1,0 +1,85 @@
+//! Conflicts of a grammar under its text.
+
+ghost use Rattle.lrtable.specs.ConflictTexts.{ConflictsInRange};
+ghost use Rattle.std.specs.Prelude.{IfSome};
+
+use crate::lines::push_lines;
+use cfg_read::yacc::ast::GrammarAST;
+use cfgrammar::index::IndexStorage;
+use cfgrammar::yacc::{ASTWithValidityInfo, YaccGrammar, YaccGrammarMakeError, YaccKind};
+use lrpar_diagnostics::SpannedDiagnosticFormatter;
+use lrtable::stategraph::StateGraph;
+use lrtable::statetable::StateTable;
+use lrtable::{FromYaccError, Minimiser, from_yacc};
+use std::alloc::{AllocError, Global};
+
+/// The conflicts of a grammar's table.
+fn push_of_table<S: IndexStorage>(
+    alloc: Global,
+    out: &mut String,
+    formatter: &SpannedDiagnosticFormatter,
+    ast: &GrammarAST,
+    grm: &YaccGrammar<S>,
+    graph: &StateGraph<S>,
+    table: &StateTable<S>,
+) -> Result<(), AllocError>
+    requires listed { IfSome table.now.conflicts (ConflictsInRange grm.now) }
+{
+    match table.conflicts() {
+        Some(conflicts) => {
+            let text = formatter.format_conflicts(alloc, grm, ast, conflicts, graph, table)?;
+            push_lines(out, text.as_str())
+        }
+        None => out.push_str("no conflict\n"),
+    }
+}
+
+fn push_of_grammar<S: IndexStorage>(
+    alloc: Global,
+    out: &mut String,
+    formatter: &SpannedDiagnosticFormatter,
+    ast: &GrammarAST,
+    grm: &YaccGrammar<S>,
+) -> Result<(), AllocError> {
+    match from_yacc(alloc, grm, Minimiser::Pager) {
+        Ok((graph, table)) => {
+            let pushed = push_of_table(alloc, out, formatter, ast, grm, &graph, &table);
+            drop(graph);
+            drop(table);
+            pushed
+        }
+        Err(FromYaccError::Memory(e)) => Err(e),
+        Err(_) => out.push_str("no table\n"),
+    }
+}
+
+fn push_of_tree(
+    alloc: Global,
+    out: &mut String,
+    formatter: &SpannedDiagnosticFormatter,
+    info: &ASTWithValidityInfo,
+) -> Result<(), AllocError> {
+    match YaccGrammar::<u32>::new_from_ast_with_validity_info(alloc, info) {
+        Ok(grm) => {
+            let pushed = push_of_grammar(alloc, out, formatter, info.ast(), &grm);
+            drop(grm);
+            pushed
+        }
+        Err(YaccGrammarMakeError::Memory(e)) => Err(e),
+        Err(_) => out.push_str("no grammar\n"),
+    }
+}
+
+/// The conflicts of a text of a kind.
+pub fn push_conflicts(
+    alloc: Global,
+    out: &mut String,
+    formatter: &SpannedDiagnosticFormatter,
+    kind: YaccKind,
+    text: &str,
+) -> Result<(), AllocError> {
+    let info = ASTWithValidityInfo::new(alloc, kind, text)?;
+    let pushed = push_of_tree(alloc, out, formatter, &info);
+    drop(info);
+    pushed
+}

@@ -1,0 +1,56 @@
+//! Underlines the errors of a text as an editor does, each with the tokens that could be inserted there: of the parser's
+//! own `Recoverer`, which offers every token, it lists those that get past the next lexeme, and goes on with the first.
+#![tactic(auto)]
+
+mod lexer;
+mod make;
+mod offers;
+mod shown;
+
+use crate::lexer::{ByteTypes, lexer_of};
+use lrpar::{LexParseError, ParseRefusal, ParserData, RTParserBuilder};
+use lrpar_diagnostics::SpannedDiagnosticFormatter;
+use std::alloc::{AllocError, Global};
+use std::io;
+
+const GRAMMAR: &str = "%start S %% S: L | S L; L: E ';'; E: T | E '+' T; T: 'n' | '(' E ')';";
+
+const TEXT: &str = "(n+n;\nn+;\nn n;\nn";
+
+/// Errors of the text underlined, one below the other.
+fn all_shown(
+    alloc: Global,
+    data: &ParserData<u32>,
+    errors: &[LexParseError<ByteTypes<u32>>],
+) -> Result<String, AllocError> {
+    let formatter = SpannedDiagnosticFormatter::new(alloc, TEXT, "sums")?;
+    let mut out = String::new(alloc);
+    for error in errors {
+        let text = shown::underlined(alloc, data.grm(), &formatter, error)?;
+        out.push_str(text.as_str())?;
+        out.push('\n')?;
+    }
+    Ok(out)
+}
+
+/// The errors of the text, as they are shown, where any one token is offered at each.
+fn told(alloc: Global, data: &ParserData<u32>) -> Result<String, AllocError> {
+    let lexer = lexer_of(alloc, data.grm(), TEXT)?;
+    let offers = offers::AnyToken {
+        count: data.grm().eof_token_idx().0,
+    };
+    let parser = RTParserBuilder::<ByteTypes<u32>, _>::new(data).recoverer(&offers);
+    match parser.parse_noaction(alloc, &lexer) {
+        Ok(errors) => all_shown(alloc, data, errors.as_slice()),
+        Err(ParseRefusal::Memory(e)) => Err(e),
+        Err(_) => String::from_str(alloc, "refused\n"),
+    }
+}
+
+fn main(rt: HostRuntime) -> io::Result<()> {
+    if let Some(data) = make::data(rt.alloc(), GRAMMAR)? {
+        let told = told(rt.alloc(), &data)?;
+        print!(rt; "{told}")?;
+    }
+    Ok(())
+}

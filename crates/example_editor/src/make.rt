@@ -1,0 +1,69 @@
+//! Checked data of a text.
+
+use cfg_numbered::yacc::grammar::NumberedGrammar;
+use cfgrammar::yacc::{YaccGrammar, YaccGrammarMakeError, YaccKind, YaccOriginalActionKind};
+use lrpar::{ParserData, ParserDataError};
+use lrtable::{FromYaccError, Minimiser, StateGraph, StateTable, from_yacc};
+use std::alloc::{AllocError, Global};
+
+const TREE: YaccKind = YaccKind::Original(YaccOriginalActionKind::GenericParseTree);
+
+/// The grammar of a text, if it has one.
+fn grammar(alloc: Global, text: &str) -> Result<Option<YaccGrammar<u32>>, AllocError> {
+    match YaccGrammar::new_with_storaget(alloc, TREE, text) {
+        Ok(grm) => Ok(Some(grm)),
+        Err(YaccGrammarMakeError::Memory(e)) => Err(e),
+        Err(_) => Ok(None),
+    }
+}
+
+/// The graph and the table of a grammar, if it has them.
+fn tables(
+    alloc: Global,
+    grm: &YaccGrammar<u32>,
+) -> Result<Option<(StateGraph<u32>, StateTable<u32>)>, AllocError> {
+    match from_yacc(alloc, grm, Minimiser::Pager) {
+        Ok(parts) => Ok(Some(parts)),
+        Err(FromYaccError::Memory(e)) => Err(e),
+        Err(_) => Ok(None),
+    }
+}
+
+/// The data of a grammar and its tables, if they are safe.
+fn checked(
+    alloc: Global,
+    grm: NumberedGrammar<u32>,
+    graph: StateGraph<u32>,
+    table: StateTable<u32>,
+) -> Result<Option<ParserData<u32>>, AllocError> {
+    match ParserData::new(alloc, grm, graph, table, 1000) {
+        Ok(data) => Ok(Some(data)),
+        Err(ParserDataError::Memory(e)) => Err(e),
+        Err(_) => Ok(None),
+    }
+}
+
+/// The data of a grammar, if it has them.
+fn tabled(alloc: Global, grm: YaccGrammar<u32>) -> Result<Option<ParserData<u32>>, AllocError> {
+    let parts = tables(alloc, &grm);
+    let numbered = grm.into_numbered();
+    match parts {
+        Ok(Some((graph, table))) => checked(alloc, numbered, graph, table),
+        Ok(None) => {
+            drop(numbered);
+            Ok(None)
+        }
+        Err(e) => {
+            drop(numbered);
+            Err(e)
+        }
+    }
+}
+
+/// The data of a text, if it has them.
+pub fn data(alloc: Global, text: &str) -> Result<Option<ParserData<u32>>, AllocError> {
+    match grammar(alloc, text)? {
+        Some(grm) => tabled(alloc, grm),
+        None => Ok(None),
+    }
+}

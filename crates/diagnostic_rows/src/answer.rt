@@ -2,6 +2,7 @@
 
 use crate::conflicts::push_conflicts;
 use crate::errors::{push_made_up, push_of_text};
+use crate::repairs::{push_lexing, push_parsing};
 use crate::spans::{
     push_located, push_ordinals, push_prefixed, push_underlined, push_unknown, push_unlocated,
 };
@@ -43,6 +44,8 @@ fn push_asked(
         "unlocated" => push_unlocated(alloc, out, formatter, words),
         "repeated" => push_made_up(alloc, out, formatter, SpansKind::DuplicationError, words),
         "faulty" => push_made_up(alloc, out, formatter, SpansKind::Error, words),
+        "parsing" => push_parsing(alloc, out, text, words),
+        "lexing" => push_lexing(alloc, out, text, words),
         _ => push_of_grammar(alloc, out, formatter, heading, text),
     }
 }

@@ -8,13 +8,19 @@
 //! - `= repeated SPAN,.. MESSAGE` and `= faulty SPAN,.. MESSAGE` ask for an error with these spans: of what should stand
 //!   once, or of where the error is. The answer to a warning is told where it is another.
 //! - `= KIND errors` asks for the errors and the warnings of a grammar's text, `= KIND conflicts` for its conflicts.
+//! - `= parsing SPAN SEQUENCE ..` and `= lexing SPAN` ask for the text of an error there. The steps of a sequence stand
+//!   between commas: `d1-2` deletes, `s1-2` shifts, `i0` and `i1` insert `y` and `z`.
 //! - `= ordinals` asks for each word of the text as a number that tells an order.
 #![tactic(auto)]
 
 mod answer;
 mod conflicts;
 mod errors;
+mod fitting;
+mod lexemes;
 mod lines;
+mod over_text;
+mod repairs;
 mod spans;
 
 use std::{env, fs, io};

@@ -1,0 +1,2 @@
+pub mod LineCuts
+mod OneMore

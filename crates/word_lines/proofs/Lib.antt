@@ -4,3 +4,4 @@ mod SaidEdits
 mod ReadLines
 mod TakenLexemes
 mod LineCuts
+mod FittedWords

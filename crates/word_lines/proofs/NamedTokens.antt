@@ -1,6 +1,8 @@
 -- The token that has a name is the one that is looked up by it.
-use Rattle.std.proofs.Common.{◌≡◌, ℕ, ◌<◌, ◌≤◌, ◌-◌, ⊎_elim, subst, Bor, MatchOption, Bool, true, false, cond, ltb, Option, Some, None, Ok, List, [], ◌∷◌, length, get_or, option_map, slice_get, position, IfSome, IfNone, refl, sym, ap, ap₂, ◌+◌, ◌∙◌, arith, lt-ltb, le-ltb, bytes_eq}
+use Rattle.std.proofs.Common.{◌≡◌, ℕ, ◌<◌, ◌≤◌, ◌-◌, ⊎_elim, subst, Bool, true, false, cond, ltb, Option, Some, None, Ok, List, [], ◌∷◌, length, get_or, option_map, slice_get, position, IfSome, IfNone, refl, sym, ap, ap₂, ◌+◌, ◌∙◌, arith, lt-ltb, le-ltb, bytes_eq}
+use Rattle.std.specs.Borrow.{Bor}
 use Rattle.std.specs.List.{position_or_len}
+use Rattle.std.specs.Option.{MatchOption}
 use Rattle.std.proofs.lemmas.Bool.{cases_lt}
 use Rattle.cfg_theory.specs.Grammar.{end_token}
 use Rattle.std.proofs.lemmas.List.Sums.{position_or_len_is}

@@ -5,3 +5,4 @@ mod ReadLines
 mod TakenLexemes
 mod LineCuts
 mod FittedWords
+mod ShownNames

@@ -1,5 +1,5 @@
 -- The texts of a line's errors, and of its tree.
-use Rattle.std.specs.Prelude.{ℕ, List, [], ◌∷◌, ◌++◌, length, ◌≤◌, slice_get, option_map, codes, Option, None, Some}
+use Rattle.std.specs.Prelude.{ℕ, List, [], ◌∷◌, ◌++◌, length, ◌≤◌, nat_lt, slice_get, option_map, codes, if◌then◌else◌, Option, None, Some}
 use Rattle.std.specs.Fmt.{decimal}
 use Rattle.std.specs.List.{AllByRecursion}
 use Rattle.cfg_numbered.specs.Value.{GrammarValue, shown_text}
@@ -8,21 +8,24 @@ use Rattle.lrpar.specs.ErrorTexts.{EditFits, lexing_error_text, parsing_error_te
 use Rattle.lrpar.specs.FlatLines.{CanShowTree}
 use Rattle.lrpar.specs.FlatTrees.{FlatValue, IsFlat}
 use Rattle.lrpar.specs.Run.{span_by}
-use Rattle.lrpar.specs.Shapes.{shape, tree_text}
+use Rattle.lrpar.specs.Shapes.{joined, shape, tree_text}
 use Rattle.lrpar.specs.Shown.{shown_lists}
 use Rattle.lrpar.specs.declared.parse_error.ParseError.{ParseError}
 use Rattle.word_lines.specs.Lexing.{lex_of}
 use Rattle.word_lines.specs.declared.lexeme.WordLexeme.{WordLexeme}
 use Rattle.word_lines.specs.declared.lexeme.WordLexError.{WordLexError}
 
--- a token without a text is shown by its number
-abbrev pub text_or_number : ℕ → Option (Option (List ℕ)) → List ℕ
-text_or_number t (Some (Some text)) = text
-text_or_number t _ = codes "token " ++ decimal t
+-- the text by which messages show a token of the grammar: that of `%epp`, else its name; the end token has none
+abbrev pub message_text : GrammarValue → ℕ → Option (List ℕ)
+message_text g t = if nat_lt t g.grammar.tokens then joined (option_map shown_text (slice_get g.tokens t)) else None
 
--- the text by which messages show a token: that of `%epp`, else its name; the end token has none
+-- one without a text is shown by its number
+abbrev pub text_or_number : ℕ → Option (List ℕ) → List ℕ
+text_or_number t None = codes "token " ++ decimal t
+text_or_number t (Some text) = text
+
 abbrev pub shown_name : GrammarValue → ℕ → List ℕ
-shown_name g t = text_or_number t (option_map shown_text (slice_get g.tokens t))
+shown_name g t = text_or_number t (message_text g t)
 
 -- the text of an error of lexing a line, and LF
 abbrev pub fault_line : List ℕ → WordLexError → List ℕ

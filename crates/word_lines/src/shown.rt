@@ -26,7 +26,7 @@ pub fn push_fault<'a, S: IndexStorage>(
     error: WordLexError,
     text: &mut Vec<u8>,
 ) -> Result<(), AllocError>
-    requires within { error.span.end ≤ length lexer.now.text }
+    requires { error.span.end ≤ length lexer.now.text }
     ensures { OnOk result (text.new.items ≡ text.old.items ++ fault_line lexer.now.text error) }
 {
     push_told(alloc, grm, lexer, LexParseError::LexError(error), text)
@@ -40,7 +40,7 @@ pub fn push_errors<'a, S: IndexStorage>(
     errors: Vec<ParseError<WordLexeme<S>, S>>,
     text: &mut Vec<u8>,
 ) -> Result<(), AllocError>
-    requires fit { AllByRecursion (ErrorCanBeShown S.number grm.now lexer.now.text) errors.items }
+    requires { AllByRecursion (ErrorCanBeShown S.number grm.now lexer.now.text) errors.items }
     ensures { OnOk result (text.new.items ≡ text.old.items ++ flat_map (error_line S.number grm.now lexer.now.text) errors.items) }
 {
     'errors: for error in errors {
@@ -58,7 +58,7 @@ pub fn push_error<'a, S: IndexStorage>(
     error: ParseError<WordLexeme<S>, S>,
     text: &mut Vec<u8>,
 ) -> Result<(), AllocError>
-    requires fits { ErrorCanBeShown S.number grm.now lexer.now.text error }
+    requires { ErrorCanBeShown S.number grm.now lexer.now.text error }
     ensures { OnOk result (text.new.items ≡ text.old.items ++ error_line S.number grm.now lexer.now.text error) }
 {
     push_told(alloc, grm, lexer, LexParseError::ParseError(error), text)
@@ -92,13 +92,14 @@ fn push_told<'a, S: IndexStorage>(
     error: LexParseError<WordLexerTypes<S>>,
     text: &mut Vec<u8>,
 ) -> Result<(), AllocError>
-    requires fits { ErrorFits S.number lexer.now.text (lex_of S.number) (λ e. e.span) error }
+    requires { ErrorFits S.number lexer.now.text (lex_of S.number) (λ e. e.span) error }
     ensures { OnOk result (text.new.items ≡ text.old.items ++ (error_text S.number lexer.now.text (lex_of S.number) (λ e. e.span) (shown_name grm.now) error ++ 10 ∷ [])) }
 {
     let told = told_text(alloc, grm, lexer, &error);
     drop(error);
     push_shown(told?, text)?;
-    text.push(b'\n')
+    text.push(b'\n')?;
+    Ok(())
 }
 
 // The text of an error.
@@ -108,21 +109,30 @@ fn told_text<'a, S: IndexStorage>(
     lexer: &WordLexer<'a, S>,
     error: &LexParseError<WordLexerTypes<S>>,
 ) -> Result<String, AllocError>
-    requires fits { ErrorFits S.number lexer.now.text (lex_of S.number) (λ e. e.span) error.now }
+    requires { ErrorFits S.number lexer.now.text (lex_of S.number) (λ e. e.span) error.now }
     ensures { IfOk result (λ told. string_bytes told ≡ error_text S.number lexer.now.text (lex_of S.number) (λ e. e.span) (shown_name grm.now) error.now) }
 {
-    let epp = |token: TIdx<S>| name_of(grm, token);
+    let texts = TokenTexts { grm };
+    let epp = move |token: TIdx<S>| texts.of(token);
     error.pp(alloc, lexer, &epp)
 }
 
-// The text by which messages show a token, if it has one.
-fn name_of<S: IndexStorage>(grm: &NumberedGrammar<S>, token: TIdx<S>) -> Option<&str>
-    ensures { shown_name grm.now (S.number token.0) ≡ name_or_number (S.number token.0) result }
-{
-    if !grm.has_token(token) {
-        return None;
+// The texts by which messages show the tokens of a grammar.
+#[derive(Clone, Copy)]
+struct TokenTexts<'a, S: IndexStorage> {
+    grm: &'a NumberedGrammar<S>,
+}
+
+impl<'a, S: IndexStorage> TokenTexts<'a, S> {
+    // The text of a token, if it has one.
+    fn of(self, token: TIdx<S>) -> Option<&'a str>
+        ensures { shown_name self.entry.grm.now (S.number token.0) ≡ name_or_number (S.number token.0) result }
+    {
+        if !self.grm.has_token(token) {
+            return None;
+        }
+        self.grm.token_epp(token)
     }
-    grm.token_epp(token)
 }
 
 // Adds the bytes of a text.

@@ -1,5 +1,5 @@
 -- The items of a line are parts of it, from the start of a character to that of another.
-use Rattle.std.proofs.Common.{◌≡◌, ℕ, zero, suc, ◌≤◌, ◌<◌, ◌+◌, Bool, true, false, cond, eqb, Result, Ok, Err, Option, Some, None, List, [], ◌∷◌, ◌++◌, length, map, get_or, IsUtf8, IsCharBoundary, refl, sym, ap, ◌∙◌, subst, arith}
+use Rattle.std.proofs.Common.{◌≡◌, ℕ, suc, ◌<◌, ◌+◌, Bool, true, false, cond, eqb, Result, Ok, Err, Option, Some, None, List, [], ◌∷◌, ◌++◌, length, map, get_or, IsUtf8, IsCharBoundary, refl, sym, ap, ◌∙◌, subst, arith}
 use Rattle.std.specs.List.{slice_split, onto_first, AllByRecursion}
 use Rattle.std.proofs.lemmas.Bool.Decides.{nat_tests}
 use Rattle.std.proofs.lemmas.Str.{IsCharBoundary-start, IsCharBoundary-end, IsCharBoundary-before_ascii, IsCharBoundary-after_ascii}
@@ -54,7 +54,7 @@ module _ (line : List ℕ) where
         (split_goes_on (at + 1) xs after (λ k lt. let e : at + 1 + k ≡ at + suc k = omega arith in ap (λ j. get_or line j 0) e ∙ same (suc k) (omega (arith, lt))))
 
     parts_are_cut : AreCut 0 (slice_split (λ b. eqb b 32) line)
-    parts_are_cut = begun 0 (slice_split (λ b. eqb b 32) line) (IsCharBoundary-start line utf8) (split_goes_on 0 line refl (λ k lt. refl))
+    parts_are_cut = begun 0 (slice_split (λ b. eqb b 32) line) (IsCharBoundary-start line utf8) (split_goes_on 0 line (omega arith) (λ k lt. let e : 0 + k ≡ k = omega arith in ap (λ j. get_or line j 0) e))
 
   abbrev WordFits : Word → Type 0
   WordFits w = FitsInput line w.start (w.start + length w.text)

@@ -1,5 +1,5 @@
 -- The token that has a name is the one that is looked up by it.
-use Rattle.std.proofs.Common.{◌≡◌, ℕ, ◌<◌, ◌≤◌, ◌-◌, ⊎_elim, subst, Bool, true, false, cond, ltb, Option, Some, None, Ok, List, [], ◌∷◌, length, get_or, option_map, slice_get, position, IfSome, IfNone, refl, sym, ap, ap₂, ◌+◌, ◌∙◌, arith, lt-ltb, le-ltb, bytes_eq}
+use Rattle.std.proofs.Common.{◌≡◌, ℕ, ◌<◌, ◌≤◌, ◌-◌, ⊎_elim, subst, Bool, true, false, cond, ltb, Option, Some, None, Ok, List, length, get_or, option_map, slice_get, IfSome, IfNone, refl, sym, ap, ap₂, ◌+◌, ◌∙◌, arith, lt-ltb, le-ltb}
 use Rattle.std.specs.Borrow.{Bor}
 use Rattle.std.specs.List.{position_or_len}
 use Rattle.std.specs.Option.{MatchOption}

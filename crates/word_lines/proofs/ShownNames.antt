@@ -1,5 +1,5 @@
 -- How tokens are shown, and each of the errors.
-use Rattle.std.proofs.Common.{◌≡◌, ℕ, ◌<◌, ◌≤◌, zero, suc, ◌+◌, Option, Some, None, List, [], ◌∷◌, ◌++◌, length, map, append_assoc, append-nil, get_or, cond, ltb, option_map, slice_get, refl, sym, ap, ◌∙◌, ⊎_elim, arith, lt-ltb, le-ltb}
+use Rattle.std.proofs.Common.{◌≡◌, ℕ, ◌<◌, zero, suc, Option, Some, None, List, [], ◌∷◌, ◌++◌, length, map, append_assoc, append-nil, get_or, cond, option_map, slice_get, refl, sym, ap, ◌∙◌, ⊎_elim, arith, lt-ltb, le-ltb}
 use Rattle.std.specs.Borrow.{Bor}
 use Rattle.std.specs.List.{AllByRecursion, flat_map}
 use Rattle.std.proofs.lemmas.Grind.{flat_map-append}
@@ -8,7 +8,7 @@ use Rattle.std.proofs.lemmas.Bool.{cases_lt}
 use Rattle.cfg_numbered.specs.Value.{GrammarValue, shown_text}
 use Rattle.lrpar.specs.ErrorTexts.{name_or_number}
 use Rattle.lrpar.specs.Shapes.{joined}
-use Rattle.word_lines.specs.LineTexts.{message_text, shown_name, text_or_number}
+use Rattle.word_lines.specs.LineTexts.{shown_name, text_or_number}
 
 lent : (t : ℕ) (r : Option (Bor (List ℕ))) → text_or_number t (option_map (λ s. s.now) r) ≡ name_or_number t r
 lent t None = refl

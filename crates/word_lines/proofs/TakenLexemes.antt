@@ -1,16 +1,15 @@
 -- The lexemes of a line are such as a run takes.
-use Rattle.std.proofs.Common.{◌≡◌, ℕ, zero, suc, ◌≤◌, ◌<◌, ◌+◌, ◌-◌, Bool, true, false, Option, Some, None, Result, Ok, Err, eqb, option_map, List, [], ◌∷◌, ◌++◌, length, map, filter, slice_get, refl, sym, ap, ◌∙◌, ⊎_elim, subst, arith}
+use Rattle.std.proofs.Common.{◌≡◌, ℕ, zero, suc, ◌≤◌, ◌<◌, ◌+◌, Option, Some, None, Result, Ok, eqb, option_map, List, [], ◌∷◌, length, map, slice_get, refl, sym, ap, ◌∙◌, ⊎_elim, subst, arith}
 use Rattle.std.specs.List.{slice_split, AllByRecursion}
 use Rattle.std.proofs.lemmas.Bool.{cases_lt}
-use Rattle.std.proofs.lemmas.Option.{slice_get_within}
 use Rattle.cfg_theory.specs.Grammar.{Grammar, end_token}
 use Rattle.cfg_numbered.specs.Value.{GrammarValue, IsGrammar, IsTokenNamed}
-use Rattle.lrpar.specs.Lexemes.{AreItems, Misfit, IsMisfit, IsOutsideAt, DecreasesAt}
+use Rattle.lrpar.specs.Lexemes.{AreItems, Misfit, IsMisfit}
 use Rattle.lrpar.specs.Lex.{Lex}
 use Rattle.lrpar.specs.Run.{AreLexemes}
 use Rattle.lrpar.specs.Refusals.{HasMisfit}
 use Rattle.word_lines.specs.Words.{Word, words, words_in, token_named}
-use Rattle.word_lines.specs.Lexing.{IsInside, lex_of, span_of, lexeme_of, item_by, item_of, items_in, items_of}
+use Rattle.word_lines.specs.Lexing.{IsInside, lex_of, lexeme_of, item_by, item_of, items_of}
 use Rattle.word_lines.specs.declared.lexeme.WordLexeme.{WordLexeme}
 use Rattle.word_lines.specs.declared.lexeme.WordLexError.{WordLexError}
 use Rattle.word_lines.proofs.NamedTokens.{named_within, named_inside}

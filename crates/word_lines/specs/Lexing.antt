@@ -1,7 +1,5 @@
 -- Words as the items of a lexer's list.
 use Rattle.std.specs.Prelude.{ℕ, ◌+◌, ◌<◌, false, List, length, map, Option, None, Some, Result, Ok, Err}
-use Rattle.std.specs.List.{slice_split}
-use Rattle.std.specs.Prelude.{◌==◌}
 use Rattle.cfg_base.specs.SpanModel.{SpanModel}
 use Rattle.cfg_numbered.specs.Value.{GrammarValue}
 use Rattle.cfg_theory.specs.Grammar.{Grammar, end_token}

@@ -1,8 +1,8 @@
-use Rattle.std.proofs.Common.{◌≤◌, ◌+◌, length, arith, lit<}
+use Rattle.std.proofs.Common.{[], ◌∷◌, ◌≤◌, ◌+◌, length, arith, lit<}
 use Rattle.std.proofs.lemmas.Iterator.Consumers.{YieldsList-at, YieldsList-turn, YieldsList-end}
 use Rattle.std.proofs.lemmas.Iterator.Splits.{YieldsList-from_str_split}
 use Rattle.std.proofs.lemmas.List.{length_push}
-use Rattle.word_lines.specs.Lexing.{IsInside}
+use Rattle.word_lines.specs.Lexing.{IsInside, items_in}
 use Rattle.word_lines.proofs.LexedParts.{all_more, parts_of, LexedTo-start, LexedTo-fits, LexedTo-more, LexedTo-end}
 use Rattle.word_lines.proofs.lexer.lex_line.Goals as goal
 
@@ -24,9 +24,10 @@ overflow_add-start g c =
 pub parts-preserved : goal.parts-preserved
 parts-preserved g c =
     let turn = YieldsList-turn (YieldsList-at c.into_iter-part-iterator.ensures.into_iter_gives (YieldsList-from_str_split 32 c.args.line.now (lit< tt) c.split-part-items.ensures.text c.split-part-items.ensures.has_more c.split-part-items.ensures.pattern)) c.parts.yielded _ c.parts.yielded_by _ _ c.in-Some.part c.in-Some.is c.next.ensures.steps in
-    let more = c.in_ok-push_part.ensures in
-    (rw length_push (LexedTo-more g.S.IndexStorage.of_number c.args.grm.now c.args.line.now (length c.parts.yielded) c.parts.start c.in-Some.part.now c.parts.items.items c.push_part.new.items.items c.parts.invariant.0 turn more.items),
-    all_more (IsInside g.S.IndexStorage.number c.args.grm.now.grammar) c.parts.items.items _ c.push_part.new.items.items more.items c.parts.invariant.1 more.inside)
+    let more = c.in_ok-push_part.ensures in (
+      rw length_push (LexedTo-more g.S.IndexStorage.of_number c.args.grm.now c.args.line.now (length c.parts.yielded) c.parts.start c.in-Some.part.now c.parts.items.items c.push_part.new.items.items c.parts.invariant.0 turn more.items),
+      all_more (IsInside g.S.IndexStorage.number c.args.grm.now.grammar) c.parts.items.items (items_in g.S.IndexStorage.of_number c.args.grm.now c.parts.start (c.in-Some.part.now ∷ [])) c.push_part.new.items.items more.items c.parts.invariant.1 more.inside,
+    )
 
 pub returns-clause-items : goal.returns-clause-items
 returns-clause-items g c =

@@ -4,16 +4,12 @@ use Rattle.std.specs.Prelude.{◌||◌}
 use Rattle.std.specs.Io.KnownBytes.{Keeps}
 use Rattle.std.proofs.KnownBytes.{Appends-nil, Appends-trans, Appends-kept}
 use Rattle.std.proofs.lemmas.List.{take_more, take_all}
-use Rattle.lr_theory.specs.Automaton.{Automaton}
-use Rattle.lrkit.specs.Numbering.{NumberedText, numbered_of}
+use Rattle.lr_theory.specs.Repair.{Edit}
+use Rattle.parser_kit.specs.Kit.{KitValue}
 use Rattle.lrkit.specs.Output.{LineText, LineTexts, BeginsTexts}
-use Rattle.lrkit.specs.Tables.{automaton_of}
 use Rattle.lrkit.specs.Writing.{WritesLine, BeginsLineText, BeginsLine, WritesLines}
-use Rattle.lrkit.specs.declared.fault.KitError.TheVariants as kit
 use Rattle.lrkit.specs.declared.fault.RunFault.{RunFault}
-use Rattle.lrkit.specs.declared.fault.RunFault.TheVariants as fault
-use Rattle.lrkit.specs.declared.fault.RunFault.TheVariants.{NotUtf8, Read, TooLong, Write}
-use Rattle.lrkit.specs.declared.kit.Kit.{Kit}
+use Rattle.lrkit.specs.declared.fault.RunFault.TheVariants.{Kit, Conflicts, NotARepair, NotUtf8, Read, TooLong, Write}
 use Rattle.lrkit.proofs.Written.{beginning}
 
 or-assoc : (a b c : Bool) → ((a || b) || c) ≡ (a || (b || c))
@@ -24,8 +20,8 @@ or-false : (a : Bool) → a ≡ (a || false)
 or-false true = refl
 or-false false = refl
 
-LineTexts-push : (n : NumberedText) (a : Automaton) (xs : List (List ℕ)) (x t u : List ℕ) (f g : Bool) → LineTexts n a xs t f → LineText n a x u g → LineTexts n a (xs ++ x ∷ []) (t ++ u) (f || g)
-LineTexts-push n a [] x t u f g e l = record {
+LineTexts-push : (k : KitValue) (rs : List (List Edit)) (xs : List (List ℕ)) (x t u : List ℕ) (f g : Bool) → LineTexts k rs xs t f → LineText k rs x u g → LineTexts k rs (xs ++ x ∷ []) (t ++ u) (f || g)
+LineTexts-push k rs [] x t u f g e l = record {
   first_text = u;
   other_text = [];
   first_faulty = g;
@@ -35,30 +31,30 @@ LineTexts-push n a [] x t u f g e l = record {
   text_is = ap (λ s. s ++ u) e.0 ∙ sym (append-nil u);
   faulty_is = ap (λ b. b || g) e.1 ∙ or-false g;
 }
-LineTexts-push n a (y ∷ ys) x t u f g e l = record {
+LineTexts-push k rs (y ∷ ys) x t u f g e l = record {
   first_text = e.first_text;
   other_text = e.other_text ++ u;
   first_faulty = e.first_faulty;
   other_faulty = e.other_faulty || g;
   is_first = e.is_first;
-  are_others = LineTexts-push n a ys x e.other_text u e.other_faulty g e.are_others l;
+  are_others = LineTexts-push k rs ys x e.other_text u e.other_faulty g e.are_others l;
   text_is = ap (λ s. s ++ u) e.text_is ∙ append_assoc e.first_text e.other_text u;
   faulty_is = ap (λ b. b || g) e.faulty_is ∙ or-assoc e.first_faulty e.other_faulty g;
 }
 
-module _ (k : Kit) (all : List (List ℕ)) (i : ℕ) (x : List ℕ) (a b c : Option (List ℕ)) (f : Bool) (turn : (i < length all) × (x ≡ get_or all i x)) (s : WritesLines k (take i all) a b f) where
-  pushed : (u : List ℕ) (g : Bool) → LineText (numbered_of k.grammar) (automaton_of k.tables) x u g → LineTexts (numbered_of k.grammar) (automaton_of k.tables) (take (i + 1) all) (s.text ++ u) (f || g)
+module _ (k : KitValue) (rs : List (List Edit)) (all : List (List ℕ)) (i : ℕ) (x : List ℕ) (a b c : Option (List ℕ)) (f : Bool) (turn : (i < length all) × (x ≡ get_or all i x)) (s : WritesLines k rs (take i all) a b f) where
+  pushed : (u : List ℕ) (g : Bool) → LineText k rs x u g → LineTexts k rs (take (i + 1) all) (s.text ++ u) (f || g)
   pushed u g l =
-      let P : List (List ℕ) → Type 0 = λ xs. LineTexts (numbered_of k.grammar) (automaton_of k.tables) xs (s.text ++ u) (f || g) in
-      subst P (ap (λ y. take i all ++ y ∷ []) turn.1 ∙ sym (take_more all i x turn.0)) (LineTexts-push (numbered_of k.grammar) (automaton_of k.tables) (take i all) x s.text u f g s.texts l)
+      let P : List (List ℕ) → Type 0 = λ xs. LineTexts k rs xs (s.text ++ u) (f || g) in
+      subst P (ap (λ y. take i all ++ y ∷ []) turn.1 ∙ sym (take_more all i x turn.0)) (LineTexts-push k rs (take i all) x s.text u f g s.texts l)
 
-  pub WritesLines-more : (g r : Bool) → WritesLine k x b c g → r ≡ (f || g) → WritesLines k (take (i + 1) all) a c r
+  pub WritesLines-more : (g r : Bool) → WritesLine k rs x b c g → r ≡ (f || g) → WritesLines k rs (take (i + 1) all) a c r
   WritesLines-more g r w e = rw e (record { text = s.text ++ w.text; texts = pushed w.text g w.is_text; written = Appends-trans a b c s.text w.text s.written w.written })
 
-  kept : Keeps b c → BeginsTexts (numbered_of k.grammar) (automaton_of k.tables) all a c
+  kept : Keeps b c → BeginsTexts k rs all a c
   kept h = record { count = i; text = s.text; faulty = f; texts = s.texts; written = beginning a c s.text s.text [] (sym (append-nil s.text)) (Appends-kept a b c s.text s.written h) }
 
-  begun : BeginsLineText k x b c → BeginsTexts (numbered_of k.grammar) (automaton_of k.tables) all a c
+  begun : BeginsLineText k rs x b c → BeginsTexts k rs all a c
   begun l = let (m, within, appended) = l.written in record {
     count = i + 1;
     text = s.text ++ l.text;
@@ -67,17 +63,17 @@ module _ (k : Kit) (all : List (List ℕ)) (i : ℕ) (x : List ℕ) (a b c : Opt
     written = beginning a c (s.text ++ l.text) (s.text ++ take m l.text) (drop m l.text) (ap (λ v. s.text ++ v) (sym (take-append-drop m l.text)) ∙ sym (append_assoc s.text (take m l.text) (drop m l.text))) (Appends-trans a b c s.text (take m l.text) s.written appended);
   }
 
-  pub BeginsTexts-more : (e : RunFault) → BeginsLine k x b c e → BeginsTexts (numbered_of k.grammar) (automaton_of k.tables) all a c
+  pub BeginsTexts-more : (e : RunFault) → BeginsLine k rs x b c e → BeginsTexts k rs all a c
   BeginsTexts-more Write l = begun l
-  BeginsTexts-more (fault.Kit (kit.Memory e)) l = kept l
-  BeginsTexts-more (fault.Kit (kit.NotYet place)) l = absurd l
-  BeginsTexts-more (fault.Kit (kit.TooManyStates n)) l = absurd l
+  BeginsTexts-more (Kit e) l = kept l
+  BeginsTexts-more (Conflicts p q x y) l = absurd l
+  BeginsTexts-more (NotARepair n) l = absurd l
   BeginsTexts-more (NotUtf8 input) l = absurd l
   BeginsTexts-more (Read input) l = absurd l
   BeginsTexts-more (TooLong input) l = absurd l
 
-pub WritesLines-start : (k : Kit) (all : List (List ℕ)) (a : Option (List ℕ)) → WritesLines k (take 0 all) a a false
-WritesLines-start k all a = record { text = []; texts = (refl, refl); written = Appends-nil a }
+pub WritesLines-start : (k : KitValue) (rs : List (List Edit)) (all : List (List ℕ)) (a : Option (List ℕ)) → WritesLines k rs (take 0 all) a a false
+WritesLines-start k rs all a = record { text = []; texts = (refl, refl); written = Appends-nil a }
 
-pub WritesLines-end : (k : Kit) (all : List (List ℕ)) (i : ℕ) (a b : Option (List ℕ)) (f : Bool) → WritesLines k (take i all) a b f → length all ≤ i → WritesLines k all a b f
-WritesLines-end k all i a b f s h = rw (take_all i all h) at s
+pub WritesLines-end : (k : KitValue) (rs : List (List Edit)) (all : List (List ℕ)) (i : ℕ) (a b : Option (List ℕ)) (f : Bool) → WritesLines k rs (take i all) a b f → length all ≤ i → WritesLines k rs all a b f
+WritesLines-end k rs all i a b f s h = rw (take_all i all h) at s

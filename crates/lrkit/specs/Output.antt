@@ -1,31 +1,57 @@
 -- What a run writes for each line, and for all of them.
-use Rattle.std.specs.Prelude.{◌≡◌, ℕ, Bool, true, false, ◌||◌, List, [], ◌∷◌, ◌++◌, take, Option, Ok, Err}
+use Rattle.std.specs.Prelude.{◌≡◌, ℕ, ◌+◌, Bool, true, false, ◌||◌, List, [], ◌∷◌, ◌++◌, map, take, Option, None, Some, Result}
+use Rattle.std.specs.List.{flat_map}
 use Rattle.std.specs.Str.Lines.{lines}
-use Rattle.cfg_theory.specs.Grammar.{Grammar, WellFormed, start_symbol}
-use Rattle.cfg_theory.specs.Tree.{Tree, IsDerivation}
-use Rattle.lr_theory.specs.Automaton.{Automaton, Safe}
-use Rattle.lr_theory.specs.Machine.{run, start_config, accepted}
-use Rattle.lrkit.specs.Answer.{FailsAt}
-use Rattle.lrkit.specs.NodeTree.{token_of}
-use Rattle.lrkit.specs.Numbering.{NumberedText, ReadsAs}
-use Rattle.lrkit.specs.Sink.{BeginningWritten}
-use Rattle.lrkit.specs.Texts.{tree_text, lexing_error_text, parsing_error_text, place_of}
-use Rattle.lrkit.specs.Words.{Word, words, lexemes_of}
-use Rattle.lrkit.specs.declared.lexeme.WordLexeme.{WordLexeme}
+use Rattle.byte_streams.specs.Sink.{BeginningWritten}
+use Rattle.cfg_numbered.specs.Value.{GrammarValue}
+use Rattle.cfg_theory.specs.Tree.{Tree}
+use Rattle.lr_theory.specs.Repair.{Edit}
+use Rattle.lrpar.specs.Lexemes.{IsFirstLexError}
+use Rattle.lrpar.specs.declared.parse_error.ParseError.{ParseError}
+use Rattle.parser_kit.specs.Kit.{KitValue}
+use Rattle.parser_kit.specs.KitParses.{IsKitParse}
+use Rattle.word_lines.specs.Lexing.{items_of, lex_of}
+use Rattle.word_lines.specs.LineTexts.{error_line, fault_line, value_text}
+use Rattle.word_lines.specs.Repairs.{repair_line}
+use Rattle.word_lines.specs.declared.lexeme.WordLexeme.{WordLexeme}
+use Rattle.word_lines.specs.declared.lexeme.WordLexError.{WordLexError}
+use Rattle.lrkit.specs.RunKits.{AreExpected, IsRunKit}
 
--- the automaton's run accepts the tree, and it is a derivation of the lexemes
-pub record IsParsed (G : Grammar) (a : Automaton) (lexemes : List WordLexeme) (t : Tree WordLexeme) : Type 0 where
-  pub derives : IsDerivation G token_of (start_symbol G) lexemes t
-  pub steps : ℕ
-  pub accepts : run G a token_of steps (start_config a lexemes) ≡ accepted t
+-- numbers are stored as themselves
+abbrev pub id : ℕ → ℕ
+id n = n
 
--- the text of a line, and whether the line has an error
-pub data LineText (n : NumberedText) (a : Automaton) (line text : List ℕ) (faulty : Bool) : Type 0 where
-  tree : (lexemes : List WordLexeme) (t : Tree WordLexeme) → lexemes_of n.tokens (words line) ≡ Ok lexemes → IsParsed n.grammar a lexemes t →
-      text ≡ tree_text n line [] t → faulty ≡ false → LineText n a line text faulty
-  parsing_error : (lexemes : List WordLexeme) (k : ℕ) → lexemes_of n.tokens (words line) ≡ Ok lexemes → FailsAt n.grammar a lexemes k →
-      text ≡ parsing_error_text line (place_of lexemes k) → faulty ≡ true → LineText n a line text faulty
-  lexing_error : (w : Word) → lexemes_of n.tokens (words line) ≡ Err w → text ≡ lexing_error_text line w.start → faulty ≡ true → LineText n a line text faulty
+abbrev pub Word : Type 0
+Word = WordLexeme ℕ
+
+-- what a repair makes up
+abbrev pub made_up : ℕ → ℕ → ℕ → Word
+made_up token start len = record { token = token; span = record { start = start; end = start + len }; faulty = true }
+
+abbrev pub has_some : {A : Type 0} → List A → Bool
+has_some [] = false
+has_some (x ∷ xs) = true
+
+-- the texts of these errors over a line, and then that of the tree, if there is one
+abbrev pub parsed_text : GrammarValue → List ℕ → List (ParseError Word ℕ) → Option (Tree Word) → List ℕ
+parsed_text g line errors tree = flat_map (error_line id g line) errors ++ value_text id g line tree
+
+module _ (k : KitValue) (repairs : List (List Edit)) (line : List ℕ) where
+  abbrev pub items : List (Result Word WordLexError)
+  items = items_of id k.parser.grammar line
+
+  -- the text of a line, and whether the line has an error
+  pub data LineText (text : List ℕ) (faulty : Bool) : Type 0 where
+    lexing_error : (e : WordLexError) → IsFirstLexError items e → text ≡ fault_line line e → faulty ≡ true → LineText text faulty
+    parsed : (tree : Option (Tree Word)) (errors : List (ParseError Word ℕ)) →
+        IsKitParse id (lex_of id) made_up k.parser (λ state index lexeme offered. offered ≡ repairs) items (λ t. t ≡ tree) errors →
+        text ≡ parsed_text k.parser.grammar line errors tree → faulty ≡ has_some errors → LineText text faulty
+
+-- the text of a line was added
+pub record AddsLineText (k : KitValue) (repairs : List (List Edit)) (line old new : List ℕ) (faulty : Bool) : Type 0 where
+  pub added : List ℕ
+  pub is_text : LineText k repairs line added faulty
+  pub grown : new ≡ old ++ added
 
 -- the text of a line before those of others
 pub record BeforeTexts (First Others : List ℕ → Bool → Type 0) (text : List ℕ) (faulty : Bool) : Type 0 where
@@ -39,31 +65,38 @@ pub record BeforeTexts (First Others : List ℕ → Bool → Type 0) (text : Lis
   pub faulty_is : faulty ≡ (first_faulty || other_faulty)
 
 -- the texts of the lines one behind the other, and whether some line has an error
-abbrev pub LineTexts : NumberedText → Automaton → List (List ℕ) → List ℕ → Bool → Type 0
-LineTexts n a [] text faulty = (text ≡ []) × (faulty ≡ false)
-LineTexts n a (line ∷ others) text faulty = BeforeTexts (LineText n a line) (LineTexts n a others) text faulty
+abbrev pub LineTexts : KitValue → List (List Edit) → List (List ℕ) → List ℕ → Bool → Type 0
+LineTexts k repairs [] text faulty = (text ≡ []) × (faulty ≡ false)
+LineTexts k repairs (line ∷ others) text faulty = BeforeTexts (LineText k repairs line) (LineTexts k repairs others) text faulty
 
--- the text that a grammar text and a text of lines give, and whether some line has an error
-pub record Output (grammar line_text text : List ℕ) (faulty : Bool) : Type 0 where
-  pub numbered : NumberedText
-  pub reads : ReadsAs grammar numbered
-  pub well_formed : WellFormed numbered.grammar
-  pub automaton : Automaton
-  pub safe : Safe numbered.grammar automaton
-  pub texts : LineTexts numbered automaton (lines line_text) text faulty
+-- each line of a text is a repair: these
+abbrev pub ReadsRepairs : KitValue → List ℕ → List (List Edit) → Type 0
+ReadsRepairs k text repairs = map (repair_line k.parser.grammar) (lines text) ≡ map Some repairs
+
+-- what all is answered by: the kit of the grammar, whose conflicts are expected, and the repairs
+pub record IsReady (grammar repair_text : List ℕ) (k : KitValue) (repairs : List (List Edit)) : Type 0 where
+  pub is_kit : IsRunKit grammar k
+  pub expected : AreExpected k
+  pub are_repairs : ReadsRepairs k repair_text repairs
+
+-- the text that a grammar, lines and repairs give, and whether some line has an error
+pub record Output (grammar line_text repair_text text : List ℕ) (faulty : Bool) : Type 0 where
+  pub kit : KitValue
+  pub repairs : List (List Edit)
+  pub ready : IsReady grammar repair_text kit repairs
+  pub texts : LineTexts kit repairs (lines line_text) text faulty
 
 -- a beginning of the texts of the first so many lines is out
-pub record BeginsTexts (n : NumberedText) (a : Automaton) (all : List (List ℕ)) (known known' : Option (List ℕ)) : Type 0 where
+pub record BeginsTexts (k : KitValue) (repairs : List (List Edit)) (all : List (List ℕ)) (known known' : Option (List ℕ)) : Type 0 where
   pub count : ℕ
   pub text : List ℕ
   pub faulty : Bool
-  pub texts : LineTexts n a (take count all) text faulty
+  pub texts : LineTexts k repairs (take count all) text faulty
   pub written : BeginningWritten known known' text
 
--- a beginning of what a grammar text and a text of lines give is out
-pub record BeginsOutput (grammar line_text : List ℕ) (known known' : Option (List ℕ)) : Type 0 where
-  pub numbered : NumberedText
-  pub reads : ReadsAs grammar numbered
-  pub automaton : Automaton
-  pub safe : Safe numbered.grammar automaton
-  pub begins : BeginsTexts numbered automaton (lines line_text) known known'
+-- a beginning of what a grammar, lines and repairs give is out
+pub record BeginsOutput (grammar line_text repair_text : List ℕ) (known known' : Option (List ℕ)) : Type 0 where
+  pub kit : KitValue
+  pub repairs : List (List Edit)
+  pub ready : IsReady grammar repair_text kit repairs
+  pub begins : BeginsTexts kit repairs (lines line_text) known known'

@@ -1,95 +1,169 @@
 -- What a run leaves, and why it stops.
-use Rattle.std.specs.Prelude.{◌≡◌, ◌⊎◌, ℕ, Bool, List, Option, IfSome, None, Some, ⊤}
+use Rattle.std.specs.Prelude.{◌≡◌, ◌⊎◌, ℕ, Bool, List, Option, IfSome}
 use Rattle.std.specs.Io.KnownBytes.{Appends, Keeps}
 use Rattle.std.specs.Str.{IsUtf8}
-use Rattle.lrkit.specs.Inputs.{most_bytes}
-use Rattle.lrkit.specs.Kit.{IsKitOf, IsKitFault}
-use Rattle.lrkit.specs.Output.{Output, BeginsOutput}
-use Rattle.lrkit.specs.Source.{one_more, IsWhole, HasMoreThan}
+use Rattle.std.specs.Str.Lines.{lines}
+use Rattle.byte_streams.specs.Inputs.{most_bytes}
+use Rattle.byte_streams.specs.Source.{one_more, IsWhole, HasMoreThan}
+use Rattle.lr_theory.specs.Repair.{Edit}
+use Rattle.parser_kit.specs.Kit.{KitValue}
+use Rattle.parser_kit.specs.declared.kit_error.KitError.TheVariants as kit
+use Rattle.word_lines.specs.Repairs.{IsFirstBadLine}
+use Rattle.lrkit.specs.Output.{Output, BeginsOutput, ReadsRepairs}
+use Rattle.lrkit.specs.RunKits.{AreExpected, HasOtherCounts, IsRunKit, IsRunKitRefusal}
 use Rattle.lrkit.specs.declared.fault.Input.{Input}
-use Rattle.lrkit.specs.declared.fault.KitError.TheVariants as kit
+use Rattle.lrkit.specs.declared.fault.Input.TheVariants as inputs
 use Rattle.lrkit.specs.declared.fault.RunFault.{RunFault}
-use Rattle.lrkit.specs.declared.kit.Kit.{Kit as Parser}
-use Rattle.lrkit.specs.declared.fault.RunFault.TheVariants.{Kit, NotUtf8, Read, TooLong, Write}
+use Rattle.lrkit.specs.declared.fault.RunFault.TheVariants.{Kit, Conflicts, NotARepair, NotUtf8, Read, TooLong, Write}
 
--- the sink got exactly the output of what the grammar and the lines held
-pub record WritesOutput (grammar lines : Option (List ℕ)) (known known' : Option (List ℕ)) (faulty : Bool) : Type 0 where
+-- the sink got exactly the output of what the inputs held
+pub record WritesOutput (grammar lines repairs : Option (List ℕ)) (known known' : Option (List ℕ)) (faulty : Bool) : Type 0 where
   pub grammar_text : List ℕ
   pub line_text : List ℕ
+  pub repair_text : List ℕ
   pub text : List ℕ
   pub grammar_is : IsWhole grammar grammar_text
   pub lines_are : IsWhole lines line_text
-  pub is_output : Output grammar_text line_text text faulty
+  pub repairs_are : IsWhole repairs repair_text
+  pub is_output : Output grammar_text line_text repair_text text faulty
   pub written : Appends known known' text
 
 -- the sink got a beginning of it
-pub record WritesBeginning (grammar lines : Option (List ℕ)) (known known' : Option (List ℕ)) : Type 0 where
+pub record WritesBeginning (grammar lines repairs : Option (List ℕ)) (known known' : Option (List ℕ)) : Type 0 where
   pub grammar_text : List ℕ
   pub line_text : List ℕ
+  pub repair_text : List ℕ
   pub grammar_is : IsWhole grammar grammar_text
   pub lines_are : IsWhole lines line_text
-  pub begins : BeginsOutput grammar_text line_text known known'
+  pub repairs_are : IsWhole repairs repair_text
+  pub begins : BeginsOutput grammar_text line_text repair_text known known'
 
 -- what is out at a fault: a beginning where a write failed, that or nothing where memory ran out, and else nothing
-abbrev pub IsOutAt : Option (List ℕ) → Option (List ℕ) → Option (List ℕ) → Option (List ℕ) → RunFault → Type 0
-IsOutAt grammar lines known known' Write = WritesBeginning grammar lines known known'
-IsOutAt grammar lines known known' (Kit (kit.Memory e)) = Keeps known known' ⊎ WritesBeginning grammar lines known known'
-IsOutAt grammar lines known known' (Kit (kit.NotYet place)) = Keeps known known'
-IsOutAt grammar lines known known' (Kit (kit.TooManyStates n)) = Keeps known known'
-IsOutAt grammar lines known known' (NotUtf8 input) = Keeps known known'
-IsOutAt grammar lines known known' (Read input) = Keeps known known'
-IsOutAt grammar lines known known' (TooLong input) = Keeps known known'
+abbrev pub IsOutAt : Option (List ℕ) → Option (List ℕ) → Option (List ℕ) → Option (List ℕ) → Option (List ℕ) → RunFault → Type 0
+IsOutAt grammar lines repairs known known' Write = WritesBeginning grammar lines repairs known known'
+IsOutAt grammar lines repairs known known' (Kit (kit.Memory e)) = Keeps known known' ⊎ WritesBeginning grammar lines repairs known known'
+IsOutAt grammar lines repairs known known' (Kit (kit.Grammar es)) = Keeps known known'
+IsOutAt grammar lines repairs known known' (Kit (kit.TooMany n)) = Keeps known known'
+IsOutAt grammar lines repairs known known' (Kit (kit.TooManyStates n)) = Keeps known known'
+IsOutAt grammar lines repairs known known' (Kit (kit.AcceptReduce p)) = Keeps known known'
+IsOutAt grammar lines repairs known known' (Kit kit.TooLarge) = Keeps known known'
+IsOutAt grammar lines repairs known known' (Kit (kit.TooManyReductions s r t c)) = Keeps known known'
+IsOutAt grammar lines repairs known known' (Conflicts a b c d) = Keeps known known'
+IsOutAt grammar lines repairs known known' (NotARepair n) = Keeps known known'
+IsOutAt grammar lines repairs known known' (NotUtf8 input) = Keeps known known'
+IsOutAt grammar lines repairs known known' (Read input) = Keeps known known'
+IsOutAt grammar lines repairs known known' (TooLong input) = Keeps known known'
 
 -- a fault that names this input: its count of failures went up, it had more bytes than an input may have, or they are no text
 abbrev pub IsCauseIn : Input → Option (List ℕ) → ℕ → ℕ → RunFault → Type 0
-IsCauseIn input known faults faults' (Kit e) = ⊤
+IsCauseIn input known faults faults' (Kit e) = Unit {0}
+IsCauseIn input known faults faults' (Conflicts a b c d) = Unit {0}
+IsCauseIn input known faults faults' (NotARepair n) = Unit {0}
 IsCauseIn input known faults faults' (NotUtf8 i) = i ≡ input → IfSome known (λ bs. ¬ (IsUtf8 bs))
 IsCauseIn input known faults faults' (Read i) = i ≡ input → faults' ≡ one_more faults
 IsCauseIn input known faults faults' (TooLong i) = i ≡ input → HasMoreThan most_bytes known
-IsCauseIn input known faults faults' Write = ⊤
+IsCauseIn input known faults faults' Write = Unit {0}
 
--- a place that is told is one at which the grammar's text stops; states are one more than their greatest number
-abbrev pub IsPlaceIn : Option (List ℕ) → RunFault → Type 0
-IsPlaceIn grammar (Kit (kit.NotYet (Some p))) = IfSome grammar (λ text. IsKitFault text (kit.NotYet (Some p)))
-IsPlaceIn grammar (Kit (kit.NotYet None)) = ⊤
-IsPlaceIn grammar (Kit (kit.TooManyStates n)) = n ≡ 4294967296
-IsPlaceIn grammar (Kit (kit.Memory e)) = ⊤
-IsPlaceIn grammar (NotUtf8 i) = ⊤
-IsPlaceIn grammar (Read i) = ⊤
-IsPlaceIn grammar (TooLong i) = ⊤
-IsPlaceIn grammar Write = ⊤
+-- a write failed or took nothing, which raised the count of failures; at any other fault none did
+abbrev pub IsWriteCause : ℕ → ℕ → RunFault → Type 0
+IsWriteCause faults faults' Write = faults' ≡ one_more faults
+IsWriteCause faults faults' (Kit e) = faults' ≡ faults
+IsWriteCause faults faults' (Conflicts a b c d) = faults' ≡ faults
+IsWriteCause faults faults' (NotARepair n) = faults' ≡ faults
+IsWriteCause faults faults' (NotUtf8 i) = faults' ≡ faults
+IsWriteCause faults faults' (Read i) = faults' ≡ faults
+IsWriteCause faults faults' (TooLong i) = faults' ≡ faults
+
+-- the kit is that of the text that the source held, and its conflicts are expected
+pub record IsGoodKitIn (known : Option (List ℕ)) (k : KitValue) : Type 0 where
+  pub text : List ℕ
+  pub whole : IsWhole known text
+  pub is_kit : IsRunKit text k
+  pub expected : AreExpected k
+
+-- the source held these repairs
+pub record ReadsRepairsIn (k : KitValue) (known : Option (List ℕ)) (repairs : List (List Edit)) : Type 0 where
+  pub text : List ℕ
+  pub whole : IsWhole known text
+  pub are_repairs : ReadsRepairs k text repairs
+
+-- the kit of the text that the source held has other counts than are expected
+pub record HasCountsIn (known : Option (List ℕ)) (e : RunFault) : Type 0 where
+  pub text : List ℕ
+  pub whole : IsWhole known text
+  pub k : KitValue
+  pub is_kit : IsRunKit text k
+  pub other : HasOtherCounts k e
+
+-- the text that the source held gives no kit
+pub record HasKitRefusalIn (known : Option (List ℕ)) (P : List ℕ → Type 0) : Type 0 where
+  pub text : List ℕ
+  pub whole : IsWhole known text
+  pub refused : P text
+
+-- this line of the repairs is the first that is none
+pub record HasBadLineIn (grammar repairs : Option (List ℕ)) (n : ℕ) : Type 0 where
+  pub k : KitValue
+  pub is_kit : IsGoodKitIn grammar k
+  pub text : List ℕ
+  pub whole : IsWhole repairs text
+  pub bad : IsFirstBadLine k.parser.grammar (lines text) n
+
+-- what a fault says of the grammar and of the repairs
+abbrev pub IsRefusal : Option (List ℕ) → Option (List ℕ) → RunFault → Type 0
+IsRefusal grammar repairs (Kit (kit.Memory e)) = Unit {0}
+IsRefusal grammar repairs (Kit e) = HasKitRefusalIn grammar (λ text. IsRunKitRefusal text e)
+IsRefusal grammar repairs (Conflicts a b c d) = HasCountsIn grammar (Conflicts a b c d)
+IsRefusal grammar repairs (NotARepair n) = HasBadLineIn grammar repairs n
+IsRefusal grammar repairs (NotUtf8 i) = Unit {0}
+IsRefusal grammar repairs (Read i) = Unit {0}
+IsRefusal grammar repairs (TooLong i) = Unit {0}
+IsRefusal grammar repairs Write = Unit {0}
+
+-- the grammar gives a kit; it does, and the repairs are repairs
+abbrev pub GoodBefore : Option (List ℕ) → Option (List ℕ) → Input → Type 0
+GoodBefore grammar repairs inputs.Grammar = Unit {0}
+GoodBefore grammar repairs inputs.Repairs = (k : KitValue) × IsGoodKitIn grammar k
+GoodBefore grammar repairs inputs.Lines = (k : KitValue) × (rs : List (List Edit)) × IsGoodKitIn grammar k × ReadsRepairsIn k repairs rs
+
+-- a fault that names an input, or comes of writing, says that the inputs before it were good
+abbrev pub AreGoodBefore : Option (List ℕ) → Option (List ℕ) → RunFault → Type 0
+AreGoodBefore grammar repairs (NotUtf8 i) = GoodBefore grammar repairs i
+AreGoodBefore grammar repairs (Read i) = GoodBefore grammar repairs i
+AreGoodBefore grammar repairs (TooLong i) = GoodBefore grammar repairs i
+AreGoodBefore grammar repairs Write = GoodBefore grammar repairs inputs.Lines
+AreGoodBefore grammar repairs (Kit e) = Unit {0}
+AreGoodBefore grammar repairs (Conflicts a b c d) = Unit {0}
+AreGoodBefore grammar repairs (NotARepair n) = Unit {0}
 
 -- a fault of writing, which is all that can come once the inputs are read: of the sink, or memory
 abbrev pub IsLate : RunFault → Type 0
-IsLate Write = ⊤
-IsLate (Kit (kit.Memory e)) = ⊤
-IsLate (Kit (kit.NotYet place)) = ⊥
-IsLate (Kit (kit.TooManyStates n)) = ⊥
+IsLate Write = Unit {0}
+IsLate (Kit (kit.Memory e)) = Unit {0}
+IsLate (Kit e) = ⊥
+IsLate (Conflicts a b c d) = ⊥
+IsLate (NotARepair n) = ⊥
 IsLate (NotUtf8 i) = ⊥
 IsLate (Read i) = ⊥
 IsLate (TooLong i) = ⊥
 
+-- a fault of reading this input, or memory
+abbrev pub IsReadFaultOf : Input → RunFault → Type 0
+IsReadFaultOf input (Kit (kit.Memory e)) = Unit {0}
+IsReadFaultOf input (Kit e) = ⊥
+IsReadFaultOf input (Conflicts a b c d) = ⊥
+IsReadFaultOf input (NotARepair n) = ⊥
+IsReadFaultOf input (NotUtf8 i) = i ≡ input
+IsReadFaultOf input (Read i) = i ≡ input
+IsReadFaultOf input (TooLong i) = i ≡ input
+IsReadFaultOf input Write = ⊥
+
 -- a fault of reading this input, or of what it says
 abbrev pub IsEarlyIn : Input → RunFault → Type 0
-IsEarlyIn input (Kit e) = ⊤
+IsEarlyIn input (Kit e) = Unit {0}
+IsEarlyIn input (Conflicts a b c d) = input ≡ inputs.Grammar
+IsEarlyIn input (NotARepair n) = input ≡ inputs.Repairs
 IsEarlyIn input (NotUtf8 i) = i ≡ input
 IsEarlyIn input (Read i) = i ≡ input
 IsEarlyIn input (TooLong i) = i ≡ input
 IsEarlyIn input Write = ⊥
-
--- a fault that tells neither a place nor a number
-abbrev pub IsPlaceless : RunFault → Type 0
-IsPlaceless (Kit (kit.NotYet None)) = ⊤
-IsPlaceless (Kit (kit.NotYet (Some p))) = ⊥
-IsPlaceless (Kit (kit.TooManyStates n)) = ⊥
-IsPlaceless (Kit (kit.Memory e)) = ⊤
-IsPlaceless (NotUtf8 i) = ⊤
-IsPlaceless (Read i) = ⊤
-IsPlaceless (TooLong i) = ⊤
-IsPlaceless Write = ⊤
-
--- the kit is that of the text that the source held
-pub record IsKitIn (known : Option (List ℕ)) (k : Parser) : Type 0 where
-  pub text : List ℕ
-  pub whole : IsWhole known text
-  pub is_kit : IsKitOf text k

@@ -1,58 +1,106 @@
 //! The answer to a line.
 
-ghost use Rattle.std.specs.Prelude.{◌≡◌, ◌++◌, map, Ok, IfOk, string_bytes};
-ghost use Rattle.lrkit.specs.Kit.{IsSafeKit};
-ghost use Rattle.lrkit.specs.Answering.{AddsLineText};
-ghost use Rattle.lrkit.specs.Words.{words, lexemes_of};
+ghost use Rattle.std.specs.Prelude.{◌≡◌, ◌≤◌, ◌++◌, Option, IfOk, length, true};
+ghost use Rattle.std.specs.List.{AllByRecursion};
+ghost use Rattle.cfg_theory.specs.Tree.{Tree};
+ghost use Rattle.lrpar.specs.FlatParses.{HasFlat};
+ghost use Rattle.lrpar.specs.Lexemes.{Misfit};
+ghost use Rattle.lrpar.specs.Refusals.{HasMisfit};
+ghost use Rattle.lrpar.specs.Run.{span_by};
+ghost use Rattle.word_lines.specs.Lexing.{items_of, lex_of};
+ghost use Rattle.word_lines.specs.LineTexts.{ErrorCanBeShown, TreeCanBeShown, fault_line};
+ghost use Rattle.lrkit.specs.LineSteps.{AddsParsed};
+ghost use Rattle.lrkit.specs.Output.{AddsLineText, Word, id};
 
-use crate::kit::Kit;
-use crate::lexeme::WordLexeme;
-use crate::lexing::{LexFault, lex_line};
-use crate::parse::{ParseAnswer, ParseFault, parse};
-use crate::printing::{lexeme_place, push_lexing_error, push_parsing_error, push_tree};
+use line_laws::laws::flat_parses_can_be_shown;
+use lrpar::{FlatTree, ParseError, ParseRefusal};
+use parser_kit::ParserKit;
 use std::alloc::{AllocError, Global};
+use word_lines::laws::items_are_parts_of_their_line;
+use word_lines::shown::{push_errors, push_fault, push_tree};
+use word_lines::{RepairLines, WordLexError, WordLexeme, WordLexer, WordLexerTypes};
 
-/// Adds the text of a line: its tree, or its error. It answers whether there was an error.
+type LineTree = FlatTree<u32, WordLexeme<u32>>;
+type LineError = ParseError<WordLexeme<u32>, u32>;
+type LineLexer<'a> = WordLexer<'a, u32>;
+
+/// Adds the text of a line: its errors, and then its tree, if it has a value. It answers whether there was an error.
 pub(crate) fn push_line(
     alloc: Global,
-    kit: &Kit,
+    kit: &ParserKit<u32>,
+    repairs: &RepairLines<u32>,
     line: &str,
     text: &mut Vec<u8>,
 ) -> Result<bool, AllocError>
-    requires { IsSafeKit kit.now }
-    ensures { IfOk result (AddsLineText kit.now line.now text.old.items text.new.items) }
+    ensures { IfOk result (AddsLineText kit.now repairs.now line.now text.old.items text.new.items) }
 {
-    match lex_line(alloc, kit.grammar.tokens.as_slice(), line) {
-        Ok(lexemes) => push_parsed(alloc, kit, line, lexemes.as_slice(), text),
-        Err(LexFault::NoToken { start, .. }) => {
-            push_lexing_error(alloc, line, start, text)?;
-            Ok(true)
-        }
-        Err(LexFault::Memory(e)) => Err(e),
+    let lexer = WordLexer::new(alloc, kit.grm(), line)?;
+    let pushed = push_lexed(alloc, kit, repairs, line, &lexer, text);
+    drop(lexer);
+    pushed
+}
+
+// Adds the text of a line whose items are at hand.
+fn push_lexed<'a>(
+    alloc: Global,
+    kit: &'a ParserKit<u32>,
+    repairs: &RepairLines<u32>,
+    line: &'a str,
+    lexer: &LineLexer<'a>,
+    text: &mut Vec<u8>,
+) -> Result<bool, AllocError>
+    requires line { lexer.now.text ≡ line.now }
+    requires items { lexer.now.items ≡ items_of id kit.now.parser.grammar line.now }
+    requires not_refused { (m : Misfit) → HasMisfit kit.now.parser.grammar.grammar (lex_of id) lexer.now.items m → ⊥ }
+    ensures { IfOk result (AddsLineText kit.now repairs.now line.now text.old.items text.new.items) }
+{
+    flat_parses_can_be_shown::<WordLexerTypes<u32>, RepairLines<u32>>();
+    items_are_parts_of_their_line::<u32>();
+    kit.kit().stays_tabled();
+    let parsed = kit
+        .kit()
+        .parse_flat::<WordLexerTypes<u32>, LineLexer<'_>, RepairLines<u32>>(alloc, lexer, repairs);
+    match parsed {
+        Ok(Ok((tree, errors))) => push_parsed(alloc, kit, line, lexer, &tree, errors, text),
+        Ok(Err(error)) => push_first_fault(alloc, kit, lexer, error, text),
+        Err(ParseRefusal::Memory(e)) => Err(e),
+        Err(ParseRefusal::LexemeOutside(_)) => unreachable!(),
+        Err(ParseRefusal::StartDecreases(_)) => unreachable!(),
     }
 }
 
-// Adds the text of a line with these lexemes.
-fn push_parsed(
+// Adds the texts of these errors, and then that of the tree, if there is one.
+fn push_parsed<'a>(
     alloc: Global,
-    kit: &Kit,
+    kit: &'a ParserKit<u32>,
     line: &str,
-    lexemes: &[WordLexeme],
+    lexer: &LineLexer<'a>,
+    tree: &Option<LineTree>,
+    errors: Vec<LineError>,
     text: &mut Vec<u8>,
 ) -> Result<bool, AllocError>
-    requires safe { IsSafeKit kit.now }
-    requires lexed { lexemes_of (map string_bytes kit.now.grammar.tokens.items) (words line.now) ≡ Ok lexemes.now }
-    ensures { IfOk result (AddsLineText kit.now line.now text.old.items text.new.items) }
+    requires line { lexer.now.text ≡ line.now }
+    requires errors { AllByRecursion (ErrorCanBeShown id kit.now.parser.grammar line.now) errors.items }
+    requires tree { TreeCanBeShown id kit.now.parser.grammar line.now tree.now }
+    ensures { (t : Option (Tree Word)) → HasFlat (span_by (lex_of id)) tree.now t → IfOk result (λ faulty. AddsParsed kit.now.parser.grammar line.now text.old.items text.new.items t errors.items faulty) }
 {
-    match parse(alloc, &kit.grammar, &kit.tables, lexemes) {
-        Ok(ParseAnswer::Tree(node)) => {
-            push_tree(alloc, &kit.grammar, line, b"", &node, text)?;
-            Ok(false)
-        }
-        Ok(ParseAnswer::Error(count)) => {
-            push_parsing_error(alloc, line, lexeme_place(lexemes, count), text)?;
-            Ok(true)
-        }
-        Err(ParseFault::Memory(e)) => Err(e),
-    }
+    let faulty = !errors.is_empty();
+    push_errors(alloc, kit.grm(), lexer, errors, text)?;
+    push_tree(alloc, kit.grm(), line, tree, text)?;
+    Ok(faulty)
+}
+
+// Adds the text of the line's first word that is no token's name.
+fn push_first_fault<'a>(
+    alloc: Global,
+    kit: &'a ParserKit<u32>,
+    lexer: &LineLexer<'a>,
+    error: WordLexError,
+    text: &mut Vec<u8>,
+) -> Result<bool, AllocError>
+    requires within { error.span.end ≤ length lexer.now.text }
+    ensures { IfOk result (λ faulty. (text.new.items ≡ text.old.items ++ fault_line lexer.now.text error) × (faulty ≡ true)) }
+{
+    push_fault(alloc, kit.grm(), lexer, error, text)?;
+    Ok(true)
 }

@@ -1,38 +1,15 @@
 //! Why a run stops, and the program's status.
 
 ghost use Rattle.std.specs.Prelude.{◌≡◌};
-ghost use Rattle.lrkit.specs.Faults.{status_of, run_fault_of};
+ghost use Rattle.lrkit.specs.Faults.{run_fault_of, status_of};
 
-use crate::reading::InputFault;
+use byte_streams::InputFault;
+use cfg_base::span::Spanned;
+use cfg_read::yacc::YaccGrammarError;
+use parser_kit::KitError;
 use std::alloc::AllocError;
 use std::fmt;
 use thiserror::Error;
-
-/// Why a text gives no parser.
-#[derive(Debug, Drop, Error)]
-pub enum KitError {
-    /// The text goes past what is supported: at this byte, or, without a place, by what it means.
-    #[error("not supported yet{place}", place = At(*.0))]
-    NotYet(Option<usize>),
-    /// The parser would have so many states.
-    #[error("too many states: {0}")]
-    TooManyStates(usize),
-    #[error("out of memory")]
-    Memory(AllocError),
-}
-
-// The end of a text that names a place, where there is one.
-#[derive(Clone, Copy)]
-struct At(Option<usize>);
-
-impl fmt::Display for At {
-    fn fmt<W: fmt::Write>(&self, f: &mut fmt::Formatter<W>) -> fmt::Result {
-        match self.0 {
-            Some(place) => write!(f, " at byte {place}"),
-            None => Ok(()),
-        }
-    }
-}
 
 /// One of the inputs of a run.
 #[derive(Clone, Copy, Debug, PartialEq, Eq)]
@@ -52,11 +29,25 @@ impl fmt::Display for Input {
     }
 }
 
-/// Why a run stops without an answer.
+/// Why a run stops without an answer. Its text has a line for each error of the grammar, and else one line.
 #[derive(Debug, Drop, Error)]
 pub enum RunFault {
-    #[error("{0}")]
-    Kit(KitError),
+    /// The grammar's text gives no parser, or there is no memory.
+    #[error("{text}", text = KitText(.0))]
+    Kit(KitError<u32>),
+    /// The counts of the listed conflicts aren't those of `%expect` and `%expect-rr`.
+    #[error(
+        "conflicts: {shift_reduce} shift/reduce, {reduce_reduce} reduce/reduce, expected {expect} and {expect_rr}"
+    )]
+    Conflicts {
+        shift_reduce: usize,
+        reduce_reduce: usize,
+        expect: usize,
+        expect_rr: usize,
+    },
+    /// This line of the repairs, counted from one, is the first that is no repair.
+    #[error("repairs line {0}: not a repair")]
+    NotARepair(usize),
     #[error("{0}: not UTF-8")]
     NotUtf8(Input),
     #[error("{0}: read fault")]
@@ -64,23 +55,51 @@ pub enum RunFault {
     /// The input has more than 67,108,864 bytes.
     #[error("{0}: too long")]
     TooLong(Input),
+    /// A write failed, or took nothing of a text that isn't empty.
     #[error("write fault")]
     Write,
 }
 
-impl From<KitError> for RunFault {
+// Shows all errors of a grammar.
+#[derive(Clone, Copy)]
+struct KitText<'a>(&'a KitError<u32>);
+
+impl fmt::Display for KitText<'_> {
+    fn fmt<W: fmt::Write>(&self, f: &mut fmt::Formatter<W>) -> fmt::Result {
+        match self.0 {
+            KitError::Grammar(errors) => write_errors(f, errors.as_slice()),
+            other => write!(f, "{other}"),
+        }
+    }
+}
+
+// A line for each error, with no line feed behind the last.
+fn write_errors<W: fmt::Write>(
+    f: &mut fmt::Formatter<W>,
+    errors: &[YaccGrammarError],
+) -> fmt::Result {
+    let mut front = "";
+    for error in errors {
+        let start = error.spans().first().map_or(0, |span| span.start());
+        write!(f, "{front}grammar error at byte {start}: {error}")?;
+        front = "\n";
+    }
+    Ok(())
+}
+
+impl From<KitError<u32>> for RunFault {
     ghost use Rattle.lrkit.specs.declared.fault.RunFault.TheVariants.{Kit};
 
     ghost from_gives = { λ x e. e ≡ Kit x };
 
-    fn from(e: KitError) -> RunFault {
+    fn from(e: KitError<u32>) -> RunFault {
         RunFault::Kit(e)
     }
 }
 
 impl From<AllocError> for RunFault {
-    ghost use Rattle.lrkit.specs.declared.fault.KitError.TheVariants.{Memory};
     ghost use Rattle.lrkit.specs.declared.fault.RunFault.TheVariants.{Kit};
+    ghost use Rattle.parser_kit.specs.declared.kit_error.KitError.TheVariants.{Memory};
 
     ghost from_gives = { λ x e. e ≡ Kit (Memory x) };
 
@@ -110,6 +129,8 @@ pub fn status(outcome: &Result<bool, RunFault>) -> u8
         Ok(true) => 1,
         Err(RunFault::Kit(KitError::Memory(_))) => 6,
         Err(RunFault::Kit(_)) => 2,
+        Err(RunFault::Conflicts { .. }) => 3,
+        Err(RunFault::NotARepair(_)) => 4,
         Err(_) => 5,
     }
 }

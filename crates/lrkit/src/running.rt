@@ -1,27 +1,28 @@
-//! From grammar, lines and repairs to the text.
+//! From grammar, repairs and lines to the text.
 
-ghost use Rattle.std.specs.Prelude.{◌≡◌, ◌||◌, ◌+◌, [], IfOk, IfErr, OnOk, OnErr, string_bytes};
-ghost use Rattle.lrkit.specs.Source.{IsWhole};
+ghost use Rattle.std.specs.Prelude.{◌≡◌, ◌||◌, ◌+◌, ℕ, List, Option, None, IfOk, IfErr, OnOk, OnErr, string_bytes};
 ghost use Rattle.std.specs.Str.Lines.{lines};
-ghost use Rattle.lrkit.specs.Inputs.{most_bytes, TakesAtMost};
-ghost use Rattle.lrkit.specs.Kit.{IsSafeKit};
-ghost use Rattle.lrkit.specs.Numbering.{numbered_of};
-ghost use Rattle.lrkit.specs.Run.{WritesOutput, IsOutAt, IsCauseIn, IsPlaceIn, IsLate, IsEarlyIn, IsPlaceless, IsKitIn};
-ghost use Rattle.lrkit.specs.Tables.{automaton_of};
-ghost use Rattle.lrkit.specs.Writing.{WritesLine, WritesLines, BeginsLine};
+ghost use Rattle.byte_streams.specs.Source.{IsWhole};
+ghost use Rattle.byte_streams.specs.Inputs.{most_bytes, TakesAtMost};
 ghost use Rattle.lrkit.specs.Output.{BeginsTexts};
+ghost use Rattle.lrkit.specs.Run.{AreGoodBefore, IsCauseIn, IsEarlyIn, IsGoodKitIn, IsLate, IsOutAt, IsReadFaultOf, IsRefusal, IsWriteCause, ReadsRepairsIn, WritesOutput};
+ghost use Rattle.lrkit.specs.Writing.{BeginsLine, WritesLine, WritesLines};
 
 use crate::answering::push_line;
-use crate::fault::{Input, KitError, RunFault, run_fault};
-use crate::kit::{Kit, make_kit};
-use crate::reading::{Source, read_text};
-use crate::writing::{Sink, write_all};
+use crate::counts::check_counts;
+use crate::fault::{Input, RunFault, run_fault};
+use byte_streams::{Sink, Source, read_text, write_all};
+use parser_kit::ParserKit;
 use std::alloc::Global;
+use word_lines::{RepairLines, RepairsError, read_repairs};
 
-/// Writes, for each line, its tree or its error. It answers whether some line has an error.
+// No chain of reductions on one token goes past this.
+const CAP: u16 = 1000;
+
+/// Writes, for each line, its errors and then its tree, if it has a value. It answers whether some line has an error.
 ///
-/// It reads the grammar, the repairs, of which there are none yet, and the lines, each to its end and
-/// at most one byte more than 67,108,864; only then it writes.
+/// It reads the grammar and makes its parser, reads the repairs and then all lines, each input to its end and at most one
+/// byte more than 67,108,864; only then it writes. At most the number of bytes that `write` tells is out.
 pub fn run<G: Source, L: Source, R: Source, W: Sink>(
     alloc: Global,
     grammar: &mut G,
@@ -29,15 +30,16 @@ pub fn run<G: Source, L: Source, R: Source, W: Sink>(
     repairs: &mut R,
     out: &mut W,
 ) -> Result<bool, RunFault>
-    ensures ok { IfOk result (WritesOutput (G.known grammar.old) (L.known lines.old) (W.known out.old) (W.known out.new)) }
-    ensures no_repairs { OnOk result (IsWhole (R.known repairs.old) []) }
-    ensures out_at { IfErr result (IsOutAt (G.known grammar.old) (L.known lines.old) (W.known out.old) (W.known out.new)) }
+    ensures ok { IfOk result (WritesOutput (G.known grammar.old) (L.known lines.old) (R.known repairs.old) (W.known out.old) (W.known out.new)) }
+    ensures out_at { IfErr result (IsOutAt (G.known grammar.old) (L.known lines.old) (R.known repairs.old) (W.known out.old) (W.known out.new)) }
 
-    // Why an input is refused.
+    // Why nothing, or not all, is written.
+    ensures refused { IfErr result (IsRefusal (G.known grammar.old) (R.known repairs.old)) }
+    ensures early { IfErr result (AreGoodBefore (G.known grammar.old) (R.known repairs.old)) }
     ensures in_grammar { IfErr result (IsCauseIn Input.Grammar (G.known grammar.old) (G.faults grammar.old) (G.faults grammar.new)) }
     ensures in_lines { IfErr result (IsCauseIn Input.Lines (L.known lines.old) (L.faults lines.old) (L.faults lines.new)) }
     ensures in_repairs { IfErr result (IsCauseIn Input.Repairs (R.known repairs.old) (R.faults repairs.old) (R.faults repairs.new)) }
-    ensures place { IfErr result (IsPlaceIn (G.known grammar.old)) }
+    ensures in_out { IfErr result (IsWriteCause (W.faults out.old) (W.faults out.new)) }
 
     // How much is read.
     ensures took_grammar { TakesAtMost (most_bytes + 1) (G.known grammar.old) (G.known grammar.new) }
@@ -45,48 +47,55 @@ pub fn run<G: Source, L: Source, R: Source, W: Sink>(
     ensures took_repairs { TakesAtMost (most_bytes + 1) (R.known repairs.old) (R.known repairs.new) }
 {
     let kit = read_kit(alloc, grammar)?;
-    check_repairs(alloc, repairs)?;
+    let repair_lines = read_repair_lines(alloc, &kit, repairs)?;
     let line_text = read_input(alloc, Input::Lines, lines)?;
-    write_lines(alloc, &kit, line_text.as_str(), out)
+    write_lines(alloc, &kit, &repair_lines, line_text.as_str(), out)
 }
 
-// The parser of the grammar that the source holds.
-fn read_kit<G: Source>(alloc: Global, grammar: &mut G) -> Result<Kit, RunFault>
-    ensures ok { IfOk result (IsKitIn (G.known grammar.old)) }
+// The parser of the grammar that the source holds, whose conflicts are expected.
+fn read_kit<G: Source>(alloc: Global, grammar: &mut G) -> Result<ParserKit<u32>, RunFault>
+    ensures ok { IfOk result (IsGoodKitIn (G.known grammar.old)) }
     ensures early { IfErr result (IsEarlyIn Input.Grammar) }
+    ensures refused { IfErr result (IsRefusal (G.known grammar.old) None) }
     ensures cause { IfErr result (IsCauseIn Input.Grammar (G.known grammar.old) (G.faults grammar.old) (G.faults grammar.new)) }
-    ensures place { IfErr result (IsPlaceIn (G.known grammar.old)) }
     ensures took { TakesAtMost (most_bytes + 1) (G.known grammar.old) (G.known grammar.new) }
 {
     let text = read_input(alloc, Input::Grammar, grammar)?;
-    match make_kit(alloc, text.as_str()) {
-        Ok(kit) => Ok(kit),
-        Err(e) => Err(RunFault::Kit(e)),
+    let kit = ParserKit::of_text(alloc, text.as_str(), CAP)?;
+    match check_counts(&kit) {
+        Ok(()) => Ok(kit),
+        Err(e) => {
+            drop(kit);
+            Err(e)
+        }
     }
 }
 
-// Repairs are not supported yet.
-fn check_repairs<R: Source>(alloc: Global, repairs: &mut R) -> Result<(), RunFault>
-    ensures ok { OnOk result (IsWhole (R.known repairs.old) []) }
+// The repairs that the source holds.
+fn read_repair_lines<R: Source>(
+    alloc: Global,
+    kit: &ParserKit<u32>,
+    repairs: &mut R,
+) -> Result<RepairLines<u32>, RunFault>
+    ensures ok { IfOk result (ReadsRepairsIn kit.now (R.known repairs.old)) }
     ensures early { IfErr result (IsEarlyIn Input.Repairs) }
+    ensures refused { (known : Option (List ℕ)) → IsGoodKitIn known kit.now → IfErr result (IsRefusal known (R.known repairs.old)) }
     ensures cause { IfErr result (IsCauseIn Input.Repairs (R.known repairs.old) (R.faults repairs.old) (R.faults repairs.new)) }
-    ensures placeless { IfErr result IsPlaceless }
     ensures took { TakesAtMost (most_bytes + 1) (R.known repairs.old) (R.known repairs.new) }
 {
     let text = read_input(alloc, Input::Repairs, repairs)?;
-    if text.is_empty() {
-        Ok(())
-    } else {
-        Err(RunFault::Kit(KitError::NotYet(None)))
+    match read_repairs(alloc, kit.grm(), text.as_str()) {
+        Ok(repair_lines) => Ok(repair_lines),
+        Err(RepairsError::NotARepair(line)) => Err(RunFault::NotARepair(line)),
+        Err(RepairsError::Memory(e)) => Err(RunFault::from(e)),
     }
 }
 
 // An input as a text.
 fn read_input<S: Source>(alloc: Global, input: Input, source: &mut S) -> Result<String, RunFault>
     ensures ok { IfOk result (λ t. IsWhole (S.known source.old) (string_bytes t)) }
-    ensures early { IfErr result (IsEarlyIn input) }
+    ensures early { IfErr result (IsReadFaultOf input) }
     ensures cause { IfErr result (IsCauseIn input (S.known source.old) (S.faults source.old) (S.faults source.new)) }
-    ensures placeless { IfErr result IsPlaceless }
     ensures took { TakesAtMost (most_bytes + 1) (S.known source.old) (S.known source.new) }
 {
     match read_text(alloc, source) {
@@ -98,18 +107,20 @@ fn read_input<S: Source>(alloc: Global, input: Input, source: &mut S) -> Result<
 // Writes the texts of all lines. It answers whether some line has an error.
 fn write_lines<W: Sink>(
     alloc: Global,
-    kit: &Kit,
+    kit: &ParserKit<u32>,
+    repairs: &RepairLines<u32>,
     line_text: &str,
     out: &mut W,
 ) -> Result<bool, RunFault>
-    requires { IsSafeKit kit.now }
-    ensures ok { IfOk result (WritesLines kit.now (lines line_text.now) (W.known out.old) (W.known out.new)) }
+    ensures ok { IfOk result (WritesLines kit.now repairs.now (lines line_text.now) (W.known out.old) (W.known out.new)) }
     ensures late { IfErr result IsLate }
-    ensures begins { OnErr result (BeginsTexts (numbered_of kit.now.grammar) (automaton_of kit.now.tables) (lines line_text.now) (W.known out.old) (W.known out.new)) }
+    ensures begins { OnErr result (BeginsTexts kit.now repairs.now (lines line_text.now) (W.known out.old) (W.known out.new)) }
+    ensures cause { IfErr result (IsWriteCause (W.faults out.old) (W.faults out.new)) }
+    ensures kept { OnOk result (W.faults out.new ≡ W.faults out.old) }
 {
     let mut faulty = false;
     'lines: for line in line_text.lines() {
-        let wrong = write_line(alloc, kit, line, out)?;
+        let wrong = write_line(alloc, kit, repairs, line, out)?;
         faulty = either(faulty, wrong);
     }
     Ok(faulty)
@@ -122,14 +133,21 @@ fn either(a: bool, b: bool) -> bool
 }
 
 // Writes the text of a line. It answers whether the line has an error.
-fn write_line<W: Sink>(alloc: Global, kit: &Kit, line: &str, out: &mut W) -> Result<bool, RunFault>
-    requires { IsSafeKit kit.now }
-    ensures ok { IfOk result (WritesLine kit.now line.now (W.known out.old) (W.known out.new)) }
+fn write_line<W: Sink>(
+    alloc: Global,
+    kit: &ParserKit<u32>,
+    repairs: &RepairLines<u32>,
+    line: &str,
+    out: &mut W,
+) -> Result<bool, RunFault>
+    ensures ok { IfOk result (WritesLine kit.now repairs.now line.now (W.known out.old) (W.known out.new)) }
     ensures late { IfErr result IsLate }
-    ensures begins { IfErr result (BeginsLine kit.now line.now (W.known out.old) (W.known out.new)) }
+    ensures begins { IfErr result (BeginsLine kit.now repairs.now line.now (W.known out.old) (W.known out.new)) }
+    ensures cause { IfErr result (IsWriteCause (W.faults out.old) (W.faults out.new)) }
+    ensures kept { OnOk result (W.faults out.new ≡ W.faults out.old) }
 {
     let mut text = Vec::new(alloc);
-    let faulty = push_line(alloc, kit, line, &mut text)?;
+    let faulty = push_line(alloc, kit, repairs, line, &mut text)?;
     match write_all(out, text.as_slice()) {
         Ok(()) => Ok(faulty),
         Err(_) => Err(RunFault::Write),

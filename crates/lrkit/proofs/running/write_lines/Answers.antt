@@ -10,14 +10,14 @@ pub returns-in_err-wrong-clause-begins : goal.returns-in_err-wrong-clause-begins
 returns-in_err-wrong-clause-begins g c =
     let turn = YieldsList-turn (YieldsList-at c.into_iter-line-iterator.ensures.into_iter_gives (YieldsList-from_lines c.args.line_text.now c.lines-line-items.ensures.rest)) c.lines.yielded _ c.lines.yielded_by _ _ c.in-Some.line c.in-Some.is c.next.ensures.steps in
     let p = err_from_is_err_and c.from_residual.result c.from_residual.ensures.1 in
-    rw p.1 (BeginsTexts-more _ _ _ _ _ _ _ _ turn c.lines.invariant _ c.in_err-wrong.ensures.begins)
+    rw p.1 (BeginsTexts-more _ _ _ _ _ _ _ _ _ turn c.lines.invariant.0 _ c.in_err-wrong.ensures.begins)
 
 pub lines-preserved : goal.lines-preserved
 lines-preserved g c =
     let turn = YieldsList-turn (YieldsList-at c.into_iter-line-iterator.ensures.into_iter_gives (YieldsList-from_lines c.args.line_text.now c.lines-line-items.ensures.rest)) c.lines.yielded _ c.lines.yielded_by _ _ c.in-Some.line c.in-Some.is c.next.ensures.steps in
-    rw length_push (WritesLines-more _ _ _ _ _ _ _ _ turn c.lines.invariant _ _ c.in_ok-wrong.ensures.ok c.either-faulty.ensures)
+    rw length_push (WritesLines-more _ _ _ _ _ _ _ _ _ turn c.lines.invariant.0 _ _ c.in_ok-wrong.ensures.ok c.either-faulty.ensures)
 
 pub returns-clause-ok : goal.returns-clause-ok
 returns-clause-ok g c =
     let e = YieldsList-end (YieldsList-at c.into_iter-line-iterator.ensures.into_iter_gives (YieldsList-from_lines c.args.line_text.now c.lines-line-items.ensures.rest)) c.lines.yielded _ c.lines.yielded_by _ _ c.in-None.is c.next.ensures.steps in
-    WritesLines-end _ _ _ _ _ _ c.lines.invariant (omega (arith, e.1))
+    WritesLines-end _ _ _ _ _ _ _ c.lines.invariant.0 (omega (arith, e.1))

@@ -99,7 +99,11 @@ fn read_input<S: Source>(alloc: Global, input: Input, source: &mut S) -> Result<
     ensures took { TakesAtMost (most_bytes + 1) (S.known source.old) (S.known source.new) }
 {
     match read_text(alloc, source) {
-        Ok(text) => Ok(text),
+        Ok(text) => {
+            // Read, so that the proof may use how many bytes it has.
+            let _bytes = text.as_bytes();
+            Ok(text)
+        }
         Err(e) => Err(run_fault(input, e)),
     }
 }

@@ -1,45 +1,73 @@
 //! What `run` answers to rows.
 
-use crate::bytes::Bytes;
-use crate::row::{Row, bytes_of};
+use crate::row::{Row, source_of};
+use crate::streams::{Taker, number_in};
 use lrkit::{Counted, RunFault, run, status};
 use std::alloc::{AllocError, Global};
 
+/// Adds a line behind a mark.
+fn push_line(out: &mut String, mark: &str, line: &str) -> Result<(), AllocError> {
+    out.push_str(mark)?;
+    out.push_str(line)?;
+    out.push('\n')
+}
+
 /// Adds the lines of a text, each behind a mark.
-fn push_marked(out: &mut String, mark: &str, text: &str) -> Result<(), AllocError> {
+fn push_lines(out: &mut String, mark: &str, text: &str) -> Result<(), AllocError> {
     for line in text.lines() {
-        out.push_str(mark)?;
-        out.push_str(line)?;
-        out.push('\n')?;
+        push_line(out, mark, line)?;
     }
     Ok(())
 }
 
-/// Adds the text of a fault, if there is one.
-fn push_fault(
+/// Adds what was written, and whether its last line has no LF.
+fn push_written(out: &mut String, written: &str) -> Result<(), AllocError> {
+    push_lines(out, ">", written)?;
+    if written.is_empty() || written.ends_with('\n') {
+        Ok(())
+    } else {
+        push_line(out, "~", "")
+    }
+}
+
+/// Adds the text of a fault, if there is one, and the status.
+fn push_outcome(
     alloc: Global,
     out: &mut String,
     outcome: &Result<bool, RunFault>,
 ) -> Result<(), AllocError> {
-    match outcome {
-        Ok(_) => Ok(()),
-        Err(fault) => push_marked(out, "! ", fault.to_string(alloc)?.as_str()),
+    if let Err(fault) = outcome {
+        let text = fault.to_string(alloc)?;
+        push_lines(out, "! ", text.as_str())?;
     }
+    let code = status(outcome);
+    out.push_str(format!(in alloc; "status {code}\n")?.as_str())
+}
+
+/// What takes the output, as a heading tells.
+fn sink_of(alloc: Global, heading: &str) -> Counted<Taker> {
+    let fails = number_in(heading, "room:");
+    let stuck = number_in(heading, "full:");
+    Counted::new(Taker {
+        taken: Vec::new(alloc),
+        at_once: number_in(heading, "out:").unwrap_or(usize::MAX),
+        room: fails.or(stuck).unwrap_or(usize::MAX),
+        fails: stuck.is_none(),
+    })
 }
 
 /// Adds what was written, the fault and the status.
-fn push_answer(alloc: Global, out: &mut String, row: &Row) -> Result<(), AllocError> {
-    let mut grammar = Counted::new(Bytes::new(bytes_of(&row.grammar)));
-    let mut lines = Counted::new(Bytes::new(bytes_of(&row.lines)));
-    let mut repairs = Counted::new(Bytes::new(bytes_of(&row.repairs)));
-    let mut sink = Counted::new(Vec::new(alloc));
+fn push_answer(alloc: Global, out: &mut String, row: &Row<'_>) -> Result<(), AllocError> {
+    let heading = row.heading;
+    let mut grammar = source_of(heading, &row.grammar, "grammar-fails:", "grammar-blanks:");
+    let mut lines = source_of(heading, &row.lines, "lines-fails:", "lines-blanks:");
+    let mut repairs = source_of(heading, &row.repairs, "repairs-fails:", "repairs-blanks:");
+    let mut sink = sink_of(alloc, heading);
     let outcome = run(alloc, &mut grammar, &mut lines, &mut repairs, &mut sink);
-    if let Ok(written) = String::from_utf8(sink.into_inner()) {
-        push_marked(out, ">", written.as_str())?;
+    if let Ok(written) = String::from_utf8(sink.into_inner().taken) {
+        push_written(out, written.as_str())?;
     }
-    push_fault(alloc, out, &outcome)?;
-    let code = status(&outcome);
-    out.push_str(format!(in alloc; "status {code}\n")?.as_str())
+    push_outcome(alloc, out, &outcome)
 }
 
 /// Whether a line is kept as it stands: a heading, a comment, or an empty one.
@@ -48,29 +76,41 @@ fn is_kept(line: &str) -> bool {
 }
 
 /// Ends a row, if one is open.
-fn end_row(alloc: Global, out: &mut String, row: &mut Row) -> Result<(), AllocError> {
+fn end_row(alloc: Global, out: &mut String, row: &mut Row<'_>) -> Result<(), AllocError> {
     if row.grammar.is_some() {
         push_answer(alloc, out, row)?;
-        *row = Row::new();
+        *row = Row::under(row.heading);
     }
     Ok(())
+}
+
+/// Takes a line of the file: it is kept, or part of an answer that is made anew.
+fn take_line<'a>(
+    alloc: Global,
+    out: &mut String,
+    row: &mut Row<'a>,
+    line: &'a str,
+) -> Result<(), AllocError> {
+    if row.take_line(alloc, line)? {
+        return push_line(out, "", line);
+    }
+    end_row(alloc, out, row)?;
+    if let Some(heading) = line.strip_prefix("= ") {
+        row.heading = heading;
+    }
+    if is_kept(line) {
+        push_line(out, "", line)
+    } else {
+        Ok(())
+    }
 }
 
 /// The file with the answers to its rows.
 pub fn answer_file(alloc: Global, file: &str) -> Result<String, AllocError> {
     let mut out = String::new(alloc);
-    let mut row = Row::new();
+    let mut row = Row::under("");
     for line in file.lines() {
-        let taken = row.take_line(alloc, line)?;
-        if !taken {
-            end_row(alloc, &mut out, &mut row)?;
-        }
-        if taken || is_kept(line) {
-            push_marked(&mut out, "", line)?;
-            if line.is_empty() {
-                out.push('\n')?;
-            }
-        }
+        take_line(alloc, &mut out, &mut row, line)?;
     }
     end_row(alloc, &mut out, &mut row)?;
     Ok(out)

@@ -1,11 +1,19 @@
 //! Prints the files that its arguments name, with what `lrkit::run` answers to their rows in the place of the answers that
-//! stand there: a file of right answers is printed as it is. `tools/rows` makes `stdout` of those in `data/`, whose heads
-//! tell the form.
+//! stand there: a file of right answers is printed as it is. `tools/rows` makes `stdout` of those in `data/`, of which
+//! `worked.rows` tells the form.
+//!
+//! A heading, a line `= WORD ..`, tells how the streams of the rows below it behave:
+//!
+//! - `in:N`: a read gives at most N bytes. `out:N`: a write takes at most N bytes.
+//! - `room:N`: behind the first N bytes a write fails. `full:N`: there it takes nothing.
+//! - `grammar-fails:N`, `lines-fails:N`, `repairs-fails:N`: read N of that input, counted from one, fails.
+//! - `grammar-blanks:N`, `lines-blanks:N`, `repairs-blanks:N`: that input has N spaces behind its bytes.
 #![tactic(auto)]
 
 mod answer;
 mod bytes;
 mod row;
+mod streams;
 
 use std::{env, fs, io};
 

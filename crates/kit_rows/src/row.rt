@@ -1,30 +1,42 @@
-//! A row: a grammar, lines and repairs.
+//! A row: a grammar, lines and repairs, under a heading.
 
+use crate::bytes::push_line;
+use crate::streams::{Giver, number_in};
+use lrkit::Counted;
 use std::alloc::{AllocError, Global};
 
-/// The inputs of a row so far. Each input has its lines, with an LF between two of them.
+/// The inputs of a row so far. Each has its lines, with an LF between two of them.
 #[derive(Drop)]
-pub struct Row {
-    pub grammar: Option<String>,
-    pub lines: Option<String>,
-    pub repairs: Option<String>,
+pub struct Row<'a> {
+    /// The words that tell how its streams behave.
+    pub heading: &'a str,
+    pub grammar: Option<Vec<u8>>,
+    pub lines: Option<Vec<u8>>,
+    pub repairs: Option<Vec<u8>>,
 }
 
-/// The text before, if there is one, and one more line.
-fn with_line(alloc: Global, before: Option<String>, line: &str) -> Result<String, AllocError> {
-    let mut text = String::new(alloc);
-    if let Some(before) = before {
-        text.push_str(before.as_str())?;
-        text.push('\n')?;
-    }
-    text.push_str(line)?;
-    Ok(text)
+/// The bytes before, if there are any, and one more line.
+fn with_line(
+    alloc: Global,
+    before: Option<Vec<u8>>,
+    line: &str,
+) -> Result<Option<Vec<u8>>, AllocError> {
+    let mut bytes = match before {
+        Some(mut bytes) => {
+            bytes.push(b'\n')?;
+            bytes
+        }
+        None => Vec::new(alloc),
+    };
+    push_line(&mut bytes, line)?;
+    Ok(Some(bytes))
 }
 
-impl Row {
+impl<'a> Row<'a> {
     /// A row without inputs.
-    pub fn new() -> Row {
+    pub fn under(heading: &'a str) -> Row<'a> {
         Row {
+            heading,
             grammar: None,
             lines: None,
             repairs: None,
@@ -34,25 +46,36 @@ impl Row {
     /// Takes a line of the grammar (`|`), of the lines (`<`) or of the repairs (`?`). It answers whether it is one.
     pub fn take_line(&mut self, alloc: Global, line: &str) -> Result<bool, AllocError> {
         if let Some(piece) = line.strip_prefix('|') {
-            self.grammar = Some(with_line(alloc, self.grammar.take(), piece)?);
+            self.grammar = with_line(alloc, self.grammar.take(), piece)?;
             return Ok(true);
         }
         if let Some(piece) = line.strip_prefix('<') {
-            self.lines = Some(with_line(alloc, self.lines.take(), piece)?);
+            self.lines = with_line(alloc, self.lines.take(), piece)?;
             return Ok(true);
         }
         if let Some(piece) = line.strip_prefix('?') {
-            self.repairs = Some(with_line(alloc, self.repairs.take(), piece)?);
+            self.repairs = with_line(alloc, self.repairs.take(), piece)?;
             return Ok(true);
         }
         Ok(false)
     }
 }
 
-/// The bytes of an input; none where it isn't told.
-pub fn bytes_of(text: &Option<String>) -> &[u8] {
-    match text {
-        Some(text) => text.as_bytes(),
+/// What gives an input, none of it where it isn't told. `fails` and `blanks` are the words of the heading that speak of it.
+pub fn source_of<'a>(
+    heading: &str,
+    input: &'a Option<Vec<u8>>,
+    fails: &str,
+    blanks: &str,
+) -> Counted<Giver<'a>> {
+    let rest: &'a [u8] = match input {
+        Some(bytes) => bytes.as_slice(),
         None => b"",
-    }
+    };
+    Counted::new(Giver {
+        rest,
+        at_once: number_in(heading, "in:").unwrap_or(usize::MAX),
+        fault_in: number_in(heading, fails).unwrap_or(0),
+        blanks: number_in(heading, blanks).unwrap_or(0),
+    })
 }

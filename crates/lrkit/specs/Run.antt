@@ -1,5 +1,5 @@
 -- What a run leaves, and why it stops.
-use Rattle.std.specs.Prelude.{◌≡◌, ◌⊎◌, ℕ, Bool, List, Option, IfSome}
+use Rattle.std.specs.Prelude.{◌≡◌, ◌≤◌, ◌⊎◌, ℕ, Bool, List, length, Option, IfSome}
 use Rattle.std.specs.Io.KnownBytes.{Appends, Keeps}
 use Rattle.std.specs.Str.{IsUtf8}
 use Rattle.std.specs.Str.Lines.{lines}
@@ -16,15 +16,21 @@ use Rattle.lrkit.specs.declared.fault.Input.TheVariants as inputs
 use Rattle.lrkit.specs.declared.fault.RunFault.{RunFault}
 use Rattle.lrkit.specs.declared.fault.RunFault.TheVariants.{Kit, Conflicts, NotARepair, NotUtf8, Read, TooLong, Write}
 
+-- an input that is read: all bytes of its source are this text, and they are no more than an input may have
+pub record IsInput (known : Option (List ℕ)) (text : List ℕ) : Type 0 where
+  pub whole : IsWhole known text
+  pub short : length text ≤ most_bytes
+  pub utf8 : IsUtf8 text
+
 -- the sink got exactly the output of what the inputs held
 pub record WritesOutput (grammar lines repairs : Option (List ℕ)) (known known' : Option (List ℕ)) (faulty : Bool) : Type 0 where
   pub grammar_text : List ℕ
   pub line_text : List ℕ
   pub repair_text : List ℕ
   pub text : List ℕ
-  pub grammar_is : IsWhole grammar grammar_text
-  pub lines_are : IsWhole lines line_text
-  pub repairs_are : IsWhole repairs repair_text
+  pub grammar_is : IsInput grammar grammar_text
+  pub lines_are : IsInput lines line_text
+  pub repairs_are : IsInput repairs repair_text
   pub is_output : Output grammar_text line_text repair_text text faulty
   pub written : Appends known known' text
 
@@ -33,9 +39,9 @@ pub record WritesBeginning (grammar lines repairs : Option (List ℕ)) (known kn
   pub grammar_text : List ℕ
   pub line_text : List ℕ
   pub repair_text : List ℕ
-  pub grammar_is : IsWhole grammar grammar_text
-  pub lines_are : IsWhole lines line_text
-  pub repairs_are : IsWhole repairs repair_text
+  pub grammar_is : IsInput grammar grammar_text
+  pub lines_are : IsInput lines line_text
+  pub repairs_are : IsInput repairs repair_text
   pub begins : BeginsOutput grammar_text line_text repair_text known known'
 
 -- what is out at a fault: a beginning where a write failed, that or nothing where memory ran out, and else nothing
@@ -77,20 +83,20 @@ IsWriteCause faults faults' (TooLong i) = faults' ≡ faults
 -- the kit is that of the text that the source held, and its conflicts are expected
 pub record IsGoodKitIn (known : Option (List ℕ)) (k : KitValue) : Type 0 where
   pub text : List ℕ
-  pub whole : IsWhole known text
+  pub input : IsInput known text
   pub is_kit : IsRunKit text k
   pub expected : AreExpected k
 
 -- the source held these repairs
 pub record ReadsRepairsIn (k : KitValue) (known : Option (List ℕ)) (repairs : List (List Edit)) : Type 0 where
   pub text : List ℕ
-  pub whole : IsWhole known text
+  pub input : IsInput known text
   pub are_repairs : ReadsRepairs k text repairs
 
 -- the kit of the text that the source held has other counts than are expected
 pub record HasCountsIn (known : Option (List ℕ)) (e : RunFault) : Type 0 where
   pub text : List ℕ
-  pub whole : IsWhole known text
+  pub input : IsInput known text
   pub k : KitValue
   pub is_kit : IsRunKit text k
   pub other : HasOtherCounts k e
@@ -98,7 +104,7 @@ pub record HasCountsIn (known : Option (List ℕ)) (e : RunFault) : Type 0 where
 -- the text that the source held gives no kit
 pub record HasKitRefusalIn (known : Option (List ℕ)) (P : List ℕ → Type 0) : Type 0 where
   pub text : List ℕ
-  pub whole : IsWhole known text
+  pub input : IsInput known text
   pub refused : P text
 
 -- this line of the repairs is the first that is none
@@ -106,7 +112,7 @@ pub record HasBadLineIn (grammar repairs : Option (List ℕ)) (n : ℕ) : Type 0
   pub k : KitValue
   pub is_kit : IsGoodKitIn grammar k
   pub text : List ℕ
-  pub whole : IsWhole repairs text
+  pub input : IsInput repairs text
   pub bad : IsFirstBadLine k.parser.grammar (lines text) n
 
 -- what a fault says of the grammar and of the repairs

@@ -3,7 +3,7 @@ use Rattle.std.specs.Prelude.{◌≡◌, ℕ, List, length, unwrap_or, Option, N
 use Rattle.cfg_read.specs.declared.yacc.YaccKind.{YaccKind}
 use Rattle.table_theory.specs.Cells.{Conflicts}
 use Rattle.parser_kit.specs.Kit.{IsKitOf, KitValue}
-use Rattle.parser_kit.specs.KitErrors.{IsKitRefusal, IsToldRefusal}
+use Rattle.parser_kit.specs.KitErrors.{HasKitCause, IsKitRefusal, IsToldRefusal}
 use Rattle.parser_kit.specs.TextKinds.{IsKindOfText}
 use Rattle.parser_kit.specs.declared.kit_error.KitError.{KitError}
 use Rattle.lrkit.specs.declared.fault.RunFault.{RunFault}
@@ -22,9 +22,10 @@ pub record IsRunKit (text : List ℕ) (k : KitValue) : Type 0 where
   pub is_kind : IsKindOfText text kind
   pub is_kit : IsKitOf top kind text cap k
 
--- why a text gives no kit
-abbrev pub IsRunKitRefusal : List ℕ → KitError ℕ → Type 0
-IsRunKitRefusal text e = IsToldRefusal text (λ kind. IsKitRefusal (λ n. n) top kind text cap) e
+-- why a text gives no kit: the first thing that is so of it, and the same of canonical LR(1)
+pub record IsRunKitRefusal (text : List ℕ) (e : KitError ℕ) : Type 0 where
+  pub refused : IsToldRefusal text (λ kind. IsKitRefusal (λ n. n) top kind text cap) e
+  pub cause : IsToldRefusal text (λ kind. HasKitCause (λ n. n) top kind text) e
 
 abbrev pub expect_of : KitValue → ℕ
 expect_of k = unwrap_or k.parser.grammar.kept.expect 0

@@ -2,10 +2,9 @@
 
 ghost use Rattle.std.specs.Prelude.{◌≡◌, ◌||◌, ◌+◌, ℕ, List, Option, None, IfOk, IfErr, OnOk, OnErr, string_bytes};
 ghost use Rattle.std.specs.Str.Lines.{lines};
-ghost use Rattle.byte_streams.specs.Source.{IsWhole};
 ghost use Rattle.byte_streams.specs.Inputs.{most_bytes, TakesAtMost};
 ghost use Rattle.lrkit.specs.Output.{BeginsTexts};
-ghost use Rattle.lrkit.specs.Run.{AreGoodBefore, IsCauseIn, IsEarlyIn, IsGoodKitIn, IsLate, IsOutAt, IsReadFaultOf, IsRefusal, IsWriteCause, ReadsRepairsIn, WritesOutput};
+ghost use Rattle.lrkit.specs.Run.{AreGoodBefore, IsCauseIn, IsEarlyIn, IsGoodKitIn, IsInput, IsLate, IsOutAt, IsReadFaultOf, IsRefusal, IsWriteCause, ReadsRepairsIn, WritesOutput};
 ghost use Rattle.lrkit.specs.Writing.{BeginsLine, WritesLine, WritesLines};
 
 use crate::answering::push_line;
@@ -40,6 +39,7 @@ pub fn run<G: Source, L: Source, R: Source, W: Sink>(
     ensures in_lines { IfErr result (IsCauseIn Input.Lines (L.known lines.old) (L.faults lines.old) (L.faults lines.new)) }
     ensures in_repairs { IfErr result (IsCauseIn Input.Repairs (R.known repairs.old) (R.faults repairs.old) (R.faults repairs.new)) }
     ensures in_out { IfErr result (IsWriteCause (W.faults out.old) (W.faults out.new)) }
+    ensures kept { OnOk result (W.faults out.new ≡ W.faults out.old) }
 
     // How much is read.
     ensures took_grammar { TakesAtMost (most_bytes + 1) (G.known grammar.old) (G.known grammar.new) }
@@ -93,13 +93,17 @@ fn read_repair_lines<R: Source>(
 
 // An input as a text.
 fn read_input<S: Source>(alloc: Global, input: Input, source: &mut S) -> Result<String, RunFault>
-    ensures ok { IfOk result (λ t. IsWhole (S.known source.old) (string_bytes t)) }
+    ensures ok { IfOk result (λ t. IsInput (S.known source.old) (string_bytes t)) }
     ensures early { IfErr result (IsReadFaultOf input) }
     ensures cause { IfErr result (IsCauseIn input (S.known source.old) (S.faults source.old) (S.faults source.new)) }
     ensures took { TakesAtMost (most_bytes + 1) (S.known source.old) (S.known source.new) }
 {
     match read_text(alloc, source) {
-        Ok(text) => Ok(text),
+        Ok(text) => {
+            // Read, so that the proof may use how many bytes it has.
+            let _bytes = text.as_bytes();
+            Ok(text)
+        }
         Err(e) => Err(run_fault(input, e)),
     }
 }

@@ -1,4 +1,4 @@
-use Rattle.std.proofs.Common.{arith}
+use Rattle.std.proofs.Common.{arith, ◌∙◌}
 use Rattle.std.proofs.lemmas.Iterator.Consumers.{YieldsList-at, YieldsList-turn, YieldsList-end}
 use Rattle.std.proofs.lemmas.Iterator.Splits.{YieldsList-from_lines}
 use Rattle.std.proofs.lemmas.List.{length_push}
@@ -15,7 +15,7 @@ returns-in_err-wrong-clause-begins g c =
 pub lines-preserved : goal.lines-preserved
 lines-preserved g c =
     let turn = YieldsList-turn (YieldsList-at c.into_iter-line-iterator.ensures.into_iter_gives (YieldsList-from_lines c.args.line_text.now c.lines-line-items.ensures.rest)) c.lines.yielded _ c.lines.yielded_by _ _ c.in-Some.line c.in-Some.is c.next.ensures.steps in
-    rw length_push (WritesLines-more _ _ _ _ _ _ _ _ _ turn c.lines.invariant.0 _ _ c.in_ok-wrong.ensures.ok c.either-faulty.ensures)
+    (rw length_push (WritesLines-more _ _ _ _ _ _ _ _ _ turn c.lines.invariant.0 _ _ c.in_ok-wrong.ensures.ok c.either-faulty.ensures), c.in_ok-wrong.ensures.kept ∙ c.lines.invariant.1)
 
 pub returns-clause-ok : goal.returns-clause-ok
 returns-clause-ok g c =

@@ -1,3 +1,4 @@
 pub mod Written
 pub mod LineWritten
 pub mod Lines
+pub mod ShownLines

@@ -1,5 +1,6 @@
 pub mod RunKits
 pub mod Faults
 pub mod Output
+pub mod LineSteps
 pub mod Writing
 pub mod Run

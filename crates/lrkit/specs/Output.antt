@@ -1,20 +1,17 @@
 -- What a run writes for each line, and for all of them.
-use Rattle.std.specs.Prelude.{◌≡◌, ℕ, ◌+◌, Bool, true, false, ◌||◌, List, [], ◌∷◌, ◌++◌, map, take, slice_get, option_map, codes, Option, None, Some, Result}
-use Rattle.std.specs.Fmt.{decimal}
+use Rattle.std.specs.Prelude.{◌≡◌, ℕ, ◌+◌, Bool, true, false, ◌||◌, List, [], ◌∷◌, ◌++◌, map, take, Option, None, Some, Result}
 use Rattle.std.specs.List.{flat_map}
 use Rattle.std.specs.Str.Lines.{lines}
 use Rattle.byte_streams.specs.Sink.{BeginningWritten}
-use Rattle.cfg_numbered.specs.Value.{GrammarValue, shown_text}
+use Rattle.cfg_numbered.specs.Value.{GrammarValue}
 use Rattle.cfg_theory.specs.Tree.{Tree}
 use Rattle.lr_theory.specs.Repair.{Edit}
-use Rattle.lrpar.specs.ErrorTexts.{lexing_error_text, parsing_error_text}
 use Rattle.lrpar.specs.Lexemes.{IsFirstLexError}
-use Rattle.lrpar.specs.Shapes.{shape, token_text, tree_text}
-use Rattle.lrpar.specs.Shown.{shown_lists}
 use Rattle.lrpar.specs.declared.parse_error.ParseError.{ParseError}
 use Rattle.parser_kit.specs.Kit.{KitValue}
 use Rattle.parser_kit.specs.KitParses.{IsKitParse}
 use Rattle.word_lines.specs.Lexing.{items_of, lex_of}
+use Rattle.word_lines.specs.LineTexts.{error_line, fault_line, value_text}
 use Rattle.word_lines.specs.Repairs.{repair_line}
 use Rattle.word_lines.specs.declared.lexeme.WordLexeme.{WordLexeme}
 use Rattle.word_lines.specs.declared.lexeme.WordLexError.{WordLexError}
@@ -31,38 +28,24 @@ Word = WordLexeme ℕ
 abbrev pub made_up : ℕ → ℕ → ℕ → Word
 made_up token start len = record { token = token; span = record { start = start; end = start + len }; faulty = true }
 
--- a token without a text is shown by its number
-abbrev pub text_or_number : ℕ → Option (Option (List ℕ)) → List ℕ
-text_or_number t (Some (Some text)) = text
-text_or_number t _ = codes "token " ++ decimal t
+abbrev pub has_some : {A : Type 0} → List A → Bool
+has_some [] = false
+has_some (x ∷ xs) = true
 
--- the text by which messages show a token: that of `%epp`, else its name; the end token has none
-abbrev pub shown_name : GrammarValue → ℕ → List ℕ
-shown_name g t = text_or_number t (option_map shown_text (slice_get g.tokens t))
+-- the texts of these errors over a line, and then that of the tree, if there is one
+abbrev pub parsed_text : GrammarValue → List ℕ → List (ParseError Word ℕ) → Option (Tree Word) → List ℕ
+parsed_text g line errors tree = flat_map (error_line id g line) errors ++ value_text id g line tree
 
 module _ (k : KitValue) (repairs : List (List Edit)) (line : List ℕ) where
   abbrev pub items : List (Result Word WordLexError)
   items = items_of id k.parser.grammar line
 
-  -- the text of an error of parsing, and LF
-  abbrev pub error_line : ParseError Word ℕ → List ℕ
-  error_line e = parsing_error_text (shown_name k.parser.grammar) line (lex_of id) e.lexeme (shown_lists id e.repairs.items) ++ 10 ∷ []
-
-  -- the text of a tree, if there is one
-  abbrev pub value_text : Option (Tree Word) → List ℕ
-  value_text None = []
-  value_text (Some t) = tree_text k.parser.grammar (lex_of id) line 0 (shape k.parser.grammar.grammar t)
-
-  abbrev pub has_some : List (ParseError Word ℕ) → Bool
-  has_some [] = false
-  has_some (e ∷ es) = true
-
   -- the text of a line, and whether the line has an error
   pub data LineText (text : List ℕ) (faulty : Bool) : Type 0 where
-    lexing_error : (e : WordLexError) → IsFirstLexError items e → text ≡ lexing_error_text line e.span ++ 10 ∷ [] → faulty ≡ true → LineText text faulty
+    lexing_error : (e : WordLexError) → IsFirstLexError items e → text ≡ fault_line line e → faulty ≡ true → LineText text faulty
     parsed : (tree : Option (Tree Word)) (errors : List (ParseError Word ℕ)) →
         IsKitParse id (lex_of id) made_up k.parser (λ state index lexeme offered. offered ≡ repairs) items (λ t. t ≡ tree) errors →
-        text ≡ flat_map error_line errors ++ value_text tree → faulty ≡ has_some errors → LineText text faulty
+        text ≡ parsed_text k.parser.grammar line errors tree → faulty ≡ has_some errors → LineText text faulty
 
 -- the text of a line was added
 pub record AddsLineText (k : KitValue) (repairs : List (List Edit)) (line old new : List ℕ) (faulty : Bool) : Type 0 where

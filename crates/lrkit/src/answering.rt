@@ -1,16 +1,26 @@
 //! The answer to a line.
 
-ghost use Rattle.std.specs.Prelude.{IfOk};
-ghost use Rattle.lrkit.specs.Output.{AddsLineText};
+ghost use Rattle.std.specs.Prelude.{◌≡◌, ◌≤◌, ◌++◌, Option, IfOk, length, true};
+ghost use Rattle.std.specs.List.{AllByRecursion};
+ghost use Rattle.cfg_theory.specs.Tree.{Tree};
+ghost use Rattle.lrpar.specs.FlatParses.{HasFlat};
+ghost use Rattle.lrpar.specs.Lexemes.{Misfit};
+ghost use Rattle.lrpar.specs.Refusals.{HasMisfit};
+ghost use Rattle.lrpar.specs.Run.{span_by};
+ghost use Rattle.word_lines.specs.Lexing.{items_of, lex_of};
+ghost use Rattle.word_lines.specs.LineTexts.{ErrorCanBeShown, TreeCanBeShown, fault_line};
+ghost use Rattle.lrkit.specs.LineSteps.{AddsParsed};
+ghost use Rattle.lrkit.specs.Output.{AddsLineText, Word, id};
 
-use cfg_base::symbol::TIdx;
-use lrpar::{FlatTree, LexParseError, ParseError, ParseRefusal};
+use line_laws::laws::flat_parses_can_be_shown;
+use lrpar::{FlatTree, ParseError, ParseRefusal};
 use parser_kit::ParserKit;
 use std::alloc::{AllocError, Global};
-use word_lines::laws::lexemes_of_lines_are_taken;
+use word_lines::laws::items_are_parts_of_their_line;
+use word_lines::shown::{push_errors, push_fault, push_tree};
 use word_lines::{RepairLines, WordLexError, WordLexeme, WordLexer, WordLexerTypes};
 
-type Tree = FlatTree<u32, WordLexeme<u32>>;
+type LineTree = FlatTree<u32, WordLexeme<u32>>;
 type LineError = ParseError<WordLexeme<u32>, u32>;
 type LineLexer<'a> = WordLexer<'a, u32>;
 
@@ -24,80 +34,73 @@ pub(crate) fn push_line(
 ) -> Result<bool, AllocError>
     ensures { IfOk result (AddsLineText kit.now repairs.now line.now text.old.items text.new.items) }
 {
-    lexemes_of_lines_are_taken::<u32>();
-    let lexer = WordLexer::new(alloc, kit.grm(), line)?;
-    match kit
+    let lexer = WordLexer::new(alloc, kit.grm(), &*line)?;
+    let pushed = push_lexed(alloc, &*kit, repairs, &*line, &lexer, text);
+    drop(lexer);
+    pushed
+}
+
+// Adds the text of a line whose items are at hand.
+fn push_lexed<'a>(
+    alloc: Global,
+    kit: &'a ParserKit<u32>,
+    repairs: &RepairLines<u32>,
+    line: &'a str,
+    lexer: &LineLexer<'a>,
+    text: &mut Vec<u8>,
+) -> Result<bool, AllocError>
+    requires line { lexer.now.text ≡ line.now }
+    requires items { lexer.now.items ≡ items_of id kit.now.parser.grammar line.now }
+    requires not_refused { (m : Misfit) → HasMisfit kit.now.parser.grammar.grammar (lex_of id) lexer.now.items m → ⊥ }
+    ensures { IfOk result (AddsLineText kit.now repairs.now line.now text.old.items text.new.items) }
+{
+    flat_parses_can_be_shown::<WordLexerTypes<u32>, RepairLines<u32>>();
+    items_are_parts_of_their_line::<u32>();
+    kit.kit().stays_tabled();
+    let parsed = kit
         .kit()
-        .parse_flat::<WordLexerTypes<u32>, LineLexer<'_>, RepairLines<u32>>(alloc, &lexer, repairs)
-    {
-        Ok(Ok((tree, errors))) => push_parsed(alloc, kit, &lexer, line, &tree, errors, text),
-        Ok(Err(error)) => push_lexing_error(alloc, kit, &lexer, error, text),
+        .parse_flat::<WordLexerTypes<u32>, LineLexer<'_>, RepairLines<u32>>(alloc, lexer, repairs);
+    match parsed {
+        Ok(Ok((tree, errors))) => push_parsed(alloc, kit, line, lexer, &tree, errors, text),
+        Ok(Err(error)) => push_first_fault(alloc, kit, lexer, error, text),
         Err(ParseRefusal::Memory(e)) => Err(e),
         Err(ParseRefusal::LexemeOutside(_)) => unreachable!(),
         Err(ParseRefusal::StartDecreases(_)) => unreachable!(),
     }
 }
 
-// Adds the texts of these errors, and then that of the tree.
-fn push_parsed(
+// Adds the texts of these errors, and then that of the tree, if there is one.
+fn push_parsed<'a>(
     alloc: Global,
-    kit: &ParserKit<u32>,
-    lexer: &LineLexer<'_>,
+    kit: &'a ParserKit<u32>,
     line: &str,
-    tree: &Option<Tree>,
+    lexer: &LineLexer<'a>,
+    tree: &Option<LineTree>,
     errors: Vec<LineError>,
     text: &mut Vec<u8>,
-) -> Result<bool, AllocError> {
-    let mut faulty = false;
-    for error in errors {
-        faulty = true;
-        push_error(alloc, &*kit, &*lexer, LexParseError::ParseError(error), text)?;
-    }
-    push_tree(alloc, kit, line, tree, text)?;
+) -> Result<bool, AllocError>
+    requires line { lexer.now.text ≡ line.now }
+    requires errors { AllByRecursion (ErrorCanBeShown id kit.now.parser.grammar line.now) errors.items }
+    requires tree { TreeCanBeShown id kit.now.parser.grammar line.now tree.now }
+    ensures { (t : Option (Tree Word)) → HasFlat (span_by (lex_of id)) tree.now t → IfOk result (λ faulty. AddsParsed kit.now.parser.grammar line.now text.old.items text.new.items t errors.items faulty) }
+{
+    let faulty = !errors.is_empty();
+    push_errors(alloc, kit.grm(), lexer, errors, text)?;
+    push_tree(alloc, kit.grm(), line, tree, text)?;
     Ok(faulty)
 }
 
-// Adds the text of the tree, if there is one.
-fn push_tree(
-    alloc: Global,
-    kit: &ParserKit<u32>,
-    line: &str,
-    tree: &Option<Tree>,
-    text: &mut Vec<u8>,
-) -> Result<(), AllocError> {
-    match tree {
-        Some(tree) => {
-            let shown = tree.pp(alloc, kit.grm(), line)?;
-            text.extend_from_slice(shown.as_bytes())?;
-            Ok(())
-        }
-        None => Ok(()),
-    }
-}
-
 // Adds the text of the line's first word that is no token's name.
-fn push_lexing_error(
-    alloc: Global,
-    kit: &ParserKit<u32>,
-    lexer: &LineLexer<'_>,
-    error: WordLexError,
-    text: &mut Vec<u8>,
-) -> Result<bool, AllocError> {
-    push_error(alloc, &*kit, &*lexer, LexParseError::LexError(error), text)?;
-    Ok(true)
-}
-
-// Adds the text of an error, and LF.
-fn push_error<'a>(
+fn push_first_fault<'a>(
     alloc: Global,
     kit: &'a ParserKit<u32>,
     lexer: &LineLexer<'a>,
-    error: LexParseError<WordLexerTypes<u32>>,
+    error: WordLexError,
     text: &mut Vec<u8>,
-) -> Result<(), AllocError> {
-    let epp = |token: TIdx<u32>| kit.grm().token_epp(token);
-    let shown = error.pp(alloc, lexer, &epp)?;
-    text.extend_from_slice(shown.as_bytes())?;
-    text.push(b'\n')?;
-    Ok(())
+) -> Result<bool, AllocError>
+    requires within { error.span.end ≤ length lexer.now.text }
+    ensures { IfOk result (λ faulty. (text.new.items ≡ text.old.items ++ fault_line lexer.now.text error) × (faulty ≡ true)) }
+{
+    push_fault(alloc, kit.grm(), lexer, error, text)?;
+    Ok(true)
 }

@@ -1,11 +1,18 @@
 -- What stands lexed after each part of a line.
-use Rattle.std.proofs.Common.{◌≡◌, ℕ, suc, ◌≤◌, ◌<◌, ◌+◌, Bool, true, false, cond, eqb, Result, List, [], ◌∷◌, ◌++◌, length, map, drop, get_or, filter, refl, sym, ap, ◌∙◌, append_assoc, arith, append-nil}
+use Rattle.std.proofs.Common.{◌≡◌, ℕ, suc, ◌≤◌, ◌<◌, ◌+◌, Bool, true, false, cond, eqb, Result, List, [], ◌∷◌, ◌++◌, length, drop, get_or, refl, sym, ap, ◌∙◌, append_assoc, arith, append-nil, subst}
 use Rattle.std.proofs.lemmas.List.{at_drop_more, at_drop_all}
-use Rattle.std.specs.List.{slice_split, onto_first}
+use Rattle.std.specs.List.{slice_split, onto_first, AllByRecursion}
 use Rattle.cfg_numbered.specs.Value.{GrammarValue}
 use Rattle.word_lines.specs.Lexing.{items_in, items_of}
 use Rattle.word_lines.specs.declared.lexeme.WordLexeme.{WordLexeme}
 use Rattle.word_lines.specs.declared.lexeme.WordLexError.{WordLexError}
+
+pub all_more : {X : Type 0} (P : X → Type 0) (old more new : List X) → new ≡ old ++ more → AllByRecursion P old → AllByRecursion P more → AllByRecursion P new
+all_more P old more new e h k = subst (AllByRecursion P) (sym e) (append old h)
+  where
+    append : (xs : List _) → AllByRecursion P xs → AllByRecursion P (xs ++ more)
+    append [] h = k
+    append (x ∷ xs) h = (h.0, append xs h.1)
 
 -- the parts of a line
 abbrev pub parts_of : List ℕ → List (List ℕ)

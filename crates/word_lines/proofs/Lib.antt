@@ -4,3 +4,5 @@ mod SaidEdits
 mod ReadLines
 mod TakenLexemes
 mod LineCuts
+mod FittedWords
+mod ShownNames

@@ -1,6 +1,10 @@
 -- The token that has a name is the one that is looked up by it.
-use Rattle.std.proofs.Common.{◌≡◌, ℕ, ◌<◌, ◌≤◌, Bool, true, false, cond, ltb, Option, Some, None, Ok, List, [], ◌∷◌, length, get_or, option_map, slice_get, position, IfSome, IfNone, refl, sym, ap, ap₂, ◌+◌, ◌∙◌, arith, lt-ltb, le-ltb, bytes_eq}
+use Rattle.std.proofs.Common.{◌≡◌, ℕ, ◌<◌, ◌≤◌, ◌-◌, ⊎_elim, subst, Bool, true, false, cond, ltb, Option, Some, None, Ok, List, length, get_or, option_map, slice_get, IfSome, IfNone, refl, sym, ap, ap₂, ◌+◌, ◌∙◌, arith, lt-ltb, le-ltb}
+use Rattle.std.specs.Borrow.{Bor}
 use Rattle.std.specs.List.{position_or_len}
+use Rattle.std.specs.Option.{MatchOption}
+use Rattle.std.proofs.lemmas.Bool.{cases_lt}
+use Rattle.cfg_theory.specs.Grammar.{end_token}
 use Rattle.std.proofs.lemmas.List.Sums.{position_or_len_is}
 use Rattle.std.proofs.lemmas.List.Quantifiers.{position-Some}
 use Rattle.std.proofs.lemmas.Option.{slice_get-get_or, slice_get_within, get_or_from_slice_get}
@@ -73,3 +77,19 @@ named_inside g name t n = let w = at_named (slice_get g.tokens t) name n.at in s
 pub item_with : {S : Type 0} (of_number : ℕ → S) (g : GrammarValue) (w : Word) (x : S) (span : SpanModel) → span.start ≡ w.start → span.end ≡ w.start + length w.text → Ok (record { token = x; span = span_of w; faulty = false }) ≡ item_of of_number g w →
     Ok (record { token = x; span = span; faulty = false }) ≡ item_of of_number g w
 item_with of_number g w x span s e is = ap₂ (λ a b. Ok (record { token = x; span = record { start = a; end = b }; faulty = false })) s e ∙ is
+
+-- the end token has no name
+unnamed : (g : GrammarValue) (e : ℕ) (r : Option (Bor (List ℕ))) → e ≡ end_token g.grammar → option_map (λ t. t.name) (slice_get g.tokens e) ≡ Some (option_map (λ s. s.now) r) → MatchOption r (e ≡ end_token g.grammar) (λ _. e < end_token g.grammar) →
+    (name : List ℕ) → IsTokenNamed g (end_token g.grammar) name → ⊥
+unnamed g e None same is end name n = let f = ap (λ k. option_map (λ t. t.name) (slice_get g.tokens k)) (sym same) ∙ is in let h = sym f ∙ n.at in cc
+unnamed g e (Some s) same is end name n = absurd (omega (arith, same, end))
+
+within : (end t : ℕ) → t < end → (t ≡ end - 1 → ⊥) → t < end - 1
+within end t lt other = ⊎_elim (λ h. h) (λ h. let e : t ≡ end - 1 = omega (arith, lt, h) in absurd (other e)) (cases_lt t (end - 1))
+
+-- so a token with a name isn't the end
+pub inside : {S : Type 0} (number : S → ℕ) (g : GrammarValue) (name : List ℕ) (r : Option (TIdx S)) → IfSome r (λ t. IsTokenNamed g (number t.0) name) → IfSome r (λ t. number t.0 < g.grammar.tokens) →
+    (e : ℕ) (s : Option (Bor (List ℕ))) → e ≡ end_token g.grammar → option_map (λ t. t.name) (slice_get g.tokens e) ≡ Some (option_map (λ s. s.now) s) → MatchOption s (e ≡ end_token g.grammar) (λ _. e < end_token g.grammar) →
+    IfSome r (λ t. number t.0 < end_token g.grammar)
+inside number g name None named lt e s same is end = tt
+inside number g name (Some t) named lt e s same is end = within g.grammar.tokens (number t.0) lt (λ h. unnamed g e s same is end name (subst (λ k. IsTokenNamed g k name) h named))

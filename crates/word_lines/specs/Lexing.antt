@@ -1,9 +1,8 @@
 -- Words as the items of a lexer's list.
-use Rattle.std.specs.Prelude.{ℕ, ◌+◌, false, List, length, map, Option, None, Some, Result, Ok, Err}
-use Rattle.std.specs.List.{slice_split}
-use Rattle.std.specs.Prelude.{◌==◌}
+use Rattle.std.specs.Prelude.{ℕ, ◌+◌, ◌<◌, false, List, length, map, Option, None, Some, Result, Ok, Err}
 use Rattle.cfg_base.specs.SpanModel.{SpanModel}
 use Rattle.cfg_numbered.specs.Value.{GrammarValue}
+use Rattle.cfg_theory.specs.Grammar.{Grammar, end_token}
 use Rattle.lrpar.specs.Lex.{Lex}
 use Rattle.word_lines.specs.Words.{Word, words, words_in, token_named}
 use Rattle.word_lines.specs.declared.lexeme.WordLexeme.{WordLexeme}
@@ -40,3 +39,8 @@ items_in of_number g at parts = map (item_of of_number g) (words_in at parts)
 -- the items of a line
 abbrev pub items_of : {S : Type 0} → (ℕ → S) → GrammarValue → List ℕ → List (Result (WordLexeme S) WordLexError)
 items_of of_number g line = map (item_of of_number g) (words line)
+
+-- a lexeme of a token other than the end, or an error
+abbrev pub IsInside : {S : Type 0} → (S → ℕ) → Grammar → Result (WordLexeme S) WordLexError → Type 0
+IsInside number G (Ok x) = number x.token < end_token G
+IsInside number G (Err e) = Unit {0}

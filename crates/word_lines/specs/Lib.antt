@@ -2,3 +2,4 @@ pub mod Words
 pub mod Lexing
 pub mod Repairs
 pub mod RepairReading
+pub mod LineTexts

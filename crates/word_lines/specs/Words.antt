@@ -2,7 +2,7 @@
 use Rattle.std.specs.Prelude.{ℕ, ◌+◌, ◌==◌, Bool, true, false, List, [], ◌∷◌, length, filter, position, Option, None, Some}
 use Rattle.std.specs.List.{slice_split}
 use Rattle.std.specs.Str.{bytes_eq}
-use Rattle.cfg_numbered.specs.Value.{GrammarValue, TokenFacts}
+use Rattle.cfg_numbered.specs.Value.{GrammarValue}
 
 -- the place of a word's first byte in its line, and its bytes
 pub record Word : Type 0 where

@@ -1,12 +1,16 @@
-//! What is so of the lexemes of each line.
+//! What is so of the items of each line.
 
 ghost use Rattle.std.specs.Prelude.{ℕ, List};
+ghost use Rattle.std.specs.List.{AllByRecursion};
+ghost use Rattle.std.specs.Str.{IsUtf8};
 ghost use Rattle.cfg_numbered.specs.Value.{GrammarValue, IsGrammar};
-ghost use Rattle.lrpar.specs.Lexemes.{AreItems, Misfit};
+ghost use Rattle.lrpar.specs.ErrorTexts.{FitsInput};
+ghost use Rattle.lrpar.specs.Lexemes.{AreItems, IsFirstLexError, Misfit};
 ghost use Rattle.lrpar.specs.Run.{AreLexemes};
 ghost use Rattle.lrpar.specs.Refusals.{HasMisfit};
 ghost use Rattle.word_lines.specs.Lexing.{lex_of, items_of};
 ghost use Rattle.word_lines.specs.declared.lexeme.WordLexeme.{WordLexeme};
+ghost use Rattle.word_lines.specs.declared.lexeme.WordLexError.{WordLexError};
 
 use cfg_base::index::{IndexStorage, each_number_is_of_one_value};
 
@@ -18,3 +22,9 @@ pub fn lexemes_of_lines_are_taken<S: IndexStorage>()
 {
     each_number_is_of_one_value::<S>();
 }
+
+/// A law: the lexemes of a line, and its errors, are parts of it, from the start of a character to that of another.
+pub fn items_are_parts_of_their_line<S: IndexStorage>()
+    ensures lexemes { (g : GrammarValue) (line : List ℕ) (lexemes : List (WordLexeme S)) → IsUtf8 line → AreItems (items_of S.of_number g line) lexemes → AllByRecursion (λ x. FitsInput line x.span.start x.span.end) lexemes }
+    ensures errors { (g : GrammarValue) (line : List ℕ) (e : WordLexError) → IsUtf8 line → IsFirstLexError (items_of S.of_number g line) e → FitsInput line e.span.start e.span.end }
+{}

@@ -1,9 +1,14 @@
 //! The words of a line as the list of a lexer.
 
-ghost use Rattle.std.specs.Prelude.{◌≡◌, ◌+◌, ◌<◌, ◌≤◌, ◌^◌, [], ◌∷◌, ◌++◌, IfOk, OnOk, length, slice_range};
+ghost use Rattle.std.specs.Prelude.{◌≡◌, ◌+◌, ◌<◌, ◌≤◌, ◌^◌, List, [], ◌∷◌, ◌++◌, IfOk, OnOk, length, slice_range};
+ghost use Rattle.std.specs.List.{AllByRecursion};
 ghost use Rattle.cfg_base.specs.Newlines.{newlines_of, line_of, line_start, column_of};
 ghost use Rattle.cfg_base.specs.Text.{line_end};
-ghost use Rattle.word_lines.specs.Lexing.{items_of, items_in, item_of};
+ghost use Rattle.lrpar.specs.Lexemes.{AreItems, Misfit};
+ghost use Rattle.lrpar.specs.Refusals.{HasMisfit};
+ghost use Rattle.lrpar.specs.Run.{AreLexemes};
+ghost use Rattle.word_lines.specs.Lexing.{IsInside, items_of, items_in, item_of, lex_of};
+ghost use Rattle.word_lines.specs.declared.lexeme.WordLexeme.{WordLexeme};
 
 use crate::lexeme::{WordLexError, WordLexeme, WordLexerTypes};
 use crate::names::find_token;
@@ -38,7 +43,7 @@ impl<'input, S: IndexStorage> Model for WordLexer<'input, S> {
 
 impl<'input, S: IndexStorage> WordLexer<'input, S> {
     /// Makes the lexer of a line. Words are the nonempty parts between spaces (U+0020 alone). One is the lexeme of the token
-    /// with this name, or a lexing error where no token has it.
+    /// with this name, or a lexing error where no token has it. No such list is refused by a parse.
     pub fn new(
         alloc: Global,
         grm: &NumberedGrammar<S>,
@@ -46,6 +51,8 @@ impl<'input, S: IndexStorage> WordLexer<'input, S> {
     ) -> Result<WordLexer<'input, S>, AllocError>
         ensures text { IfOk result (λ l. l.text ≡ line.entry.now) }
         ensures items { IfOk result (λ l. l.items ≡ items_of S.of_number grm.now line.entry.now) }
+        ensures taken { IfOk result (λ l. (lexemes : List (WordLexeme S)) → AreItems l.items lexemes → AreLexemes grm.now.grammar (lex_of S.number) lexemes) }
+        ensures not_refused { IfOk result (λ l. (m : Misfit) → HasMisfit grm.now.grammar (lex_of S.number) l.items m → ⊥) }
     {
         let items = lex_line(alloc, grm, line)?;
         let newlines = NewlineCache::from_str(alloc, line)?;
@@ -63,7 +70,8 @@ fn lex_line<S: IndexStorage>(
     grm: &NumberedGrammar<S>,
     line: &str,
 ) -> Result<Vec<Result<WordLexeme<S>, WordLexError>>, AllocError>
-    ensures { IfOk result (λ v. v.items ≡ items_of S.of_number grm.now line.now) }
+    ensures items { IfOk result (λ v. v.items ≡ items_of S.of_number grm.now line.now) }
+    ensures inside { IfOk result (λ v. AllByRecursion (IsInside S.number grm.now.grammar) v.items) }
 {
     // So the place behind the last part is a number too.
     let length = line.len();
@@ -86,7 +94,8 @@ fn push_part<S: IndexStorage>(
     items: &mut Vec<Result<WordLexeme<S>, WordLexError>>,
 ) -> Result<(), AllocError>
     requires { start + length part.now < 2 ^ 64 }
-    ensures { OnOk result (items.new.items ≡ items.old.items ++ items_in S.of_number grm.now start (part.now ∷ [])) }
+    ensures items { OnOk result (items.new.items ≡ items.old.items ++ items_in S.of_number grm.now start (part.now ∷ [])) }
+    ensures inside { OnOk result (AllByRecursion (IsInside S.number grm.now.grammar) (items_in S.of_number grm.now start (part.now ∷ []))) }
 {
     if part.is_empty() {
         return Ok(());
@@ -102,7 +111,8 @@ fn item_at<S: IndexStorage>(
     start: usize,
 ) -> Result<WordLexeme<S>, WordLexError>
     requires { start + length word.now < 2 ^ 64 }
-    ensures { result ≡ item_of S.of_number grm.now (record { start = start; text = word.now }) }
+    ensures item { result ≡ item_of S.of_number grm.now (record { start = start; text = word.now }) }
+    ensures inside { IsInside S.number grm.now.grammar result }
 {
     let span = Span::new(start, start + word.len());
     match find_token(grm, word) {

@@ -1,4 +1,4 @@
-use Rattle.std.proofs.Common.{◌≡◌, ◌≤◌, ap, ap₂, sym, subst, arith, length}
+use Rattle.std.proofs.Common.{◌≤◌, sym, subst, arith, length}
 use Rattle.std.specs.Str.{IsCharBoundary}
 use Rattle.word_lines.proofs.LineCuts.{ordered, start_cut, end_cut}
 use Rattle.word_lines.proofs.lexer.lines_part.Goals as goal

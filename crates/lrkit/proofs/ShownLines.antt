@@ -1,0 +1,131 @@
+-- What stands of a line's errors and tree, and that they can be shown.
+use Rattle.std.proofs.Common.{◌≡◌, ℕ, zero, suc, ◌+◌, ◌≤◌, Bool, true, false, not, eqb, Option, Some, None, Result, List, [], ◌∷◌, ◌++◌, length, refl, sym, ap, ◌∙◌, subst, append_assoc, arith, IsUtf8}
+use Rattle.std.specs.List.{AllByRecursion, flat_map}
+use Rattle.std.proofs.lemmas.Bool.Decides.{nat_tests}
+use Rattle.cfg_numbered.specs.Value.{GrammarValue}
+use Rattle.cfg_theory.specs.Grammar.{WellFormed, end_token}
+use Rattle.cfg_theory.specs.Tree.{Tree}
+use Rattle.lr_theory.specs.Repair.{Edit, insert, delete, keep}
+use Rattle.line_laws.specs.ShownTexts.{FitsText, FlatParsesCanBeShown, InsertsWithin, MakesWithin}
+use Rattle.lrpar.specs.FlatParses.{HasFlat, IsFlatParse}
+use Rattle.lrpar.specs.FlatTrees.{FlatValue}
+use Rattle.lrpar.specs.Lexemes.{AreItems, IsFirstLexError}
+use Rattle.lrpar.specs.Run.{span_by}
+use Rattle.lrpar.specs.declared.parse_error.ParseError.{ParseError}
+use Rattle.parser_kit.specs.Kit.{KitValue}
+use Rattle.parser_kit.specs.KitParses.{IsExactParse, IsKitParse}
+use Rattle.word_lines.specs.Lexing.{items_of, lex_of}
+use Rattle.word_lines.specs.LineTexts.{ErrorCanBeShown, TreeCanBeShown, error_line, fault_line, value_text}
+use Rattle.word_lines.specs.declared.lexeme.WordLexError.{WordLexError}
+use Rattle.lrkit.specs.LineSteps.{AddsParsed}
+use Rattle.lrkit.specs.Output.{AddsLineText, LineText, Word, has_some, id, made_up}
+
+-- ---- a number that no inserted token passes
+
+abbrev sum_of : List Edit → ℕ
+sum_of [] = 0
+sum_of (insert t ∷ es) = t + sum_of es
+sum_of (delete ∷ es) = sum_of es
+sum_of (keep ∷ es) = sum_of es
+
+abbrev sum_all : List (List Edit) → ℕ
+sum_all [] = 0
+sum_all (es ∷ rs) = sum_of es + sum_all rs
+
+inserts_within : (n : ℕ) (es : List Edit) → sum_of es ≤ n → InsertsWithin n es
+inserts_within n [] h = tt
+inserts_within n (insert t ∷ es) h = (omega (arith, h), inserts_within n es (omega (arith, h)))
+inserts_within n (delete ∷ es) h = inserts_within n es h
+inserts_within n (keep ∷ es) h = inserts_within n es h
+
+all_within : (n : ℕ) (rs : List (List Edit)) → sum_all rs ≤ n → AllByRecursion (InsertsWithin n) rs
+all_within n [] h = tt
+all_within n (es ∷ rs) h = (inserts_within n es (omega (arith, h)), all_within n rs (omega (arith, h)))
+
+-- ---- a line's parse
+
+-- at an error all these are handed in
+abbrev pub HandsIn : List (List Edit) → ℕ → ℕ → Word → List (List Edit) → Type 0
+HandsIn repairs state index lexeme offered = offered ≡ repairs
+
+-- the parse of a line, whose flat tree or none this is
+abbrev pub IsLineParse : KitValue → List (List Edit) → List ℕ → Option (FlatValue Word) → List (ParseError Word ℕ) → Type 0
+IsLineParse k repairs line value errors = IsKitParse id (lex_of id) made_up k.parser (HandsIn repairs) (items_of id k.parser.grammar line) (HasFlat (span_by (lex_of id)) value) errors
+
+module _ (k : KitValue) (repairs : List (List Edit)) (line : List ℕ) (well_formed : WellFormed k.parser.grammar.grammar) (utf8 : IsUtf8 line)
+    (law : FlatParsesCanBeShown ℕ Word WordLexError (HandsIn repairs))
+    (fit : (g : GrammarValue) (text : List ℕ) (lexemes : List Word) → IsUtf8 text → AreItems (items_of id g text) lexemes → AllByRecursion (FitsText text (lex_of id)) lexemes) where
+  abbrev top : ℕ
+  top = end_token k.parser.grammar.grammar + sum_all repairs
+
+  within : MakesWithin top k.parser.grammar (lex_of id) made_up (HandsIn repairs) line
+  within = record {
+    text = utf8;
+    well_formed = well_formed;
+    end = omega arith;
+    makes = λ t start len le. refl;
+    inserts = λ state index x offered e. subst (AllByRecursion (InsertsWithin top)) (sym e) (all_within top repairs (omega arith));
+  }
+
+  flat_parse : (value : Option (FlatValue Word)) (errors : List (ParseError Word ℕ)) → IsLineParse k repairs line value errors →
+      IsFlatParse id (lex_of id) made_up k.parser.grammar.grammar k.parser.graph k.parser.table (HandsIn repairs) (items_of id k.parser.grammar line) value errors
+  flat_parse value errors q = record { lexemes = q.lexemes; are_items = q.are_items; are_lexemes = q.are_lexemes; found = q.found; parse = q.exact.parse; told = q.told }
+
+  pub errors_can_be_shown : (value : Option (FlatValue Word)) (errors : List (ParseError Word ℕ)) → IsLineParse k repairs line value errors → AllByRecursion (ErrorCanBeShown id k.parser.grammar line) errors
+  errors_can_be_shown value errors q =
+      law.errors top id k.parser.grammar k.parser.graph k.parser.table (lex_of id) made_up line (items_of id k.parser.grammar line) value errors within (λ lexemes items. fit k.parser.grammar line lexemes utf8 items) (flat_parse value errors q)
+
+  pub tree_can_be_shown : (value : Option (FlatValue Word)) (errors : List (ParseError Word ℕ)) → IsLineParse k repairs line value errors → TreeCanBeShown id k.parser.grammar line value
+  tree_can_be_shown None errors q = tt
+  tree_can_be_shown (Some v) errors q =
+      law.tree top id k.parser.grammar k.parser.graph k.parser.table (lex_of id) made_up line (items_of id k.parser.grammar line) v errors within (λ lexemes items. fit k.parser.grammar line lexemes utf8 items) (flat_parse (Some v) errors q)
+
+-- ---- what it adds
+
+pub some_or_none : {X : Type 0} (xs : List X) (n : ℕ) (empty : Bool) → empty ≡ eqb n 0 → n ≡ length xs → not empty ≡ has_some xs
+some_or_none [] n empty is long = ap not (is ∙ ap (λ m. eqb m 0) long)
+some_or_none (x ∷ xs) n empty is long = ap not (is ∙ ap (λ m. eqb m 0) long) ∙ (let e : eqb (suc (length xs)) 0 ≡ false = grind (arith, nat_tests) in ap not e)
+
+pub adds_both : (g : GrammarValue) (line old between new : List ℕ) (errors : List (ParseError Word ℕ)) (t : Option (Tree Word)) (faulty : Bool) →
+    between ≡ old ++ flat_map (error_line id g line) errors → new ≡ between ++ value_text id g line t → faulty ≡ has_some errors → AddsParsed g line old new t errors faulty
+adds_both g line old between new errors t faulty first then is =
+    record { grown = then ∙ ap (λ x. x ++ value_text id g line t) first ∙ append_assoc old (flat_map (error_line id g line) errors) (value_text id g line t); faulty_is = is }
+
+module _ (k : KitValue) (repairs : List (List Edit)) (line old new : List ℕ) where
+  pub adds_parsed : (value : Option (FlatValue Word)) (errors : List (ParseError Word ℕ)) → (q : IsLineParse k repairs line value errors) →
+      (faulty : Bool) → AddsParsed k.parser.grammar line old new q.exact.parse.parsed.tree errors faulty → AddsLineText k repairs line old new faulty
+  adds_parsed value errors q faulty added =
+      let p = q.exact.parse in
+      let tree = p.parsed.tree in
+      record {
+        added = _;
+        is_text = LineText.parsed tree errors (record {
+          lexemes = q.lexemes;
+          are_items = q.are_items;
+          are_lexemes = q.are_lexemes;
+          found = q.found;
+          exact = record {
+            parse = record {
+              parsed = record { handed = p.parsed.handed; places = p.parsed.places; tree = tree; repaired = p.parsed.repaired; parses = p.parsed.parses; told = p.parsed.told; gives_tree = refl };
+              derives = p.derives;
+              by_repairs = p.by_repairs;
+              few = p.few;
+              advance = p.advance;
+              further = p.further;
+              fits = p.fits;
+              flawless = p.flawless;
+              same_value = p.same_value;
+              true_errors = p.true_errors;
+            };
+            fits = q.exact.fits;
+            flawless = q.exact.flawless;
+            same_value = q.exact.same_value;
+            true_errors = q.exact.true_errors;
+          };
+          told = q.told;
+        }) refl added.faulty_is;
+        grown = added.grown;
+      }
+
+  pub adds_fault : (e : WordLexError) → IsFirstLexError (items_of id k.parser.grammar line) e → (faulty : Bool) → (new ≡ old ++ fault_line line e) × (faulty ≡ true) → AddsLineText k repairs line old new faulty
+  adds_fault e is faulty (grown, wrong) = record { added = fault_line line e; is_text = LineText.lexing_error e is refl wrong; grown = grown }

@@ -1,6 +1,7 @@
 -- What stands of a line's errors and tree, and that they can be shown.
-use Rattle.std.proofs.Common.{◌≡◌, ℕ, zero, suc, ◌+◌, ◌≤◌, Bool, true, Option, Some, None, Result, List, [], ◌∷◌, ◌++◌, length, refl, sym, ap, ◌∙◌, subst, arith, IsUtf8}
-use Rattle.std.specs.List.{AllByRecursion}
+use Rattle.std.proofs.Common.{◌≡◌, ℕ, zero, suc, ◌+◌, ◌≤◌, Bool, true, false, not, eqb, Option, Some, None, Result, List, [], ◌∷◌, ◌++◌, length, refl, sym, ap, ◌∙◌, subst, append_assoc, arith, IsUtf8}
+use Rattle.std.specs.List.{AllByRecursion, flat_map}
+use Rattle.std.proofs.lemmas.Bool.Decides.{nat_tests}
 use Rattle.cfg_numbered.specs.Value.{GrammarValue}
 use Rattle.cfg_theory.specs.Grammar.{WellFormed, end_token}
 use Rattle.cfg_theory.specs.Tree.{Tree}
@@ -14,10 +15,10 @@ use Rattle.lrpar.specs.declared.parse_error.ParseError.{ParseError}
 use Rattle.parser_kit.specs.Kit.{KitValue}
 use Rattle.parser_kit.specs.KitParses.{IsExactParse, IsKitParse}
 use Rattle.word_lines.specs.Lexing.{items_of, lex_of}
-use Rattle.word_lines.specs.LineTexts.{ErrorCanBeShown, TreeCanBeShown, fault_line}
+use Rattle.word_lines.specs.LineTexts.{ErrorCanBeShown, TreeCanBeShown, error_line, fault_line, value_text}
 use Rattle.word_lines.specs.declared.lexeme.WordLexError.{WordLexError}
 use Rattle.lrkit.specs.LineSteps.{AddsParsed}
-use Rattle.lrkit.specs.Output.{AddsLineText, LineText, Word, id, made_up}
+use Rattle.lrkit.specs.Output.{AddsLineText, LineText, Word, has_some, id, made_up}
 
 -- ---- a number that no inserted token passes
 
@@ -81,13 +82,21 @@ module _ (k : KitValue) (repairs : List (List Edit)) (line : List ℕ) (well_for
 
 -- ---- what it adds
 
-module _ (k : KitValue) (repairs : List (List Edit)) (line old new : List ℕ) (faulty : Bool) where
-  pub adds_parsed : (value : Option (FlatValue Word)) (errors : List (ParseError Word ℕ)) → IsLineParse k repairs line value errors →
-      ((t : Option (Tree Word)) → HasFlat (span_by (lex_of id)) value t → AddsParsed k.parser.grammar line old new t errors faulty) → AddsLineText k repairs line old new faulty
-  adds_parsed value errors q adds =
+pub some_or_none : {X : Type 0} (xs : List X) (n : ℕ) (empty : Bool) → empty ≡ eqb n 0 → n ≡ length xs → not empty ≡ has_some xs
+some_or_none [] n empty is long = ap not (is ∙ ap (λ m. eqb m 0) long)
+some_or_none (x ∷ xs) n empty is long = ap not (is ∙ ap (λ m. eqb m 0) long) ∙ (let e : eqb (suc (length xs)) 0 ≡ false = grind (arith, nat_tests) in ap not e)
+
+pub adds_both : (g : GrammarValue) (line old between new : List ℕ) (errors : List (ParseError Word ℕ)) (t : Option (Tree Word)) (faulty : Bool) →
+    between ≡ old ++ flat_map (error_line id g line) errors → new ≡ between ++ value_text id g line t → faulty ≡ has_some errors → AddsParsed g line old new t errors faulty
+adds_both g line old between new errors t faulty first then is =
+    record { grown = then ∙ ap (λ x. x ++ value_text id g line t) first ∙ append_assoc old (flat_map (error_line id g line) errors) (value_text id g line t); faulty_is = is }
+
+module _ (k : KitValue) (repairs : List (List Edit)) (line old new : List ℕ) where
+  pub adds_parsed : (value : Option (FlatValue Word)) (errors : List (ParseError Word ℕ)) → (q : IsLineParse k repairs line value errors) →
+      (faulty : Bool) → AddsParsed k.parser.grammar line old new q.exact.parse.parsed.tree errors faulty → AddsLineText k repairs line old new faulty
+  adds_parsed value errors q faulty added =
       let p = q.exact.parse in
       let tree = p.parsed.tree in
-      let added = adds tree p.parsed.gives_tree in
       record {
         added = _;
         is_text = LineText.parsed tree errors (record {
@@ -118,5 +127,5 @@ module _ (k : KitValue) (repairs : List (List Edit)) (line old new : List ℕ) (
         grown = added.grown;
       }
 
-  pub adds_fault : (e : WordLexError) → IsFirstLexError (items_of id k.parser.grammar line) e → new ≡ old ++ fault_line line e → faulty ≡ true → AddsLineText k repairs line old new faulty
-  adds_fault e is grown wrong = record { added = fault_line line e; is_text = LineText.lexing_error e is refl wrong; grown = grown }
+  pub adds_fault : (e : WordLexError) → IsFirstLexError (items_of id k.parser.grammar line) e → (faulty : Bool) → (new ≡ old ++ fault_line line e) × (faulty ≡ true) → AddsLineText k repairs line old new faulty
+  adds_fault e is faulty (grown, wrong) = record { added = fault_line line e; is_text = LineText.lexing_error e is refl wrong; grown = grown }

@@ -34,8 +34,8 @@ pub(crate) fn push_line(
 ) -> Result<bool, AllocError>
     ensures { IfOk result (AddsLineText kit.now repairs.now line.now text.old.items text.new.items) }
 {
-    let lexer = WordLexer::new(alloc, kit.grm(), line)?;
-    let pushed = push_lexed(alloc, kit, repairs, line, &lexer, text);
+    let lexer = WordLexer::new(alloc, kit.grm(), &*line)?;
+    let pushed = push_lexed(alloc, &*kit, repairs, &*line, &lexer, text);
     drop(lexer);
     pushed
 }

@@ -47,9 +47,34 @@ pub fn run<G: Source, L: Source, R: Source, W: Sink>(
     ensures took_repairs { TakesAtMost (most_bytes + 1) (R.known repairs.old) (R.known repairs.new) }
 {
     let kit = read_kit(alloc, grammar)?;
-    let repair_lines = read_repair_lines(alloc, &kit, repairs)?;
+    let outcome = run_kit(alloc, &kit, lines, repairs, out);
+    drop(kit);
+    outcome
+}
+
+// What is left of a run with a kit: it reads the repairs and all lines, and then writes.
+fn run_kit<L: Source, R: Source, W: Sink>(
+    alloc: Global,
+    kit: &ParserKit<u32>,
+    lines: &mut L,
+    repairs: &mut R,
+    out: &mut W,
+) -> Result<bool, RunFault>
+    ensures ok { (known : Option (List ℕ)) → IsGoodKitIn known kit.now → IfOk result (WritesOutput known (L.known lines.old) (R.known repairs.old) (W.known out.old) (W.known out.new)) }
+    ensures out_at { (known : Option (List ℕ)) → IsGoodKitIn known kit.now → IfErr result (IsOutAt known (L.known lines.old) (R.known repairs.old) (W.known out.old) (W.known out.new)) }
+    ensures refused { (known : Option (List ℕ)) → IsGoodKitIn known kit.now → IfErr result (IsRefusal known (R.known repairs.old)) }
+    ensures early { (known : Option (List ℕ)) → IsGoodKitIn known kit.now → IfErr result (AreGoodBefore known (R.known repairs.old)) }
+    ensures in_grammar { (known : Option (List ℕ)) (faults faults' : ℕ) → IfErr result (IsCauseIn Input.Grammar known faults faults') }
+    ensures in_lines { IfErr result (IsCauseIn Input.Lines (L.known lines.old) (L.faults lines.old) (L.faults lines.new)) }
+    ensures in_repairs { IfErr result (IsCauseIn Input.Repairs (R.known repairs.old) (R.faults repairs.old) (R.faults repairs.new)) }
+    ensures in_out { IfErr result (IsWriteCause (W.faults out.old) (W.faults out.new)) }
+    ensures kept { OnOk result (W.faults out.new ≡ W.faults out.old) }
+    ensures took_lines { TakesAtMost (most_bytes + 1) (L.known lines.old) (L.known lines.new) }
+    ensures took_repairs { TakesAtMost (most_bytes + 1) (R.known repairs.old) (R.known repairs.new) }
+{
+    let repair_lines = read_repair_lines(alloc, kit, repairs)?;
     let line_text = read_input(alloc, Input::Lines, lines)?;
-    write_lines(alloc, &kit, &repair_lines, line_text.as_str(), out)
+    write_lines(alloc, kit, &repair_lines, line_text.as_str(), out)
 }
 
 // The parser of the grammar that the source holds, whose conflicts are expected.

@@ -2,3 +2,4 @@ pub mod Written
 pub mod LineWritten
 pub mod Lines
 pub mod ShownLines
+pub mod Outcomes

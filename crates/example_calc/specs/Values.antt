@@ -2,8 +2,8 @@
 use Rattle.std.specs.Prelude.{◌≡◌, ℕ, ◌-◌, if◌then◌else◌, nat_eq, List, map, get_or, Option, Some, Result, Ok}
 use Rattle.cfg_theory.specs.Grammar.{Grammar, start_symbol}
 use Rattle.cfg_theory.specs.Tree.{Tree, IsDerivation}
-use Rattle.cfg_theory.specs.Fold.{Span, no_span, fold}
-use Rattle.lr_theory.specs.Automaton.{Automaton, Closed, Complete}
+use Rattle.cfg_theory.specs.Fold.{no_span, fold}
+use Rattle.lr_theory.specs.Automaton.{Closed, Complete}
 use Rattle.lrtable.specs.Tables.{automaton_of}
 use Rattle.lrpar.specs.Checked.{ParserValue}
 use Rattle.lrpar.specs.Stacks.{span_of_places}

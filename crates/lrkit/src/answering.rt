@@ -21,7 +21,9 @@ use word_lines::shown::{push_errors, push_fault, push_tree};
 use word_lines::{RepairLines, WordLexError, WordLexeme, WordLexer, WordLexerTypes};
 
 type LineTree = FlatTree<u32, WordLexeme<u32>>;
+
 type LineError = ParseError<WordLexeme<u32>, u32>;
+
 type LineLexer<'a> = WordLexer<'a, u32>;
 
 /// Adds the text of a line: its errors, and then its tree, if it has a value. It answers whether there was an error.

@@ -36,9 +36,7 @@ pub enum RunFault {
     #[error("{text}", text = KitText(.0))]
     Kit(KitError<u32>),
     /// The counts of the listed conflicts aren't those of `%expect` and `%expect-rr`.
-    #[error(
-        "conflicts: {shift_reduce} shift/reduce, {reduce_reduce} reduce/reduce, expected {expect} and {expect_rr}"
-    )]
+    #[error("conflicts: {shift_reduce} shift/reduce, {reduce_reduce} reduce/reduce, expected {expect} and {expect_rr}")]
     Conflicts {
         shift_reduce: usize,
         reduce_reduce: usize,

@@ -1,7 +1,22 @@
 //! What gives bytes and what takes them, with a count of failures: `Source` and `Sink`, and `Counted`, which makes either
 //! of any reader or writer of std. `read_text` reads an input to its end as a text, `write_all` writes a whole text.
 //!
-//! Their contracts tell which bytes are gone from a source or are out at a sink where these are known, and why a call
+//! ```rust
+//! use byte_streams::{Counted, InputFault, read_text};
+//! use std::alloc::Global;
+//! use std::io::Read;
+//!
+//! /// The text that a reader gives, to its end.
+//! fn text_of<R: Read + Drop>(alloc: Global, reader: R) -> Result<String, InputFault> {
+//!     let mut input = Counted::new(reader);
+//!     read_text(alloc, &mut input)
+//! }
+//! ```
+//!
+//! Of a reader of the bytes `ID` it answers `Ok` of that text, of one of the byte FF `Err(InputFault::NotUtf8)`, of one that
+//! fails `Err(InputFault::Read)`, and of one that gives more than 67,108,864 bytes `Err(InputFault::TooLong)`.
+//!
+//! Contracts tell which bytes are gone from a source or are out at a sink where these are known, and why a call
 //! failed. `specs/Source`, `specs/Sink` and `specs/Inputs` have the definitions.
 #![tactic(auto)]
 

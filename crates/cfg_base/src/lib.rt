@@ -1,6 +1,22 @@
 //! What every part of a Yacc toolkit shares: index types and symbols, spans, lines and bytes of a text, and
 //! maps with marks.
 //!
+//! A line of a text is found so:
+//!
+//! ```rust
+//! use cfg_base::newlinecache::NewlineCache;
+//! use std::alloc::{AllocError, Global};
+//!
+//! /// The line and the column of a byte; None past the text's end.
+//! fn place(alloc: Global, text: &str, byte: usize) -> Result<Option<(usize, usize)>, AllocError> {
+//!     let cache = NewlineCache::from_str(alloc, text)?;
+//!     Ok(cache.byte_to_line_num_and_col_num(text, byte))
+//! }
+//! ```
+//!
+//! For byte 20 of `"%start S\n%%\nS: 'é' T;\n"`, the `T`, it answers `Some((3, 8))`: columns count characters, and `é` is one
+//! of two bytes.
+//!
 //! An index is seen by contracts as its number and a symbol as its kind and number, so that a theory of
 //! grammars over numbers speaks of them whatever type they are stored in. A span is a pair of byte
 //! offsets; lines count LFs and columns count characters. What all readers of texts share, classes of bytes,

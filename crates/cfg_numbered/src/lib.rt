@@ -1,5 +1,31 @@
 //! Grammars as values, and what their derivations show.
 //!
+//! ```rust
+//! use cfg_base::index::IndexStorage;
+//! use cfg_numbered::yacc::NumberedGrammar;
+//! use std::alloc::{AllocError, Global};
+//!
+//! /// The rules that derive the empty list.
+//! fn nullable<S: IndexStorage>(
+//!     alloc: Global,
+//!     grm: &NumberedGrammar<S>,
+//! ) -> Result<String, AllocError> {
+//!     let firsts = grm.firsts(alloc)?;
+//!     let mut names = String::new(alloc);
+//!     for number in 0..usize::from(grm.rules_len()) {
+//!         let ridx = grm.rule_at(number);
+//!         if firsts.is_epsilon_set(ridx) {
+//!             names.push_str(grm.rule_name_str(ridx))?;
+//!             names.push_str(" ")?;
+//!         }
+//!     }
+//!     Ok(names)
+//! }
+//! ```
+//!
+//! For the grammar of `%start S %% S: A 'b'; A: 'a' A | ;` it answers `A `. That each index is one of this grammar is what
+//! `is_epsilon_set` asks, and follows from `rule_at`, which wants a number below the count.
+//!
 //! A `NumberedGrammar` numbers rules, tokens and productions in an index type; contracts see it as a grammar of
 //! numbers, well formed, with names, spans, precedences and kept texts beside them. How it came about is left open: who
 //! has its parts makes it by `of_parts`, whose `requires` is what is so of each grammar value; `cfgrammar` makes it of

@@ -1,5 +1,25 @@
 //! LR parsing over checked tables: what checks them, the run with any repairs, values and trees.
 //!
+//! ```rust
+//! use lrpar::{Lexer, LexerTypes, ParseRefusal, ParserData, RTParserBuilder};
+//! use std::alloc::Global;
+//!
+//! /// How many errors a parse of a lexer's lexemes tells.
+//! fn errors_in<T: LexerTypes<StorageT = u32>, X: Lexer<T>>(
+//!     alloc: Global,
+//!     data: &ParserData<u32>,
+//!     lexer: &X,
+//! ) -> Result<usize, ParseRefusal> {
+//!     let parser = RTParserBuilder::<T, _>::new(data);
+//!     let errors = parser.parse_noaction(alloc, lexer)?;
+//!     Ok(errors.len())
+//! }
+//! ```
+//!
+//! Without repairs it answers 0 or 1: a parse stops at its first error. `parser.recoverer(&offers)` is the same parser with
+//! repairs, and in place of `parse_noaction` stand `parse_generictree`, `parse_map`, `parse_actions`, `parse_fold` and
+//! `parse_flat`, which make values. `crates/example_editor` shows a lexer and a recoverer.
+//!
 //! `ParserData` holds a grammar, a graph and a table that were checked against it, so that no call on it asks for more. A
 //! parser (`RTParserBuilder`) runs the lexemes of a lexer over them: it tells the first fault of the lexer, or the value
 //! and the errors of the machine with repairs, where a `Recoverer` hands in sequences at each error and the first that can

@@ -1,5 +1,24 @@
 //! Errors, warnings and conflicts of a grammar text, shown under the lines that they speak of.
 //!
+//! ```rust
+//! use cfg_base::span::Span;
+//! use lrpar_diagnostics::SpannedDiagnosticFormatter;
+//! use std::alloc::{AllocError, Global};
+//!
+//! /// The lines of a span in a text, with a message under it.
+//! fn shown(alloc: Global, text: &str, span: Span) -> Result<String, AllocError> {
+//!     let formatter = SpannedDiagnosticFormatter::new(alloc, text, "sums")?;
+//!     formatter.underline_span_with_text(alloc, span, "Insert `)`", '^')
+//! }
+//! ```
+//!
+//! For the text `"(n+n;\nn+;\n"` and the span of the first `;` it answers
+//!
+//! ```text
+//! 1| (n+n;
+//!        ^ Insert `)`
+//! ```
+//!
 //! The contracts that matter most are those of `SpannedDiagnosticFormatter`: each text is a function of the source, the
 //! spans and the messages. `prefixed_underline_span_with_text` answers `underlined` of `specs/Underlines`, `format_error`
 //! and `format_warning` answer `spanned_text` of `specs/Occurrences`, `format_conflicts` answers `conflicts_text` of

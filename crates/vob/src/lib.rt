@@ -1,7 +1,25 @@
 //! Bit vectors: lists of booleans that take one bit each.
 //!
-//! A `Vob` is used as a set of small numbers, above all where whole sets are joined and compared. Its blocks
-//! don't show: contracts see the list `bits` of its items and its `capacity`. The calls that callers stand on
+//! A `Vob` is used as a set of small numbers, above all where whole sets are joined and compared:
+//!
+//! ```rust
+//! use std::alloc::{AllocError, Global};
+//! use vob::Vob;
+//!
+//! /// Whether the numbers of a set were new to another one, and whether they are so once more.
+//! fn joined(alloc: Global) -> Result<(bool, bool), AllocError> {
+//!     let mut set = Vob::from_elem(alloc, false, 10)?;
+//!     set.set(3, true);
+//!     let mut other = Vob::from_elem(alloc, false, 10)?;
+//!     other.set(7, true);
+//!     Ok((set.or(&other), set.or(&other)))
+//! }
+//! ```
+//!
+//! It answers `(true, false)`: the first `or` brings 7 into the set, the second changes nothing. That both have one length
+//! is what `or` asks, and follows here from `from_elem`.
+//!
+//! Blocks don't show: contracts see the list `bits` of a `Vob`'s items and its `capacity`. The calls that callers stand on
 //! most are `or`, `and` and `xor`, which work item by item and answer true exactly if the list changed,
 //! `meets` and `holds`, which compare two sets, and `iter_set_bits` and `iter_unset_bits`, which give the
 //! indices of a range, cut at the length, whose item has one value.

@@ -1,5 +1,31 @@
 //! Lexemes of a line of words, and repairs of lines of words.
 //!
+//! ```rust
+//! use cfg_base::span::Span;
+//! use cfg_numbered::yacc::NumberedGrammar;
+//! use lrpar::{LexError, Lexer};
+//! use std::alloc::{AllocError, Global};
+//! use word_lines::WordLexer;
+//!
+//! /// The place of the first word of a line that is no token's name.
+//! fn stranger(
+//!     alloc: Global,
+//!     grm: &NumberedGrammar<u32>,
+//!     line: &str,
+//! ) -> Result<Option<Span>, AllocError> {
+//!     let lexer = WordLexer::new(alloc, grm, line)?;
+//!     for item in lexer.iter() {
+//!         if let Err(fault) = item {
+//!             return Ok(Some(fault.span()));
+//!         }
+//!     }
+//!     Ok(None)
+//! }
+//! ```
+//!
+//! For a grammar with the tokens `+` and `ID` and the line `ID * ID` it answers `Some` of the span (3, 4), for `ID + ID` None. A
+//! parser of `lrpar` takes the lexer as it is: `RTParserBuilder::<WordLexerTypes<u32>, _>::new(&data)`.
+//!
 //! A line is words with spaces between them. `WordLexer::new` makes its list of lexemes, by contract the items of
 //! `specs/Lexing` (`items_of`): a word that is a token's name is a lexeme, any other a lexing error. No such list is refused by
 //! a parse, and its items are parts of the line (`laws::items_are_parts_of_their_line`). `read_repairs` reads a text of lines

@@ -7,8 +7,8 @@ ghost use Rattle.cfg_numbered.specs.Value.{GrammarValue};
 ghost use Rattle.table_theory.specs.CellLaws.{SomeContested};
 ghost use Rattle.table_theory.specs.Cells.{NoPrecedences, some_conflicts};
 ghost use Rattle.lrtable.specs.CellRows.{PartsValue};
-ghost use Rattle.lrtable.specs.CellViews.{action_of, cells_of, pairs_of, precedences_of, shifts_of, state_of};
-ghost use Rattle.lrtable.specs.SparseRows.{AllReduce, IsCellRow, IsTargetRow, RowReduces, full_cells};
+ghost use Rattle.lrtable.specs.CellViews.{action_of, cells_of, pairs_of, precedences_of, shifts_of, state_of, targets_of};
+ghost use Rattle.lrtable.specs.SparseRows.{AllReduce, IsCellRow, IsTargetRow, RowReduces, full_cells, full_targets};
 ghost use Rattle.lrtable.specs.ConflictTexts.{ConflictsInRange};
 ghost use Rattle.lrtable.specs.Graphs.{GraphValue, IsGraphOf};
 ghost use Rattle.lrtable.specs.TableRefusals.{table_refusal_of};
@@ -116,6 +116,24 @@ impl<S: IndexStorage> StateTable<S> {
     {
         self.tokens.to_usize();
         self.actions[stidx.0.to_usize()].as_slice()
+    }
+
+    /// Lends the cells of a state that aren't errors, each beside its token's number, ascending.
+    pub fn state_cells(&self, stidx: StIdx<S>) -> &[(usize, Action<S>)]
+        requires { S.number stidx.0 < self.now.states }
+        ensures cells { IsCellRow self.now.tokens (cells_of S.number result.now) }
+        ensures whole { slice_index_or self.now.actions (S.number stidx.0) [] ≡ full_cells self.now.tokens (cells_of S.number result.now) }
+    {
+        self.row(stidx)
+    }
+
+    /// Lends the gotos of a state, each beside its rule's number, ascending.
+    pub fn state_gotos(&self, stidx: StIdx<S>) -> &[(usize, StIdx<S>)]
+        requires { S.number stidx.0 < self.now.states }
+        ensures targets { IsTargetRow self.now.rules (targets_of S.number result.now) }
+        ensures whole { slice_index_or self.now.gotos (S.number stidx.0) [] ≡ full_targets self.now.rules (targets_of S.number result.now) }
+    {
+        self.gotos[stidx.0.to_usize()].as_slice()
     }
 
     /// Iterates over the tokens on which a state does something, ascending.

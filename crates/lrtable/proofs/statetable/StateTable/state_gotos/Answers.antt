@@ -19,14 +19,14 @@ returns-clause-targets g c =
     let x = c.index.result.now in
     let v = ap (λ (t : TableValue). t.states) c.self.view_is in
     let n = length-map rows (λ (row : Vec (ℕ × StIdx g.row.S.Denot) Global). targets_of number row.items) in
-    let m = c.self.invariant.gotos in
+    let m = c.self.invariant.0.gotos in
     let r = c.requires in
     let below : s < number i.states = omega (arith, v, r) in
     let ls : s < length rows = omega (arith, n, m, below) in
     let at : x ≡ get_or rows s x = c.index.ensures ∙ ap (λ k. get_or rows k x) c.to_usize.ensures.value in
     subst (λ (k : ℕ). IsTargetRow k (targets_of number c.as_slice.result.now)) (ap (λ (t : TableValue). t.rules) c.self.view_is)
     (subst (λ (l : List (ℕ × StIdx g.row.S.Denot)). IsTargetRow (number i.rules) (targets_of number l)) (sym c.as_slice.ensures.value)
-    (subst (IsTargetRow (number i.rules)) (targets_at number rows s x ls at) (c.self.invariant.targets s below)))
+    (subst (IsTargetRow (number i.rules)) (targets_at number rows s x ls at) (c.self.invariant.0.targets s below)))
 
 pub returns-clause-whole : goal.returns-clause-whole
 returns-clause-whole g c =
@@ -37,7 +37,7 @@ returns-clause-whole g c =
     let x = c.index.result.now in
     let v = ap (λ (t : TableValue). t.states) c.self.view_is in
     let n = length-map rows (λ (row : Vec (ℕ × StIdx g.row.S.Denot) Global). targets_of number row.items) in
-    let m = c.self.invariant.gotos in
+    let m = c.self.invariant.0.gotos in
     let r = c.requires in
     let ls : s < length rows = omega (arith, n, m, v, r) in
     let within : s < length (target_rows_of number rows) = omega (arith, m, v, r) in

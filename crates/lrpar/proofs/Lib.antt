@@ -44,3 +44,7 @@ pub mod Instances
 pub mod FoldsOver
 pub mod BuiltPairs
 pub mod OneParse
+pub mod RowWalks
+pub mod FittingRows
+pub mod ChainRows
+pub mod SetBits

@@ -2,7 +2,7 @@
 use Rattle.std.specs.Prelude.{◌≡◌, ◌≢◌, ◌<◌, ◌≤◌, ◌⊎◌, ℕ, suc, Bool, true, false, List, [], length, Option, Some, None, slice_get, nat_lt, cond, get_or}
 use Rattle.std.specs.declared.alloc.Global.{Global}
 use Rattle.std.specs.declared.vec.Vec.{Vec}
-use Rattle.cfg_theory.specs.Grammar.{Sym, Grammar, head_of, body_of, end_token, IsNext, IsEnd}
+use Rattle.cfg_theory.specs.Grammar.{Sym, rule, Grammar, head_of, body_of, end_token, IsNext, IsEnd}
 use Rattle.lr_theory.specs.Automaton.{Action, shift, reduce, accept, error, Automaton, Safe}
 use Rattle.lr_theory.specs.Itemset.{ItemSet, HasItem}
 use Rattle.lrtable.specs.Graphs.{GraphValue, graph_of, target_in}
@@ -81,6 +81,11 @@ pub record Passed (es : List (Sym × ℕ)) (place : ℕ) (X : Sym) : Type 0 wher
 -- and the one at this place isn't
 pub record StopsBefore (es : List (Sym × ℕ)) (place : ℕ) (X : Sym) : Type 0 where
   pub stops : (e : Sym × ℕ) → slice_get es place ≡ Some e → SymBefore e.0 X → ⊥
+
+-- gotos of a row are, one by one, the first edges, and no edge on a rule below the count stands behind these
+pub record AreEdges (row : List (ℕ × ℕ)) (es : List (Sym × ℕ)) (rules : ℕ) : Type 0 where
+  pub same : (k A q : ℕ) → slice_get row k ≡ Some (A, q) → slice_get es k ≡ Some (rule A, q)
+  pub ends : (A q : ℕ) → slice_get es (length row) ≡ Some (rule A, q) → A < rules → ⊥
 
 -- an edge on a token that leads into the start state, and one on a rule that does, or that is past the rules
 abbrev pub BadToken : ℕ → ℕ → ℕ → Type 0

@@ -1,7 +1,7 @@
 -- Reductions on a stack whose top is last.
 use Rattle.std.specs.Prelude.{◌≡◌, ◌<◌, ◌≤◌, ℕ, Bool, true, false, ◌+◌, List, [], ◌∷◌, map, reverse, length, Option, None, Some, slice_get}
 use Rattle.cfg_theory.specs.Grammar.{Grammar, WellFormed, body_of}
-use Rattle.lr_theory.specs.Automaton.{reduce, Automaton}
+use Rattle.lr_theory.specs.Automaton.{Action, shift, reduce, accept, error, Automaton}
 use Rattle.lr_theory.specs.Chains.{reduction, Reductions, ChainsWithin}
 use Rattle.lr_theory.specs.LongChains.{Chain, GoesPast, Passes, ChainBefore, IsLeastChain}
 use Rattle.cfg_base.specs.declared.symbol.RIdx.{RIdx}
@@ -42,6 +42,22 @@ ReducesTo G a t ss ss' false = reduction G a t ss ≡ None
 abbrev pub chain_stack : ℕ → Option ℕ → List ℕ
 chain_stack p None = p ∷ []
 chain_stack p (Some q) = q ∷ p ∷ []
+
+-- its top, and how many states it has
+abbrev pub chain_top : ℕ → Option ℕ → ℕ
+chain_top p None = p
+chain_top p (Some q) = q
+
+abbrev pub chain_depth : Option ℕ → ℕ
+chain_depth None = 1
+chain_depth (Some q) = 2
+
+-- no reduction by the action leaves one of so many states
+abbrev pub BeginsNone : Grammar → ℕ → Action → Type 0
+BeginsNone G depth (shift q) = Unit {0}
+BeginsNone G depth (reduce p) = depth ≤ length (body_of G p)
+BeginsNone G depth accept = Unit {0}
+BeginsNone G depth error = Unit {0}
 
 -- more than limit reductions come on t
 abbrev pub IsLong : Grammar → Automaton → ℕ → ℕ → Option ℕ → ℕ → Type 0

@@ -1,12 +1,14 @@
 //! Chains of reductions: whether more than a cap of them come one after another on one token.
 
-ghost use Rattle.std.specs.Prelude.{◌≡◌, ◌<◌, ◌+◌, ℕ, Some, None, IfOk, OnOk, length};
+ghost use Rattle.std.specs.Prelude.{◌≡◌, ◌<◌, ◌+◌, ℕ, false, Some, None, IfOk, OnOk, length};
+ghost use Rattle.lr_theory.specs.Automaton.{reduce};
 ghost use Rattle.lrtable.specs.Tables.{automaton_of};
-ghost use Rattle.lrpar.specs.Reducing.{states_of, stack_of, IsTableFor, AreStates, ReducesTo, TellsLong, TellsToken, TellsAbove, TellsOf, TellsChain, AreShorts, token_number, chain_states};
+ghost use Rattle.lrpar.specs.Reducing.{states_of, stack_of, IsTableFor, AreStates, ReducesTo, TellsLong, TellsToken, TellsAbove, TellsOf, TellsChain, AreShorts, BeginsNone, token_number, chain_states, chain_top, chain_depth};
 ghost use Rattle.lrtable.specs.Graphs.{GraphValue};
-ghost use Rattle.lrtable.specs.CellViews.{state_of};
+ghost use Rattle.lrtable.specs.CellViews.{action_of, state_of};
 
 use crate::numbers::index_below;
+use crate::rows::{cell_of_row, goto_of_row};
 use crate::shorts::{Short, all_shorts, is_quiet, short_at};
 use cfg_base::index::IndexStorage;
 use cfg_base::symbol::{RIdx, TIdx};
@@ -101,6 +103,37 @@ pub(crate) fn is_long<S: IndexStorage>(
     Ok(true)
 }
 
+/// The state on top of a chain's first stack.
+fn top_of<S: IndexStorage>(state: StIdx<S>, above: Option<StIdx<S>>) -> StIdx<S>
+    ensures { S.number result.0 ≡ chain_top (S.number state.0) (state_of S.number above) }
+{
+    match above {
+        None => state,
+        Some(above) => above,
+    }
+}
+
+/// How many states that stack has.
+fn depth_of<S: IndexStorage>(above: Option<StIdx<S>>) -> usize
+    ensures { result ≡ chain_depth (state_of S.number above) }
+{
+    match above {
+        None => 1,
+        Some(_) => 2,
+    }
+}
+
+/// Whether the first reduction of a chain may be by this action: it takes fewer symbols than there are states.
+fn may_begin<S: IndexStorage>(grm: &NumberedGrammar<S>, depth: usize, action: Action<S>) -> bool
+    requires { (p : ℕ) → action_of S.number action ≡ reduce p → p < length grm.now.grammar.productions }
+    ensures { result ≡ false → BeginsNone grm.now.grammar depth (action_of S.number action) }
+{
+    match action {
+        Action::Reduce(pidx) => grm.prod_len(pidx).0.to_usize() < depth,
+        _ => false,
+    }
+}
+
 /// The least token on which more than `limit` reductions come.
 pub(crate) fn long_token<S: IndexStorage>(
     grm: &NumberedGrammar<S>,
@@ -116,7 +149,13 @@ pub(crate) fn long_token<S: IndexStorage>(
     ensures { IfOk result (λ found. (g : GraphValue) → TellsToken grm.now.grammar (automaton_of g stable.now) limit stable.now.tokens (S.number state.0) (state_of S.number above) (token_number S.number found)) }
 {
     let tokens = stable.tokens_len().0;
-    'tokens: for number in 0..tokens.to_usize() {
+    let depth = depth_of(above);
+    let row = stable.state_cells(top_of(state, above));
+    'cells: for index in 0..row.len() {
+        let (number, action) = cell_of_row(row, index);
+        if !may_begin(grm, depth, action) {
+            continue;
+        }
         let tidx = TIdx(index_below(number, tokens));
         if is_long(grm, stable, limit, stack, state, above, tidx)? {
             return Ok(Some(tidx));
@@ -164,14 +203,13 @@ fn long_above<S: IndexStorage>(
     ensures { IfOk result (λ found. (g : GraphValue) → TellsAbove S.number grm.now.grammar (automaton_of g stable.now) limit (S.number state.0) found) }
 {
     let rules = stable.rules_len().0;
-    'rules: for number in 0..rules.to_usize() {
+    let row = stable.state_gotos(state);
+    'gotos: for index in 0..row.len() {
+        let (number, above) = goto_of_row(row, index);
         let ridx = RIdx(index_below(number, rules));
         if is_quiet(grm, stable, shorts, limit, state, ridx) {
             continue;
         }
-        let Some(above) = stable.goto(state, ridx) else {
-            continue;
-        };
         if let Some(tidx) = long_token(grm, stable, limit, stack, state, Some(above))? {
             return Ok(Some(LongChain {
                 state,

@@ -56,6 +56,7 @@ mod parser;
 pub mod parserdata;
 pub mod recoverer;
 mod repair;
+mod rows;
 mod run;
 mod shorts;
 mod stacks;

@@ -141,6 +141,25 @@ impl<S: IndexStorage> ParserData<S> {
         ensures refused { IfErr result (IsDataRefusal S.number grm sgraph stable cap) }
         ensures of_builder { IfErr result (λ e. IsTableOf grm sgraph stable → IsUnsafeTable e → ⊥) }
     {
+        // Cells and gotos are read at once from here on.
+        let full = stable.with_full_rows(alloc)?;
+        ParserData::of_parts(alloc, grm, sgraph, full, cap)
+    }
+
+    /// The same, over the table as it is.
+    fn of_parts(
+        alloc: Global,
+        grm: NumberedGrammar<S>,
+        sgraph: StateGraph<S>,
+        stable: StateTable<S>,
+        cap: u16,
+    ) -> Result<ParserData<S>, ParserDataError<S>>
+        ensures holds { IfOk result (λ d. d ≡ record { grammar = grm; graph = sgraph; table = stable; cap = cap }) }
+        ensures safe { OnOk result (IsSafePair grm.grammar sgraph stable) }
+        ensures chains { OnOk result (ChainsWithin grm.grammar (automaton_of sgraph stable) cap) }
+        ensures refused { IfErr result (IsDataRefusal S.number grm sgraph stable cap) }
+        ensures of_builder { IfErr result (λ e. IsTableOf grm sgraph stable → IsUnsafeTable e → ⊥) }
+    {
         // Read, so that the proof may use what is so of each grammar.
         grm.start_prod();
         match judge(alloc, &grm, &sgraph, &stable, cap)? {

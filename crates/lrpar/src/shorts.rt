@@ -10,8 +10,9 @@ ghost use Rattle.lrtable.specs.Tables.{automaton_of};
 ghost use Rattle.lrpar.specs.Reducing.{IsTableFor, ShortBelow, AreShorts};
 
 use crate::numbers::index_below;
+use crate::rows::cell_of_row;
 use cfg_base::index::IndexStorage;
-use cfg_base::symbol::{PIdx, RIdx, TIdx};
+use cfg_base::symbol::{PIdx, RIdx};
 use cfg_numbered::yacc::grammar::NumberedGrammar;
 use lrtable::{Action, StIdx, StateTable};
 use std::alloc::{AllocError, Global};
@@ -62,11 +63,11 @@ fn short_of<S: IndexStorage>(
     requires state { S.number state.0 < stable.now.states }
     ensures { ShortBelow S.number grm.now.grammar stable.now (S.number state.0) stable.now.tokens result }
 {
-    let tokens = stable.tokens_len().0;
+    let row = stable.state_cells(state);
     let mut found = Short::Nothing;
-    'tokens: for number in 0..tokens.to_usize() {
-        let tidx = TIdx(index_below(number, tokens));
-        found = joined(grm, found, stable.action(state, tidx));
+    'cells: for index in 0..row.len() {
+        let (_, action) = cell_of_row(row, index);
+        found = joined(grm, found, action);
     }
     found
 }

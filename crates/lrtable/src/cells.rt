@@ -4,6 +4,7 @@ ghost use Rattle.std.specs.Prelude.{Bool, IsTrue, ◌↔◌, List, ◌∷◌, []
 ghost use Rattle.lr_theory.specs.Automaton.{reduce};
 ghost use Rattle.table_theory.specs.Cells.{shifts_at, unsettled_entry, shift_or_reduce, cell_by, ShiftReduce};
 ghost use Rattle.lrtable.specs.CellRows.{OfToken, OfProduction, first_of, cell_from, shifts_from, filled};
+ghost use Rattle.lrtable.specs.SparseRows.{or_error};
 ghost use Rattle.lrtable.specs.CellViews.{action_of, cells_of, precedence_of, precedences_of, production_of, state_of, shifts_of};
 
 use crate::stidx::StIdx;
@@ -147,6 +148,16 @@ pub(crate) fn list_shift<S: IndexStorage>(
             None => Ok(()),
             Some(_) => list_unsettled(grm, tidx, pidx, stidx, listed),
         },
+    }
+}
+
+/// The cell that a full row holds, an error where it holds none.
+pub(crate) fn cell_or_error<S: IndexStorage>(cell: Option<Action<S>>) -> Action<S>
+    ensures { action_of S.number result ≡ or_error (option_map (action_of S.number) cell) }
+{
+    match cell {
+        Some(action) => action,
+        None => Action::Error,
     }
 }
 

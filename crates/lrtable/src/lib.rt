@@ -54,6 +54,7 @@ mod rests;
 pub mod rows;
 mod rule_rows;
 mod shared_sets;
+mod spreads;
 mod state_rows;
 pub mod stategraph;
 mod states;

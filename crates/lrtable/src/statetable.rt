@@ -7,8 +7,8 @@ ghost use Rattle.cfg_numbered.specs.Value.{GrammarValue};
 ghost use Rattle.table_theory.specs.CellLaws.{SomeContested};
 ghost use Rattle.table_theory.specs.Cells.{NoPrecedences, some_conflicts};
 ghost use Rattle.lrtable.specs.CellRows.{PartsValue};
-ghost use Rattle.lrtable.specs.CellViews.{action_of, cells_of, pairs_of, precedences_of, shifts_of, state_of};
-ghost use Rattle.lrtable.specs.SparseRows.{AllReduce, IsCellRow, IsTargetRow, RowReduces, full_cells};
+ghost use Rattle.lrtable.specs.CellViews.{action_of, cells_of, pairs_of, precedences_of, shifts_of, state_of, targets_of};
+ghost use Rattle.lrtable.specs.SparseRows.{AllReduce, IsCellRow, IsTargetRow, RowReduces, full_cells, full_targets};
 ghost use Rattle.lrtable.specs.ConflictTexts.{ConflictsInRange};
 ghost use Rattle.lrtable.specs.Graphs.{GraphValue, IsGraphOf};
 ghost use Rattle.lrtable.specs.TableRefusals.{table_refusal_of};
@@ -17,10 +17,11 @@ ghost use Rattle.lrtable.specs.TableValues.{ReducesOnly, action_at, filled_count
 ghost use Rattle.lrtable.specs.Tables.{HasFullRows, IsTableOf, IsTableRefusal};
 ghost use Rattle.lrtable.specs.declared.statetable.StateTableNewError.TheVariants as faults;
 
-use crate::cells::{Action, reduced_by, reduces_by};
+use crate::cells::{Action, cell_or_error, reduced_by, reduces_by};
 use crate::conflicts::{Conflicts, of_lists};
 use crate::graph_rows::{has_room, rows_of_graph};
 use crate::rows::look_up;
+use crate::spreads::{spread_at, spread_rows};
 use crate::state_rows::{ReduceReduce, ShiftReduce};
 use crate::stategraph::StateGraph;
 use crate::stidx::StIdx;
@@ -37,8 +38,8 @@ use std::fmt;
 use std::fmt::{Debug, Display, Formatter, Write};
 use std::marker::Model;
 
-/// A table of a grammar. It keeps of each state the filled cells and the gotos that there are, in rows that ascend;
-/// contracts see full rows.
+/// A table of a grammar. It keeps of each state the filled cells and the gotos that there are, in rows that ascend, and
+/// full rows beside them where it was asked to; contracts see full rows.
 #[derive(Drop)]
 pub struct StateTable<S: IndexStorage> {
     actions: Vec<Vec<(usize, Action<S>)>>,
@@ -49,6 +50,8 @@ pub struct StateTable<S: IndexStorage> {
     rules: S,
     prods: S,
     conflicts: Option<Conflicts<S>>,
+    full_actions: Vec<Vec<Option<Action<S>>>>,
+    full_gotos: Vec<Vec<Option<StIdx<S>>>>,
 }
 
 impl<S: IndexStorage> Model for StateTable<S> {
@@ -57,11 +60,12 @@ impl<S: IndexStorage> Model for StateTable<S> {
     ghost Value = { TableValue };
 
     ghost use Rattle.lrtable.specs.SparseRows.{IsSparse, full};
+    ghost use Rattle.lrtable.specs.SpreadRows.{AreSpread};
     ghost use Rattle.lrtable.specs.TableViews.{sparse_of};
 
     ghost view = { λ s. full (sparse_of S.number s.states s.tokens s.rules s.prods s.start s.actions.items s.gotos.items s.conflicts) };
 
-    ghost invariant = { λ s. IsSparse (sparse_of S.number s.states s.tokens s.rules s.prods s.start s.actions.items s.gotos.items s.conflicts) };
+    ghost invariant = { λ s. IsSparse (sparse_of S.number s.states s.tokens s.rules s.prods s.start s.actions.items s.gotos.items s.conflicts) × AreSpread s.actions.items s.full_actions.items × AreSpread s.gotos.items s.full_gotos.items };
 }
 
 impl<S: IndexStorage> StateTable<S> {
@@ -81,11 +85,35 @@ impl<S: IndexStorage> StateTable<S> {
         if !has_room(grm, sg) {
             return Err(StateTableNewError::TooLarge);
         }
-        Ok(of_rows(grm, rows, sg.all_states_len(), sg.start_state()))
+        Ok(of_rows(alloc, grm, rows, sg.all_states_len(), sg.start_state()))
+    }
+
+    /// The same table, which from here on reads most cells and gotos at once: beside its rows it keeps full ones.
+    pub fn with_full_rows(mut self, alloc: Global) -> Result<StateTable<S>, AllocError>
+        ensures { IfOk result (λ t. t ≡ self) }
+    {
+        let full_actions = spread_rows(alloc, self.actions.as_slice(), self.tokens.to_usize())?;
+        let full_gotos = spread_rows(alloc, self.gotos.as_slice(), self.rules.to_usize())?;
+        self.full_actions = full_actions;
+        self.full_gotos = full_gotos;
+        Ok(self)
     }
 
     /// What the state does on the token.
     pub fn action(&self, stidx: StIdx<S>, tidx: TIdx<S>) -> Action<S>
+        requires state { S.number stidx.0 < self.now.states }
+        requires token { S.number tidx.0 < self.now.tokens }
+        ensures { action_of S.number result ≡ action_at self.now (S.number stidx.0) (S.number tidx.0) }
+    {
+        let state = stidx.0.to_usize();
+        match spread_at(self.full_actions.as_slice(), state, tidx.0.to_usize()) {
+            Some(cell) => cell_or_error(cell),
+            None => self.search_action(stidx, tidx),
+        }
+    }
+
+    /// What the state does on the token, by halving.
+    fn search_action(&self, stidx: StIdx<S>, tidx: TIdx<S>) -> Action<S>
         requires state { S.number stidx.0 < self.now.states }
         requires token { S.number tidx.0 < self.now.tokens }
         ensures { action_of S.number result ≡ action_at self.now (S.number stidx.0) (S.number tidx.0) }
@@ -103,6 +131,19 @@ impl<S: IndexStorage> StateTable<S> {
         requires rule { S.number ridx.0 < self.now.rules }
         ensures { state_of S.number result ≡ goto_at self.now (S.number stidx.0) (S.number ridx.0) }
     {
+        let state = stidx.0.to_usize();
+        match spread_at(self.full_gotos.as_slice(), state, ridx.0.to_usize()) {
+            Some(target) => target,
+            None => self.search_goto(stidx, ridx),
+        }
+    }
+
+    /// The state after the rule, by halving.
+    fn search_goto(&self, stidx: StIdx<S>, ridx: RIdx<S>) -> Option<StIdx<S>>
+        requires state { S.number stidx.0 < self.now.states }
+        requires rule { S.number ridx.0 < self.now.rules }
+        ensures { state_of S.number result ≡ goto_at self.now (S.number stidx.0) (S.number ridx.0) }
+    {
         let row = self.gotos[stidx.0.to_usize()].as_slice();
         look_up(row, ridx.0.to_usize())
     }
@@ -116,6 +157,24 @@ impl<S: IndexStorage> StateTable<S> {
     {
         self.tokens.to_usize();
         self.actions[stidx.0.to_usize()].as_slice()
+    }
+
+    /// Lends the cells of a state that aren't errors, each beside its token's number, ascending.
+    pub fn state_cells(&self, stidx: StIdx<S>) -> &[(usize, Action<S>)]
+        requires { S.number stidx.0 < self.now.states }
+        ensures cells { IsCellRow self.now.tokens (cells_of S.number result.now) }
+        ensures whole { slice_index_or self.now.actions (S.number stidx.0) [] ≡ full_cells self.now.tokens (cells_of S.number result.now) }
+    {
+        self.row(stidx)
+    }
+
+    /// Lends the gotos of a state, each beside its rule's number, ascending.
+    pub fn state_gotos(&self, stidx: StIdx<S>) -> &[(usize, StIdx<S>)]
+        requires { S.number stidx.0 < self.now.states }
+        ensures targets { IsTargetRow self.now.rules (targets_of S.number result.now) }
+        ensures whole { slice_index_or self.now.gotos (S.number stidx.0) [] ≡ full_targets self.now.rules (targets_of S.number result.now) }
+    {
+        self.gotos[stidx.0.to_usize()].as_slice()
     }
 
     /// Iterates over the tokens on which a state does something, ascending.
@@ -277,6 +336,7 @@ fn listed<S: IndexStorage>(
 
 /// The table of the rows of all states.
 pub(crate) fn of_rows<S: IndexStorage>(
+    alloc: Global,
     grm: &NumberedGrammar<S>,
     rows: TableRows<S>,
     states: StIdx<S>,
@@ -311,6 +371,8 @@ pub(crate) fn of_rows<S: IndexStorage>(
         rules: grm.rules_len().0,
         prods: grm.prods_len().0,
         conflicts: listed(pairs, shifts),
+        full_actions: Vec::new(alloc),
+        full_gotos: Vec::new(alloc),
     }
 }
 

@@ -1,18 +1,19 @@
 //! Whether the cells and gotos of a state fit a grammar.
 
-ghost use Rattle.std.specs.Prelude.{◌≡◌, ◌<◌, length};
+ghost use Rattle.std.specs.Prelude.{◌≡◌, ◌<◌, ℕ, true, Some, length, slice_get};
 ghost use Rattle.cfg_theory.specs.Grammar.{rule, token};
-ghost use Rattle.lrtable.specs.CellViews.{action_of, state_of};
+ghost use Rattle.lrtable.specs.CellViews.{action_of, state_of, targets_of};
 ghost use Rattle.lrtable.specs.declared.cells.Action.TheVariants as actions;
 ghost use Rattle.lrtable.specs.Graphs.{AreInOrder, target_in};
 ghost use Rattle.lrtable.specs.GraphViews.{edges_seen};
 ghost use Rattle.lrtable.specs.TableValues.{action_at, goto_at};
 ghost use Rattle.lrpar.specs.Reducing.{rule_number, token_number};
-ghost use Rattle.lrpar.specs.Fitting.{Tells, LeastNot, OfGrammar, IsFor, GoesFrom, HasGotos, least_of};
+ghost use Rattle.lrpar.specs.Fitting.{Tells, LeastNot, OfGrammar, IsFor, GoesFrom, HasGotos, AreEdges, least_of};
 
 use crate::numbers::index_below;
-use crate::parserdata::edges::{place_of, target_at};
+use crate::parserdata::edges::{edge_at, place_of, target_at};
 use crate::parserdata::items::has_end;
+use crate::rows::{cell_of_row, goto_of_row};
 use cfg_base::index::IndexStorage;
 use cfg_base::symbol::{PIdx, RIdx, SIdx, Symbol, TIdx};
 use cfg_numbered::yacc::grammar::NumberedGrammar;
@@ -111,20 +112,93 @@ pub(crate) fn least_action<S: IndexStorage>(
     ensures { LeastNot (λ t. t < stable.now.tokens → IsFor grm.now.grammar items.now (target_in (edges_seen S.number edges.now) (token t)) t (action_at stable.now (S.number state.0) t)) (token_number S.number result) }
 {
     let tokens = stable.tokens_len().0;
+    let row = stable.state_cells(state);
     let mut place = 0;
-    'tokens: for number in 0..tokens.to_usize() {
+    'cells: for index in 0..row.len() {
+        let (number, action) = cell_of_row(row, index);
         let tidx = TIdx(index_below(number, tokens));
         place = place_of(edges, place, Symbol::Token(tidx));
         let edge = target_at(edges, place, Symbol::Token(tidx));
-        if !action_fits(grm, items, edge, tidx, stable.action(state, tidx)) {
+        if !action_fits(grm, items, edge, tidx, action) {
             return Some(tidx);
         }
     }
     None
 }
 
+/// Whether a goto is the edge at a place.
+fn is_edge<S: IndexStorage>(
+    edges: &[(Symbol<S>, StIdx<S>)],
+    index: usize,
+    number: usize,
+    target: StIdx<S>,
+) -> bool
+    ensures { result ≡ true → slice_get (edges_seen S.number edges.now) index ≡ Some (rule number, S.number target.0) }
+{
+    if index >= edges.len() {
+        return false;
+    }
+    let (symbol, to) = edge_at(edges, index);
+    match symbol {
+        Symbol::Rule(ridx) => {
+            if ridx.0.to_usize() != number {
+                return false;
+            }
+            to.0.to_usize() == target.0.to_usize()
+        }
+        Symbol::Token(_) => false,
+    }
+}
+
+/// Whether no edge on a rule below the count stands at a place.
+fn ends_at<S: IndexStorage>(edges: &[(Symbol<S>, StIdx<S>)], index: usize, rules: RIdx<S>) -> bool
+    ensures { result ≡ true → (A q : ℕ) → slice_get (edges_seen S.number edges.now) index ≡ Some (rule A, q) → A < S.number rules.0 → ⊥ }
+{
+    if index >= edges.len() {
+        return true;
+    }
+    let (symbol, _) = edge_at(edges, index);
+    match symbol {
+        Symbol::Rule(ridx) => ridx.0.to_usize() >= rules.0.to_usize(),
+        Symbol::Token(_) => true,
+    }
+}
+
+/// Whether the gotos are, one by one, the edges on rules below the count.
+fn are_edges<S: IndexStorage>(
+    edges: &[(Symbol<S>, StIdx<S>)],
+    row: &[(usize, StIdx<S>)],
+    rules: RIdx<S>,
+) -> bool
+    ensures { result ≡ true → AreEdges (targets_of S.number row.now) (edges_seen S.number edges.now) (S.number rules.0) }
+{
+    'gotos: for index in 0..row.len() {
+        let (number, target) = goto_of_row(row, index);
+        if !is_edge(edges, index, number, target) {
+            return false;
+        }
+    }
+    ends_at(edges, row.len(), rules)
+}
+
 /// The least rule whose goto isn't its edge.
 pub(crate) fn least_goto<S: IndexStorage>(
+    edges: &[(Symbol<S>, StIdx<S>)],
+    stable: &StateTable<S>,
+    state: StIdx<S>,
+) -> Option<RIdx<S>>
+    requires order { AreInOrder (edges_seen S.number edges.now) }
+    requires state { S.number state.0 < stable.now.states }
+    ensures { LeastNot (λ A. A < stable.now.rules → goto_at stable.now (S.number state.0) A ≡ target_in (edges_seen S.number edges.now) (rule A)) (rule_number S.number result) }
+{
+    if are_edges(edges, stable.state_gotos(state), stable.rules_len()) {
+        return None;
+    }
+    first_goto(edges, stable, state)
+}
+
+/// The same, by a look at each rule.
+fn first_goto<S: IndexStorage>(
     edges: &[(Symbol<S>, StIdx<S>)],
     stable: &StateTable<S>,
     state: StIdx<S>,

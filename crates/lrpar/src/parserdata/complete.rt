@@ -88,16 +88,6 @@ fn next_is_shifted<S: IndexStorage>(
     }
 }
 
-/// Whether a flag is set.
-fn is_set(looks: &Vob, index: usize) -> bool
-    ensures { Tells (slice_get looks.now.bits index ≡ Some true) result }
-{
-    match looks.get(index) {
-        Some(set) => set,
-        None => false,
-    }
-}
-
 /// Whether a state reduces by a production on each of these tokens.
 fn reduces_on<S: IndexStorage>(
     stable: &StateTable<S>,
@@ -110,10 +100,7 @@ fn reduces_on<S: IndexStorage>(
     ensures { Tells ((t : ℕ) → slice_get looks.now.bits t ≡ Some true → action_at stable.now (S.number state.0) t ≡ reduce (S.number pidx.0)) result }
 {
     let tokens = stable.tokens_len().0;
-    'tokens: for index in 0..looks.len() {
-        if !is_set(looks, index) {
-            continue;
-        }
+    'tokens: for index in looks.iter_set_bits(..) {
         if index >= tokens.to_usize() {
             return false;
         }

@@ -1,59 +1,71 @@
-use Rattle.std.proofs.Common.{◌≡◌, ◌<◌, ◌≤◌, ℕ, Some, None, inr, refl, sym, ap, ◌∙◌, subst, arith, ⊎_elim}
-use Rattle.std.proofs.lemmas.Bool.{cases_lt}
+use Rattle.std.proofs.Common.{◌≡◌, ◌<◌, ◌≤◌, ℕ, length, Some, None, refl, sym, ap, ◌∙◌, subst, arith}
+use Rattle.std.proofs.lemmas.List.{length-map}
 use Rattle.lr_theory.specs.LongChains.{GoesPast}
-use Rattle.lrtable.specs.CellViews.{state_of}
+use Rattle.lrtable.specs.CellViews.{state_of, targets_of}
 use Rattle.lrtable.specs.TableValues.{goto_at}
+use Rattle.lrtable.specs.declared.stidx.StIdx.{StIdx}
 use Rattle.lrtable.specs.Tables.{automaton_of}
-use Rattle.lrpar.proofs.LeastChains.{no_rule, at_rule, any_token, more_rule, least_above}
+use Rattle.lrpar.proofs.LeastChains.{no_rule, at_rule, any_token, least_above}
+use Rattle.lrpar.proofs.RowWalks.{row_none, row_more, goto_inside, goto_there, before_goto, all_gotos}
 use Rattle.lrpar.proofs.chains.long_above.Goals as goal
+use Rattle.lrpar.proofs.chains.long_above.Goals.{After-above-1}
 
-pub rules-preserved-in_default : goal.rules-preserved-in_default
-rules-preserved-in_default g c = λ x R t lt.
+pub gotos-init : goal.gotos-init
+gotos-init g c = λ x. row_none _ _
+
+-- the goto that was read
+there : (g : _) (c : After-above-1 g) → goto_at c.args.stable.now (g.S.IndexStorage.number c.args.state.0) c.goto_of_row-number.result.0 ≡ Some (g.S.IndexStorage.number c.goto_of_row-number.result.1.0)
+there g c =
+    let number = g.S.IndexStorage.number in
+    goto_there c.args.stable.now (number c.args.state.0) (targets_of number c.state_gotos-row.result.now) c.state_gotos-row.ensures.whole c.state_gotos-row.ensures.targets c.gotos.index c.goto_of_row-number.result.0 (number c.goto_of_row-number.result.1.0) c.goto_of_row-number.ensures
+
+pub index_below-requires : goal.index_below-requires
+index_below-requires g c =
+    let number = g.S.IndexStorage.number in
+    let lt = goto_inside c.args.stable.now (number c.args.state.0) (targets_of number c.state_gotos-row.result.now) c.state_gotos-row.ensures.whole c.state_gotos-row.ensures.targets c.gotos.index c.goto_of_row-number.result.0 (number c.goto_of_row-number.result.1.0) c.goto_of_row-number.ensures in
+    omega (arith, lt, c.rules_len.ensures)
+
+pub long_token-requires-clause-above : goal.long_token-requires-clause-above
+long_token-requires-clause-above g c = λ q e.
+    let number = g.S.IndexStorage.number in
+    let same : Some (number c.goto_of_row-number.result.1.0) ≡ Some q = e in
+    c.requires.table.is_table.targets _ _ q (there g (goal.at.long_token-requires-clause-above g c).After-above-1 ∙ same)
+
+pub gotos-preserved-then-is_quiet : goal.gotos-preserved-then-is_quiet
+gotos-preserved-then-is_quiet g c = λ x.
+    let number = g.S.IndexStorage.number in
+    row_more (targets_of number c.state_gotos-row.result.now) _ c.gotos.index c.goto_of_row-number.result.0 (number c.goto_of_row-number.result.1.0) (c.gotos.invariant x) c.goto_of_row-number.ensures
+    (λ u h. c.is_quiet.ensures c.if-is_quiet.true x u (subst (λ r. GoesPast c.args.grm.now.grammar (automaton_of x c.args.stable.now) c.args.limit (number c.args.state.0) (Some r) u) (sym c.index_below.ensures) h))
+
+pub gotos-preserved : goal.gotos-preserved
+gotos-preserved g c = λ x.
     let number = g.S.IndexStorage.number in
     let p = number c.args.state.0 in
+    let q = number c.goto_of_row-number.result.1.0 in
     let table = c.requires.table.is_table in
-    let none : goto_at c.args.stable.now p (number c.index_below.result) ≡ None = sym c.goto.ensures ∙ ap (state_of number) c.in_default.is in
-    let here : (u : ℕ) → GoesPast c.args.grm.now.grammar (automaton_of x c.args.stable.now) c.args.limit p (Some c.rules.number) u → ⊥ =
-    λ u. no_rule c.args.grm.now.grammar x c.args.stable.now table c.args.limit p c.rules.number u (ap (goto_at c.args.stable.now p) (sym c.index_below.ensures) ∙ none) in
-    more_rule c.args.grm.now.grammar x c.args.stable.now table c.args.limit p c.rules.number R t lt (c.rules.invariant x) here
+    let k = rw c.in_default.is at (c.in_ok-tidx.ensures x) in
+    row_more (targets_of number c.state_gotos-row.result.now) _ c.gotos.index c.goto_of_row-number.result.0 q (c.gotos.invariant x) c.goto_of_row-number.ensures
+    (λ u. at_rule c.args.grm.now.grammar x c.args.stable.now table c.args.limit p c.goto_of_row-number.result.0 q u (there g (goal.at.gotos-preserved g c).After-above-1) (any_token c.args.grm.now.grammar x c.args.stable.now table c.args.limit p (Some q) k u))
 
-pub rules-preserved-then-is_quiet : goal.rules-preserved-then-is_quiet
-rules-preserved-then-is_quiet g c = λ x R t lt.
-    let p = g.S.IndexStorage.number c.args.state.0 in
-    let table = c.requires.table.is_table in
-    let here : (u : ℕ) → GoesPast c.args.grm.now.grammar (automaton_of x c.args.stable.now) c.args.limit p (Some c.rules.number) u → ⊥ =
-    λ u h. c.is_quiet.ensures c.if-is_quiet.true x u (subst (λ r. GoesPast c.args.grm.now.grammar (automaton_of x c.args.stable.now) c.args.limit p (Some r) u) (sym c.index_below.ensures) h) in
-    more_rule c.args.grm.now.grammar x c.args.stable.now table c.args.limit p c.rules.number R t lt (c.rules.invariant x) here
-
-pub returns-in-Some-2 : goal.returns-in-Some-2
-returns-in-Some-2 g c = λ x.
+pub returns-in-Some : goal.returns-in-Some
+returns-in-Some g c = λ x.
     let number = g.S.IndexStorage.number in
     let p = number c.args.state.0 in
+    let q = number c.goto_of_row-number.result.1.0 in
     let table = c.requires.table.is_table in
-    let to : goto_at c.args.stable.now p (number c.index_below.result) ≡ Some (number c.in-Some.above.0) = sym c.goto.ensures ∙ ap (state_of number) c.in-Some.is in
-    let k = rw c.in-Some-2.is at (c.in_ok-tidx.ensures x) in
+    let to : goto_at c.args.stable.now p (number c.index_below.result) ≡ Some q = ap (goto_at c.args.stable.now p) c.index_below.ensures ∙ there g (goal.at.returns-in-Some g c).After-above-1 in
+    let k = rw c.in-Some.is at (c.in_ok-tidx.ensures x) in
+    let before = before_goto c.args.stable.now p (targets_of number c.state_gotos-row.result.now) c.state_gotos-row.ensures.whole c.state_gotos-row.ensures.targets _ (λ R e t. no_rule c.args.grm.now.grammar x c.args.stable.now table c.args.limit p R t e) c.gotos.index c.goto_of_row-number.result.0 q (c.gotos.invariant x) c.goto_of_row-number.ensures in
     let below : (Q t : ℕ) → Q < number c.index_below.result → GoesPast c.args.grm.now.grammar (automaton_of x c.args.stable.now) c.args.limit p (Some Q) t → ⊥ =
-    λ Q t lt. c.rules.invariant x Q t (omega (arith, lt, c.index_below.ensures)) in
-    (refl, (record { 0 = c.index_below.result }, refl), (number c.in-Some.above.0, to, k.1), least_above c.args.grm.now.grammar x c.args.stable.now table c.args.limit p (number c.index_below.result) (number c.in-Some.above.0) (number c.in-Some-2.tidx.0) to below k.2)
-
-pub rules-preserved : goal.rules-preserved
-rules-preserved g c = λ x R t lt.
-    let number = g.S.IndexStorage.number in
-    let p = number c.args.state.0 in
-    let table = c.requires.table.is_table in
-    let to : goto_at c.args.stable.now p c.rules.number ≡ Some (number c.in-Some.above.0) = ap (goto_at c.args.stable.now p) (sym c.index_below.ensures) ∙ sym c.goto.ensures ∙ ap (state_of number) c.in-Some.is in
-    let k = rw c.in_default-2.is at (c.in_ok-tidx.ensures x) in
-    let here : (u : ℕ) → GoesPast c.args.grm.now.grammar (automaton_of x c.args.stable.now) c.args.limit p (Some c.rules.number) u → ⊥ =
-    λ u. at_rule c.args.grm.now.grammar x c.args.stable.now table c.args.limit p c.rules.number (number c.in-Some.above.0) u to (any_token c.args.grm.now.grammar x c.args.stable.now table c.args.limit p (Some (number c.in-Some.above.0)) k u) in
-    more_rule c.args.grm.now.grammar x c.args.stable.now table c.args.limit p c.rules.number R t lt (c.rules.invariant x) here
+    λ Q t lt. before Q (omega (arith, lt, c.index_below.ensures)) t in
+    (refl, (record { 0 = c.index_below.result }, refl), (q, to, k.1), least_above c.args.grm.now.grammar x c.args.stable.now table c.args.limit p (number c.index_below.result) q (number c.in-Some.tidx.0) to below k.2)
 
 pub returns : goal.returns
-returns g c = λ x R t h.
+returns g c = λ x R t.
     let number = g.S.IndexStorage.number in
     let p = number c.args.state.0 in
     let table = c.requires.table.is_table in
-    let all : c.args.stable.now.rules ≤ c.rules.number = omega (arith, c.rules-test.false, c.to_usize-number-end.ensures.value, c.rules_len.ensures) in
-    ⊎_elim
-    (λ lt. c.rules.invariant x R t (omega (arith, lt, all)) h)
-    (λ le. no_rule c.args.grm.now.grammar x c.args.stable.now table c.args.limit p R t (table.no_goto p R (inr le)) h)
-    (cases_lt R c.args.stable.now.rules)
+    let f : ℕ × StIdx g.row.S.Denot → ℕ × ℕ = λ e. (e.0, number e.1.0) in
+    let n = length-map c.state_gotos-row.result.now f in
+    let all : length (targets_of number c.state_gotos-row.result.now) ≤ c.gotos.index = omega (arith, n) in
+    all_gotos c.args.stable.now p (targets_of number c.state_gotos-row.result.now) c.state_gotos-row.ensures.whole c.state_gotos-row.ensures.targets _ (λ Q e u. no_rule c.args.grm.now.grammar x c.args.stable.now table c.args.limit p Q u e) c.gotos.index (c.gotos.invariant x) all R t

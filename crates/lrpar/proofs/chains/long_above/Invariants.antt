@@ -1,8 +1,10 @@
-use Rattle.std.proofs.Common.{◌<◌, ℕ, Some}
+use Rattle.std.proofs.Common.{ℕ, Some}
 use Rattle.lr_theory.specs.LongChains.{GoesPast}
-use Rattle.lrtable.specs.Tables.{automaton_of}
+use Rattle.lrtable.specs.CellViews.{targets_of}
 use Rattle.lrtable.specs.Graphs.{GraphValue}
+use Rattle.lrtable.specs.Tables.{automaton_of}
+use Rattle.lrpar.proofs.RowWalks.{RowTo}
 use Rattle.lrpar.proofs.chains.long_above.Given as goal
 
-abbrev pub invariant-rules : goal.invariant-rules
-invariant-rules g l = (x : GraphValue) (R t : ℕ) → R < l.number → GoesPast l.grm.grammar (automaton_of x l.stable) l.limit (g.S.IndexStorage.number l.state.0) (Some R) t → ⊥
+abbrev pub invariant-gotos : goal.invariant-gotos
+invariant-gotos g l = (x : GraphValue) → RowTo (targets_of g.S.IndexStorage.number l.row) (λ R. (t : ℕ) → GoesPast l.grm.grammar (automaton_of x l.stable) l.limit (g.S.IndexStorage.number l.state.0) (Some R) t → ⊥) l.index

@@ -9,6 +9,7 @@ use Rattle.lrtable.specs.CellViews.{cells_of, targets_of, precedences_of}
 use Rattle.lrtable.specs.SparseRows.{IsCellRow, IsTargetRow}
 use Rattle.lrtable.specs.TableRows.{rows_of}
 use Rattle.lrtable.specs.TableViews.{sparse_of}
+use Rattle.lrtable.proofs.SpreadSteps.{spread_none}
 use Rattle.lrtable.proofs.TableSteps.{full_rows, table_by}
 use Rattle.lrtable.proofs.statetable.of_rows.Goals as goal
 
@@ -18,15 +19,18 @@ invariant_of-result g c =
     let rows = rows_of number c.args.rows in
     let h : Vec (ℕ × TableAction g.row.S.Denot) Global → List (ℕ × Action) = λ row. cells_of number row.items in
     let k : Vec (ℕ × StIdx g.row.S.Denot) Global → List (ℕ × ℕ) = λ row. targets_of number row.items in
-    let n = number c.args.states.0 in
-    record {
-      start = c.requires.start;
-      actions = length-map c.args.rows.actions.items h ∙ c.requires.actions;
-      gotos = length-map c.args.rows.gotos.items k ∙ c.requires.gotos;
-      rows = λ s lt. subst (λ (m : ℕ). IsCellRow m (get_or rows.actions s [])) (sym c.tokens_len.ensures) (c.requires.cells s lt);
-      targets = λ s lt. subst (λ (m : ℕ). IsTargetRow m (get_or rows.gotos s [])) (sym c.rules_len.ensures) (c.requires.targets s lt);
-      room = subst (λ (m : ℕ). n * (m + number c.rules_len.result.0) < 2 ^ 64) (sym c.tokens_len.ensures) (subst (λ (m : ℕ). n * (c.args.grm.now.grammar.tokens + m) < 2 ^ 64) (sym c.rules_len.ensures) c.requires.room);
-    }
+    let n = number c.args.states.0 in (
+      record {
+        start = c.requires.start;
+        actions = length-map c.args.rows.actions.items h ∙ c.requires.actions;
+        gotos = length-map c.args.rows.gotos.items k ∙ c.requires.gotos;
+        rows = λ s lt. subst (λ (m : ℕ). IsCellRow m (get_or rows.actions s [])) (sym c.tokens_len.ensures) (c.requires.cells s lt);
+        targets = λ s lt. subst (λ (m : ℕ). IsTargetRow m (get_or rows.gotos s [])) (sym c.rules_len.ensures) (c.requires.targets s lt);
+        room = subst (λ (m : ℕ). n * (m + number c.rules_len.result.0) < 2 ^ 64) (sym c.tokens_len.ensures) (subst (λ (m : ℕ). n * (c.args.grm.now.grammar.tokens + m) < 2 ^ 64) (sym c.rules_len.ensures) c.requires.room);
+      },
+      spread_none c.args.rows.actions.items,
+      spread_none c.args.rows.gotos.items,
+    )
 
 pub returns-clause-table : goal.returns-clause-table
 returns-clause-table g c = λ parts gotos are.

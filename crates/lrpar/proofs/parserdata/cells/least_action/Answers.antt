@@ -1,28 +1,50 @@
-use Rattle.std.proofs.Common.{◌<◌, ◌+◌, subst, arith}
+use Rattle.std.proofs.Common.{◌≡◌, ◌<◌, ◌≤◌, ◌∙◌, ℕ, length, sym, ap, subst, arith}
+use Rattle.std.proofs.lemmas.List.{length-map}
 use Rattle.cfg_theory.specs.Grammar.{token}
-use Rattle.lrtable.specs.CellViews.{action_of}
-use Rattle.lrtable.specs.Graphs.{target_in}
+use Rattle.lr_theory.specs.Automaton.{Action}
+use Rattle.lrtable.specs.declared.cells.Action.{Action as TableAction}
+use Rattle.lrtable.specs.CellViews.{action_of, cells_of}
 use Rattle.lrtable.specs.GraphViews.{edges_seen}
-use Rattle.lrtable.specs.TableValues.{action_at}
-use Rattle.lrpar.specs.Fitting.{IsFor}
-use Rattle.lrpar.proofs.Edging.{passed_on}
-use Rattle.lrpar.proofs.LeastNumbers.{below_one_more}
+use Rattle.lrpar.specs.Fitting.{Passed}
+use Rattle.lrpar.proofs.FittingRows.{actions_none, actions_more, actions_least, actions_all}
+use Rattle.lrpar.proofs.RowWalks.{cell_inside}
 use Rattle.lrpar.proofs.parserdata.cells.least_action.Goals as goal
 
-pub tokens-preserved : goal.tokens-preserved
-tokens-preserved g c =
+pub cells-init : goal.cells-init
+cells-init g c =
     let number = g.S.IndexStorage.number in
-    let G = c.args.grm.now.grammar in
-    let items = c.args.items.now in
-    let es = edges_seen number c.args.edges.now in
-    let v = c.args.stable.now in
-    let s = number c.args.state.0 in
-    let n = number c.index_below.result in
-    let fits = rw c.if-not-action_fits.false at c.action_fits.ensures in
-    let at_edge : IsFor G items (target_in es (token n)) n (action_of number c.action.result) = subst (λ o. IsFor G items o n (action_of number c.action.result)) c.target_at-edge.ensures fits in
-    let at_cell : IsFor G items (target_in es (token n)) n (action_at v s n) = subst (IsFor G items (target_in es (token n)) n) c.action.ensures at_edge in
-    let here : c.tokens.number < v.tokens → IsFor G items (target_in es (token c.tokens.number)) c.tokens.number (action_at v s c.tokens.number) = λ _. subst (λ k. IsFor G items (target_in es (token k)) k (action_at v s k)) c.index_below.ensures at_cell in
-    record {
-      passed = passed_on es (token n) (token (c.tokens.number + 1)) c.place_of-place.result (omega (arith, c.index_below.ensures)) c.place_of-place.ensures.passed;
-      below = below_one_more (λ t. t < v.tokens → IsFor G items (target_in es (token t)) t (action_at v s t)) c.tokens.number c.tokens.invariant.below here;
-    }
+    actions_none c.args.grm.now.grammar c.args.items.now (edges_seen number c.args.edges.now) c.args.stable.now (number c.args.state.0) (cells_of number c.state_cells-row.result.now) c.state_cells-row.ensures.whole c.state_cells-row.ensures.cells
+
+pub index_below-requires : goal.index_below-requires
+index_below-requires g c =
+    let number = g.S.IndexStorage.number in
+    let lt = cell_inside c.args.stable.now (number c.args.state.0) (cells_of number c.state_cells-row.result.now) c.state_cells-row.ensures.whole c.state_cells-row.ensures.cells c.cells.index c.cell_of_row-number.result.0 (action_of number c.cell_of_row-number.result.1) c.cell_of_row-number.ensures in
+    omega (arith, lt, c.tokens_len.ensures)
+
+pub place_of-place-requires : goal.place_of-place-requires
+place_of-place-requires g c =
+    let number = g.S.IndexStorage.number in
+    subst (λ n. Passed (edges_seen number c.args.edges.now) c.cells.place (token n)) (sym c.index_below.ensures) (c.cells.invariant.passed c.cells.index c.cell_of_row-number.result.0 (action_of number c.cell_of_row-number.result.1) (omega arith) c.cell_of_row-number.ensures)
+
+pub cells-preserved : goal.cells-preserved
+cells-preserved g c =
+    let number = g.S.IndexStorage.number in
+    actions_more c.args.grm.now.grammar c.args.items.now (edges_seen number c.args.edges.now) c.args.stable.now (number c.args.state.0) (cells_of number c.state_cells-row.result.now) c.state_cells-row.ensures.whole c.state_cells-row.ensures.cells
+    c.cells.place c.place_of-place.result c.cells.index c.cell_of_row-number.result.0 (number c.index_below.result) (action_of number c.cell_of_row-number.result.1) _
+    c.cells.invariant c.cell_of_row-number.ensures c.index_below.ensures c.place_of-place.ensures.passed c.target_at-edge.ensures (rw c.if-not-action_fits.false at c.action_fits.ensures)
+
+pub returns-then-not-action_fits : goal.returns-then-not-action_fits
+returns-then-not-action_fits g c =
+    let number = g.S.IndexStorage.number in
+    actions_least c.args.grm.now.grammar c.args.items.now (edges_seen number c.args.edges.now) c.args.stable.now (number c.args.state.0) (cells_of number c.state_cells-row.result.now) c.state_cells-row.ensures.whole c.state_cells-row.ensures.cells
+    c.cells.place c.cells.index c.cell_of_row-number.result.0 (number c.index_below.result) (action_of number c.cell_of_row-number.result.1) _
+    c.cells.invariant c.cell_of_row-number.ensures c.index_below.ensures c.target_at-edge.ensures (rw c.if-not-action_fits.true at c.action_fits.ensures)
+
+pub returns : goal.returns
+returns g c =
+    let number = g.S.IndexStorage.number in
+    let f : ℕ × TableAction g.row.S.Denot → ℕ × Action = λ e. (e.0, action_of number e.1) in
+    let n = length-map c.state_cells-row.result.now f in
+    let all : length (cells_of number c.state_cells-row.result.now) ≤ c.cells.index = omega (arith, n) in
+    actions_all c.args.grm.now.grammar c.args.items.now (edges_seen number c.args.edges.now) c.args.stable.now (number c.args.state.0) (cells_of number c.state_cells-row.result.now) c.state_cells-row.ensures.whole c.state_cells-row.ensures.cells
+    c.cells.place c.cells.index c.cells.invariant all

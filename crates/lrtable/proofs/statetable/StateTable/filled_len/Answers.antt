@@ -29,7 +29,7 @@ count_entries-cells-requires g c =
     let number = g.S.IndexStorage.number in
     let i = c.self.inside in
     let T = sparse_of number i.states i.tokens i.rules i.prods i.start i.actions.items i.gotos.items i.conflicts in
-    let fit = sums_fit T c.self.invariant in
+    let fit = sums_fit T c.self.invariant.0 in
     let a = cells_sum number i.actions.items in
     let b = targets_sum number i.gotos.items in
     subst (λ (l : List (Vec (ℕ × TableAction g.row.S.Denot) Global)). sum_by (λ row. length row.items) l < 2 ^ 64) (sym c.as_slice.ensures.value) (omega (arith, fit, a, b))
@@ -39,7 +39,7 @@ count_entries-gotos-requires g c =
     let number = g.S.IndexStorage.number in
     let i = c.self.inside in
     let T = sparse_of number i.states i.tokens i.rules i.prods i.start i.actions.items i.gotos.items i.conflicts in
-    let fit = sums_fit T c.self.invariant in
+    let fit = sums_fit T c.self.invariant.0 in
     let a = cells_sum number i.actions.items in
     let b = targets_sum number i.gotos.items in
     subst (λ (l : List (Vec (ℕ × StIdx g.row.S.Denot) Global)). sum_by (λ row. length row.items) l < 2 ^ 64) (sym c.as_slice-2.ensures.value) (omega (arith, fit, a, b))
@@ -49,7 +49,7 @@ overflow_add-result g c =
     let number = g.S.IndexStorage.number in
     let i = c.self.inside in
     let T = sparse_of number i.states i.tokens i.rules i.prods i.start i.actions.items i.gotos.items i.conflicts in
-    let fit = sums_fit T c.self.invariant in
+    let fit = sums_fit T c.self.invariant.0 in
     let a = cells_sum number i.actions.items in
     let b = targets_sum number i.gotos.items in
     let x = c.count_entries-cells.ensures ∙ ap (λ (l : List (Vec (ℕ × TableAction g.row.S.Denot) Global)). sum_by (λ row. length row.items) l) c.as_slice.ensures.value in
@@ -61,6 +61,6 @@ returns g c =
     let number = g.S.IndexStorage.number in
     let i = c.self.inside in
     let T = sparse_of number i.states i.tokens i.rules i.prods i.start i.actions.items i.gotos.items i.conflicts in
-    let x = c.count_entries-cells.ensures ∙ (ap (λ (l : List (Vec (ℕ × TableAction g.row.S.Denot) Global)). sum_by (λ row. length row.items) l) c.as_slice.ensures.value ∙ (sym (cells_sum number i.actions.items) ∙ sym (cells_counted T c.self.invariant))) in
-    let y = c.count_entries-gotos.ensures ∙ (ap (λ (l : List (Vec (ℕ × StIdx g.row.S.Denot) Global)). sum_by (λ row. length row.items) l) c.as_slice-2.ensures.value ∙ (sym (targets_sum number i.gotos.items) ∙ sym (targets_counted T c.self.invariant))) in
+    let x = c.count_entries-cells.ensures ∙ (ap (λ (l : List (Vec (ℕ × TableAction g.row.S.Denot) Global)). sum_by (λ row. length row.items) l) c.as_slice.ensures.value ∙ (sym (cells_sum number i.actions.items) ∙ sym (cells_counted T c.self.invariant.0))) in
+    let y = c.count_entries-gotos.ensures ∙ (ap (λ (l : List (Vec (ℕ × StIdx g.row.S.Denot) Global)). sum_by (λ row. length row.items) l) c.as_slice-2.ensures.value ∙ (sym (targets_sum number i.gotos.items) ∙ sym (targets_counted T c.self.invariant.0))) in
     ap (λ (k : ℕ). k + c.count_entries-gotos.result) x ∙ (ap (λ (k : ℕ). sum_by (λ (row : List Action). count_by is_filled row) (full T).actions + k) y ∙ ap filled_count c.self.view_is)

@@ -20,14 +20,14 @@ returns-clause-cells g c =
     let x = c.index.result.now in
     let v = ap (λ (t : TableValue). t.states) c.self.view_is in
     let n = length-map rows (λ (row : Vec (ℕ × TableAction g.row.S.Denot) Global). cells_of number row.items) in
-    let m = c.self.invariant.actions in
+    let m = c.self.invariant.0.actions in
     let r = c.requires in
     let below : s < number i.states = omega (arith, v, r) in
     let ls : s < length rows = omega (arith, n, m, below) in
     let at : x ≡ get_or rows s x = c.index.ensures ∙ ap (λ k. get_or rows k x) c.to_usize-2.ensures.value in
     subst (λ (k : ℕ). IsCellRow k (cells_of number c.as_slice.result.now)) (ap (λ (t : TableValue). t.tokens) c.self.view_is)
     (subst (λ (l : List (ℕ × TableAction g.row.S.Denot)). IsCellRow (number i.tokens) (cells_of number l)) (sym c.as_slice.ensures.value)
-    (subst (IsCellRow (number i.tokens)) (cells_at number rows s x ls at) (c.self.invariant.rows s below)))
+    (subst (IsCellRow (number i.tokens)) (cells_at number rows s x ls at) (c.self.invariant.0.rows s below)))
 
 pub returns-clause-whole : goal.returns-clause-whole
 returns-clause-whole g c =
@@ -38,7 +38,7 @@ returns-clause-whole g c =
     let x = c.index.result.now in
     let v = ap (λ (t : TableValue). t.states) c.self.view_is in
     let n = length-map rows (λ (row : Vec (ℕ × TableAction g.row.S.Denot) Global). cells_of number row.items) in
-    let m = c.self.invariant.actions in
+    let m = c.self.invariant.0.actions in
     let r = c.requires in
     let ls : s < length rows = omega (arith, n, m, v, r) in
     let within : s < length (action_rows_of number rows) = omega (arith, m, v, r) in

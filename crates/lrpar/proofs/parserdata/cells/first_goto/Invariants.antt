@@ -4,7 +4,7 @@ use Rattle.lrtable.specs.Graphs.{target_in}
 use Rattle.lrtable.specs.GraphViews.{edges_seen}
 use Rattle.lrtable.specs.TableValues.{goto_at}
 use Rattle.lrpar.specs.Fitting.{Passed}
-use Rattle.lrpar.proofs.parserdata.cells.least_goto.Given as goal
+use Rattle.lrpar.proofs.parserdata.cells.first_goto.Given as goal
 
 abbrev pub invariant-rules : goal.invariant-rules
 invariant-rules g l = record {

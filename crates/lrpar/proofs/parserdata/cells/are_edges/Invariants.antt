@@ -1,0 +1,7 @@
+use Rattle.lrtable.specs.CellViews.{targets_of}
+use Rattle.lrtable.specs.GraphViews.{edges_seen}
+use Rattle.lrpar.proofs.FittingRows.{EdgesTo}
+use Rattle.lrpar.proofs.parserdata.cells.are_edges.Given as goal
+
+abbrev pub invariant-gotos : goal.invariant-gotos
+invariant-gotos g l = EdgesTo (edges_seen g.S.IndexStorage.number l.edges) (targets_of g.S.IndexStorage.number l.row) l.index

@@ -1,0 +1,29 @@
+//! Entries of the rows that a table lends of a state.
+
+ghost use Rattle.std.specs.Prelude.{◌≡◌, ◌<◌, Some, length, slice_get};
+ghost use Rattle.lrtable.specs.CellViews.{action_of, cells_of, targets_of};
+
+use cfg_base::index::IndexStorage;
+use lrtable::{Action, StIdx};
+
+/// The cell at a place, beside its token's number.
+pub(crate) fn cell_of_row<S: IndexStorage>(
+    row: &[(usize, Action<S>)],
+    index: usize,
+) -> (usize, Action<S>)
+    requires { index < length row.now }
+    ensures { slice_get (cells_of S.number row.now) index ≡ Some (result.0, action_of S.number result.1) }
+{
+    row[index]
+}
+
+/// The goto at a place, beside its rule's number.
+pub(crate) fn goto_of_row<S: IndexStorage>(
+    row: &[(usize, StIdx<S>)],
+    index: usize,
+) -> (usize, StIdx<S>)
+    requires { index < length row.now }
+    ensures { slice_get (targets_of S.number row.now) index ≡ Some (result.0, S.number result.1.0) }
+{
+    row[index]
+}

@@ -70,3 +70,4 @@ pub mod ItemWalks
 pub mod Marks
 pub mod BlankCells
 pub mod MarkedSets
+pub mod Waiting

@@ -33,3 +33,4 @@ pub mod GraphTexts
 pub mod RefusalViews
 pub mod ItemWalks
 pub mod Marks
+pub mod Waits

@@ -71,3 +71,4 @@ pub mod Marks
 pub mod BlankCells
 pub mod MarkedSets
 pub mod SpreadSteps
+pub mod Waiting

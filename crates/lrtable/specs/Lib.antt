@@ -34,3 +34,4 @@ pub mod RefusalViews
 pub mod ItemWalks
 pub mod Marks
 pub mod SpreadRows
+pub mod Waits

@@ -16,6 +16,7 @@ ghost use Rattle.lrtable.specs.StateViews.{core_of_set};
 ghost use Rattle.lrtable.specs.Stepping.{FitsCore, IsSized, IsClosureOf};
 ghost use Rattle.lrtable.specs.Closers.{IsReady};
 ghost use Rattle.lrtable.specs.Opening.{Front, RuleSets, IsTidy, IsOpen, HasRuleLook, room, FitsIn, AllFit, Brings, Follows, FrontStep, NamedIn, BroughtBy, GainsOwn, SameSizes, Underway, AreOpened};
+ghost use Rattle.lrtable.specs.Waits.{WaitsToo};
 
 use crate::cores::{CoreItem, CoreSet};
 use crate::openers::{Opener, Openers};
@@ -27,6 +28,30 @@ use std::alloc::{AllocError, Global};
 use std::marker::Model;
 use vob::Vob;
 use vob::iter::IterSetBits;
+
+/// Tells whether a rule is one of those that wait.
+fn waits(waiting: &[usize], rule: usize) -> bool
+    ensures { result ≡ true → Contains waiting.now rule }
+{
+    'each: for k in 0..waiting.len() {
+        if waiting[k] == rule {
+            return true;
+        }
+    }
+    false
+}
+
+/// Puts a rule with those that wait, unless it is one of them. The last of the list is taken first, so the rule goes first:
+/// those that wait are taken before it.
+fn put_to_wait(waiting: &mut Vec<usize>, rule: usize) -> Result<(), AllocError>
+    ensures { OnOk result (WaitsToo rule waiting.old.items waiting.new.items) }
+{
+    if waits(waiting.as_slice(), rule) {
+        return Ok(());
+    }
+    waiting.insert(0, rule)?;
+    Ok(())
+}
 
 /// The open rules, and a set of tokens for each rule.
 #[derive(Drop)]
@@ -168,7 +193,7 @@ impl Opening {
         ensures { OnOk result (Follows (λ A. rule ≡ A) (λ A t. (rule ≡ A) × Brings looks.now.bits (front_with rule rest.now) t) self.old self.new waiting.old.items waiting.new.items) }
     {
         if self.bring(rule, rest, looks) {
-            waiting.push(rule)?;
+            put_to_wait(waiting, rule)?;
         }
         Ok(())
     }

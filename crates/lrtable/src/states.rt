@@ -134,21 +134,32 @@ fn all_before<S: IndexStorage>(edges: &[EdgeTo<S>], symbol: Symbol<S>) -> bool
     comes_before(edges[count - 1].symbol, symbol)
 }
 
-/// The index of the first edge whose symbol doesn't come before this one, which is looked for at `near`, at the end, and
-/// then among all.
-fn edge_near<S: IndexStorage>(edges: &[EdgeTo<S>], near: usize, symbol: Symbol<S>) -> usize
+/// The index of the first edge whose symbol doesn't come before this one, which is looked for at the end, and then among
+/// all.
+fn edge_place<S: IndexStorage>(edges: &[EdgeTo<S>], symbol: Symbol<S>) -> usize
     requires { AscendEdges (edges_of S.number edges.now) }
     ensures within { result ≤ length edges.now }
     ensures before { (k : ℕ) → k < result → (d : Edge) → SymBefore (get_or (edges_of S.number edges.now) k d).symbol (sym_of S.number symbol) }
     ensures stop { (d : Edge) → result < length edges.now → SymBefore (get_or (edges_of S.number edges.now) result d).symbol (sym_of S.number symbol) → ⊥ }
 {
-    if is_on(edges, near, symbol) {
-        return near;
-    }
     if all_before(edges, symbol) {
         return edges.len();
     }
     edge_index(edges, symbol)
+}
+
+/// Puts an edge in the place of that on its symbol, or before those on later symbols.
+fn put_among<S: IndexStorage>(edges: &mut Vec<EdgeTo<S>>, edge: EdgeTo<S>) -> Result<(), AllocError>
+    requires { AscendEdges (edges_of S.number edges.old.items) }
+    ensures { OnOk result (IsPut (edges_of S.number edges.old.items) (sym_of S.number edge.symbol) edge.target (edges_of S.number edges.new.items)) }
+{
+    let index = edge_place(edges.as_slice(), edge.symbol);
+    if is_on(edges.as_slice(), index, edge.symbol) {
+        edges[index] = edge;
+        return Ok(());
+    }
+    put_in(edges, index, edge)?;
+    Ok(())
 }
 
 /// Puts an edge in the place of that on its symbol, which may stand at `near`, or before those on later symbols.
@@ -160,12 +171,11 @@ fn put_edge<S: IndexStorage>(
     requires { AscendEdges (edges_of S.number edges.old.items) }
     ensures { OnOk result (IsPut (edges_of S.number edges.old.items) (sym_of S.number edge.symbol) edge.target (edges_of S.number edges.new.items)) }
 {
-    let index = edge_near(edges.as_slice(), near, edge.symbol);
-    if is_on(edges.as_slice(), index, edge.symbol) {
-        edges[index] = edge;
+    if is_on(edges.as_slice(), near, edge.symbol) {
+        edges[near] = edge;
         return Ok(());
     }
-    put_in(edges, index, edge)?;
+    put_among(edges, edge)?;
     Ok(())
 }
 

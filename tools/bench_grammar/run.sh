@@ -1,15 +1,31 @@
 #!/bin/sh
-# Instructions of making a grammar of 3,000 productions and 500 tokens, of its FIRST and FOLLOW sets and of the least
-# cost of its start rule, by differences: tools/bench_grammar/run.sh. Each rule begins with the rule after it, or, by
-# a step of 381, with one elsewhere, such that one chain goes through all rules and the passes find it in no order.
+# Instructions of making a grammar of 3,000 productions and 500 tokens, of its FIRST and FOLLOW sets and of the costs of
+# its rules, by differences; then of what families of grammars cost at a size and at four times that size:
+# tools/bench_grammar/run.sh [SIZE]. program.txt says what each family is. With PROGRAM set, that built program is
+# counted, and nothing is proved.
 set -eu
 here=$(dirname "$(readlink -f "$0")")
 . "$here/../count.sh"
-prepare make 3 3 1 1 -- vob cfg_theory cfg_base cfg_read cfg_numbered cfgrammar
-for step in 1 381; do
-    for what in make firsts follows cost; do
-        none=$(count $what 1000 500 $step 0)
-        once=$(count $what 1000 500 $step 1)
-        echo "$what, 1,000 rules of three productions, 500 tokens, step $step: $((once - none))"
+if [ -n "${PROGRAM:-}" ]; then
+    program=$PROGRAM
+else
+    prepare make near 4 1 -- vob cfg_theory cfg_base cfg_read cfg_numbered cfgrammar
+fi
+# once WHAT FAMILY SIZE: the instructions of doing it once.
+once() {
+    none=$(count "$1" "$2" "$3" 0)
+    one=$(count "$1" "$2" "$3" 1)
+    echo $((one - none))
+}
+for family in near far; do
+    for what in make firsts follows costs; do
+        echo "$what, $family, 1000: $(once $what $family 1000)"
     done
+done
+size=${1:-500}
+for pair in mixed:firsts mixed:follows tokens:firsts tokens:follows turned:path units:costs cycles:costs beside:costs \
+    chain:costs chain:sentence turned:costs turned:sentence ties:sentence falls:costs rises:costs; do
+    family=${pair%%:*}
+    what=${pair##*:}
+    echo "$what, $family, $size and $((size * 4)): $(once "$what" "$family" "$size") $(once "$what" "$family" $((size * 4)))"
 done

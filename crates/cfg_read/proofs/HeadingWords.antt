@@ -1,9 +1,9 @@
--- Headings that are read have names of the file grammar, and so have the rules of trees.
-use Rattle.std.proofs.Common.{◌≡◌, ℕ, suc, ◌+◌, ◌-◌, Bool, true, false, ◌&&◌, cond, List, [], ◌∷◌, map, take, drop, get_or, Option, Some, None, All, refl, sym, ap, ◌∙◌, subst, arith}
+-- Headings that are read have names of the file grammar, and so have the rules of trees that aren't fresh.
+use Rattle.std.proofs.Common.{◌≡◌, ℕ, suc, ◌+◌, ◌-◌, Bool, true, false, ◌&&◌, ◌||◌, cond, List, [], ◌∷◌, ◌++◌, map, take, drop, get_or, Option, Some, None, All, refl, sym, ap, ◌∙◌, subst, arith}
 use Rattle.std.specs.Prelude.{slice_get, slice_range, unwrap_or}
 use Rattle.std.specs.List.{prefix_len, list_all}
 use Rattle.std.proofs.lemmas.List.{drop_more}
-use Rattle.std.proofs.lemmas.List.Elements.{All-map, All-nil, All-push}
+use Rattle.std.proofs.lemmas.List.Elements.{All-append, All-map, All-nil, All-push, All-weaker}
 use Rattle.std.proofs.lemmas.Option.{slice_get_within, unwrap_or-slice_get}
 use Rattle.cfg_read.specs.declared.yacc.YaccKind.{YaccKind}
 use Rattle.cfg_read.specs.declared.yacc.parser.declaration.Count.{Count}
@@ -19,12 +19,14 @@ use Rattle.cfg_read.specs.Bytes.{is_name_start, is_name_byte, is_quote, is_quote
 use Rattle.cfg_read.specs.Words.{token_kind_at, token_kind_of, sign_kind}
 use Rattle.cfg_read.specs.SyntaxTexts.{WordText, SymbolText, RuleText, NumberText, SyntaxText}
 use Rattle.cfg_read.specs.SyntaxUpdates.{append_list, append_number}
-use Rattle.cfg_read.specs.Names.{headings, distinct}
+use Rattle.cfg_read.specs.Names.{is_among, declared_tokens, symbols_used, headings}
+use Rattle.cfg_read.specs.FreshRules.{fresh_words, rule_words, is_fresh_name}
 use Rattle.cfg_read.specs.Reading.{Wanted, RuleColon, More, PrecToken, State, Spaced, InLine, At, begins, Step, gap_part, gap_end, line_gap_part, line_gap_end, separator, declared, start_name, declared_token, tokens_end, line_item, list_end, number, epp_token, epp_string, action_type, parse_generics, parse_param, rules_end, programs, rule_name, colon, typed_colon, symbol, empty, prec, prec_token, action, bar, semicolon, Steps, here, then, Reads}
 use Rattle.cfg_read.specs.Asts.{RuleAst, rule_ast, ast_of}
-use Rattle.cfg_read.specs.WellFormedAst.{is_name_text, NamesAreWords}
+use Rattle.cfg_read.specs.WellFormedAst.{is_name_text, is_rule_name, NamesAreWords}
 use Rattle.cfg_read.specs.ValidityInfo.{HeadingsAreWords}
-use Rattle.cfg_read.proofs.WellFormedNames.{All-distinct}
+use Rattle.cfg_read.proofs.WellFormedNames.{or_true, All-distinct}
+use Rattle.cfg_read.proofs.FreshLemmas.{fresh_named}
 
 read_at : (text : List ℕ) (a b : ℕ) → slice_get text a ≡ Some b → get_or text a 0 ≡ b
 read_at text a b h = sym (unwrap_or-slice_get text a 0) ∙ ap (λ o. unwrap_or o 0) h
@@ -184,9 +186,13 @@ headings_are_words kind text start x r = (all_keep r.1 (tt, All-nil IsHeading)).
 
 pub names_are_words : (told : Bool) (x : SyntaxText) → HeadingsAreWords x → NamesAreWords (ast_of told x)
 names_are_words told x h =
-    let P : List ℕ → Type 0 = λ name. is_name_text name ≡ true in
-    let Q : WordText → Type 0 = λ w. is_name_text w.text ≡ true in
-    let named : All Q (headings x) = All-map Q (λ (r : RuleText). r.name) x.rules h in
-    let once : All Q (distinct (headings x)) = All-distinct Q (headings x) [] (All-nil Q) named in
-    All-map P (λ (r : RuleAst). r.name.text) (map (rule_ast x) (distinct (headings x)))
-    (All-map (λ (r : RuleAst). is_name_text r.name.text ≡ true) (rule_ast x) (distinct (headings x)) once)
+    let P : List ℕ → Type 0 = λ name. is_rule_name name ≡ true in
+    let Q : WordText → Type 0 = λ w. is_rule_name w.text ≡ true in
+    let named : All Q (headings x) =
+    All-map Q (λ (r : RuleText). r.name) x.rules
+    (All-weaker (λ (r : RuleText). is_name_text r.name.text ≡ true) (λ (r : RuleText). is_rule_name r.name.text ≡ true) (λ r k. ap (λ b. b || is_fresh_name r.name.text) k) x.rules h) in
+    let fresh : All Q (fresh_words x) =
+    All-weaker (λ (w : WordText). is_fresh_name w.text ≡ true) Q (λ w k. or_true (is_name_text w.text) (is_fresh_name w.text) k) (fresh_words x) (fresh_named (is_among (declared_tokens x)) (symbols_used x)) in
+    let once : All Q (rule_words x) = All-distinct Q (headings x ++ fresh_words x) [] (All-nil Q) (All-append Q (headings x) (fresh_words x) named fresh) in
+    All-map P (λ (r : RuleAst). r.name.text) (map (rule_ast x) (rule_words x))
+    (All-map (λ (r : RuleAst). is_rule_name r.name.text ≡ true) (rule_ast x) (rule_words x) once)

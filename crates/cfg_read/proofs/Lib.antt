@@ -12,6 +12,7 @@ pub mod ByOffset
 pub mod Grouping
 pub mod Joined
 pub mod AstLemmas
+pub mod FreshEntries
 pub mod WholeFiles
 pub mod KindValues
 pub mod FileFailures
@@ -21,6 +22,7 @@ pub mod WellFormedLevels
 pub mod WellFormedNames
 pub mod WellFormedNumbers
 pub mod WellFormedParts
+pub mod FreshLemmas
 pub mod WellFormedTrees
 pub mod RuleLemmas
 pub mod Clones
@@ -31,4 +33,5 @@ pub mod Members
 pub mod WarningLemmas
 pub mod ReachedLemmas
 pub mod HeadingWords
+pub mod PlainLemmas
 pub mod WellMade

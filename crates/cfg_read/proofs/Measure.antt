@@ -16,6 +16,7 @@ use Rattle.cfg_base.specs.Text.{is_white, is_digit, is_in_line, stands, is_at, p
 use Rattle.cfg_read.specs.Bytes.{is_blank, is_name_start, is_name_byte, is_quote, is_quoted_by, is_keyword_byte, holds_line_feed}
 use Rattle.cfg_read.specs.Words.{token_kind_at, token_kind_of, sign_kind, quoted_kind, line_gap_at, line_comment_part, keyword_end, string_at, string_of, string_stop, stops_string, closes_string}
 use Rattle.cfg_read.specs.SyntaxTexts.{SymbolText, SyntaxText}
+use Rattle.cfg_read.specs.SyntaxUpdates.{mark_end}
 use Rattle.cfg_read.specs.Reading.{Wanted, Declared, DeclaredToken, LineItem, Rest, RuleName, Nothing, State, Spaced, InLine, At, IsToken, name, quoted, begins, Step, gap_part, gap_end, line_gap_part, line_gap_end, separator, declared, start_name, declared_token, tokens_end, line_item, list_end, number, epp_token, epp_string, action_type, parse_generics, parse_param, rules_end, programs, rule_name, colon, typed_colon, symbol, empty, prec, prec_token, action, bar, semicolon, Steps, here, then, beginning}
 use Rattle.cfg_read.specs.SyntaxErrors.{StopsFrom, Outcome, reads, faulty}
 use Rattle.cfg_read.proofs.Chains.{join_stops, and_stops}
@@ -177,6 +178,14 @@ token_more : {text : List ℕ} {a b : ℕ} {t : SymbolText} → IsToken text a t
 token_more {text = text} {a = a} (name {b = b} e) = name_more text a b e
 token_more {text = text} {a = a} (quoted {b = b} e) = let h = quoted_more text a b e in (h.0, omega (arith, h.1))
 
+-- a mark may stand behind a symbol
+mark_from : (text : List ℕ) (b : ℕ) → b ≤ mark_end text b
+mark_from text b = go (is_at text b 63)
+  where
+    go : (m : Bool) → b ≤ cond m (b + 1) b
+    go true = omega arith
+    go false = omega arith
+
 -- Some things that are wanted lead on at the same offset.
 abbrev rank : Wanted → ℕ
 rank DeclaredToken = 1
@@ -235,7 +244,7 @@ step_less (programs e) = omega arith
 step_less {text = text} (rule_name {a = a} {b = b} e) = let m = name_more text a b e in further (length text) a b 1 2 m.0 m.1 (omega arith)
 step_less {text = text} (colon {a = a} k e) = further (length text) a (a + 1) 1 0 (sign_more text a tokens.Colon refl e) (omega arith) (omega arith)
 step_less {text = text} (typed_colon {a = a} {c = c} k e h) = let from = first_offset_from _ _ _ c h in further (length text) a (c + 1) 1 0 (sign_more text a tokens.Arrow refl e) (omega (arith, from)) (omega arith)
-step_less {text = text} (symbol {a = a} {b = b} e n o) = let m = token_more e in further (length text) a b 1 0 m.0 m.1 (omega arith)
+step_less {text = text} (symbol {a = a} {b = b} e n o) = let m = token_more e in let from = mark_from text b in further (length text) a (mark_end text b) 1 0 m.0 (omega (arith, m.1, from)) (omega arith)
 step_less {text = text} (empty {a = a} e s n o) = further (length text) a (a + 6) 1 0 (sign_more text a tokens.Percent refl e.0) (omega arith) (omega arith)
 step_less {text = text} (prec {a = a} e o) = further (length text) a (a + 5) 1 0 (sign_more text a tokens.Percent refl e.0) (omega arith) (omega arith)
 step_less {text = text} (prec_token {b = b} {c = c} e) = let m = token_more e in further (length text) b c 1 0 m.0 m.1 (omega arith)

@@ -20,7 +20,7 @@ use Rattle.cfg_read.specs.declared.yacc.parser.scan.StringKind.TheVariants as st
 use Rattle.cfg_base.specs.Text.{is_white, run_end, line_end, gap_at}
 use Rattle.cfg_read.specs.Words.{token_kind_at, line_gap_at, keyword, keyword_end, number_of, string_at, lone_colon, action_end}
 use Rattle.cfg_read.specs.SyntaxTexts.{WordText, SymbolText, RuleText, ParamText, SyntaxText}
-use Rattle.cfg_read.specs.SyntaxUpdates.{word, trimmed_word, string_word, Part, no_part, is_open, append_symbol, put_empty, put_precedence, put_action, alternative, heading, append_alternative, append_start, append_token, append_list, append_number, append_epp, append_action_type, put_parse_param, put_parse_generics, append_rule, put_programs, rest_of_line, parameter}
+use Rattle.cfg_read.specs.SyntaxUpdates.{word, trimmed_word, string_word, Part, no_part, is_open, mark_end, marked, append_symbol, put_empty, put_precedence, put_action, alternative, heading, append_alternative, append_start, append_token, append_list, append_number, append_epp, append_action_type, put_parse_param, put_parse_generics, append_rule, put_programs, rest_of_line, parameter}
 use Rattle.cfg_read.specs.Declarations.{is_grmtools, declaration_of}
 use Rattle.cfg_read.specs.Reading.{Wanted, Declared, StartName, DeclaredToken, LineItem, NumberWord, EppToken, EppString, Rest, RuleName, RuleColon, More, PrecToken, Nothing, State, Spaced, InLine, At, IsToken, name, quoted, literal_end, has_letters, ends_tokens, ends_line, begins, Step, gap_part, gap_end, line_gap_part, line_gap_end, separator, declared, start_name, declared_token, tokens_end, line_item, list_end, number, epp_token, epp_string, action_type, parse_generics, parse_param, rules_end, programs, rule_name, colon, typed_colon, symbol, empty, prec, prec_token, action, bar, semicolon, Steps, here, then, Reads}
 use Rattle.cfg_read.specs.SyntaxErrors.{name_fault, token_fault, declaration_fault, rule_fault, number_at, alternative_fault, Stops, unclosed, line_unclosed, no_declaration, unknown_declaration, no_start_name, no_declared_token, no_line_item, no_epp_token, no_number, no_string, nothing_on_line, no_parameter, no_rule_name, no_colon, no_arrow, no_typed_colon, no_part_stands, symbol_after_empty, empty_after_symbol, late_symbol, late_empty, late_prec, other_word, late_action, open_action, no_prec_token, Faults}
@@ -37,8 +37,8 @@ data Found : Type 0 where
   NoToken : YaccGrammarErrorKind → Found
 
 abbrev found : List ℕ → ℕ → TokenKind → Found
-found text a (tokens.Name b) = Token (record { is_quoted = false; word = word text a b }) b
-found text a (tokens.Quoted b) = Token (record { is_quoted = true; word = word text (a + 1) b }) (b + 1)
+found text a (tokens.Name b) = Token (record { is_quoted = false; word = word text a b; optional = None }) b
+found text a (tokens.Quoted b) = Token (record { is_quoted = true; word = word text (a + 1) b; optional = None }) (b + 1)
 found text a tokens.OpenQuote = NoToken faults.IllegalString
 found text a _ = NoToken faults.IllegalName
 
@@ -112,8 +112,10 @@ abbrev if_nil : List SymbolText → ℕ → Next → Next
 if_nil [] a n = n
 if_nil (s ∷ ss) a n = Fails faults.NonEmptyProduction a
 
-abbrev symbol_next : RuleText → Part → SyntaxText → ℕ → SymbolText → ℕ → Next
-symbol_next r p x a t b = cond p.is_empty (Fails faults.NonEmptyProduction a) (cond (is_open p) (Goes (Spaced (More r (append_symbol p t a b)) x b)) (Fails faults.ProductionNotTerminated a))
+abbrev symbol_next : List ℕ → RuleText → Part → SyntaxText → ℕ → SymbolText → ℕ → Next
+symbol_next text r p x a t b =
+    cond p.is_empty (Fails faults.NonEmptyProduction a)
+    (cond (is_open p) (Goes (Spaced (More r (append_symbol p (marked text a b t) a (mark_end text b))) x (mark_end text b))) (Fails faults.ProductionNotTerminated a))
 
 abbrev empty_next : RuleText → Part → SyntaxText → ℕ → Next
 empty_next r p x a = if_nil p.symbols a (cond (not p.is_empty && is_open p) (Goes (Spaced (More r (put_empty p a (literal_end a "empty"))) x (literal_end a "empty"))) (Fails faults.ProductionNotTerminated a))
@@ -129,8 +131,8 @@ action_next text r p x a None = Fails faults.IncompleteAction a
 action_next text r p x a (Some c) = Goes (Spaced (More r (put_action p (trimmed_word text (a + 1) c))) x (c + 1))
 
 abbrev more_next : List ℕ → RuleText → Part → SyntaxText → ℕ → TokenKind → Next
-more_next text r p x a (tokens.Name b) = symbol_next r p x a (record { is_quoted = false; word = word text a b }) b
-more_next text r p x a (tokens.Quoted b) = symbol_next r p x a (record { is_quoted = true; word = word text (a + 1) b }) (b + 1)
+more_next text r p x a (tokens.Name b) = symbol_next text r p x a (record { is_quoted = false; word = word text a b; optional = None }) b
+more_next text r p x a (tokens.Quoted b) = symbol_next text r p x a (record { is_quoted = true; word = word text (a + 1) b; optional = None }) (b + 1)
 more_next text r p x a tokens.Percent = percent_next text r p x a
 more_next text r p x a tokens.Brace = cond (is_none p.action) (action_next text r p x a (action_end text (a + 1))) (Fails faults.ProductionNotTerminated a)
 more_next text r p x a tokens.Bar = Goes (Spaced (More (append_alternative r (alternative p a)) no_part) x (a + 1))
@@ -174,7 +176,7 @@ found_token : {text : List ℕ} {a b : ℕ} {t : SymbolText} → IsToken text a 
 found_token (name e) = rw e refl
 found_token (quoted e) = rw e refl
 
-more_token : {text : List ℕ} {a b : ℕ} {t : SymbolText} (r : RuleText) (p : Part) (x : SyntaxText) → IsToken text a t b → more_next text r p x a (token_kind_at text a) ≡ symbol_next r p x a t b
+more_token : {text : List ℕ} {a b : ℕ} {t : SymbolText} (r : RuleText) (p : Part) (x : SyntaxText) → IsToken text a t b → more_next text r p x a (token_kind_at text a) ≡ symbol_next text r p x a t b
 more_token r p x (name e) = rw e refl
 more_token r p x (quoted e) = rw e refl
 
@@ -303,10 +305,10 @@ stops (late_action e n) = rw (e, n) refl
 stops (open_action e n h) = rw (e, n, h) refl
 stops (no_prec_token e) = rw (no_found _ _ _ _ e) refl
 
-same_step : {kind : YaccKind} {text : List ℕ} {s t u : State} → Step kind text s t → Step kind text s u → t ≡ u
+pub same_step : {kind : YaccKind} {text : List ℕ} {s t u : State} → Step kind text s t → Step kind text s u → t ≡ u
 same_step p q = let e = sym (follows p) ∙ follows q in cc
 
-no_both : {kind : YaccKind} {text : List ℕ} {s t : State} {e : YaccGrammarErrorKind} {offset : ℕ} → Step kind text s t → Stops kind text s e offset → ⊥
+pub no_both : {kind : YaccKind} {text : List ℕ} {s t : State} {e : YaccGrammarErrorKind} {offset : ℕ} → Step kind text s t → Stops kind text s e offset → ⊥
 no_both p q = let h = sym (follows p) ∙ stops q in absurd cc
 
 same_stop : {kind : YaccKind} {text : List ℕ} {s : State} {d e : YaccGrammarErrorKind} {p q : ℕ} → Stops kind text s d p → Stops kind text s e q → (d ≡ e) × (p ≡ q)

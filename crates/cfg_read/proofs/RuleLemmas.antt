@@ -1,6 +1,6 @@
 -- Rules of headings, and the numbers of their productions.
 use Rattle.std.proofs.Common.{◌≡◌, ℕ, zero, suc, ◌+◌, ◌-◌, Bool, true, false, not, ◌||◌, List, [], ◌∷◌, ◌++◌, map, fold, length, if◌then◌else◌, cond, refl, sym, ap, ◌∙◌, arith, slice_get, Option, None, Some, option_map, is_some, true≢false, Bor}
-use Rattle.std.specs.List.{position_or_len, IsDistinct, AllByRecursion}
+use Rattle.std.specs.List.{flat_map, position_or_len, IsDistinct, AllByRecursion}
 use Rattle.std.specs.Map.{keys_of, values_of, lookup}
 use Rattle.std.specs.Option.{option_or, option_copied}
 use Rattle.std.specs.Str.{bytes_eq}
@@ -8,21 +8,22 @@ use Rattle.std.specs.String.{string_bytes, string_eq}
 use Rattle.std.specs.declared.alloc.Global.{Global}
 use Rattle.std.specs.declared.string.String.{String}
 use Rattle.std.proofs.lemmas.List.{append_assoc, append-nil, map-append}
-use Rattle.std.proofs.lemmas.List.Sums.{fold_push}
+use Rattle.std.proofs.lemmas.List.Sums.{fold_push, fold-append}
 use Rattle.std.proofs.lemmas.Slice.Eq.{bytes_eq-Decides}
 use Rattle.indexmap.specs.IndexMap.{set_value_at, insert_entry}
 use Rattle.cfg_read.specs.declared.yacc.ast.Rule.{Rule}
 use Rattle.cfg_read.specs.declared.yacc.parser.syntax.Word.{Word}
 use Rattle.cfg_read.specs.SyntaxTexts.{WordText, RuleText, SyntaxText}
-use Rattle.cfg_read.specs.Names.{is_among, with_distinct, distinct}
-use Rattle.cfg_read.specs.Asts.{RuleAst, heads, numbers_from, heading_type, last_text, text_of, rule_ast}
+use Rattle.cfg_read.specs.Names.{is_named, is_among, with_distinct, distinct}
+use Rattle.cfg_read.specs.FreshRules.{FreshText, fresh_of, fresh_words, rule_words}
+use Rattle.cfg_read.specs.Asts.{RuleAst, heads, heads_in, fresh_heads, numbers_from, heading_type, last_text, text_of, rule_ast}
 use Rattle.cfg_read.specs.AstModels.{named_rule}
 use Rattle.cfg_read.specs.SyntaxModels.{word_of}
-use Rattle.cfg_read.specs.AstBuild.{headed, has_rule, with_first, with_numbers}
+use Rattle.cfg_read.specs.AstBuild.{headed, blank_headings, fresh_rule, has_rule, with_first, with_numbers}
 use Rattle.cfg_read.specs.AstChanges.{with_number}
 use Rattle.cfg_read.proofs.AstLemmas.{found_by}
 use Rattle.cfg_read.proofs.Grouping.{or_left, or_right}
-use Rattle.cfg_read.proofs.NameLemmas.{any_map, among_distinct}
+use Rattle.cfg_read.proofs.NameLemmas.{any_map, among_more, among_distinct}
 
 both_true : (a b : Bool) → (a ≡ true → b ≡ true) → (b ≡ true → a ≡ true) → a ≡ b
 both_true true b f g = sym (f refl)
@@ -228,9 +229,48 @@ module _ (x : SyntaxText) where
   pub headings_once : (rs : List RuleText) → fold with_first [] (map (headed shared) rs) ≡ blanks rs
   headings_once rs = go [] [] rs refl
 
+  -- Fresh rules behind those of headings: they have no type, since no heading has their names.
+  type_none : (rs : List RuleText) (q : List ℕ) → is_among (names rs) q ≡ false → heading_type x rs q ≡ None
+  type_none [] q h = refl
+  type_none (r ∷ rs) q h =
+      let other : bytes_eq r.name.text q ≡ false = bytes_swap r.name.text q ∙ or_left (bytes_eq q r.name.text) (is_among (names rs) q) h in
+      ap (λ (b : Bool). if b then option_or (text_of r.action_type) shared else heading_type x rs q) other
+      ∙ type_none rs q (or_right (bytes_eq q r.name.text) (is_among (names rs) q) h)
+
+  fresh_step : (rs : List RuleText) (vs : List WordText) (w : WordText) → ((q : List ℕ) → is_among vs q ≡ false → is_among (names rs) q ≡ false)
+      → with_first (map (blank rs) vs) (fresh_rule w) ≡ map (blank rs) (with_distinct vs w)
+  fresh_step rs vs w apart = ap (λ (b : Bool). if b then map (blank rs) vs else map (blank rs) vs ++ fresh_rule w ∷ []) (has_blank rs vs w.text) ∙ by (is_among vs w.text) refl
+    where
+      by : (b : Bool) → is_among vs w.text ≡ b → (if b then map (blank rs) vs else map (blank rs) vs ++ fresh_rule w ∷ []) ≡ map (blank rs) (if b then vs else vs ++ w ∷ [])
+      by true e = refl
+      by false e =
+          ap (λ t. map (blank rs) vs ++ (let b : RuleAst = record { name = w; productions = []; action_type = t } in b) ∷ []) (sym (type_none rs w.text (apart w.text e)))
+          ∙ sym (map-append (blank rs) vs (w ∷ []))
+
+  fresh_go : (rs : List RuleText) (ws vs : List WordText) → ((q : List ℕ) → is_among vs q ≡ false → is_among (names rs) q ≡ false)
+      → fold with_first (map (blank rs) vs) (map fresh_rule ws) ≡ map (blank rs) (fold with_distinct vs ws)
+  fresh_go rs [] vs apart = refl
+  fresh_go rs (w ∷ ws) vs apart =
+      ap (λ l. fold with_first l (map fresh_rule ws)) (fresh_step rs vs w apart)
+      ∙ fresh_go rs ws (with_distinct vs w) (λ q h. apart q (or_left (is_among vs q) (is_named q w) (sym (among_more vs w q) ∙ h)))
+
+  pub fresh_behind : (ws : List WordText) → fold with_first (fold with_first [] (map (headed shared) x.rules)) (map fresh_rule ws) ≡ map (blank x.rules) (distinct (names x.rules ++ ws))
+  fresh_behind ws =
+      ap (λ l. fold with_first l (map fresh_rule ws)) (headings_once x.rules)
+      ∙ fresh_go x.rules ws (distinct (names x.rules)) (λ q h. sym (among_distinct (names x.rules) q) ∙ h)
+      ∙ ap (map (blank x.rules)) (sym (fold-append with_distinct [] (names x.rules) ws))
+
   pub blanks_numbered : (vs : List WordText) → map (with_numbers (heads x)) (map (blank x.rules) vs) ≡ map (rule_ast x) vs
   blanks_numbered [] = refl
   blanks_numbered (v ∷ vs) = ap (λ l. rule_ast x v ∷ l) (blanks_numbered vs)
+
+-- The rules with their numbers are those of the text.
+pub rules_made : (x : SyntaxText) (fs : List FreshText) (made : List RuleAst) (hs : List (List ℕ)) → fs ≡ fresh_of x → made ≡ fold with_first (blank_headings x) (map fresh_rule (map (λ (f : FreshText). f.word) fs))
+    → hs ≡ flat_map heads_in x.rules ++ flat_map fresh_heads fs → map (with_numbers hs) made ≡ map (rule_ast x) (rule_words x)
+rules_made x fs made hs fresh blank_ones numbers =
+    ap (λ l. map (with_numbers l) made) (numbers ∙ ap (λ (l : List FreshText). flat_map heads_in x.rules ++ flat_map fresh_heads l) fresh)
+    ∙ ap (map (with_numbers (heads x))) (blank_ones ∙ ap (λ (l : List FreshText). fold with_first (blank_headings x) (map fresh_rule (map (λ (f : FreshText). f.word) l))) fresh ∙ fresh_behind x (fresh_words x))
+    ∙ blanks_numbered x (rule_words x)
 
 -- a name that no key has goes last
 pub entries_new : (q : List ℕ) (k : String Global) (v : Rule) (es : List (String Global × Rule)) → string_bytes k ≡ q → is_some (lookup (λ (k : String Global). bytes_eq q (string_bytes k)) es) ≡ false

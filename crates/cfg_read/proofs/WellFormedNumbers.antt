@@ -6,9 +6,11 @@ use Rattle.std.proofs.lemmas.List.Elements.{All-append, All-cons, All-map, All-n
 use Rattle.std.proofs.lemmas.Option.{slice_get_within, slice_get-get_or, get_or_from_slice_get, slice_get-map}
 use Rattle.std.proofs.lemmas.Slice.Eq.{bytes_eq-Decides}
 use Rattle.cfg_read.specs.SyntaxTexts.{WordText, AlternativeText, RuleText, SyntaxText}
-use Rattle.cfg_read.specs.Names.{is_among, distinct, headings, texts}
-use Rattle.cfg_read.specs.Asts.{RuleAst, productions_in, heads_in, heads, numbers_from, rule_ast, production_ast}
+use Rattle.cfg_read.specs.Names.{is_among, headings, declared_tokens, texts}
+use Rattle.cfg_read.specs.FreshRules.{fresh_of, fresh_words, rule_words}
+use Rattle.cfg_read.specs.Asts.{RuleAst, productions_in, productions_of, fresh_productions, fresh_heads, heads_in, heads, numbers_from, rule_ast, production_ast}
 use Rattle.cfg_read.proofs.NameLemmas.{among_distinct}
+use Rattle.cfg_read.proofs.FreshLemmas.{among_before, among_behind, fresh_as_many, fresh_heads_known}
 use Rattle.cfg_read.proofs.WellFormedNames.{or_true, named_itself, Contains-head, Contains-cons, among_contains, index_of_name, distinct_texts}
 
 none_some : {X : Type 0} (x : X) → None ≡ Some x → ⊥
@@ -87,6 +89,14 @@ as_many declared (r ∷ rs) =
     let rest = as_many declared rs in
     left ∙ ap (λ m. m + length (flat_map heads_in rs)) here ∙ ap (λ m. length (productions_in declared r) + m) rest ∙ sym right
 
+pub all_as_many : (x : SyntaxText) → length (heads x) ≡ length (productions_of x)
+all_as_many x =
+    let declared = is_among (declared_tokens x) in
+    length-append (flat_map heads_in x.rules) (flat_map fresh_heads (fresh_of x))
+    ∙ ap (λ n. n + length (flat_map fresh_heads (fresh_of x))) (as_many declared x.rules)
+    ∙ ap (λ n. length (flat_map (productions_in declared) x.rules) + n) (fresh_as_many declared (fresh_of x))
+    ∙ sym (length-append (flat_map (productions_in declared) x.rules) (flat_map (fresh_productions declared) (fresh_of x)))
+
 abbrev IsHeading : List RuleText → List ℕ → Type 0
 IsHeading rs h = is_among (map (λ (r : RuleText). r.name) rs) h ≡ true
 
@@ -96,6 +106,16 @@ heads_known (r ∷ rs) =
     All-append (IsHeading (r ∷ rs)) (heads_in r) (flat_map heads_in rs)
     (All-map (IsHeading (r ∷ rs)) (λ (a : AlternativeText). r.name.text) r.alternatives (λ k d below. named_itself r.name.text (is_among (map (λ (s : RuleText). s.name) rs) r.name.text)))
     (All-weaker (IsHeading rs) (IsHeading (r ∷ rs)) (λ h k. or_true (bytes_eq h r.name.text) (is_among (map (λ (s : RuleText). s.name) rs) h) k) (flat_map heads_in rs) (heads_known rs))
+
+-- or of a fresh rule
+abbrev IsRule : SyntaxText → List ℕ → Type 0
+IsRule x h = is_among (headings x ++ fresh_words x) h ≡ true
+
+all_heads_known : (x : SyntaxText) → All (IsRule x) (heads x)
+all_heads_known x =
+    All-append (IsRule x) (flat_map heads_in x.rules) (flat_map fresh_heads (fresh_of x))
+    (All-weaker (IsHeading x.rules) (IsRule x) (λ h k. among_before (headings x) (fresh_words x) h k) (flat_map heads_in x.rules) (heads_known x.rules))
+    (All-weaker (λ h. is_among (fresh_words x) h ≡ true) (IsRule x) (λ h k. among_behind (headings x) (fresh_words x) h k) (flat_map fresh_heads (fresh_of x)) (fresh_heads_known (fresh_of x)))
 
 -- what stands at an index of a mapped list
 map_at : {X Y : Type 0} (f : X → Y) (xs : List X) (k : ℕ) (y : Y) → slice_get (map f xs) k ≡ Some y → (x : X) × (slice_get xs k ≡ Some x) × (f x ≡ y)
@@ -111,11 +131,11 @@ all_at P xs k x h e = subst P (get_or_from_slice_get xs k x x e) (h k x (slice_g
 
 -- the rule at the index A lists the production p
 abbrev pub Lists : SyntaxText → ℕ → ℕ → Type 0
-Lists x A p = (r : RuleAst) × (slice_get (map (rule_ast x) (distinct (headings x))) A ≡ Some r) × Contains r.productions p
+Lists x A p = (r : RuleAst) × (slice_get (map (rule_ast x) (rule_words x)) A ≡ Some r) × Contains r.productions p
 
 -- which then stands behind a heading of its name
-pub head_listed : (x : SyntaxText) (A p : ℕ) → Lists x A p → (q : List ℕ) × (slice_get (texts (distinct (headings x))) A ≡ Some q) × (slice_get (heads x) p ≡ Some q)
-head_listed x A p l = by (map_at (rule_ast x) (distinct (headings x)) A l.0 l.1)
+pub head_listed : (x : SyntaxText) (A p : ℕ) → Lists x A p → (q : List ℕ) × (slice_get (texts (rule_words x)) A ≡ Some q) × (slice_get (heads x) p ≡ Some q)
+head_listed x A p l = by (map_at (rule_ast x) (rule_words x) A l.0 l.1)
   where
     at_zero : (w : WordText) → IsNumber w.text 0 (heads x) p → slice_get (heads x) p ≡ Some w.text
     at_zero w n =
@@ -123,16 +143,16 @@ head_listed x A p l = by (map_at (rule_ast x) (distinct (headings x)) A l.0 l.1)
         let same : n.0 ≡ p = omega (arith, number) in
         subst (λ m. slice_get (heads x) m ≡ Some w.text) same n.2
 
-    by : (w : WordText) × (slice_get (distinct (headings x)) A ≡ Some w) × (rule_ast x w ≡ l.0) → (q : List ℕ) × (slice_get (texts (distinct (headings x))) A ≡ Some q) × (slice_get (heads x) p ≡ Some q)
+    by : (w : WordText) × (slice_get (rule_words x) A ≡ Some w) × (rule_ast x w ≡ l.0) → (q : List ℕ) × (slice_get (texts (rule_words x)) A ≡ Some q) × (slice_get (heads x) p ≡ Some q)
     by f =
         let listed : Contains (numbers_from f.0.text 0 (heads x)) p = subst (λ (r : RuleAst). Contains r.productions p) (sym f.2) l.2 in
-        (f.0.text, at_map (λ (w : WordText). w.text) (distinct (headings x)) A f.0 f.1, at_zero f.0 (listed_number f.0.text 0 (heads x) p listed))
+        (f.0.text, at_map (λ (w : WordText). w.text) (rule_words x) A f.0 f.1, at_zero f.0 (listed_number f.0.text 0 (heads x) p listed))
 
 pub one_lists : (x : SyntaxText) (A B p : ℕ) → Lists x A p → Lists x B p → A ≡ B
 one_lists x A B p a b = by (head_listed x A p a) (head_listed x B p b)
   where
-    by : (q : List ℕ) × (slice_get (texts (distinct (headings x))) A ≡ Some q) × (slice_get (heads x) p ≡ Some q) → (r : List ℕ) × (slice_get (texts (distinct (headings x))) B ≡ Some r) × (slice_get (heads x) p ≡ Some r) → A ≡ B
-    by f g = distinct_texts (headings x) A B f.0 f.1 (g.1 ∙ sym g.2 ∙ f.2)
+    by : (q : List ℕ) × (slice_get (texts (rule_words x)) A ≡ Some q) × (slice_get (heads x) p ≡ Some q) → (r : List ℕ) × (slice_get (texts (rule_words x)) B ≡ Some r) × (slice_get (heads x) p ≡ Some r) → A ≡ B
+    by f g = distinct_texts (headings x ++ fresh_words x) A B f.0 f.1 (g.1 ∙ sym g.2 ∙ f.2)
 
 pub listed_below : (x : SyntaxText) (A p : ℕ) → Lists x A p → p < length (heads x)
 listed_below x A p l = let h = head_listed x A p l in slice_get_within (heads x) p h.0 h.2
@@ -140,15 +160,15 @@ listed_below x A p l = let h = head_listed x A p l in slice_get_within (heads x)
 pub some_lists : (x : SyntaxText) (p : ℕ) → p < length (heads x) → (A : ℕ) × Lists x A p
 some_lists x p below =
     let at : slice_get (heads x) p ≡ Some (get_or (heads x) p []) = slice_get-get_or (heads x) p [] below in
-    let known : is_among (headings x) (get_or (heads x) p []) ≡ true = all_at (IsHeading x.rules) (heads x) p (get_or (heads x) p []) (heads_known x.rules) at in
-    let there = index_of_name (texts (distinct (headings x))) (get_or (heads x) p []) (among_contains (distinct (headings x)) (get_or (heads x) p []) (among_distinct (headings x) (get_or (heads x) p []) ∙ known)) in
-    by (get_or (heads x) p []) at there.0 (map_at (λ (w : WordText). w.text) (distinct (headings x)) there.0 (get_or (heads x) p []) there.1)
+    let known : is_among (headings x ++ fresh_words x) (get_or (heads x) p []) ≡ true = all_at (IsRule x) (heads x) p (get_or (heads x) p []) (all_heads_known x) at in
+    let there = index_of_name (texts (rule_words x)) (get_or (heads x) p []) (among_contains (rule_words x) (get_or (heads x) p []) (among_distinct (headings x ++ fresh_words x) (get_or (heads x) p []) ∙ known)) in
+    by (get_or (heads x) p []) at there.0 (map_at (λ (w : WordText). w.text) (rule_words x) there.0 (get_or (heads x) p []) there.1)
   where
-    by : (h : List ℕ) → slice_get (heads x) p ≡ Some h → (A : ℕ) → (w : WordText) × (slice_get (distinct (headings x)) A ≡ Some w) × (w.text ≡ h) → (B : ℕ) × Lists x B p
+    by : (h : List ℕ) → slice_get (heads x) p ≡ Some h → (A : ℕ) → (w : WordText) × (slice_get (rule_words x) A ≡ Some w) × (w.text ≡ h) → (B : ℕ) × Lists x B p
     by h at A f =
         let listed : Contains (numbers_from f.0.text 0 (heads x)) (0 + p) = number_listed f.0.text 0 (heads x) p (at ∙ ap Some (sym f.2)) in
         let same : 0 + p ≡ p = omega arith in
-        (A, (rule_ast x f.0, at_map (rule_ast x) (distinct (headings x)) A f.0 f.1, subst (Contains (numbers_from f.0.text 0 (heads x))) same listed))
+        (A, (rule_ast x f.0, at_map (rule_ast x) (rule_words x) A f.0 f.1, subst (Contains (numbers_from f.0.text 0 (heads x))) same listed))
 
-pub lists_ascend : (x : SyntaxText) → All (λ (r : RuleAst). AllPairs (λ p q. p < q) r.productions) (map (rule_ast x) (distinct (headings x)))
-lists_ascend x = All-map (λ (r : RuleAst). AllPairs (λ p q. p < q) r.productions) (rule_ast x) (distinct (headings x)) (λ k d below. ascends (slice_index_or (distinct (headings x)) k d).text 0 (heads x))
+pub lists_ascend : (x : SyntaxText) → All (λ (r : RuleAst). AllPairs (λ p q. p < q) r.productions) (map (rule_ast x) (rule_words x))
+lists_ascend x = All-map (λ (r : RuleAst). AllPairs (λ p q. p < q) r.productions) (rule_ast x) (rule_words x) (λ k d below. ascends (slice_index_or (rule_words x) k d).text 0 (heads x))

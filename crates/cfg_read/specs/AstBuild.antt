@@ -1,11 +1,11 @@
 -- Rules as they are put together: first their headings, then the numbers of their productions.
-use Rattle.std.specs.Prelude.{ℕ, Bool, List, [], ◌∷◌, ◌++◌, map, Option, if◌then◌else◌}
+use Rattle.std.specs.Prelude.{ℕ, Bool, List, [], ◌∷◌, ◌++◌, map, fold, Option, None, if◌then◌else◌}
 use Rattle.std.specs.Borrow.{Bor}
 use Rattle.std.specs.List.{list_any}
 use Rattle.std.specs.Option.{option_or}
 use Rattle.std.specs.Str.{bytes_eq}
-use Rattle.cfg_read.specs.SyntaxTexts.{RuleText}
-use Rattle.cfg_read.specs.Asts.{Ast, no_ast, RuleAst, text_of, numbers_from}
+use Rattle.cfg_read.specs.SyntaxTexts.{WordText, RuleText, SyntaxText}
+use Rattle.cfg_read.specs.Asts.{Ast, no_ast, RuleAst, text_of, last_text, numbers_from}
 
 -- what these point to
 abbrev pub names_at : List (Bor (List ℕ)) → List (List ℕ)
@@ -15,11 +15,19 @@ names_at ns = map (λ (n : Bor (List ℕ)). n.now) ns
 abbrev pub headed : Option (List ℕ) → RuleText → RuleAst
 headed shared r = record { name = r.name; productions = []; action_type = option_or (text_of r.action_type) shared }
 
+-- a fresh rule
+abbrev pub fresh_rule : WordText → RuleAst
+fresh_rule w = record { name = w; productions = []; action_type = None }
+
 abbrev pub has_rule : List RuleAst → List ℕ → Bool
 has_rule rs name = list_any (λ (r : RuleAst). bytes_eq name r.name.text) rs
 
 abbrev pub with_first : List RuleAst → RuleAst → List RuleAst
 with_first rs r = if has_rule rs r.name.text then rs else rs ++ r ∷ []
+
+-- the rules of the headings of a text, without their productions
+abbrev pub blank_headings : SyntaxText → List RuleAst
+blank_headings x = fold with_first [] (map (headed (last_text x.action_types)) x.rules)
 
 -- with those of these productions that are the rule's
 abbrev pub with_numbers : List (List ℕ) → RuleAst → RuleAst

@@ -7,6 +7,7 @@ use Rattle.cfg_base.specs.SpanModel.{SpanModel}
 use Rattle.cfg_base.specs.declared.precedence.AssocKind.{AssocKind}
 use Rattle.cfg_read.specs.SyntaxTexts.{WordText, SymbolText, AlternativeText, RuleText, LevelText, NumberText, EppText, ParamText, SyntaxText}
 use Rattle.cfg_read.specs.Names.{is_among, distinct, headings, words_in, declared_tokens, implicit_tokens_of, avoided_tokens, is_token_by, tokens_of}
+use Rattle.cfg_read.specs.FreshRules.{FreshText, fresh_word, fresh_of, rule_words}
 use Rattle.cfg_read.specs.Validity.{expected_symbols}
 
 -- a symbol of a production
@@ -82,9 +83,17 @@ last_text [] = None
 last_text (w ∷ []) = Some w.text
 last_text (w ∷ v ∷ ws) = last_text (v ∷ ws)
 
--- The productions: one for each alternative, in the order of the text; `declared` tells the names of `%token`.
+-- The productions: one for each alternative, in the order of the text; `declared` tells the names of `%token`. An
+-- optional symbol stands for its fresh rule.
+abbrev pub plain_symbol_ast : (List ℕ → Bool) → SymbolText → SymbolAst
+plain_symbol_ast declared s = record { is_token = is_token_by declared s; word = s.word }
+
+abbrev pub symbol_ast_at : (List ℕ → Bool) → SymbolText → Option SpanModel → SymbolAst
+symbol_ast_at declared s None = plain_symbol_ast declared s
+symbol_ast_at declared s (Some at) = record { is_token = false; word = fresh_word declared s at }
+
 abbrev pub symbol_ast : (List ℕ → Bool) → SymbolText → SymbolAst
-symbol_ast declared s = record { is_token = is_token_by declared s; word = s.word }
+symbol_ast declared s = symbol_ast_at declared s s.optional
 
 abbrev pub text_of : Option WordText → Option (List ℕ)
 text_of o = option_map (λ (w : WordText). w.text) o
@@ -105,15 +114,33 @@ productions_in declared r = map (production_ast declared) r.alternatives
 abbrev pub heads_in : RuleText → List (List ℕ)
 heads_in r = map (λ (a : AlternativeText). r.name.text) r.alternatives
 
+-- Behind them the fresh ones, two for each fresh rule: the symbol, and nothing.
+abbrev pub fresh_production : SpanModel → List SymbolAst → ProductionAst
+fresh_production at symbols = record { symbols = symbols; precedence = None; action = None; action_span = None; span = at }
+
+abbrev pub fresh_pair : (List ℕ → Bool) → SymbolText → SpanModel → List ProductionAst
+fresh_pair declared s at = fresh_production at (plain_symbol_ast declared s ∷ []) ∷ fresh_production at [] ∷ []
+
+abbrev pub fresh_productions : (List ℕ → Bool) → FreshText → List ProductionAst
+fresh_productions declared f = fresh_pair declared f.symbol f.word.span
+
+abbrev pub fresh_heads : FreshText → List (List ℕ)
+fresh_heads f = f.word.text ∷ f.word.text ∷ []
+
+-- all productions of a text, and for each the name of its rule
+abbrev pub productions_of : SyntaxText → List ProductionAst
+productions_of x = flat_map (productions_in (is_among (declared_tokens x))) x.rules ++ flat_map (fresh_productions (is_among (declared_tokens x))) (fresh_of x)
+
 abbrev pub heads : SyntaxText → List (List ℕ)
-heads x = flat_map heads_in x.rules
+heads x = flat_map heads_in x.rules ++ flat_map fresh_heads (fresh_of x)
 
 -- the indices of a name in a list, counted from n
 abbrev pub numbers_from : List ℕ → ℕ → List (List ℕ) → List ℕ
 numbers_from name n [] = []
 numbers_from name n (h ∷ hs) = if bytes_eq h name then n ∷ numbers_from name (suc n) hs else numbers_from name (suc n) hs
 
--- The type of a rule: that of its first heading, else that of `%actiontype`, which every rule stands behind.
+-- The type of a rule: that of its first heading, else that of `%actiontype`, which every heading stands behind. A fresh
+-- rule has none.
 abbrev pub heading_type : SyntaxText → List RuleText → List ℕ → Option (List ℕ)
 heading_type x [] name = None
 heading_type x (r ∷ rs) name = if bytes_eq r.name.text name then option_or (text_of r.action_type) (last_text x.action_types) else heading_type x rs name
@@ -163,8 +190,8 @@ abbrev pub ast_of : Bool → SyntaxText → Ast
 ast_of valid x = record {
   is_valid = valid;
   start = start_of x;
-  rules = map (rule_ast x) (distinct (headings x));
-  productions = flat_map (productions_in (is_among (declared_tokens x))) x.rules;
+  rules = map (rule_ast x) (rule_words x);
+  productions = productions_of x;
   tokens = tokens_of x;
   precedences = precedences_of x.levels;
   avoid_insert = distinct (avoided_tokens x);

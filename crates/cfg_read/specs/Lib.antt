@@ -4,6 +4,7 @@ pub mod SyntaxTexts
 pub mod SyntaxUpdates
 pub mod Declarations
 pub mod Reading
+pub mod PlainReading
 pub mod SyntaxErrors
 pub mod SyntaxModels
 pub mod Scanning
@@ -12,6 +13,7 @@ pub mod Validity
 pub mod NameModels
 pub mod ErrorModels
 pub mod ErrorTexts
+pub mod FreshRules
 pub mod Asts
 pub mod AstModels
 pub mod Warnings

@@ -3,11 +3,17 @@ use Rattle.std.specs.Prelude.{◌≡◌, ℕ, Bool, List, map}
 use Rattle.std.specs.Borrow.{Bor}
 use Rattle.std.specs.List.{list_any}
 use Rattle.std.specs.Str.{bytes_eq}
+use Rattle.std.specs.String.{string_bytes}
+use Rattle.std.specs.declared.alloc.Global.{Global}
+use Rattle.std.specs.declared.string.String.{String}
+use Rattle.indexmap.specs.IndexMap.{IndexMap}
 use Rattle.indexmap.specs.IndexSet.{IndexSet}
+use Rattle.cfg_base.specs.SpanModel.{SpanModel}
 use Rattle.cfg_read.specs.declared.yacc.parser.syntax.Word.{Word}
 use Rattle.cfg_read.specs.declared.yacc.parser.syntax.Symbol.{Symbol}
 use Rattle.cfg_read.specs.SyntaxTexts.{WordText, SymbolText, SyntaxText}
 use Rattle.cfg_read.specs.Names.{is_among, declared_tokens, is_rule, is_grammar_token, token_appearances, rules_used}
+use Rattle.cfg_read.specs.FreshRules.{FreshText}
 use Rattle.cfg_read.specs.SyntaxModels.{word_of, symbol_of}
 
 abbrev pub words_at : List (Bor Word) → List WordText
@@ -22,6 +28,13 @@ names_in s = map (λ (k : Bor (List ℕ)). k.now) s.keys
 
 abbrev pub has_name : {S : Type 0} → IndexSet (Bor (List ℕ)) S → List ℕ → Bool
 has_name s name = list_any (λ (k : Bor (List ℕ)). bytes_eq name k.now) s.keys
+
+-- the optional symbols of a map by the names of their fresh rules, in its order
+abbrev pub fresh_entry : String Global × (SpanModel × Bor Symbol) → FreshText
+fresh_entry e = record { word = record { text = string_bytes e.0; span = e.1.0 }; symbol = symbol_of e.1.1.now }
+
+abbrev pub named_fresh : {S : Type 0} → IndexMap (String Global) (SpanModel × Bor Symbol) S → List FreshText
+named_fresh m = map fresh_entry m.entries
 
 -- what is collected of a syntax: which names `%token` declares, rules have and tokens have, every appearance of a
 -- token, and the names in alternatives that stand for rules

@@ -17,7 +17,7 @@ use Rattle.cfg_read.specs.declared.yacc.parser.declaration.LineText.TheVariants 
 use Rattle.cfg_base.specs.Text.{is_white, run_end, line_end, gap_at}
 use Rattle.cfg_read.specs.Words.{token_kind_at, line_gap_at, keyword, keyword_end, number_of, string_at, lone_colon, action_end}
 use Rattle.cfg_read.specs.SyntaxTexts.{WordText, SymbolText, RuleText, ParamText, SyntaxText}
-use Rattle.cfg_read.specs.SyntaxUpdates.{word, trimmed_word, string_word, Part, no_part, is_open, append_symbol, put_empty, put_precedence, put_action, alternative, heading, append_alternative, no_syntax, append_start, append_token, append_list, append_number, append_epp, append_action_type, put_parse_param, put_parse_generics, append_rule, put_programs, rest_of_line, parameter}
+use Rattle.cfg_read.specs.SyntaxUpdates.{word, trimmed_word, string_word, Part, no_part, is_open, mark_end, marked, append_symbol, put_empty, put_precedence, put_action, alternative, heading, append_alternative, no_syntax, append_start, append_token, append_list, append_number, append_epp, append_action_type, put_parse_param, put_parse_generics, append_rule, put_programs, rest_of_line, parameter}
 use Rattle.cfg_read.specs.Declarations.{is_grmtools, declaration_of}
 
 -- what is wanted
@@ -55,8 +55,8 @@ pub data State : Type 0 where
 
 -- the name or quoted token that stands at a, up to b
 pub data IsToken (text : List ℕ) (a : ℕ) : SymbolText → ℕ → Type 0 where
-  name : {b : ℕ} → token_kind_at text a ≡ tokens.Name b → IsToken text a (record { is_quoted = false; word = word text a b }) b
-  quoted : {b : ℕ} → token_kind_at text a ≡ tokens.Quoted b → IsToken text a (record { is_quoted = true; word = word text (a + 1) b }) (b + 1)
+  name : {b : ℕ} → token_kind_at text a ≡ tokens.Name b → IsToken text a (record { is_quoted = false; word = word text a b; optional = None }) b
+  quoted : {b : ℕ} → token_kind_at text a ≡ tokens.Quoted b → IsToken text a (record { is_quoted = true; word = word text (a + 1) b; optional = None }) (b + 1)
 
 -- where a literal word behind a `%` at a ends
 abbrev pub literal_end : ℕ → String → ℕ
@@ -150,9 +150,9 @@ pub data Step (kind : YaccKind) (text : List ℕ) : State → State → Type 0 w
       Step kind text (At (RuleColon r) x a) (Spaced (More (heading r None) no_part) x (a + 1))
   typed_colon : {x : SyntaxText} {a c : ℕ} {r : WordText} → is_grmtools kind ≡ true → token_kind_at text a ≡ tokens.Arrow → lone_colon text (a + 2) (length text) ≡ Some c →
       Step kind text (At (RuleColon r) x a) (Spaced (More (heading r (Some (trimmed_word text (a + 2) c))) no_part) x (c + 1))
-  -- A symbol, where neither `%empty`, `%prec` nor an action was read.
+  -- A symbol, with the `?` right behind it if one stands there, where neither `%empty`, `%prec` nor an action was read.
   symbol : {x : SyntaxText} {a b : ℕ} {r : RuleText} {p : Part} {t : SymbolText} → IsToken text a t b → p.is_empty ≡ false → is_open p ≡ true →
-      Step kind text (At (More r p) x a) (Spaced (More r (append_symbol p t a b)) x b)
+      Step kind text (At (More r p) x a) (Spaced (More r (append_symbol p (marked text a b t) a (mark_end text b))) x (mark_end text b))
   -- `%empty`, where nothing of the alternative was read.
   empty : {x : SyntaxText} {a : ℕ} {r : RuleText} {p : Part} → IsLiteral text a "empty" → p.symbols ≡ [] → p.is_empty ≡ false → is_open p ≡ true →
       Step kind text (At (More r p) x a) (Spaced (More r (put_empty p a (literal_end a "empty"))) x (literal_end a "empty"))

@@ -22,7 +22,7 @@ abbrev pub words_of : List Word → List WordText
 words_of ws = map word_of ws
 
 abbrev pub symbol_of : Symbol → SymbolText
-symbol_of s = record { is_quoted = s.is_quoted; word = word_of s.word }
+symbol_of s = record { is_quoted = s.is_quoted; word = word_of s.word; optional = s.optional }
 
 abbrev pub symbols_of : List Symbol → List SymbolText
 symbols_of ss = map symbol_of ss

@@ -8,10 +8,12 @@ pub record WordText : Type 0 where
   pub text : List ℕ
   pub span : SpanModel
 
--- a name or a quoted token
+-- A name or a quoted token. In an alternative it is optional where a `?` stands right behind it: the span from its first
+-- byte, the quote included, past the `?`.
 pub record SymbolText : Type 0 where
   pub is_quoted : Bool
   pub word : WordText
+  pub optional : Option SpanModel
 
 pub record AlternativeText : Type 0 where
   pub symbols : List SymbolText

@@ -6,7 +6,7 @@ use Rattle.cfg_read.specs.declared.yacc.parser.declaration.Count.{Count}
 use Rattle.cfg_read.specs.declared.yacc.parser.declaration.Count.TheVariants as counts
 use Rattle.cfg_read.specs.declared.yacc.parser.declaration.LineList.{LineList}
 use Rattle.cfg_read.specs.declared.yacc.parser.declaration.LineList.TheVariants as lists
-use Rattle.cfg_base.specs.Text.{line_end}
+use Rattle.cfg_base.specs.Text.{is_at, line_end}
 use Rattle.cfg_read.specs.Bytes.{is_plain, trimmed}
 use Rattle.cfg_read.specs.Words.{lone_colon}
 use Rattle.cfg_read.specs.SyntaxTexts.{WordText, SymbolText, AlternativeText, RuleText, NumberText, ParamText, SyntaxText}
@@ -25,6 +25,16 @@ trimmed_word text a b = word_at text (trimmed text a b)
 -- The string whose quotes stand at a and b. Each `\` in it stands before a quote, and falls away.
 abbrev pub string_word : List ℕ → ℕ → ℕ → WordText
 string_word text a b = record { text = filter is_plain (slice_range text (a + 1) b); span = record { start = a; end = b + 1 } }
+
+-- A `?` right behind a symbol makes it optional: where a symbol from a to b ends with that, and what it is then.
+abbrev pub mark_end : List ℕ → ℕ → ℕ
+mark_end text b = if is_at text b 63 then b + 1 else b
+
+abbrev pub mark_span : List ℕ → ℕ → ℕ → Option SpanModel
+mark_span text a b = if is_at text b 63 then Some (record { start = a; end = b + 1 }) else None
+
+abbrev pub marked : List ℕ → ℕ → ℕ → SymbolText → SymbolText
+marked text a b t = record t { optional = mark_span text a b }
 
 -- An alternative as far as it is read; its span, once it has a part that counts.
 pub record Part : Type 0 where

@@ -59,7 +59,7 @@ abbrev pub HeadingsAreWords : SyntaxText → Type 0
 HeadingsAreWords x = All (λ (r : RuleText). is_name_text r.name.text ≡ true) x.rules
 
 -- The invariant of what is kept: where nothing is wrong with the text the tree is well formed, and its rules have names
--- of the file grammar.
+-- of the file grammar or end in `?`.
 pub record IsWellMade (c : CheckedAst) : Type 0 where
   pub well_formed : is_valid c.errors ≡ true → IsWellFormedAst c.ast
   pub names : is_valid c.errors ≡ true → NamesAreWords c.ast

@@ -5,6 +5,7 @@ use Rattle.std.specs.Str.{bytes_eq}
 use Rattle.cfg_base.specs.SpanModel.{SpanModel}
 use Rattle.cfg_read.specs.SyntaxTexts.{WordText}
 use Rattle.cfg_read.specs.Names.{is_among}
+use Rattle.cfg_read.specs.FreshRules.{is_fresh_name}
 use Rattle.cfg_read.specs.Asts.{Ast, RuleAst, ProductionAst, SymbolAst}
 
 -- this symbol stands in an alternative of the rule of this name
@@ -56,10 +57,10 @@ is_expected_token ast = expects_token ast.expect_unused
 abbrev pub warnings_at : WarningKind → List WordText → List WarningText
 warnings_at k ws = map (λ (w : WordText). record { kind = k; spans = w.span ∷ [] }) ws
 
--- Where these tell which rules are reached and which tokens used: by number the unused rules, and the unused tokens
--- that aren't implicit; none that is expected.
+-- Where these tell which rules are reached and which tokens used: by number the unused rules that aren't fresh, and the
+-- unused tokens that aren't implicit; none that is expected.
 abbrev pub unused_rules : (List ℕ → Bool) → Ast → List WordText
-unused_rules reached ast = filter (λ (w : WordText). not (reached w.text || is_expected_rule ast w.text)) (map (λ (r : RuleAst). r.name) ast.rules)
+unused_rules reached ast = filter (λ (w : WordText). not (is_fresh_name w.text || (reached w.text || is_expected_rule ast w.text))) (map (λ (r : RuleAst). r.name) ast.rules)
 
 abbrev pub unused_tokens : (List ℕ → Bool) → Ast → List WordText
 unused_tokens used ast = filter (λ (w : WordText). not (used w.text || (is_among ast.implicit_tokens w.text || is_expected_token ast w.text))) ast.tokens

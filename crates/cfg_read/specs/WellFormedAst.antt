@@ -1,9 +1,10 @@
 -- The invariant of the syntax tree of a valid text.
-use Rattle.std.specs.Prelude.{◌≡◌, ℕ, ◌<◌, Bool, true, false, ◌&&◌, List, [], ◌∷◌, map, length, Some, IsSomeAnd, IfSome, slice_get, All, AllPairs, Contains, if◌then◌else◌}
+use Rattle.std.specs.Prelude.{◌≡◌, ℕ, ◌<◌, Bool, true, false, ◌&&◌, ◌||◌, List, [], ◌∷◌, map, length, Some, IsSomeAnd, IfSome, slice_get, All, AllPairs, Contains, if◌then◌else◌}
 use Rattle.std.specs.List.{list_all}
 use Rattle.cfg_read.specs.Bytes.{is_name_start, is_name_byte}
 use Rattle.cfg_read.specs.SyntaxTexts.{EppText}
 use Rattle.cfg_read.specs.Names.{texts}
+use Rattle.cfg_read.specs.FreshRules.{is_fresh_name}
 use Rattle.cfg_read.specs.Asts.{SymbolAst, RuleAst, ProductionAst, PrecedenceAst, Ast}
 
 -- the names of rules, of tokens, of tokens that have a precedence, and of those that have a printed text
@@ -71,6 +72,10 @@ abbrev pub is_name_text : List ℕ → Bool
 is_name_text [] = false
 is_name_text (b ∷ bs) = is_name_start b && list_all is_name_byte bs
 
+-- a name of a rule: such a name, or one that ends in `?`, as that of a fresh rule
+abbrev pub is_rule_name : List ℕ → Bool
+is_rule_name name = is_name_text name || is_fresh_name name
+
 -- each rule has such a name
 abbrev pub NamesAreWords : Ast → Type 0
-NamesAreWords ast = All (λ (name : List ℕ). is_name_text name ≡ true) (names_of_rules ast)
+NamesAreWords ast = All (λ (name : List ℕ). is_rule_name name ≡ true) (names_of_rules ast)

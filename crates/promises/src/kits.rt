@@ -42,7 +42,7 @@ pub fn refusals_have_canonical_causes<S: IndexStorage>(
 }
 
 /// A text of a kind has one reading, or one list of errors: never two, never both.
-/// Shown by the 963 texts of `read_rows`; refused: `mutants/cfg_read/symbol_after_empty`.
+/// Shown by the 988 texts of `read_rows`; refused: `mutants/cfg_read/symbol_after_empty`.
 pub fn a_text_has_one_reading()
     ensures { (kind : YaccKind) (text : List ℕ) (c d : CheckedAst) → IsChecked kind text c → IsChecked kind text d → c ≡ d }
 {

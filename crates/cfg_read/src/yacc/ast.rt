@@ -18,6 +18,7 @@ use std::marker::Model;
 mod build;
 mod change;
 mod copy;
+mod fresh;
 mod parts;
 pub mod warnings;
 
@@ -42,7 +43,7 @@ impl fmt::Display for Symbol {
     }
 }
 
-/// One alternative of a rule.
+/// One alternative of a rule, or one of the two productions of a fresh rule.
 #[derive(Debug, Drop)]
 pub struct Production {
     pub symbols: Vec<Symbol>,
@@ -50,14 +51,15 @@ pub struct Production {
     pub precedence: Option<String>,
     pub action: Option<String>,
     pub action_span: Option<Span>,
-    /// The span of symbols, `%empty` and `%prec` with its token; without these an empty one at the `|` or `;`.
+    /// The span of symbols, `%empty` and `%prec` with its token; without these an empty one at the `|` or `;`. In a fresh
+    /// rule that of the rule's name.
     pub prod_span: Span,
 }
 
 /// A rule, and the numbers of its productions.
 #[derive(Debug, Drop)]
 pub struct Rule {
-    /// The name, and where the rule's first heading stands.
+    /// The name, and where the rule's first heading stands. Of a fresh rule where the symbol with the `?` first stands.
     pub name: (String, Span),
     /// The numbers of its productions, in order.
     pub pidxs: Vec<usize>,
@@ -153,7 +155,7 @@ impl GrammarAST {
         self.start.as_ref()
     }
 
-    /// The rules, in the order of their first headings.
+    /// The rules, in the order of their first headings, and behind them those that optional symbols stand for.
     pub fn rules(&self) -> &IndexMap<String, Rule>
         ensures rules { named_rules result.now ≡ self.now.rules }
         ensures names { own_names result.now ≡ rule_keys result.now }
@@ -161,7 +163,7 @@ impl GrammarAST {
         &self.rules
     }
 
-    /// The productions, in the order of the text.
+    /// The productions, in the order of the text, and behind them two for each rule that optional symbols stand for.
     pub fn prods(&self) -> &[Production]
         ensures { map production_of result.now ≡ self.now.productions }
     {

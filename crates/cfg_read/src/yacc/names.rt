@@ -166,7 +166,10 @@ fn push_symbols_in<'a>(
 }
 
 /// Collects all symbols of alternatives, in the order of the text.
-fn used_symbols<'a>(alloc: Global, rules: &'a [Rule]) -> Result<Vec<&'a Symbol>, AllocError>
+pub(crate) fn used_symbols<'a>(
+    alloc: Global,
+    rules: &'a [Rule],
+) -> Result<Vec<&'a Symbol>, AllocError>
     ensures { IfOk result (λ found. symbols_at found.items ≡ flat_map symbols_in (map rule_of rules.now)) }
 {
     let mut found = Vec::new(alloc);

@@ -243,7 +243,7 @@ impl ASTWithValidityInfo {
     }
 
     /// What the text says; empty where it doesn't read. Where nothing is wrong with the text what this names is there, and
-    /// its rules have names of the file grammar.
+    /// its rules have names of the file grammar, or names that end in `?`.
     pub fn ast(&self) -> &GrammarAST
         ensures ast { result.now ≡ self.now.ast }
         ensures well_formed { is_valid self.now.errors ≡ true → IsWellFormedAst result.now }
@@ -284,8 +284,8 @@ pub fn one_answer()
     one_file();
 }
 
-/// A law: where nothing is wrong with a text its tree is well formed, and its rules have names of the file grammar; so it
-/// is whichever rule is made the start rule.
+/// A law: where nothing is wrong with a text its tree is well formed, and its rules have names of the file grammar, or names
+/// that end in `?`; so it is whichever rule is made the start rule.
 pub fn valid_trees_are_well_formed()
     ensures kept { (kind : YaccKind) (text : List ℕ) (c : CheckedAst) → IsChecked kind text c → IsWellMade c }
     ensures changed { (old : CheckedAst) (name : List ℕ) (new : CheckedAst) → IsWellMade old → ChangesStart old name new → IsWellMade new }

@@ -4,16 +4,17 @@ ghost use Rattle.std.specs.Prelude.{◌≡◌, true, ◌++◌, [], map, fold, op
 ghost use Rattle.std.specs.List.{flat_map};
 ghost use Rattle.std.specs.Option.{option_or};
 ghost use Rattle.std.specs.String.{string_bytes};
-ghost use Rattle.cfg_read.specs.Asts.{first_item, last_text, text_of, param_texts, expected_ast, heads_in, productions_in, start_of, rule_ast, no_ast, ast_of};
+ghost use Rattle.cfg_read.specs.Asts.{first_item, last_text, text_of, param_texts, expected_ast, heads_in, fresh_heads, productions_in, start_of, rule_ast, no_ast, ast_of};
 ghost use Rattle.cfg_read.specs.AstModels.{ast_symbol_of, production_of, named_span, named_spans, named_rules, rule_entry_of, rule_keys, own_names, number_with_span, param_pair};
-ghost use Rattle.cfg_read.specs.Names.{is_among, distinct, headings, words_in, declared_tokens, tokens_of};
+ghost use Rattle.cfg_read.specs.Names.{is_among, distinct, words_in, declared_tokens, tokens_of};
 ghost use Rattle.cfg_read.specs.Validity.{expected_symbols};
 ghost use Rattle.cfg_read.specs.SyntaxModels.{word_of, words_of, symbol_of, line_of, param_of, rule_of, number_text, syntax_of};
-ghost use Rattle.cfg_read.specs.NameModels.{symbols_at};
-ghost use Rattle.cfg_read.specs.AstBuild.{headed, with_first, with_numbers, names_at, with_heads_of, with_spans_of, with_parts_of, with_words_of, with_expected_of};
+ghost use Rattle.cfg_read.specs.NameModels.{symbols_at, named_fresh};
+ghost use Rattle.cfg_read.specs.FreshRules.{fresh_of, rule_words};
+ghost use Rattle.cfg_read.specs.AstBuild.{headed, blank_headings, fresh_rule, with_first, with_numbers, names_at, with_heads_of, with_spans_of, with_parts_of, with_words_of, with_expected_of};
 ghost use Rattle.cfg_read.specs.AstChanges.{with_number};
 
-use super::{GrammarAST, Production, Rule, Symbol, parts};
+use super::{GrammarAST, Production, Rule, Symbol, fresh, parts};
 use crate::yacc::names::{self, Names};
 use crate::yacc::parser::syntax::{self, Line, Number, Param, Syntax, Word};
 use cfg_base::span::Span;
@@ -118,13 +119,19 @@ fn tokens(alloc: Global, names: &Names) -> Result<IndexMap<String, Span>, AllocE
     parts::first_spans(alloc, names.token_words())
 }
 
-/// The productions of these rules, in the order of the text, where a text declares tokens.
-fn prods(alloc: Global, x: &Syntax, rules: Vec<syntax::Rule>) -> Result<Vec<Production>, AllocError>
+/// The productions of these rules, in the order of the text, where a text declares tokens, and behind them the fresh ones.
+fn prods(
+    alloc: Global,
+    x: &Syntax,
+    rules: Vec<syntax::Rule>,
+    fresh: Vec<Production>,
+) -> Result<Vec<Production>, AllocError>
     ensures { IfOk result (λ made. map production_of made.items
-        ≡ flat_map (productions_in (is_among (declared_tokens (syntax_of x.now)))) (map rule_of rules.items)) }
+        ≡ flat_map (productions_in (is_among (declared_tokens (syntax_of x.now)))) (map rule_of rules.items) ++ map production_of fresh.items) }
 {
     let declared = names::declared_names(alloc, x)?;
-    let made = parts::productions(alloc, rules, &declared)?;
+    let mut made = parts::productions(alloc, rules, &declared)?;
+    parts::push_all(&mut made, fresh)?;
     Ok(made)
 }
 
@@ -221,6 +228,20 @@ fn heads<'a>(alloc: Global, rules: &'a [syntax::Rule]) -> Result<Vec<&'a str>, A
     Ok(heads)
 }
 
+/// For each production the name of its rule, the fresh ones behind those of the file.
+fn all_heads<'a>(
+    alloc: Global,
+    rules: &'a [syntax::Rule],
+    fresh: &'a IndexMap<String, (Span, &syntax::Symbol)>,
+) -> Result<Vec<&'a str>, AllocError>
+    ensures { IfOk result (λ heads. names_at heads.items
+        ≡ flat_map heads_in (map rule_of rules.now) ++ flat_map fresh_heads (named_fresh fresh.now)) }
+{
+    let mut heads = heads(alloc, rules)?;
+    fresh::push_fresh_heads(&mut heads, fresh)?;
+    Ok(heads)
+}
+
 /// Gives the rule of this name one more production.
 pub(super) fn push_number(
     rules: &mut IndexMap<String, Rule>,
@@ -253,16 +274,60 @@ fn number_rules(rules: &mut IndexMap<String, Rule>, heads: &[&str]) -> Result<()
     Ok(())
 }
 
-/// The rules, each with the numbers of its productions.
-fn rules(alloc: Global, x: &Syntax) -> Result<IndexMap<String, Rule>, AllocError>
+/// The rules of a text without their productions, the fresh ones behind those of headings.
+fn blank_rules(
+    alloc: Global,
+    x: &Syntax,
+    fresh: &IndexMap<String, (Span, &syntax::Symbol)>,
+) -> Result<IndexMap<String, Rule>, AllocError>
     ensures rules { IfOk result (λ rules. named_rules rules
-        ≡ map (rule_ast (syntax_of x.now)) (distinct (headings (syntax_of x.now)))) }
+        ≡ fold with_first (blank_headings (syntax_of x.now)) (map fresh_rule (map (λ f. f.word) (named_fresh fresh.now)))) }
     ensures names { IfOk result (λ rules. own_names rules ≡ rule_keys rules) }
 {
     let shared = shared_type(&x.action_types);
     let mut rules = headed_rules(alloc, &x.rules, shared)?;
-    let heads = heads(alloc, &x.rules)?;
-    number_rules(&mut rules, &heads)?;
+    fresh::insert_fresh_rules(alloc, &mut rules, fresh)?;
+    Ok(rules)
+}
+
+/// Gives the rules of these headings and the fresh ones the numbers of their productions.
+fn number_all(
+    alloc: Global,
+    rules: &mut IndexMap<String, Rule>,
+    headings: &[syntax::Rule],
+    fresh: &IndexMap<String, (Span, &syntax::Symbol)>,
+) -> Result<(), AllocError>
+    requires { own_names rules.old ≡ rule_keys rules.old }
+    ensures rules { OnOk result (named_rules rules.new
+        ≡ map (with_numbers (flat_map heads_in (map rule_of headings.now) ++ flat_map fresh_heads (named_fresh fresh.now))) (named_rules rules.old)) }
+    ensures names { own_names rules.new ≡ rule_keys rules.new }
+{
+    let heads = all_heads(alloc, headings, fresh)?;
+    number_rules(rules, &heads)?;
+    Ok(())
+}
+
+/// The rules of a text and these fresh ones, each with the numbers of its productions.
+fn numbered_rules(
+    alloc: Global,
+    x: &Syntax,
+    fresh: &IndexMap<String, (Span, &syntax::Symbol)>,
+) -> Result<IndexMap<String, Rule>, AllocError>
+    ensures rules { IfOk result (λ rules. named_fresh fresh.now ≡ fresh_of (syntax_of x.now) → named_rules rules ≡ map (rule_ast (syntax_of x.now)) (rule_words (syntax_of x.now))) }
+    ensures names { IfOk result (λ rules. own_names rules ≡ rule_keys rules) }
+{
+    let mut rules = blank_rules(alloc, x, fresh)?;
+    number_all(alloc, &mut rules, &x.rules, fresh)?;
+    Ok(rules)
+}
+
+/// The rules, each with the numbers of its productions.
+fn rules(alloc: Global, x: &Syntax) -> Result<IndexMap<String, Rule>, AllocError>
+    ensures rules { IfOk result (λ rules. named_rules rules ≡ map (rule_ast (syntax_of x.now)) (rule_words (syntax_of x.now))) }
+    ensures names { IfOk result (λ rules. own_names rules ≡ rule_keys rules) }
+{
+    let fresh = fresh::fresh_of(alloc, x)?;
+    let rules = numbered_rules(alloc, x, &fresh)?;
     Ok(rules)
 }
 
@@ -283,10 +348,11 @@ impl GrammarAST {
     pub(crate) fn take_words(&mut self, alloc: Global, mut x: Syntax) -> Result<(), AllocError>
         ensures { OnOk result (self.new ≡ with_words_of (ast_of true (syntax_of x)) self.old) }
     {
+        let fresh = fresh::fresh_prods(alloc, &x)?;
         let rules = mem::replace(&mut x.rules, Vec::new(alloc));
         let lines = mem::replace(&mut x.avoid_insert, Vec::new(alloc));
         let texts = mem::replace(&mut x.epp, Vec::new(alloc));
-        let prods = prods(alloc, &x, rules)?;
+        let prods = prods(alloc, &x, rules, fresh)?;
         let avoid_insert = parts::take_spans(alloc, lines)?;
         let epp = parts::first_epps(alloc, texts)?;
         self.prods = prods;

@@ -3,30 +3,47 @@
 ghost use Rattle.std.specs.Prelude.{◌≡◌, ◌++◌, ◌∷◌, [], map, fold, option_map, IfOk, OnOk};
 ghost use Rattle.std.specs.List.{flat_map};
 ghost use Rattle.std.specs.String.{string_bytes};
-ghost use Rattle.cfg_read.specs.Asts.{symbol_ast, text_of, production_ast, productions_in, with_epp_of, with_precedence_of, precedence_ast, level_precedences, precedences_of};
+ghost use Rattle.cfg_read.specs.Asts.{plain_symbol_ast, symbol_ast, text_of, production_ast, productions_in, with_epp_of, with_precedence_of, precedence_ast, level_precedences, precedences_of};
 ghost use Rattle.cfg_read.specs.AstModels.{ast_symbol_of, production_of, named_spans, named_epps, named_precedences};
 ghost use Rattle.cfg_read.specs.Names.{with_distinct, distinct, words_in};
 ghost use Rattle.cfg_read.specs.SyntaxModels.{word_of, symbol_of, symbols_of, alternative_of, rule_of, line_of, epp_of, level_of};
 ghost use Rattle.cfg_read.specs.NameModels.{has_name, words_at};
 
-use super::{Production, Symbol};
+use super::{Production, Symbol, fresh};
 use crate::yacc::parser::syntax::{self, Alternative, Epp, Level, Line, Word};
 use crate::yacc::{Precedence, PrecedenceLevel, names};
 use cfg_base::span::Span;
 use indexmap::{IndexMap, IndexSet};
 use std::alloc::{AllocError, Global};
 
-/// A symbol of a production: a token or a rule, where these names are declared as tokens.
-fn to_symbol(symbol: syntax::Symbol, declared: &IndexSet<&str>) -> Symbol
-    ensures { ast_symbol_of result ≡ symbol_ast (has_name declared.now) (symbol_of symbol) }
+/// A symbol of a production that isn't optional: a token or a rule, where these names are declared as tokens.
+fn to_plain_symbol(symbol: syntax::Symbol, declared: &IndexSet<&str>) -> Symbol
+    ensures { ast_symbol_of result ≡ plain_symbol_ast (has_name declared.now) (symbol_of symbol) }
 {
     let is_token = names::is_token(&symbol, declared);
-    let syntax::Symbol { is_quoted: _, word } = symbol;
+    let syntax::Symbol { word, .. } = symbol;
     let Word { text, span } = word;
     if is_token {
         Symbol::Token(text, span)
     } else {
         Symbol::Rule(text, span)
+    }
+}
+
+/// A symbol of a production: of an optional one its fresh rule.
+fn to_symbol(
+    alloc: Global,
+    symbol: syntax::Symbol,
+    declared: &IndexSet<&str>,
+) -> Result<Symbol, AllocError>
+    ensures { IfOk result (λ s. ast_symbol_of s ≡ symbol_ast (has_name declared.now) (symbol_of symbol)) }
+{
+    match symbol.optional {
+        Some(span) => {
+            let name = fresh::fresh_name(alloc, &symbol, declared)?;
+            Ok(Symbol::Rule(name, span))
+        }
+        None => Ok(to_plain_symbol(symbol, declared)),
     }
 }
 
@@ -41,7 +58,8 @@ fn to_symbols(
 {
     let mut made = Vec::with_capacity(alloc, symbols.len())?;
     'symbols: for one in symbols {
-        made.push(to_symbol(one, declared))?;
+        let new = to_symbol(alloc, one, declared)?;
+        made.push(new)?;
     }
     Ok(made)
 }
@@ -111,6 +129,20 @@ fn push_productions(
     Ok(())
 }
 
+/// Puts these productions behind the others.
+pub(super) fn push_all(
+    made: &mut Vec<Production>,
+    others: Vec<Production>,
+) -> Result<(), AllocError>
+    ensures { OnOk result (map production_of made.new.items
+        ≡ map production_of made.old.items ++ map production_of others.items) }
+{
+    'others: for production in others {
+        made.push(production)?;
+    }
+    Ok(())
+}
+
 /// The productions of these rules, in the order of the text.
 pub(super) fn productions(
     alloc: Global,
@@ -176,7 +208,7 @@ fn take_all_first(
     ensures { OnOk result (named_spans spans.new ≡ fold with_distinct (named_spans spans.old) (words_in (symbols_of symbols.items))) }
 {
     'symbols: for symbol in symbols {
-        let syntax::Symbol { is_quoted: _, word } = symbol;
+        let syntax::Symbol { word, .. } = symbol;
         take_first(spans, word)?;
     }
     Ok(())

@@ -1,12 +1,14 @@
 //! What a valid grammar text declares and doesn't use.
 
-ghost use Rattle.std.specs.Prelude.{◌≡◌, ◌↔◌, ◌++◌, ◌∷◌, ◌||◌, [], ℕ, IsTrue, List, map, option_map, if◌then◌else◌, IfOk, OnOk};
+ghost use Rattle.std.specs.Prelude.{◌≡◌, ◌↔◌, ◌-◌, ◌++◌, ◌∷◌, ◌||◌, [], ℕ, IsTrue, List, length, map, option_map, slice_get, if◌then◌else◌, IfOk, OnOk};
+ghost use Rattle.cfg_base.specs.Text.{is_at};
 ghost use Rattle.std.specs.List.{flat_map, list_any, IsDistinct};
 ghost use Rattle.std.specs.Option.{option_map_or, option_copied};
 ghost use Rattle.std.specs.Str.{bytes_eq};
 ghost use Rattle.cfg_read.specs.AstChanges.{rule_named};
 ghost use Rattle.cfg_read.specs.AstModels.{ast_symbol_of, named_spans};
 ghost use Rattle.cfg_read.specs.Names.{is_among};
+ghost use Rattle.cfg_read.specs.FreshRules.{is_fresh_name};
 ghost use Rattle.cfg_read.specs.NameModels.{names_in, has_name};
 ghost use Rattle.cfg_read.specs.Warnings.{UnusedRule, UnusedToken, AreUnused, AreWarnings, IsReached, IsUsed, expects_rule, expects_token, warnings_at, unused_rules, unused_tokens};
 ghost use Rattle.cfg_read.specs.WarningModels.{warning_kind, warning_of, warnings_in, warning_text, with_symbol_names, is_rule_symbol, is_token_symbol, is_any_symbol, symbols_of_all, symbols_under, rule_names, start_names};
@@ -145,11 +147,32 @@ fn push_if(
     Ok(())
 }
 
-/// Tells whether a name is in one of these sets.
-fn is_in_either(name: &str, names: &IndexSet<&str>, others: &IndexSet<&str>) -> bool
-    ensures { result ≡ (has_name names.now name.now || has_name others.now name.now) }
+/// The last byte of a name.
+fn last_byte(name: &str) -> Option<u8>
+    ensures { result ≡ slice_get name.now (length name.now - 1) }
 {
-    names.contains(name) || others.contains(name)
+    name.as_bytes().last().copied()
+}
+
+/// Tells whether the last byte of a name is `?`.
+fn ends_in_mark(name: &str) -> bool
+    ensures { result ≡ is_at name.now (length name.now - 1) 63 }
+{
+    last_byte(name) == Some(b'?')
+}
+
+/// Tells whether a name ends in `?`, as that of a fresh rule does.
+fn is_fresh_name(name: &str) -> bool
+    ensures { result ≡ is_fresh_name name.now }
+{
+    ends_in_mark(name)
+}
+
+/// Tells whether a rule is fresh, reached or expected to be unused.
+fn is_silent_rule(name: &str, reached: &IndexSet<&str>, expected: &IndexSet<&str>) -> bool
+    ensures { result ≡ (is_fresh_name name.now || (has_name reached.now name.now || has_name expected.now name.now)) }
+{
+    is_fresh_name(name) || reached.contains(name) || expected.contains(name)
 }
 
 /// Tells whether this is a name of the map.
@@ -291,7 +314,7 @@ impl GrammarAST {
         Ok(names)
     }
 
-    /// Puts a warning for each unused rule that isn't expected behind the others.
+    /// Puts a warning for each unused rule that is neither fresh nor expected behind the others.
     fn push_unused_rules(
         &self,
         alloc: Global,
@@ -303,7 +326,7 @@ impl GrammarAST {
     {
         let expected = expected_rules(alloc, &self.expect_unused)?;
         'rules: for (name, rule) in &self.rules {
-            let is_silent = is_in_either(name.as_str(), reached, &expected);
+            let is_silent = is_silent_rule(name.as_str(), reached, &expected);
             push_if(
                 alloc,
                 warnings,
@@ -339,7 +362,8 @@ impl GrammarAST {
         Ok(())
     }
 
-    /// Lists all unused rules, then all unused tokens, by number: none that `%expect-unused` names, and no implicit tokens.
+    /// Lists all unused rules, then all unused tokens, by number: none that `%expect-unused` names, no fresh rules and no
+    /// implicit tokens.
     fn unused(&self, alloc: Global) -> Result<Vec<YaccGrammarWarning>, AllocError>
         ensures { IfOk result (λ ws. AreUnused self.now (warnings_in ws.items)) }
     {
@@ -352,7 +376,7 @@ impl GrammarAST {
     }
 
     /// Lists the rules, then the tokens, that the start rule doesn't lead to, by number: none that `%expect-unused` names, no
-    /// implicit tokens, and none at all of a text that isn't valid.
+    /// fresh rules, no implicit tokens, and none at all of a text that isn't valid.
     pub fn warnings(&self, alloc: Global) -> Result<Vec<YaccGrammarWarning>, AllocError>
         ensures { IfOk result (λ ws. AreWarnings self.now (map warning_of ws.items)) }
     {

@@ -122,7 +122,7 @@ impl<'a> Scanner<'a> {
         let start = self.parse_ws(offset)?;
         let (token, after) = self.parse_token(alloc, start)?;
         let end = self.parse_ws(after)?;
-        let Symbol { is_quoted: _, word } = token;
+        let Symbol { word, .. } = token;
         Ok((word, end))
     }
 

@@ -127,6 +127,7 @@ impl<'a> Scanner<'a> {
                     Symbol {
                         is_quoted: false,
                         word,
+                        optional: None,
                     },
                     end,
                 ))
@@ -137,6 +138,7 @@ impl<'a> Scanner<'a> {
                     Symbol {
                         is_quoted: true,
                         word,
+                        optional: None,
                     },
                     end + 1,
                 ))

@@ -7,11 +7,11 @@ ghost use Rattle.cfg_read.specs.declared.yacc.parser.scan.TokenKind.TheVariants 
 ghost use Rattle.cfg_base.specs.Text.{is_white, run_end};
 ghost use Rattle.cfg_read.specs.Words.{token_kind_at};
 ghost use Rattle.cfg_read.specs.SyntaxTexts.{WordText, RuleText, SyntaxText};
-ghost use Rattle.cfg_read.specs.SyntaxUpdates.{word, Part, no_part, alternative, heading, append_rule};
+ghost use Rattle.cfg_read.specs.SyntaxUpdates.{word, mark_end, marked, Part, no_part, alternative, heading, append_rule};
 ghost use Rattle.cfg_read.specs.Declarations.{is_grmtools};
 ghost use Rattle.cfg_read.specs.Reading.{RuleName, RuleColon, More, PrecToken, Nothing, Spaced, At, IsLiteral, Steps, Reads};
 ghost use Rattle.cfg_read.specs.SyntaxErrors.{token_fault, rule_fault, alternative_fault, FailsFrom, IsErrorOf};
-ghost use Rattle.cfg_read.specs.SyntaxModels.{word_of, alternative_of, rule_of, part_of, syntax_of};
+ghost use Rattle.cfg_read.specs.SyntaxModels.{word_of, symbol_of, alternative_of, rule_of, part_of, syntax_of};
 ghost use Rattle.cfg_read.specs.Scanning.{IsMemory, StartsBy, FitsToken, IsFaultAt, is_part, ends_alternative, bar_or_semicolon, rule_text, ends_rules, end_or_separator, begins_name};
 
 use crate::yacc::YaccKind;
@@ -19,9 +19,37 @@ use crate::yacc::parser::draft::Draft;
 use crate::yacc::parser::error::{ReadError, YaccGrammarErrorKind};
 use crate::yacc::parser::scan::{Scanner, TokenKind};
 use crate::yacc::parser::syntax::{Alternative, Rule, Symbol, Syntax, Word};
+use cfg_base::span::Span;
 use std::alloc::Global;
 
 impl<'a> Scanner<'a> {
+    /// Reads the `?` behind a symbol, if one stands there: answers the symbol, and where it ends.
+    fn parse_mark(&self, symbol: Symbol, start: usize, end: usize) -> (Symbol, usize)
+        requires { start < end }
+        ensures symbol { symbol_of result.0 ≡ marked self.now.text.now start end (symbol_of symbol) }
+        ensures end { result.1 ≡ mark_end self.now.text.now end }
+        ensures from { end ≤ result.1 }
+    {
+        let Symbol {
+            is_quoted,
+            word,
+            ..
+        } = symbol;
+        let is_optional = self.byte(end) == Some(b'?');
+        let after = if is_optional { end + 1 } else { end };
+        let optional = if is_optional {
+            Some(Span::new(start, after))
+        } else {
+            None
+        };
+        let symbol = Symbol {
+            is_quoted,
+            word,
+            optional,
+        };
+        (symbol, after)
+    }
+
     /// Reads a symbol of an alternative.
     fn parse_symbol(
         &self,
@@ -43,8 +71,9 @@ impl<'a> Scanner<'a> {
         if !draft.is_open() {
             return Err(ReadError::Fault(YaccGrammarErrorKind::ProductionNotTerminated, offset));
         }
-        draft.add_symbol(symbol, offset, end)?;
-        Ok(end)
+        let (symbol, after) = self.parse_mark(symbol, offset, end);
+        draft.add_symbol(symbol, offset, after)?;
+        Ok(after)
     }
 
     /// Reads the `%empty` that stands here.
@@ -86,7 +115,7 @@ impl<'a> Scanner<'a> {
             return Err(ReadError::Fault(YaccGrammarErrorKind::PrecNotFollowedByToken, start));
         }
         let (token, end) = self.parse_token(alloc, start)?;
-        let Symbol { is_quoted: _, word } = token;
+        let Symbol { word, .. } = token;
         draft.add_precedence(word, offset, end);
         Ok(end)
     }

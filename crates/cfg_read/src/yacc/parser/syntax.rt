@@ -21,6 +21,8 @@ pub struct Word {
 pub struct Symbol {
     pub is_quoted: bool,
     pub word: Word,
+    /// In an alternative, where a `?` stands right behind it: the span of both, quotes included.
+    pub optional: Option<Span>,
 }
 
 /// An alternative of a rule.

@@ -11,4 +11,6 @@ pub returns-then-not-is_open-clause-err : goal.returns-then-not-is_open-clause-e
 returns-then-not-is_open-clause-err c = λ r x. and_stops here (late_symbol c.in_ok-symbol.ensures.ok c.if-draft.false (sym c.is_open.ensures ∙ c.if-not-is_open.true))
 
 pub returns-clause-ok : goal.returns-clause-ok
-returns-clause-ok c = λ r x. rw c.in_ok-add_symbol.ensures.value (one (symbol c.in_ok-symbol.ensures.ok c.if-draft.false (sym c.is_open.ensures ∙ c.if-not-is_open.false)))
+returns-clause-ok c =
+    λ r x. rw (c.in_ok-add_symbol.ensures.value, c.parse_mark-symbol.ensures.symbol, c.parse_mark-symbol.ensures.end)
+    (one (symbol c.in_ok-symbol.ensures.ok c.if-draft.false (sym c.is_open.ensures ∙ c.if-not-is_open.false)))

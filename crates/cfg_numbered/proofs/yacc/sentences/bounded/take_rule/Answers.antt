@@ -27,7 +27,7 @@ returns-then-not-is_settled-clause-same g c =
     let width = c.requires.width in
     let same = ap length c.requires.same in
     let lt : A < length c.args.rest.now.bits = omega (arith, e, low, width, same) in
-    ap (λ l. set l A true) c.set.ensures.bits ∙ put_back c.args.rest.now.bits A lt (c.set.ensures.changed.0 c.if-not-set.false) ∙ c.requires.same
+    c.put_rule.ensures.bits ∙ ap (λ l. set l A true) c.set.ensures.bits ∙ put_back c.args.rest.now.bits A lt (c.set.ensures.changed.0 c.if-not-set.false) ∙ c.requires.same
 
 pub returns-clause-bounded : goal.returns-clause-bounded
 returns-clause-bounded g c =

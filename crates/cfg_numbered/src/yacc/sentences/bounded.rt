@@ -20,12 +20,7 @@ use vob::Vob;
 
 /// Whether a production can't be used, or names no rule of the set; of the rest, where no two of its symbols cost
 /// something.
-fn settles<S: IndexStorage>(
-    costly: &KeptCosts<S>,
-    pidx: PIdx<S>,
-    set: &Vob,
-    rest: &Vob,
-) -> bool
+fn settles<S: IndexStorage>(costly: &KeptCosts<S>, pidx: PIdx<S>, set: &Vob, rest: &Vob) -> bool
     requires production { S.number pidx.0 < length costly.now.grammar.productions }
     requires width { length set.now.bits ≡ costly.now.grammar.rules }
     requires rest_width { length rest.now.bits ≡ costly.now.grammar.rules }
@@ -38,12 +33,7 @@ fn settles<S: IndexStorage>(
 }
 
 /// Whether all productions of a rule do so.
-fn is_settled<S: IndexStorage>(
-    costly: &KeptCosts<S>,
-    ridx: RIdx<S>,
-    set: &Vob,
-    rest: &Vob,
-) -> bool
+fn is_settled<S: IndexStorage>(costly: &KeptCosts<S>, ridx: RIdx<S>, set: &Vob, rest: &Vob) -> bool
     requires rule { S.number ridx.0 < costly.now.grammar.rules }
     requires width { length set.now.bits ≡ costly.now.grammar.rules }
     requires rest_width { length rest.now.bits ≡ costly.now.grammar.rules }

@@ -160,7 +160,7 @@ met (x ∷ xs) [] t e = cc
 met (x ∷ xs) (y ∷ ys) zero e = refl
 met (x ∷ xs) (y ∷ ys) (suc t) e = met xs ys t (omega (arith, e))
 
-and_false : (a b : Bool) → a && b ≡ false → (a ≡ false) ⊎ (b ≡ false)
+pub and_false : (a b : Bool) → a && b ≡ false → (a ≡ false) ⊎ (b ≡ false)
 and_false false b e = inl refl
 and_false true b e = inr e
 

@@ -1,20 +1,23 @@
 -- How rules leave a set at once: the productions of a rule one by one, and the set without the rule.
-use Rattle.std.proofs.Common.{◌≡◌, ℕ, zero, suc, ◌+◌, ◌<◌, ◌≤◌, inl, inr, ◌↔◌, Bool, true, false, cond, List, [], ◌∷◌, length, get_or, set, Option, refl, sym, ap, ◌∙◌, subst, arith}
+use Rattle.std.proofs.Common.{◌≡◌, ℕ, zero, suc, ◌+◌, ◌<◌, ◌≤◌, inl, inr, ◌↔◌, Bool, true, false, ◌&&◌, cond, List, [], ◌∷◌, length, get_or, set, replicate, min, Option, refl, sym, ap, ◌∙◌, subst, arith}
 use Rattle.std.specs.Prelude.{IsTrue, filter, ◌==◌}
 use Rattle.std.specs.List.{range_with_len}
 use Rattle.std.proofs.lemmas.List.{get_or-set_other, get_or-map, length-map}
 use Rattle.std.proofs.lemmas.List.Sums.{sum_by-set}
-use Rattle.std.proofs.lemmas.Bool.{cases_eq, cases_Bool, eq-eqb}
-use Rattle.cfg_theory.specs.Grammar.{Grammar, IsOf, head_of}
+use Rattle.std.proofs.lemmas.Bool.{cases_eq, cases_lt, cases_Bool, eq-eqb}
+use Rattle.cfg_theory.specs.Grammar.{rule, Grammar, IsOf, IsNext, WellFormed, head_of, body_of}
 use Rattle.cfg_theory.specs.Cost.{cost, Has}
-use Rattle.cfg_theory.specs.Greatest.{IsBoundedBy, IsKeptTable, UnboundedSets}
+use Rattle.cfg_theory.specs.CostTables.{Sums}
+use Rattle.cfg_theory.specs.Greatest.{IsBoundedBy, IsKeptTable, IsNarrowed, UnboundedSets}
+use Rattle.cfg_theory.proofs.CostTables.{one_sum}
 use Rattle.cfg_base.specs.declared.symbol.PIdx.{PIdx}
 use Rattle.cfg_numbered.specs.Symbols.{numbers_of}
 use Rattle.cfg_numbered.specs.Value.{productions_of}
-use Rattle.cfg_numbered.specs.CostTable.{cost_in}
+use Rattle.cfg_numbered.specs.CostTable.{bound, cost_in}
 use Rattle.cfg_numbered.specs.Passes.{PassStep, Anything}
 use Rattle.cfg_numbered.specs.Sets.{is_set}
-use Rattle.cfg_numbered.specs.Greatest.{LeadsOut, held}
+use Rattle.cfg_numbered.specs.Greatest.{Settles, AreOut, IsNarrowedBy, held}
+use Rattle.cfg_numbered.proofs.NarrowSteps.{meet, met, and_false}
 
 true_false : true ≡ false → ⊥
 true_false e = cc
@@ -57,23 +60,29 @@ number_at {S} number xs ps i x e lt is =
     let all = ap length e in
     (omega (arith, len, all, lt), ap (λ l. get_or l i 0) (sym e) ∙ get_or-map (λ (p : PIdx S). number p.0) xs i x 0 lt ∙ ap (λ (y : PIdx S). number y.0) (sym is))
 
--- the first n of them lead out of the set
-abbrev pub OutBelow : Grammar → (ℕ → ℕ) → List (Option ℕ) → List Bool → ℕ → ℕ → Type 0
-OutBelow G f costs bits A n = (i : ℕ) → i < n → LeadsOut G f costs bits (get_or (productions_of G A) i 0)
+-- what costs a production's symbols have, and which rules it then doesn't name
+pub settles_by : (G : Grammar) (f : ℕ → ℕ) (costs : List (Option ℕ)) (bits rest : List Bool) (p n k : ℕ) → Sums f (cost_in costs) (body_of G p) n → k ≡ min n bound → (2 ≤ k → (d R : ℕ) → IsNext G p d (rule R) → is_set bits R ≡ false) → (k < 2 → (d R : ℕ) → IsNext G p d (rule R) → is_set rest R ≡ false) → Settles G f costs bits rest p
+settles_by G f costs bits rest p n k sums is several single m s d R next =
+    let e = one_sum f (cost_in costs) (body_of G p) n m sums s in
+    ((λ le. several (omega (arith, e, is, le)) d R next), (λ lt. single (omega (arith, e, is, lt)) d R next))
 
-module _ (G : Grammar) (f : ℕ → ℕ) (costs : List (Option ℕ)) (bits : List Bool) (A : ℕ) where
-  pub out_none : OutBelow G f costs bits A 0
+-- the first n of them lead out of the set
+abbrev pub OutBelow : Grammar → (ℕ → ℕ) → List (Option ℕ) → List Bool → List Bool → ℕ → ℕ → Type 0
+OutBelow G f costs bits rest A n = (i : ℕ) → i < n → Settles G f costs bits rest (get_or (productions_of G A) i 0)
+
+module _ (G : Grammar) (f : ℕ → ℕ) (costs : List (Option ℕ)) (bits rest : List Bool) (A : ℕ) where
+  pub out_none : OutBelow G f costs bits rest A 0
   out_none i lt = absurd (omega (arith, lt))
 
-  pub out_more : (n p : ℕ) → get_or (productions_of G A) n 0 ≡ p → LeadsOut G f costs bits p → OutBelow G f costs bits A n → OutBelow G f costs bits A (n + 1)
-  out_more n p e here below i lt = elim (cases_eq i n) [ inl q ↦ subst (LeadsOut G f costs bits) (sym (ap (λ k. get_or (productions_of G A) k 0) q ∙ e)) here | inr ne ↦ below i (omega (arith, lt, ne)) ]
+  pub out_more : (n p : ℕ) → get_or (productions_of G A) n 0 ≡ p → Settles G f costs bits rest p → OutBelow G f costs bits rest A n → OutBelow G f costs bits rest A (n + 1)
+  out_more n p e here below i lt = elim (cases_eq i n) [ inl q ↦ subst (Settles G f costs bits rest) (sym (ap (λ k. get_or (productions_of G A) k 0) q ∙ e)) here | inr ne ↦ below i (omega (arith, lt, ne)) ]
 
-  pub out_all : (n p : ℕ) → length (productions_of G A) ≤ n → OutBelow G f costs bits A n → IsOf G p A → LeadsOut G f costs bits p
-  out_all n p le below o = let (i, lt, e) = listed G A p o in subst (LeadsOut G f costs bits) e (below i (omega (arith, lt, le)))
+  pub out_all : (n p : ℕ) → length (productions_of G A) ≤ n → OutBelow G f costs bits rest A n → IsOf G p A → Settles G f costs bits rest p
+  out_all n p le below o = let (i, lt, e) = listed G A p o in subst (Settles G f costs bits rest) e (below i (omega (arith, lt, le)))
 
 -- ---- the set without a rule
 
-out_again : (xs : List Bool) (n : ℕ) → n < length xs → is_set xs n ≡ false → set xs n false ≡ xs
+pub out_again : (xs : List Bool) (n : ℕ) → n < length xs → is_set xs n ≡ false → set xs n false ≡ xs
 out_again [] n lt h = cc
 out_again (x ∷ xs) zero lt h = ap (λ b. b ∷ xs) (sym h)
 out_again (x ∷ xs) (suc n) lt h = ap (λ l. x ∷ l) (out_again xs n (omega (arith, lt)) h)
@@ -90,16 +99,75 @@ out_step xs to n changed made lt tells = subst (λ l. PassStep held Anything xs 
     gone : changed ≡ false → is_set xs n ≡ false
     gone e = elim (cases_Bool (is_set xs n)) [ inl h ↦ absurd (true_false (sym (tells.1 h) ∙ e)) | inr h ↦ h ]
 
-pub settled_bounded : (G : Grammar) (f : ℕ → ℕ) (costs : List (Option ℕ)) (table : IsKeptTable G f 1 (λ _. false) (cost_in costs)) (law : UnboundedSets) (xs to : List Bool) (A : ℕ) → to ≡ set xs A false → A < length xs → ((p : ℕ) → IsOf G p A → LeadsOut G f costs xs p) → (n : ℕ) × IsBoundedBy G f (is_set xs) n → (n : ℕ) × IsBoundedBy G f (is_set to) n
-settled_bounded G f costs table law xs to A made lt out (n, h) = (n + r.0, λ B w free d. by B w (ap (λ l. is_set l B) (sym made) ∙ free) d)
-  where
-    r : (m : ℕ) × ((w : List ℕ) → Has G A w → cost f w ≤ m)
-    r = law.settled G f (cost_in costs) (is_set xs) n A table h (λ p k d B o s next. out p o k s d B next)
+pub put_back : (xs : List Bool) (n : ℕ) → n < length xs → is_set xs n ≡ true → set (set xs n false) n true ≡ xs
+put_back [] n lt h = cc
+put_back (x ∷ xs) zero lt h = ap (λ b. b ∷ xs) (sym h)
+put_back (x ∷ xs) (suc n) lt h = ap (λ l. x ∷ l) (put_back xs n (omega (arith, lt)) h)
 
-    by : (B : ℕ) (w : List ℕ) → is_set (set xs A false) B ≡ false → Has G B w → cost f w ≤ n + r.0
-    by B w free d = elim (cases_eq B A) [
-      | inl q ↦ (let le = r.1 w (subst (λ C. Has G C w) q d) in omega (arith, le))
-      | inr ne ↦ (let le = h B w (sym (get_or-set_other xs A B false false ne) ∙ free) d in omega (arith, le))
+out_of : (xs : List Bool) (A R : ℕ) → A < length xs → is_set xs R ≡ false → is_set (set xs A false) R ≡ false
+out_of [] A R lt h = absurd (omega (arith, lt))
+out_of (x ∷ xs) zero zero lt h = refl
+out_of (x ∷ xs) zero (suc R) lt h = h
+out_of (x ∷ xs) (suc A) zero lt h = h
+out_of (x ∷ xs) (suc A) (suc R) lt h = out_of xs A R (omega (arith, lt)) h
+
+-- a rule that settles leaves the set
+module _ (G : Grammar) (f : ℕ → ℕ) (costs : List (Option ℕ)) (xs : List Bool) (A : ℕ) (lt : A < length xs) (out : (p : ℕ) → IsOf G p A → Settles G f costs xs (set xs A false) p) (are_out : AreOut G f costs xs) where
+  abbrev to : List Bool
+  to = set xs A false
+
+  -- what a production of a rule outside of the set without A names
+  outside : (p n d R : ℕ) → p < length G.productions → is_set to (head_of G p) ≡ false → Sums f (cost_in costs) (body_of G p) n → IsNext G p d (rule R) → (2 ≤ n → is_set xs R ≡ false) × (n < 2 → is_set to R ≡ false)
+  outside p n d R low free s next = elim (cases_eq (head_of G p) A) [
+    | inl e ↦ out p (record { in_range = low; head = e }) n s d R next
+    | inr ne ↦ (let h = are_out p low (sym (get_or-set_other xs A (head_of G p) false false ne) ∙ free) n s d R next in ((λ le. h), (λ less. out_of xs A R lt h)))
+  ]
+
+  inside : (p n d R B : ℕ) → IsOf G p B → ((is_set to (head_of G p) ≡ false) → ⊥) → IsTrue (is_set to B)
+  inside p n d R B o not = elim (cases_Bool (is_set to B)) [ inl h ↦ h | inr h ↦ absurd (not (ap (is_set to) o.head ∙ h)) ]
+
+  narrows : IsNarrowed G f (cost_in costs) (is_set xs) (is_set to)
+  narrows = record {
+    several = λ p d B R n o s le next h. inside p n d R B o (λ free. true_false (sym h ∙ (outside p n d R o.in_range free s next).0 le));
+    single = λ p d B R n o s less next h. inside p n d R B o (λ free. true_false (sym h ∙ (outside p n d R o.in_range free s next).1 less));
+  }
+
+  pub settled_bounded : IsKeptTable G f 1 (λ _. false) (cost_in costs) → UnboundedSets → (n : ℕ) × IsBoundedBy G f (is_set xs) n → (n : ℕ) × IsBoundedBy G f (is_set (set xs A false)) n
+  settled_bounded table law (n, h) = law.narrowed G f (cost_in costs) (is_set xs) (is_set to) n table h narrows
+
+  pub settled_out : AreOut G f costs (set xs A false)
+  settled_out p low free n s d R next =
+      let h = outside p n d R low free s next in
+      elim (cases_lt n 2) [ inl less ↦ h.1 less | inr le ↦ out_of xs A R lt (h.0 le) ]
+
+-- ---- rounds
+
+all_set : (n A : ℕ) → A < n → is_set (replicate n true) A ≡ true
+all_set zero A lt = absurd (omega (arith, lt))
+all_set (suc n) zero lt = refl
+all_set (suc n) (suc A) lt = all_set n A (omega (arith, lt))
+
+pub all_out : (G : Grammar) (f : ℕ → ℕ) (costs : List (Option ℕ)) → WellFormed G → (bits : List Bool) → bits ≡ replicate G.rules true → AreOut G f costs bits
+all_out G f costs good bits e p low free = absurd (true_false (sym (all_set G.rules (head_of G p) (good.heads p (head_of G p) (record { in_range = low; head = refl }))) ∙ ap (λ l. is_set l (head_of G p)) (sym e) ∙ free))
+
+left_false : (a b : Bool) → a ≡ false → a && b ≡ false
+left_false true b e = absurd (true_false e)
+left_false false b e = refl
+
+right_false : (a b : Bool) → b ≡ false → a && b ≡ false
+right_false true b e = e
+right_false false b e = refl
+
+pub met_out : (G : Grammar) (f : ℕ → ℕ) (costs : List (Option ℕ)) (old new : List Bool) → length old ≡ length new → ((p : ℕ) → p < length G.productions → IsNarrowedBy G f costs old p new) → AreOut G f costs old → AreOut G f costs (meet old new)
+met_out G f costs old new len closed are_out p low free n s d R next = met old new R len ∙ elim (and_false (is_set old (head_of G p)) (is_set new (head_of G p)) (sym (met old new (head_of G p) len) ∙ free)) [
+  | inl q ↦ left_false (is_set old R) (is_set new R) (are_out p low q n s d R next)
+  | inr q ↦ behind q
+]
+  where
+    behind : is_set new (head_of G p) ≡ false → is_set old R && is_set new R ≡ false
+    behind q = elim (cases_lt n 2) [
+      | inl less ↦ elim (cases_Bool (is_set new R)) [ inl h ↦ absurd (true_false (sym ((closed p low n s d R next).1 less h) ∙ q)) | inr h ↦ right_false (is_set old R) (is_set new R) h ]
+      | inr le ↦ elim (cases_Bool (is_set old R)) [ inl h ↦ absurd (true_false (sym ((closed p low n s d R next).0 le h) ∙ q)) | inr h ↦ left_false (is_set old R) (is_set new R) h ]
     ]
 
 pub held_still : (a b : List Bool) (x : Bool) → PassStep held Anything a b x → held b ≤ held a

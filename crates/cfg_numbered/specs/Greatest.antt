@@ -57,6 +57,15 @@ IsNarrowedBy G f costs old p new = (n : ℕ) → Sums f (cost_in costs) (body_of
 abbrev pub LeadsOut : Grammar → (ℕ → ℕ) → List (Option ℕ) → List Bool → ℕ → Type 0
 LeadsOut G f costs bits p = (n : ℕ) → Sums f (cost_in costs) (body_of G p) n → (d R : ℕ) → IsNext G p d (rule R) → is_set bits R ≡ false
 
+-- p can't be used, or names no rule of the set; where no two of its symbols cost something, none of the rest of it
+abbrev pub Settles : Grammar → (ℕ → ℕ) → List (Option ℕ) → List Bool → List Bool → ℕ → Type 0
+Settles G f costs bits rest p = (n : ℕ) → Sums f (cost_in costs) (body_of G p) n → (d R : ℕ) → IsNext G p d (rule R) →
+    (2 ≤ n → is_set bits R ≡ false) × (n < 2 → is_set rest R ≡ false)
+
+-- the productions of the rules outside of the set lead out of it
+abbrev pub AreOut : Grammar → (ℕ → ℕ) → List (Option ℕ) → List Bool → Type 0
+AreOut G f costs bits = (p : ℕ) → p < length G.productions → is_set bits (head_of G p) ≡ false → LeadsOut G f costs bits p
+
 -- how many rules are in the set
 abbrev pub held : List Bool → ℕ
 held bits = count_by (λ b. b) bits

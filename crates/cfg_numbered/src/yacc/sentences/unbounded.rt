@@ -22,7 +22,7 @@ use std::alloc::{AllocError, Global};
 use vob::Vob;
 
 /// Whether a production whose symbols cost so much names a rule that its own rule is kept for.
-fn names_kept<S: IndexStorage>(
+pub(super) fn names_kept<S: IndexStorage>(
     costly: &KeptCosts<S>,
     pidx: PIdx<S>,
     cost: u32,
@@ -44,7 +44,7 @@ fn names_kept<S: IndexStorage>(
 }
 
 /// Puts a rule into a set, and gives it where it wasn't there.
-fn put_rule(rule: usize, set: &mut Vob) -> Option<usize>
+pub(super) fn put_rule(rule: usize, set: &mut Vob) -> Option<usize>
     requires { rule < length set.old.bits }
     ensures bits { set.new.bits ≡ slice_set set.old.bits rule true }
     ensures told { MatchOption result (is_set set.old.bits rule ≡ true) (λ A. (A ≡ rule) × (is_set set.old.bits rule ≡ false)) }
@@ -154,12 +154,15 @@ pub(super) fn unbounded_rules<S: IndexStorage>(
     unbounded_rules_gain();
     costly.stays_well_formed();
     costly.stays_kept();
-    let mut kept = Vob::from_elem(alloc, true, costly.rules_len().0.to_usize())?;
+    let rules = costly.rules_len().0.to_usize();
+    let mut kept = Vob::from_elem(alloc, true, rules)?;
+    let mut rest = Vob::from_elem(alloc, true, rules)?;
     'rounds: loop {
-        settle(costly, order, &mut kept);
+        settle(costly, order, &mut kept, &mut rest);
         let new = narrowed(alloc, costly, naming, order, &kept)?;
         if !kept.and(&new) {
             return Ok(kept);
         }
+        rest.and(&new);
     }
 }

@@ -2,12 +2,14 @@ use Rattle.std.proofs.Common.{◌≡◌, ◌≤◌, ℕ, length}
 use Rattle.cfg_theory.specs.Greatest.{IsBoundedBy}
 use Rattle.cfg_numbered.specs.CostTable.{cost_of}
 use Rattle.cfg_numbered.specs.Sets.{is_set}
-use Rattle.cfg_numbered.specs.Greatest.{held}
+use Rattle.cfg_numbered.specs.Greatest.{AreOut, held}
 use Rattle.cfg_numbered.proofs.yacc.sentences.bounded.settle.Given as goal
 
 abbrev pub invariant-prods : goal.invariant-prods
 invariant-prods g l = record {
   width : length l.set.bits ≡ l.costly.grammar.rules;
   bounded : (n : ℕ) × IsBoundedBy l.costly.grammar (cost_of l.costly.costs) (is_set l.set.bits) n;
+  same : l.rest.bits ≡ l.set.bits;
+  out : AreOut l.costly.grammar (cost_of l.costly.costs) l.costly.table l.set.bits;
   less : held l.set.bits ≤ held l.initial.set.bits;
 }

@@ -3,17 +3,20 @@ use Rattle.std.proofs.lemmas.List.{length-replicate}
 use Rattle.cfg_theory.specs.Greatest.{IsBoundedBy, AreUnbounded}
 use Rattle.cfg_numbered.specs.CostTable.{cost_of}
 use Rattle.cfg_numbered.specs.Sets.{is_set}
-use Rattle.cfg_numbered.specs.Greatest.{held}
-use Rattle.cfg_numbered.proofs.NarrowSteps.{all_bounded, length_meet, fewer_held, unchanged, met_bounded, all_open}
+use Rattle.cfg_numbered.specs.Greatest.{AreOut, held}
+use Rattle.cfg_numbered.proofs.NarrowSteps.{all_bounded, length_meet, fewer_held, unchanged, met_bounded, all_open, meet}
+use Rattle.cfg_numbered.proofs.SettleSteps.{all_out, met_out}
 use Rattle.cfg_numbered.proofs.yacc.sentences.unbounded.unbounded_rules.Goals as goal
 
 pub rounds-init : goal.rounds-init
 rounds-init g c =
     let G = c.args.costly.now.grammar in
-    let e = c.to_usize.ensures.value ∙ c.rules_len.ensures in
+    let e = c.to_usize-rules.ensures.value ∙ c.rules_len.ensures in
     record {
-      width = ap length c.in_ok-kept.ensures.bits ∙ length-replicate c.to_usize.result true ∙ e;
+      width = ap length c.in_ok-kept.ensures.bits ∙ length-replicate c.to_usize-rules.result true ∙ e;
       bounded = all_bounded G (cost_of c.args.costly.now.costs) c.stays_well_formed.ensures c.in_ok-kept.kept.bits (c.in_ok-kept.ensures.bits ∙ ap (λ n. replicate n true) e);
+      same = c.in_ok-rest.ensures.bits ∙ sym c.in_ok-kept.ensures.bits;
+      out = all_out G (cost_of c.args.costly.now.costs) c.args.costly.now.table c.stays_well_formed.ensures c.in_ok-kept.kept.bits (c.in_ok-kept.ensures.bits ∙ ap (λ n. replicate n true) e);
     }
 
 pub rounds-preserved : goal.rounds-preserved
@@ -26,6 +29,8 @@ rounds-preserved g c =
     record {
       width = ap length c.and.ensures.bits ∙ length_meet old new len ∙ c.settle.ensures.width;
       bounded = subst (λ l. (n : ℕ) × IsBoundedBy G f (is_set l) n) (sym c.and.ensures.bits) (met_bounded G f c.args.costly.now.table c.stays_kept.ensures.table c.unbounded_rules_gain.ensures old new len c.in_ok-new.ensures.closed c.settle.ensures.bounded);
+      same = c.and-in-rounds.ensures.bits ∙ ap (λ l. meet l new) c.settle.ensures.same ∙ sym c.and.ensures.bits;
+      out = subst (AreOut G f c.args.costly.now.table) (sym c.and.ensures.bits) (met_out G f c.args.costly.now.table old new len c.in_ok-new.ensures.closed c.settle.ensures.out);
     }
 
 pub rounds-smaller : goal.rounds-smaller

@@ -7,6 +7,7 @@ use Rattle.lrtable.specs.declared.stidx.StIdx.{StIdx}
 use Rattle.lrtable.specs.declared.cells.Action.{Action as TableAction}
 use Rattle.lrtable.specs.CellViews.{cells_of, targets_of, precedences_of}
 use Rattle.lrtable.specs.SparseRows.{IsCellRow, IsTargetRow}
+use Rattle.lrtable.specs.SpreadRows.{AreSpread}
 use Rattle.lrtable.specs.TableRows.{rows_of}
 use Rattle.lrtable.specs.TableViews.{sparse_of}
 use Rattle.lrtable.proofs.SpreadSteps.{spread_none}
@@ -28,8 +29,8 @@ invariant_of-result g c =
         targets = λ s lt. subst (λ (m : ℕ). IsTargetRow m (get_or rows.gotos s [])) (sym c.rules_len.ensures) (c.requires.targets s lt);
         room = subst (λ (m : ℕ). n * (m + number c.rules_len.result.0) < 2 ^ 64) (sym c.tokens_len.ensures) (subst (λ (m : ℕ). n * (c.args.grm.now.grammar.tokens + m) < 2 ^ 64) (sym c.rules_len.ensures) c.requires.room);
       },
-      spread_none c.args.rows.actions.items,
-      spread_none c.args.rows.gotos.items,
+      subst (λ l. AreSpread c.args.rows.actions.items l) (sym c.new.ensures.items) (spread_none c.args.rows.actions.items),
+      subst (λ l. AreSpread c.args.rows.gotos.items l) (sym c.new-2.ensures.items) (spread_none c.args.rows.gotos.items),
     )
 
 pub returns-clause-table : goal.returns-clause-table

@@ -144,14 +144,14 @@ fn told_behind<S: IndexStorage, L: Lexeme<S>>(
 }
 
 impl<S: IndexStorage> ParserData<S> {
-    /// The tokens that may come after these lexemes, a bit for each token by its number; that of the end token tells whether
-    /// they are a sentence as they are. None where they have an error themselves. So the lexemes before an error's index
-    /// give what was wanted there.
+    /// The tokens that may come after these lexemes, a bit for each token by its number; that of the end token is set where
+    /// they are a sentence as they stand. None where they have an error themselves. What was wanted at an error are those
+    /// after the lexemes before its index.
     ///
-    /// A token is told exactly where the run on the lexemes and that token comes past it, from the stack right after the
-    /// last shift: that at an error may have been reduced on the wrong lexeme already, and would tell too few. Where each
-    /// rule derives some text, each token that is told goes on with a beginning of a sentence; where the data are complete
-    /// too, no other token does. It costs one chain of reductions for each token.
+    /// A token is told exactly where a run on the lexemes and that token comes past it. It is asked of the stack right after
+    /// the last shift: the one at an error may have been reduced on the wrong lexeme already, and would tell too few. With a
+    /// grammar's own table, where each rule derives some text, each token that is told goes on with a beginning of a
+    /// sentence; where `complete` holds too, no other does. A token costs the reductions that it asks for, one chain at most.
     pub fn next_tokens<L: Lexeme<S>>(
         &self,
         alloc: Global,

@@ -1,4 +1,4 @@
-use Rattle.std.proofs.Common.{◌≡◌, ◌+◌, [], ◌∷◌, ◌++◌, length, drop, sym, ap, ◌∙◌, subst, refl, arith}
+use Rattle.std.proofs.Common.{◌≡◌, ◌+◌, [], ◌∷◌, length, drop, sym, ap, ◌∙◌, subst, refl, arith}
 use Rattle.std.proofs.lemmas.List.{drop_all}
 use Rattle.lrtable.specs.Tables.{automaton_of}
 use Rattle.lrpar.specs.NextTokens.{Reaches}
@@ -17,7 +17,8 @@ lexemes-init g c =
     let v = c.args.stable.now in
     let o : Overlay g.row.S.Denot = record { kept = 0; over = c.push.new.self } in
     let q = c.start_state.result in
-    let e : overlaid number c.new-base.result.items o ≡ number q.0 ∷ [] = over_one number c.new-base.result.items o q refl (c.in_ok-push.ensures.items ∙ ap (λ l. l ++ q ∷ []) c.new-over.ensures.items) in
+    let items : c.push.new.self.items ≡ q ∷ [] = rw c.new-over.ensures.items at c.in_ok-push.ensures.items in
+    let e : overlaid number c.new-base.result.items o ≡ number q.0 ∷ [] = over_one number c.new-base.result.items o q refl items in
     let value = c.start_state.ensures.value in
     let within = c.start_state.ensures.within in
     let n = ap length e in

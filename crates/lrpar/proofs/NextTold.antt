@@ -22,7 +22,7 @@ use Rattle.lrtable.specs.Tables.{IsTableOf, automaton_of}
 use Rattle.vob.specs.Packed.{Contents}
 use Rattle.lrpar.specs.declared.overlay.Overlay.{Overlay}
 use Rattle.lrpar.specs.NextStates.{AreInside, TellsNext, TellBelow, TellsAfter}
-use Rattle.lrpar.specs.NextTokens.{Reaches, HasError, IsSet, AreNext}
+use Rattle.lrpar.specs.NextTokens.{Reaches, HasError, IsSet}
 use Rattle.lrtable.specs.declared.stidx.StIdx.{StIdx}
 use Rattle.lrpar.specs.Reducing.{AreStates, IsTableFor, states_of, stack_of}
 use Rattle.lrpar.specs.Replay.{overlaid, ShiftsTo, ShiftsNot, TellsShift}

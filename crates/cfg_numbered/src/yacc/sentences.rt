@@ -16,6 +16,7 @@ mod least;
 mod max_cost;
 mod needed;
 mod shared_lists;
+mod shared_order;
 mod token_costs;
 mod token_lists;
 mod unbounded;

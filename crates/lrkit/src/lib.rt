@@ -29,6 +29,7 @@ mod answering;
 mod counts;
 mod fault;
 mod running;
+mod trees;
 
 pub use byte_streams::{Counted, Sink, Source};
 pub use fault::{Input, RunFault, status};

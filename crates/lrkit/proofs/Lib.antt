@@ -3,3 +3,4 @@ pub mod OutBut
 pub mod Lines
 pub mod ShownLines
 pub mod Outcomes
+pub mod OneOutput

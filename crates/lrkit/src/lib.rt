@@ -28,6 +28,7 @@
 mod answering;
 mod counts;
 mod fault;
+pub mod laws;
 mod running;
 mod trees;
 

@@ -25,9 +25,20 @@
 //! ```
 #![tactic(auto)]
 
+mod along;
+mod checked;
 pub mod examples;
 pub mod finder;
+mod forms;
 pub mod laws;
+mod opened;
+mod reading;
+mod shown;
+mod source;
+mod steps;
+mod strings;
+mod tables;
+mod traces;
 
 pub use examples::{ActionExample, ConflictExample};
 pub use finder::ExampleFinder;

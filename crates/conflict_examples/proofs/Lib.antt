@@ -1,0 +1,6 @@
+pub mod Firsts
+pub mod Items
+pub mod Contests
+pub mod SymbolLists
+pub mod FormLists
+pub mod Openings

@@ -27,6 +27,6 @@ misfit_of (misfits.Outside k) = Misfit.outside k
 misfit_of (misfits.Decreases k) = Misfit.decreases k
 
 -- a run takes the lexemes, or the first that doesn't fit is told
-abbrev pub TellsMisfit : {L : Type 0} → Grammar → (L → Lex) → List L → Option LexemeMisfit → Type 0
-TellsMisfit G lex lexemes None = AreLexemes G lex lexemes
-TellsMisfit G lex lexemes (Some m) = IsMisfit (end_token G) lex lexemes (misfit_of m)
+abbrev pub TellsLexemeMisfit : {L : Type 0} → Grammar → (L → Lex) → List L → Option LexemeMisfit → Type 0
+TellsLexemeMisfit G lex lexemes None = AreLexemes G lex lexemes
+TellsLexemeMisfit G lex lexemes (Some m) = IsMisfit (end_token G) lex lexemes (misfit_of m)

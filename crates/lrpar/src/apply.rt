@@ -26,29 +26,29 @@ use cfg_numbered::yacc::grammar::NumberedGrammar;
 use lrtable::StateTable;
 use std::alloc::{AllocError, Global};
 
-/// Where a lexeme begins that is made up before the one at the place, `end` being the end of all.
-fn start_before<S: IndexStorage, L: Lexeme<S>>(lexemes: &[L], place: usize, end: usize) -> usize
-    ensures { result ≡ next_start L.lex end (drop place lexemes.now) }
+/// Where a lexeme begins that is made up before the one at the index, `end` being the end of all.
+fn start_before<S: IndexStorage, L: Lexeme<S>>(lexemes: &[L], index: usize, end: usize) -> usize
+    ensures { result ≡ next_start L.lex end (drop index lexemes.now) }
 {
-    match lexemes.get(place) {
+    match lexemes.get(index) {
         Some(lexeme) => lexeme.span().start(),
         None => end,
     }
 }
 
-/// The lexeme of a token that is made up before the one at the place.
+/// The lexeme of a token that is made up before the one at the index.
 fn made_before<S: IndexStorage, L: Lexeme<S>>(
     lexemes: &[L],
-    place: usize,
+    index: usize,
     end: usize,
     tidx: TIdx<S>,
 ) -> L
-    ensures made { result ≡ made_by L.faulty_of L.lex end (S.number tidx.0) (drop place lexemes.now) }
-    ensures is { L.lex result ≡ lex_at (S.number tidx.0) (next_start L.lex end (drop place lexemes.now)) 0 true }
+    ensures made { result ≡ made_by L.faulty_of L.lex end (S.number tidx.0) (drop index lexemes.now) }
+    ensures is { L.lex result ≡ lex_at (S.number tidx.0) (next_start L.lex end (drop index lexemes.now)) 0 true }
 {
     // Read, so that the proof may use that the number is one.
     let _token = tidx.0.to_usize();
-    let start = start_before(lexemes, place, end);
+    let start = start_before(lexemes, index, end);
     L::new_faulty(tidx.0, start, 0)
 }
 
@@ -81,7 +81,7 @@ fn put_on<S: IndexStorage, L: Lexeme<S>, V: ValueStack<S, L>>(
     }
 }
 
-/// Applies one step before the lexeme at the place, and answers the place of the next one that is left.
+/// Applies one step before the lexeme at the index, and answers the index of the next one that is left.
 fn apply_step<S: IndexStorage, L: Lexeme<S>, V: ValueStack<S, L>>(
     alloc: Global,
     grm: &NumberedGrammar<S>,
@@ -89,7 +89,7 @@ fn apply_step<S: IndexStorage, L: Lexeme<S>, V: ValueStack<S, L>>(
     limit: u16,
     stacks: &mut Stacks<S, V>,
     lexemes: &[L],
-    place: usize,
+    index: usize,
     end: usize,
     step: RepairStep<S>,
 ) -> Result<usize, AllocError>
@@ -98,30 +98,30 @@ fn apply_step<S: IndexStorage, L: Lexeme<S>, V: ValueStack<S, L>>(
     requires lexemes { AreLexemes grm.now.grammar L.lex lexemes.now }
     requires end { end ≡ end_of L.lex lexemes.now }
     requires stacks { AreStacks S.number stable.now stacks.old }
-    requires starts { StartsByNext L.lex (V.starts_by stacks.old.values) lexemes.now place }
-    requires place { place ≤ length lexemes.now }
-    requires on { (g : GraphValue) × (input : List L) × (c : Config L) × (es : List Edit) × (left : List L) × Safe grm.now.grammar (automaton_of g stable.now) × OnWay S.number L.lex grm.now.grammar g stable.now (V.stands grm.now.grammar) (made_by L.faulty_of L.lex end) input c stacks.old (drop place lexemes.now) (edit_of S.number step ∷ es) left }
+    requires starts { StartsByNext L.lex (V.starts_by stacks.old.values) lexemes.now index }
+    requires index { index ≤ length lexemes.now }
+    requires on { (g : GraphValue) × (input : List L) × (c : Config L) × (es : List Edit) × (left : List L) × Safe grm.now.grammar (automaton_of g stable.now) × OnWay S.number L.lex grm.now.grammar g stable.now (V.stands grm.now.grammar) (made_by L.faulty_of L.lex end) input c stacks.old (drop index lexemes.now) (edit_of S.number step ∷ es) left }
     ensures on { IfOk result (λ p. (g : GraphValue) (input : List L) (c : Config L) (es : List Edit) (left : List L) → Safe grm.now.grammar (automaton_of g stable.now) →
-        OnWay S.number L.lex grm.now.grammar g stable.now (V.stands grm.now.grammar) (made_by L.faulty_of L.lex end) input c stacks.old (drop place lexemes.now) (edit_of S.number step ∷ es) left →
+        OnWay S.number L.lex grm.now.grammar g stable.now (V.stands grm.now.grammar) (made_by L.faulty_of L.lex end) input c stacks.old (drop index lexemes.now) (edit_of S.number step ∷ es) left →
         GoesOnWay S.number L.lex grm.now.grammar g stable.now (V.stands grm.now.grammar) (made_by L.faulty_of L.lex end) input c stacks.new (drop p lexemes.now) es left) }
     ensures stacks { OnOk result (AreStacks S.number stable.now stacks.new) }
     ensures starts { IfOk result (StartsByNext L.lex (V.starts_by stacks.new.values) lexemes.now) }
-    ensures place { IfOk result (λ p. p ≤ length lexemes.now) }
+    ensures index { IfOk result (λ p. p ≤ length lexemes.now) }
     ensures keeps { OnOk result (V.keeps stacks.old.values stacks.new.values) }
 {
     // Read, so that the proof may use that the number of lexemes fits.
     let _count = lexemes.len();
     match step {
         RepairStep::Insert(tidx) => {
-            let made = made_before(lexemes, place, end, tidx);
+            let made = made_before(lexemes, index, end, tidx);
             put_on(alloc, grm, stable, limit, stacks, made)?;
-            Ok(place)
+            Ok(index)
         }
         RepairStep::Shift => {
-            put_on(alloc, grm, stable, limit, stacks, lexemes[place])?;
-            Ok(place + 1)
+            put_on(alloc, grm, stable, limit, stacks, lexemes[index])?;
+            Ok(index + 1)
         }
-        RepairStep::Delete => Ok(place + 1),
+        RepairStep::Delete => Ok(index + 1),
     }
 }
 
@@ -133,7 +133,7 @@ fn step_at<S: IndexStorage>(steps: &[RepairStep<S>], number: usize) -> RepairSte
     steps[number]
 }
 
-/// Applies a sequence that can be taken before the lexeme at the place, and answers the place of the next one that is
+/// Applies a sequence that can be taken before the lexeme at the index, and answers the index of the next one that is
 /// left. `end` is the end of all lexemes: there lexemes begin that are made up behind the last one.
 pub(crate) fn apply_steps<S: IndexStorage, L: Lexeme<S>, V: ValueStack<S, L>>(
     alloc: Global,
@@ -150,7 +150,7 @@ pub(crate) fn apply_steps<S: IndexStorage, L: Lexeme<S>, V: ValueStack<S, L>>(
     requires chains { (g : GraphValue) → ChainsWithin grm.now.grammar (automaton_of g stable.now) limit }
     requires lexemes { AreLexemes grm.now.grammar L.lex lexemes.now }
     requires end { end ≡ end_of L.lex lexemes.now }
-    requires place { at ≤ length lexemes.now }
+    requires index { at ≤ length lexemes.now }
     requires stacks { AreStacks S.number stable.now stacks.old }
     requires starts { StartsByNext L.lex (V.starts_by stacks.old.values) lexemes.now at }
     requires stand { (g : GraphValue) × (input : List L) × (d : Config L) × Safe grm.now.grammar (automaton_of g stable.now) × StandFor S.number L.lex grm.now.grammar g stable.now (V.stands grm.now.grammar) input stacks.old d × (d.rest ≡ drop at lexemes.now) × Takes grm.now.grammar (automaton_of g stable.now) (token_by L.lex) (made_by L.faulty_of L.lex end) d (edits_of S.number steps.now) }
@@ -160,13 +160,13 @@ pub(crate) fn apply_steps<S: IndexStorage, L: Lexeme<S>, V: ValueStack<S, L>>(
         IsApplied S.number L.lex grm.now.grammar g stable.now (V.stands grm.now.grammar) (made_by L.faulty_of L.lex end) d (edits_of S.number steps.now) k stacks.new (drop p lexemes.now)) }
     ensures stacks { OnOk result (AreStacks S.number stable.now stacks.new) }
     ensures starts { IfOk result (StartsByNext L.lex (V.starts_by stacks.new.values) lexemes.now) }
-    ensures place { IfOk result (λ p. p ≤ length lexemes.now) }
+    ensures index { IfOk result (λ p. p ≤ length lexemes.now) }
     ensures keeps { OnOk result (V.keeps stacks.old.values stacks.new.values) }
 {
-    let mut place = at;
+    let mut index = at;
     'steps: for number in 0..steps.len() {
         let step = step_at(steps, number);
-        place = apply_step(alloc, grm, stable, limit, stacks, lexemes, place, end, step)?;
+        index = apply_step(alloc, grm, stable, limit, stacks, lexemes, index, end, step)?;
     }
-    Ok(place)
+    Ok(index)
 }

@@ -50,7 +50,7 @@ impl<S: IndexStorage, L: Lexeme<S>> FlatValues<S, L> {
 impl<S: IndexStorage, L: Lexeme<S>> ValueStack<S, L> for FlatValues<S, L> {
     ghost stands = { λ G s ts. FlatStand (span_by L.lex) ts (pieces_of S.number s.builder.nodes.items) s.builder.ends.items s.spans.items };
 
-    ghost starts_by = { λ s place. StartBy s.spans.items place };
+    ghost starts_by = { λ s offset. StartBy s.spans.items offset };
 
     ghost starts_later = { λ s m n up le. record { by = λ k x e. le_trans (up.by k x e) le } };
 
@@ -75,7 +75,7 @@ impl<S: IndexStorage, L: Lexeme<S>> ValueStack<S, L> for FlatValues<S, L> {
     ) -> Result<(), AllocError>
         requires stands { (G : Grammar) × (ts : List (Tree L)) × FlatStand (span_by L.lex) ts (pieces_of S.number self.old.builder.nodes.items) self.old.builder.ends.items self.old.spans.items × (count ≤ length ts) }
         ensures stands { OnOk result ((G : Grammar) (ts below : List (Tree L)) (f : Forest L) → S.number ridx.0 ≡ head_of G (S.number pidx.0) → FlatStand (span_by L.lex) ts (pieces_of S.number self.old.builder.nodes.items) self.old.builder.ends.items self.old.spans.items → pop count ts none ≡ Some (f, below) → FlatStand (span_by L.lex) (node (S.number pidx.0) f ∷ below) (pieces_of S.number self.new.builder.nodes.items) self.new.builder.ends.items self.new.spans.items) }
-        ensures start { OnOk result ((place : ℕ) → StartBy self.old.spans.items place → StartBy self.new.spans.items place) }
+        ensures start { OnOk result ((offset : ℕ) → StartBy self.old.spans.items offset → StartBy self.new.spans.items offset) }
         ensures keeps { OnOk result (Unit {0}) }
     {
         let span = reduced_span(self.spans.as_slice(), count);

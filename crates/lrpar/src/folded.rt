@@ -56,7 +56,7 @@ where
     ensures folded { OnOk result (IsFolded (NodeGives S.number (R.post fnonterm.now) alloc) (S.number pidx.0) (S.number ridx.0) count values.old.items spans.old.items values.new.items spans.new.items) }
     ensures same { OnOk result (length spans.new.items ≡ length values.new.items) }
     ensures ascend { OnOk result (StartsAscend spans.new.items) }
-    ensures start { OnOk result ((place : ℕ) → StartBy spans.old.items place → StartBy spans.new.items place) }
+    ensures start { OnOk result ((offset : ℕ) → StartBy spans.old.items offset → StartBy spans.new.items offset) }
 {
     let span = reduced_span(spans.as_slice(), count);
     let left = values.len() - count;
@@ -91,7 +91,7 @@ where
     ensures term { result.fterm.now ≡ fterm.now }
     ensures nonterm { result.fnonterm.now ≡ fnonterm.now }
     ensures stands { (G : Grammar) → FoldedStand (F.IsAlwaysCallable result.fterm.now) (R.IsAlwaysCallable result.fnonterm.now) G (values_by S.number (F.post result.fterm.now) (R.post result.fnonterm.now)) (span_by L.lex) result.values.items result.spans.items [] }
-    ensures start { (place : ℕ) → StartBy result.spans.items place }
+    ensures start { (offset : ℕ) → StartBy result.spans.items offset }
 {
     FoldedValues {
         values: Vec::new(alloc),
@@ -123,7 +123,7 @@ where
 {
     ghost stands = { λ G s ts. FoldedStand (F.IsAlwaysCallable s.fterm.now) (R.IsAlwaysCallable s.fnonterm.now) G (values_by S.number (F.post s.fterm.now) (R.post s.fnonterm.now)) (span_by L.lex) s.values.items s.spans.items ts };
 
-    ghost starts_by = { λ s place. StartBy s.spans.items place };
+    ghost starts_by = { λ s offset. StartBy s.spans.items offset };
 
     ghost starts_later = { λ s m n up le. record { by = λ k x e. le_trans (up.by k x e) le } };
 
@@ -150,7 +150,7 @@ where
     ) -> Result<(), AllocError>
         requires stands { (G : Grammar) × (ts : List (Tree L)) × FoldedStand (F.IsAlwaysCallable self.old.fterm.now) (R.IsAlwaysCallable self.old.fnonterm.now) G (values_by S.number (F.post self.old.fterm.now) (R.post self.old.fnonterm.now)) (span_by L.lex) self.old.values.items self.old.spans.items ts × (count ≤ length ts) }
         ensures stands { OnOk result ((G : Grammar) (ts below : List (Tree L)) (f : Forest L) → S.number ridx.0 ≡ head_of G (S.number pidx.0) → FoldedStand (F.IsAlwaysCallable self.old.fterm.now) (R.IsAlwaysCallable self.old.fnonterm.now) G (values_by S.number (F.post self.old.fterm.now) (R.post self.old.fnonterm.now)) (span_by L.lex) self.old.values.items self.old.spans.items ts → pop count ts none ≡ Some (f, below) → FoldedStand (F.IsAlwaysCallable self.new.fterm.now) (R.IsAlwaysCallable self.new.fnonterm.now) G (values_by S.number (F.post self.new.fterm.now) (R.post self.new.fnonterm.now)) (span_by L.lex) self.new.values.items self.new.spans.items (node (S.number pidx.0) f ∷ below)) }
-        ensures start { OnOk result ((place : ℕ) → StartBy self.old.spans.items place → StartBy self.new.spans.items place) }
+        ensures start { OnOk result ((offset : ℕ) → StartBy self.old.spans.items offset → StartBy self.new.spans.items offset) }
         ensures keeps { OnOk result ((self.new.fterm.now ≡ self.old.fterm.now) × (self.new.fnonterm.now ≡ self.old.fnonterm.now)) }
     {
         fold_top(
@@ -173,7 +173,7 @@ pub(crate) struct NoValues;
 impl<S: IndexStorage, L: Lexeme<S>> ValueStack<S, L> for NoValues {
     ghost stands = { λ G s ts. Unit {0} };
 
-    ghost starts_by = { λ s place. Unit {0} };
+    ghost starts_by = { λ s offset. Unit {0} };
 
     ghost starts_later = { λ s m n up le. tt };
 
@@ -196,7 +196,7 @@ impl<S: IndexStorage, L: Lexeme<S>> ValueStack<S, L> for NoValues {
     ) -> Result<(), AllocError>
         requires stands { (G : Grammar) × (ts : List (Tree L)) × Unit {0} × (count ≤ length ts) }
         ensures stands { OnOk result ((G : Grammar) (ts below : List (Tree L)) (f : Forest L) → S.number ridx.0 ≡ head_of G (S.number pidx.0) → Unit {0} → pop count ts none ≡ Some (f, below) → Unit {0}) }
-        ensures start { OnOk result ((place : ℕ) → Unit {0} → Unit {0}) }
+        ensures start { OnOk result ((offset : ℕ) → Unit {0} → Unit {0}) }
         ensures keeps { OnOk result (Unit {0}) }
     {
         Ok(())

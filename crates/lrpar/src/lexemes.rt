@@ -1,7 +1,7 @@
 //! The list of a lexer before a run: its lexemes or the first fault, and whether a run takes them.
 
 ghost use Rattle.std.specs.Prelude.{◌<◌, IfOk, IfErr, length};
-ghost use Rattle.lrpar.specs.LexemeViews.{ReadsAs, TellsMisfit, TellsAt};
+ghost use Rattle.lrpar.specs.LexemeViews.{ReadsAs, TellsLexemeMisfit, TellsAt};
 ghost use Rattle.lrpar.specs.Refusals.{Admits, IsParseRefusal};
 
 use crate::lex_api::Lexeme;
@@ -79,7 +79,7 @@ pub(crate) fn misfit_of<S: IndexStorage, L: Lexeme<S>>(
     grm: &NumberedGrammar<S>,
     lexemes: &[L],
 ) -> Option<LexemeMisfit>
-    ensures { TellsMisfit grm.now.grammar L.lex lexemes.now result }
+    ensures { TellsLexemeMisfit grm.now.grammar L.lex lexemes.now result }
 {
     let end = grm.eof_token_idx().0.to_usize();
     'lexemes: for index in 0..lexemes.len() {

@@ -41,6 +41,7 @@ mod handed_out;
 pub mod laws;
 pub mod lex_api;
 pub mod lexemes;
+mod next_tokens;
 pub mod node;
 mod node_lists;
 mod numbers;

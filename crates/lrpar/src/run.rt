@@ -34,17 +34,17 @@ pub(crate) enum Advance {
     Failed,
 }
 
-/// How a run ends: it accepts, or fails at the lexeme at this place (the number of lexemes: past the last one).
+/// How a run ends: it accepts, or fails at the lexeme at this index (the number of lexemes: past the last one).
 pub(crate) enum Ending {
     Accepted,
     Failed(usize),
 }
 
-/// The lexeme at the place, or none past the last one.
-pub(crate) fn lexeme_at<S: IndexStorage, L: Lexeme<S>>(lexemes: &[L], place: usize) -> Option<L>
-    ensures { result ≡ slice_get lexemes.now place }
+/// The lexeme at the index, or none past the last one.
+pub(crate) fn lexeme_at<S: IndexStorage, L: Lexeme<S>>(lexemes: &[L], index: usize) -> Option<L>
+    ensures { result ≡ slice_get lexemes.now index }
 {
-    lexemes.get(place).copied()
+    lexemes.get(index).copied()
 }
 
 /// The token of the next lexeme, or the end token where there is none.
@@ -128,7 +128,7 @@ pub(crate) fn advance_to<S: IndexStorage, L: Lexeme<S>, V: ValueStack<S, L>>(
     }
 }
 
-/// Runs from a place on until the run accepts or fails.
+/// Runs from an index on until the run accepts or fails.
 pub(crate) fn run_from<S: IndexStorage, L: Lexeme<S>, V: ValueStack<S, L>>(
     alloc: Global,
     grm: &NumberedGrammar<S>,
@@ -136,24 +136,24 @@ pub(crate) fn run_from<S: IndexStorage, L: Lexeme<S>, V: ValueStack<S, L>>(
     limit: u16,
     stacks: &mut Stacks<S, V>,
     lexemes: &[L],
-    place: usize,
+    index: usize,
 ) -> Result<Ending, AllocError>
     requires table { IsTableFor grm.now.grammar stable.now }
     requires chains { (g : GraphValue) → ChainsWithin grm.now.grammar (automaton_of g stable.now) limit }
     requires lexemes { AreLexemes grm.now.grammar L.lex lexemes.now }
-    requires place { place ≤ length lexemes.now }
+    requires index { index ≤ length lexemes.now }
     requires stacks { AreStacks S.number stable.now stacks.old }
-    requires starts { StartsByNext L.lex (V.starts_by stacks.old.values) lexemes.now place }
-    requires stand { (g : GraphValue) × (input : List L) × (d : Config L) × Safe grm.now.grammar (automaton_of g stable.now) × StandFor S.number L.lex grm.now.grammar g stable.now (V.stands grm.now.grammar) input stacks.old d × (d.rest ≡ drop place lexemes.now) }
+    requires starts { StartsByNext L.lex (V.starts_by stacks.old.values) lexemes.now index }
+    requires stand { (g : GraphValue) × (input : List L) × (d : Config L) × Safe grm.now.grammar (automaton_of g stable.now) × StandFor S.number L.lex grm.now.grammar g stable.now (V.stands grm.now.grammar) input stacks.old d × (d.rest ≡ drop index lexemes.now) }
     ensures ended { IfOk result (λ e. (g : GraphValue) (input : List L) (d : Config L) → Safe grm.now.grammar (automaton_of g stable.now) →
-        StandFor S.number L.lex grm.now.grammar g stable.now (V.stands grm.now.grammar) input stacks.old d → d.rest ≡ drop place lexemes.now →
+        StandFor S.number L.lex grm.now.grammar g stable.now (V.stands grm.now.grammar) input stacks.old d → d.rest ≡ drop index lexemes.now →
         Ended S.number L.lex grm.now.grammar g stable.now (V.stands grm.now.grammar) input d stacks.new lexemes.now e) }
     ensures stacks { IfOk result (StacksEnded S.number L.lex stable.now (V.starts_by stacks.new.values) stacks.new lexemes.now) }
     ensures keeps { OnOk result (V.keeps stacks.old.values stacks.new.values) }
 {
     // Read, so that the proof may use that the number of lexemes fits.
     let _count = lexemes.len();
-    let mut at = place;
+    let mut at = index;
     'lexemes: loop {
         let next = lexeme_at(lexemes, at);
         match advance_to(alloc, grm, stable, limit, stacks, next)? {

@@ -73,7 +73,7 @@ pub(crate) fn reduce_onto<S: IndexStorage, L: Lexeme<S>, V: ValueStack<S, L>>(
     ensures held { OnOk result ((ts below : List (Tree L)) (f : Forest L) → V.stands grm.now.grammar stacks.old.values ts → pop (length (body_of grm.now.grammar (S.number pidx.0))) ts none ≡ Some (f, below) → V.stands grm.now.grammar stacks.new.values (node (S.number pidx.0) f ∷ below)) }
     ensures states { OnOk result (AreStates stable.now (states_of S.number stacks.new.states.items)) }
     ensures some { OnOk result (0 < length stacks.new.states.items) }
-    ensures start { OnOk result ((place : ℕ) → V.starts_by stacks.old.values place → V.starts_by stacks.new.values place) }
+    ensures start { OnOk result ((offset : ℕ) → V.starts_by stacks.old.values offset → V.starts_by stacks.new.values offset) }
     ensures keeps { OnOk result (V.keeps stacks.old.values stacks.new.values) }
 {
     let count = grm.prod_len(pidx).0.to_usize();

@@ -45,6 +45,6 @@ pub(crate) trait ValueStack<S: IndexStorage, L: Lexeme<S>> {
     ) -> Result<(), AllocError>
         requires stands { (G : Grammar) × (ts : List (Tree L)) × stands G self.old ts × (count ≤ length ts) }
         ensures stands { OnOk result ((G : Grammar) (ts below : List (Tree L)) (f : Forest L) → S.number ridx.0 ≡ head_of G (S.number pidx.0) → stands G self.old ts → pop count ts none ≡ Some (f, below) → stands G self.new (node (S.number pidx.0) f ∷ below)) }
-        ensures start { OnOk result ((place : ℕ) → starts_by self.old place → starts_by self.new place) }
+        ensures start { OnOk result ((offset : ℕ) → starts_by self.old offset → starts_by self.new offset) }
         ensures keeps { OnOk result (keeps self.old self.new) };
 }

@@ -11,7 +11,7 @@ use Rattle.lr_theory.specs.Graph.{Graph}
 use Rattle.lr_theory.specs.Itemset.{ItemSet, HasItem, HasLook, Closure, ClosureLook, Is, FitsGrammar}
 use Rattle.lr_theory.proofs.GraphLaws.{finished_law}
 use Rattle.lrtable.specs.Graphs.{GraphValue, target_in, graph_of, AreInOrder, IsGraphValue, IsGraphOf}
-use Rattle.lrtable.specs.FinalStates.{AreClosures, AreFinal, pair_of_edge, pairs_of}
+use Rattle.lrtable.specs.FinalStates.{AreClosures, AreFinal, pair_of_edge, edge_pairs_of}
 use Rattle.lrtable.specs.Pruning.{graph_of_states}
 use Rattle.vob.specs.Packed.{Contents}
 use Rattle.lrtable.specs.declared.cores.CoreSet.{CoreSet}
@@ -38,8 +38,8 @@ map_any f [] i d = refl
 map_any f (x ∷ xs) zero d = refl
 map_any f (x ∷ xs) (suc i) d = map_any f xs i d
 
-pub edge_is : (states : List StateValue) (s : ℕ) (X : Sym) → target_in (get_or (map pairs_of states) s []) X ≡ edge_of states s X
-edge_is states s X = ap (λ (l : List (Sym × ℕ)). target_in l X) (map_any pairs_of states s no_state) ∙ target_is (state_at states s).edges X
+pub edge_is : (states : List StateValue) (s : ℕ) (X : Sym) → target_in (get_or (map edge_pairs_of states) s []) X ≡ edge_of states s X
+edge_is states s X = ap (λ (l : List (Sym × ℕ)). target_in l X) (map_any edge_pairs_of states s no_state) ∙ target_is (state_at states s).edges X
 
 pairs_ascend : (es : List Edge) → AscendEdges es → AreInOrder (map pair_of_edge es)
 pairs_ascend es a = λ i j d lt within.
@@ -48,14 +48,14 @@ pairs_ascend es a = λ i j d lt within.
     subst₂ (λ (e f : Sym × ℕ). SymBefore e.0 f.0) (sym (map_any pair_of_edge es i x)) (sym (map_any pair_of_edge es j x)) (a i j x lt (omega (arith, within, n))))
 
 module _ (G : Grammar) (states : List StateValue) (final : AreFinal G states) (s : ℕ) where
-  pub final_ascend : AreInOrder (get_or (map pairs_of states) s [])
-  final_ascend = subst AreInOrder (sym (map_any pairs_of states s no_state)) (elim (cases_lt s (length states)) [
+  pub final_ascend : AreInOrder (get_or (map edge_pairs_of states) s [])
+  final_ascend = subst AreInOrder (sym (map_any edge_pairs_of states s no_state)) (elim (cases_lt s (length states)) [
     | inl lt ↦ pairs_ascend (state_at states s).edges (final.linked.ascend s lt)
     | inr ge ↦ subst (λ (x : StateValue). AreInOrder (map pair_of_edge x.edges)) (sym (get_or_past states s no_state ge)) (λ i j d lt within. absurd (omega (arith, within)))
   ])
 
-  pub final_targets : All (λ e. e.1 < length states) (get_or (map pairs_of states) s [])
-  final_targets = λ k d lt. final.linked.targets s (get_or (get_or (map pairs_of states) s []) k d).1 (get_or (get_or (map pairs_of states) s []) k d).0 (sym (edge_is states s (get_or (get_or (map pairs_of states) s []) k d).0) ∙ found_at (get_or (map pairs_of states) s []) k d final_ascend lt)
+  pub final_targets : All (λ e. e.1 < length states) (get_or (map edge_pairs_of states) s [])
+  final_targets = λ k d lt. final.linked.targets s (get_or (get_or (map edge_pairs_of states) s []) k d).1 (get_or (get_or (map edge_pairs_of states) s []) k d).0 (sym (edge_is states s (get_or (get_or (map edge_pairs_of states) s []) k d).0) ∙ found_at (get_or (map edge_pairs_of states) s []) k d final_ascend lt)
 
 -- ---- a graph with the same cores and edges is the grammar's too
 
@@ -102,7 +102,7 @@ module _ (G : Grammar) (good : WellFormed G) where
 
   -- ---- the whole graph
 
-  pub final_graph : (states : List StateValue) (g : GraphValue) → AreFinal G states → g.cores ≡ map (λ s. map_of s.core) states → g.start ≡ 0 → g.edges ≡ map pairs_of states → AreClosures G g.cores g.closed → IsGraphOf G g
+  pub final_graph : (states : List StateValue) (g : GraphValue) → AreFinal G states → g.cores ≡ map (λ s. map_of s.core) states → g.start ≡ 0 → g.edges ≡ map edge_pairs_of states → AreClosures G g.cores g.closed → IsGraphOf G g
   final_graph states g final cores start edges closed = record {
     graph = graph_as G (graph_of_states states) (graph_of g) cores start (λ s X. ap (λ (l : List (List (Sym × ℕ))). target_in (get_or l s []) X) edges ∙ edge_is states s X) final.graph;
     closes = closed.count;
@@ -116,18 +116,18 @@ module _ (G : Grammar) (good : WellFormed G) where
           subst (FitsGrammar G) (sym is) (final_fits states final s within)),
       closed.fit,
     );
-    lists = ap length edges ∙ length-map states pairs_of ∙ sym (ap length cores ∙ length-map states (λ (x : StateValue). map_of x.core));
+    lists = ap length edges ∙ length-map states edge_pairs_of ∙ sym (ap length cores ∙ length-map states (λ (x : StateValue). map_of x.core));
     ascend = λ s. subst (λ (l : List (List (Sym × ℕ))). AreInOrder (get_or l s [])) (sym edges) (final_ascend G states final s);
     start = start;
   }
 
-  pub final_value : (top : ℕ) (states : List StateValue) (g : GraphValue) → length states ≤ top → AreFinal G states → g.cores ≡ map (λ s. map_of s.core) states → g.start ≡ 0 → g.edges ≡ map pairs_of states → AreClosures G g.cores g.closed → IsGraphValue top g
+  pub final_value : (top : ℕ) (states : List StateValue) (g : GraphValue) → length states ≤ top → AreFinal G states → g.cores ≡ map (λ s. map_of s.core) states → g.start ≡ 0 → g.edges ≡ map edge_pairs_of states → AreClosures G g.cores g.closed → IsGraphValue top g
   final_value top states g few final cores start edges closed =
       let n = ap length cores ∙ length-map states (λ (x : StateValue). map_of x.core) in
       let some = final.some in
       record {
         closed = closed.count;
-        edges = ap length edges ∙ length-map states pairs_of ∙ sym n;
+        edges = ap length edges ∙ length-map states edge_pairs_of ∙ sym n;
         few = omega (arith, few, n);
         start = omega (arith, start, n, some);
         targets = λ s. subst₂ (λ (l : List (List (Sym × ℕ))) (m : ℕ). All (λ e. e.1 < m) (get_or l s [])) (sym edges) (sym n) (final_targets G states final s);
@@ -172,8 +172,8 @@ module _ {S : Type 0} (number : S → ℕ) (xs : List (State S)) (k : ℕ) (x : 
   pub core_is : (state_at (map (value_of number) xs) k).core ≡ core_of_set number (get_or xs k x).core
   core_is = ap (λ (s : StateValue). s.core) state_is
 
-  pub edges_fit : (top : ℕ) (slice : List (EdgeTo S)) → slice ≡ (get_or xs k x).edges.items → All (λ e. e.1 ≤ top) (get_or (map pairs_of (map (value_of number) xs)) k []) → All (λ e. e.1 ≤ top) (map pair_of_edge (edges_of number slice))
-  edges_fit top slice e h = subst (λ (l : List (Sym × ℕ)). All (λ e. e.1 ≤ top) l) (map_any pairs_of (map (value_of number) xs) k no_state ∙ ap pairs_of state_is ∙ ap (λ (l : List (EdgeTo S)). map pair_of_edge (edges_of number l)) (sym e)) h
+  pub edges_fit : (top : ℕ) (slice : List (EdgeTo S)) → slice ≡ (get_or xs k x).edges.items → All (λ e. e.1 ≤ top) (get_or (map edge_pairs_of (map (value_of number) xs)) k []) → All (λ e. e.1 ≤ top) (map pair_of_edge (edges_of number slice))
+  edges_fit top slice e h = subst (λ (l : List (Sym × ℕ)). All (λ e. e.1 ≤ top) l) (map_any edge_pairs_of (map (value_of number) xs) k no_state ∙ ap edge_pairs_of state_is ∙ ap (λ (l : List (EdgeTo S)). map pair_of_edge (edges_of number l)) (sym e)) h
 
 pub target_fits : {S : Type 0} (number : S → ℕ) (es : List (EdgeTo S)) (k top : ℕ) (x : EdgeTo S) → k < length es → All (λ e. e.1 ≤ top) (map pair_of_edge (edges_of number es)) → (get_or es k x).target ≤ top
 target_fits number es k top x lt h =

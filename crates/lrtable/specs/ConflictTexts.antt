@@ -12,8 +12,8 @@ abbrev pub shown_token : GrammarValue → ℕ → List ℕ
 shown_token v t = unwrap_or (get_or (map (λ (k : TokenFacts). k.name) v.tokens) t None) (36 ∷ [])
 
 -- `   State n: `
-abbrev pub state_text : ℕ → List ℕ
-state_text s = codes "   State " ++ decimal s ++ codes ": "
+abbrev pub state_front : ℕ → List ℕ
+state_front s = codes "   State " ++ decimal s ++ codes ": "
 
 -- `Reduce(P)`
 abbrev pub reduce_text : GrammarValue → ℕ → List ℕ
@@ -21,11 +21,11 @@ reduce_text v p = codes "Reduce(" ++ production_text v p ++ codes ")"
 
 -- `   State n: Shift("t") / Reduce(P)`
 abbrev pub shift_line : GrammarValue → ShiftReduce → List ℕ
-shift_line v e = state_text e.2 ++ codes "Shift(\"" ++ shown_token v e.0 ++ codes "\") / " ++ reduce_text v e.1 ++ codes "\n"
+shift_line v e = state_front e.2 ++ codes "Shift(\"" ++ shown_token v e.0 ++ codes "\") / " ++ reduce_text v e.1 ++ codes "\n"
 
 -- `   State n: Reduce(P) / Reduce(Q)`
 abbrev pub pair_line : GrammarValue → ReduceReduce → List ℕ
-pair_line v e = state_text e.3 ++ reduce_text v e.1 ++ codes " / " ++ reduce_text v e.2 ++ codes "\n"
+pair_line v e = state_front e.3 ++ reduce_text v e.1 ++ codes " / " ++ reduce_text v e.2 ++ codes "\n"
 
 -- a heading and a line for each entry, or nothing where there is none
 abbrev pub under_heading : {E : Type 0} → List ℕ → (E → List ℕ) → List E → List ℕ

@@ -17,8 +17,8 @@ pub record AreClosures (G : Grammar) (cores closed : List ItemSet) : Type 0 wher
 abbrev pub pair_of_edge : Edge → Sym × ℕ
 pair_of_edge e = (e.symbol, e.target)
 
-abbrev pub pairs_of : StateValue → List (Sym × ℕ)
-pairs_of s = map pair_of_edge s.edges
+abbrev pub edge_pairs_of : StateValue → List (Sym × ℕ)
+edge_pairs_of s = map pair_of_edge s.edges
 
 -- states that are the graph of the grammar
 pub record AreFinal (G : Grammar) (states : List StateValue) : Type 0 where

@@ -28,7 +28,7 @@ use vob::Vob;
 
 /// The closure of a core: its items, each with a set of its own, and the productions of the rules that it opens, with one
 /// set for each rule.
-pub fn closed_set<S: IndexStorage>(
+pub(crate) fn closed_set<S: IndexStorage>(
     alloc: Global,
     grm: &NumberedGrammar<S>,
     firsts: &YaccFirsts<S>,
@@ -48,7 +48,7 @@ pub fn closed_set<S: IndexStorage>(
 }
 
 /// The same, with what the closings of one core after another are made with.
-pub fn closed_by<S: IndexStorage>(
+pub(crate) fn closed_by<S: IndexStorage>(
     alloc: Global,
     grm: &NumberedGrammar<S>,
     firsts: &YaccFirsts<S>,
@@ -75,7 +75,7 @@ pub fn closed_by<S: IndexStorage>(
 }
 
 /// Tells whether two symbols are one.
-pub fn same_symbols<S: IndexStorage>(a: Symbol<S>, b: Symbol<S>) -> bool
+pub(crate) fn same_symbols<S: IndexStorage>(a: Symbol<S>, b: Symbol<S>) -> bool
     ensures { result ≡ same_symbol (sym_of S.number a) (sym_of S.number b) }
 {
     match (a, b) {
@@ -116,7 +116,7 @@ fn move_one<S: IndexStorage>(
 }
 
 /// The goto set of a symbol.
-pub fn moved_set<S: IndexStorage>(
+pub(crate) fn moved_set<S: IndexStorage>(
     alloc: Global,
     grm: &NumberedGrammar<S>,
     set: &SharedSets<S>,

@@ -5,7 +5,7 @@ ghost use Rattle.std.specs.List.{flat_map};
 ghost use Rattle.std.specs.Slice.Iter.{iter_rest};
 ghost use Rattle.std.specs.String.{string_bytes};
 ghost use Rattle.lrtable.specs.CellViews.{pair_of, pairs_of, shift_of, shifts_of};
-ghost use Rattle.lrtable.specs.ConflictTexts.{PairsInRange, ShiftsInRange, conflicts_text, pair_line, pairs_text, reduce_text, shift_line, shifts_text, shown_token, state_text};
+ghost use Rattle.lrtable.specs.ConflictTexts.{PairsInRange, ShiftsInRange, conflicts_text, pair_line, pairs_text, reduce_text, shift_line, shifts_text, shown_token, state_front};
 
 use crate::state_rows::{ReduceReduce, ShiftReduce};
 use crate::stidx::StIdx;
@@ -129,7 +129,7 @@ fn push_state<S: IndexStorage>(
     text: &mut String,
     stidx: StIdx<S>,
 ) -> Result<(), AllocError>
-    ensures { OnOk result (string_bytes text.new ≡ string_bytes text.old ++ state_text (S.number stidx.0)) }
+    ensures { OnOk result (string_bytes text.new ≡ string_bytes text.old ++ state_front (S.number stidx.0)) }
 {
     let number = stidx.0.to_usize();
     let front = format!(in alloc; "   State {number}: ")?;

@@ -15,20 +15,20 @@ use vob::Vob;
 
 /// A production with a dot.
 #[derive(Clone, Copy)]
-pub struct CoreItem<S> {
+pub(crate) struct CoreItem<S> {
     pub pidx: PIdx<S>,
     pub dot: SIdx<S>,
 }
 
 /// Items in ascending order, and the lookaheads of each.
 #[derive(Drop)]
-pub struct CoreSet<S> {
+pub(crate) struct CoreSet<S> {
     pub items: Vec<CoreItem<S>>,
     pub looks: Vec<Vob>,
 }
 
 /// Tells whether two lists have the same items.
-pub fn same_items<S: IndexStorage>(a: &[CoreItem<S>], b: &[CoreItem<S>]) -> bool
+pub(crate) fn same_items<S: IndexStorage>(a: &[CoreItem<S>], b: &[CoreItem<S>]) -> bool
     ensures { IsTrue result ↔ (items_of S.number a.now ≡ items_of S.number b.now) }
 {
     if a.len() != b.len() {
@@ -43,7 +43,7 @@ pub fn same_items<S: IndexStorage>(a: &[CoreItem<S>], b: &[CoreItem<S>]) -> bool
 }
 
 /// Tells whether two items are one.
-pub fn same_item<S: IndexStorage>(a: &CoreItem<S>, b: &CoreItem<S>) -> bool
+pub(crate) fn same_item<S: IndexStorage>(a: &CoreItem<S>, b: &CoreItem<S>) -> bool
     ensures { IsTrue result ↔ (item_of S.number a.now ≡ item_of S.number b.now) }
 {
     if a.pidx.0.to_usize() != b.pidx.0.to_usize() {
@@ -53,7 +53,7 @@ pub fn same_item<S: IndexStorage>(a: &CoreItem<S>, b: &CoreItem<S>) -> bool
 }
 
 /// Tells whether the first item comes before the second: by production, then by dot.
-pub fn comes_before<S: IndexStorage>(a: &CoreItem<S>, b: &CoreItem<S>) -> bool
+pub(crate) fn comes_before<S: IndexStorage>(a: &CoreItem<S>, b: &CoreItem<S>) -> bool
     ensures { IsTrue result ↔ ItemBefore (item_of S.number a.now) (item_of S.number b.now) }
 {
     let first = a.pidx.0.to_usize();
@@ -109,7 +109,7 @@ fn copied(spare: &mut Vec<Vob>, looks: &Vob) -> Result<Vob, AllocError>
 }
 
 /// Puts a value at an index of a list, most often at its end.
-pub fn put_in<T: Drop>(list: &mut Vec<T>, index: usize, value: T) -> Result<(), AllocError>
+pub(crate) fn put_in<T: Drop>(list: &mut Vec<T>, index: usize, value: T) -> Result<(), AllocError>
     requires { index ≤ length list.old.items }
     ensures { OnOk result (list.new.items ≡ insert list.old.items index value) }
 {
@@ -132,7 +132,7 @@ fn lay_by(spare: &mut Vec<Vob>, looks: &mut Vec<Vob>) -> Result<(), AllocError>
 }
 
 /// A set without its items, to be used again, as its sets of tokens are to be.
-pub fn emptied<S: IndexStorage>(
+pub(crate) fn emptied<S: IndexStorage>(
     spare: &mut Vec<Vob>,
     set: CoreSet<S>,
 ) -> Result<CoreSet<S>, AllocError>
@@ -149,7 +149,7 @@ pub fn emptied<S: IndexStorage>(
 
 impl<S: IndexStorage> CoreSet<S> {
     /// A set without items.
-    pub fn empty(alloc: Global) -> CoreSet<S>
+    pub(crate) fn empty(alloc: Global) -> CoreSet<S>
         ensures { core_of_set S.number result ≡ no_core }
     {
         CoreSet {
@@ -159,7 +159,7 @@ impl<S: IndexStorage> CoreSet<S> {
     }
 
     /// Adds an item with its lookaheads, or lookaheads to those of the item that is there.
-    pub fn add(
+    pub(crate) fn add(
         &mut self,
         spare: &mut Vec<Vob>,
         item: CoreItem<S>,

@@ -4,7 +4,7 @@ ghost use Rattle.std.specs.Prelude.{◌≡◌, ◌<◌, ◌≤◌, ℕ, [], leng
 ghost use Rattle.cfg_numbered.specs.Firsts.{AreFirsts};
 ghost use Rattle.lr_theory.specs.Itemset.{FitsGrammar};
 ghost use Rattle.lr_theory.specs.Sizes.{StaysWithin};
-ghost use Rattle.lrtable.specs.FinalStates.{AreClosures, AreFinal, pair_of_edge, pairs_of};
+ghost use Rattle.lrtable.specs.FinalStates.{AreClosures, AreFinal, pair_of_edge, edge_pairs_of};
 ghost use Rattle.lrtable.specs.Graphs.{IsGraphOf};
 ghost use Rattle.lrtable.specs.GraphViews.{edges_seen};
 ghost use Rattle.lrtable.specs.Handling.{TooManyStand};
@@ -49,8 +49,8 @@ fn edge_lists<S: IndexStorage>(
     alloc: Global,
     states: &[State<S>],
 ) -> Result<Vec<Vec<(Symbol<S>, StIdx<S>)>>, AllocError>
-    requires { (s : ℕ) → All (λ e. e.1 ≤ S.MAX) (get_or (map pairs_of (map (value_of S.number) states.now)) s []) }
-    ensures { IfOk result (λ v. map (λ l. edges_seen S.number l.items) v.items ≡ map pairs_of (map (value_of S.number) states.now)) }
+    requires { (s : ℕ) → All (λ e. e.1 ≤ S.MAX) (get_or (map edge_pairs_of (map (value_of S.number) states.now)) s []) }
+    ensures { IfOk result (λ v. map (λ l. edges_seen S.number l.items) v.items ≡ map edge_pairs_of (map (value_of S.number) states.now)) }
 {
     let mut lists = Vec::with_capacity(alloc, states.len())?;
     'states: for number in 0..states.len() {
@@ -108,7 +108,7 @@ fn from_states<S: IndexStorage>(
     requires ready { AreFinal grm.now.grammar (map (value_of S.number) states.now) }
     ensures graph { IfOk result (λ g. IsGraphOf grm.now.grammar g) }
     ensures cores { IfOk result (λ g. g.cores ≡ map (λ s. map_of s.core) (map (value_of S.number) states.now)) }
-    ensures edges { IfOk result (λ g. g.edges ≡ map pairs_of (map (value_of S.number) states.now)) }
+    ensures edges { IfOk result (λ g. g.edges ≡ map edge_pairs_of (map (value_of S.number) states.now)) }
 {
     grm.start_prod();
     let cores = core_sets(alloc, states)?;

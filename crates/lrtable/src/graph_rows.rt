@@ -216,7 +216,7 @@ fn add_row<S: IndexStorage>(
 }
 
 /// The rows of all states, unless one accepts where a production reduces.
-pub fn rows_of_graph<S: IndexStorage>(
+pub(crate) fn rows_of_graph<S: IndexStorage>(
     alloc: Global,
     grm: &NumberedGrammar<S>,
     sg: &StateGraph<S>,
@@ -236,7 +236,7 @@ pub fn rows_of_graph<S: IndexStorage>(
 }
 
 /// Tells whether the cells and the gotos of all states can be counted.
-pub fn has_room<S: IndexStorage>(grm: &NumberedGrammar<S>, sg: &StateGraph<S>) -> bool
+pub(crate) fn has_room<S: IndexStorage>(grm: &NumberedGrammar<S>, sg: &StateGraph<S>) -> bool
     ensures { IsTrue result ↔ (cell_count grm.now.grammar (graph_of sg.now) < 2 ^ 64) }
 {
     let width = grm.tokens_len().0.to_usize() + grm.rules_len().0.to_usize();

@@ -50,7 +50,7 @@ fn fits_below(a: &[Vob], b: &[Vob], j: usize) -> bool
 
 /// Pager's test of two sets of one core, by their items' lookaheads: for each two items, those of one in one set
 /// don't meet those of the other in the other set, or the two meet in one of the sets.
-pub fn weakly_compatible(a: &[Vob], b: &[Vob]) -> bool
+pub(crate) fn weakly_compatible(a: &[Vob], b: &[Vob]) -> bool
     requires { AreAlike (rows_in a.now) (rows_in b.now) }
     ensures fits { result ≡ true → RowsFit (rows_in a.now) (rows_in b.now) }
     ensures apart { result ≡ false → RowsApart (rows_in a.now) (rows_in b.now) }
@@ -64,7 +64,7 @@ pub fn weakly_compatible(a: &[Vob], b: &[Vob]) -> bool
 }
 
 /// Tells whether each set of the first list holds that of the second beside it.
-pub fn hold_all(a: &[Vob], b: &[Vob]) -> bool
+pub(crate) fn hold_all(a: &[Vob], b: &[Vob]) -> bool
     requires { AreAlike (rows_in a.now) (rows_in b.now) }
     ensures covered { result ≡ true → CoversRows (rows_in a.now) (rows_in b.now) }
     ensures lacked { result ≡ false → LacksRows (rows_in a.now) (rows_in b.now) }

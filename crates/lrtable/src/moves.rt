@@ -24,7 +24,7 @@ use std::alloc::{AllocError, Global};
 use vob::Vob;
 
 /// The rank of a symbol among all: rules before tokens.
-pub fn rank_of<S: IndexStorage>(grm: &NumberedGrammar<S>, symbol: Symbol<S>) -> usize
+pub(crate) fn rank_of<S: IndexStorage>(grm: &NumberedGrammar<S>, symbol: Symbol<S>) -> usize
     ensures { result ≡ rank grm.now.grammar (sym_of S.number symbol) }
 {
     match symbol {
@@ -34,7 +34,7 @@ pub fn rank_of<S: IndexStorage>(grm: &NumberedGrammar<S>, symbol: Symbol<S>) -> 
 }
 
 /// The symbol of a rank.
-pub fn symbol_at<S: IndexStorage>(grm: &NumberedGrammar<S>, number: usize) -> Symbol<S>
+pub(crate) fn symbol_at<S: IndexStorage>(grm: &NumberedGrammar<S>, number: usize) -> Symbol<S>
     requires { number < grm.now.grammar.rules + grm.now.grammar.tokens }
     ensures rank { rank grm.now.grammar (sym_of S.number result) ≡ number }
     ensures range { InRange grm.now.grammar (sym_of S.number result) }
@@ -47,7 +47,11 @@ pub fn symbol_at<S: IndexStorage>(grm: &NumberedGrammar<S>, number: usize) -> Sy
 }
 
 /// The dot behind a symbol of a production.
-pub fn dot_behind<S: IndexStorage>(grm: &NumberedGrammar<S>, pidx: PIdx<S>, dot: usize) -> SIdx<S>
+pub(crate) fn dot_behind<S: IndexStorage>(
+    grm: &NumberedGrammar<S>,
+    pidx: PIdx<S>,
+    dot: usize,
+) -> SIdx<S>
     requires production { S.number pidx.0 < length grm.now.grammar.productions }
     requires dot { dot < length (body_of grm.now.grammar (S.number pidx.0)) }
     ensures { S.number result.0 ≡ dot + 1 }
@@ -199,7 +203,7 @@ fn move_open<S: IndexStorage>(
 }
 
 /// So many sets without items.
-pub fn empty_sets<S: IndexStorage>(
+pub(crate) fn empty_sets<S: IndexStorage>(
     alloc: Global,
     count: usize,
 ) -> Result<Vec<CoreSet<S>>, AllocError>
@@ -213,7 +217,7 @@ pub fn empty_sets<S: IndexStorage>(
 }
 
 /// Makes empty sets, one for each symbol, the goto sets of a closed core.
-pub fn goto_sets<S: IndexStorage>(
+pub(crate) fn goto_sets<S: IndexStorage>(
     grm: &NumberedGrammar<S>,
     core: &CoreSet<S>,
     opening: &Opening,

@@ -17,14 +17,14 @@ use std::marker::Model;
 
 /// A rule that stands first in a production, and what follows it there.
 #[derive(Drop)]
-pub struct Opener {
+pub(crate) struct Opener {
     pub rule: usize,
     pub rest: Rest,
 }
 
 /// For each rule, the rules that stand first in its productions.
 #[derive(Drop)]
-pub struct Openers {
+pub(crate) struct Openers {
     rules: Vec<Vec<Opener>>,
 }
 
@@ -119,7 +119,7 @@ fn openers_of<S: IndexStorage>(
 
 impl Openers {
     /// Those of a grammar.
-    pub fn new<S: IndexStorage>(
+    pub(crate) fn new<S: IndexStorage>(
         alloc: Global,
         grm: &NumberedGrammar<S>,
         firsts: &YaccFirsts<S>,
@@ -136,7 +136,7 @@ impl Openers {
     }
 
     /// Those of a rule.
-    pub fn of_rule(&self, rule: usize) -> &[Opener]
+    pub(crate) fn of_rule(&self, rule: usize) -> &[Opener]
         requires { rule < length self.now }
         ensures { map front_of result.now ≡ get_or self.now rule [] }
     {

@@ -55,7 +55,7 @@ fn put_to_wait(waiting: &mut Vec<usize>, rule: usize) -> Result<(), AllocError>
 
 /// The open rules, and a set of tokens for each rule.
 #[derive(Drop)]
-pub struct Opening {
+pub(crate) struct Opening {
     looks: RuleRows,
     opened: Vob,
 }
@@ -73,7 +73,7 @@ impl Model for Opening {
 
 impl Opening {
     /// With no open rule.
-    pub fn empty(alloc: Global, rules: usize, tokens: usize) -> Result<Opening, AllocError>
+    pub(crate) fn empty(alloc: Global, rules: usize, tokens: usize) -> Result<Opening, AllocError>
         ensures { IfOk result (λ s. s ≡ record { tokens = tokens; rows = replicate rules (replicate tokens false); opened = replicate rules false }) }
     {
         let looks = RuleRows::empty(alloc, rules, tokens)?;
@@ -82,7 +82,7 @@ impl Opening {
     }
 
     /// Closes all rules and empties their sets, where those of the others are empty.
-    pub fn clear(&mut self)
+    pub(crate) fn clear(&mut self)
         requires { IsTidy self.old }
         ensures sizes { SameSizes self.old self.new }
         ensures none_open { (A : ℕ) → IsOpen self.new A → ⊥ }
@@ -104,7 +104,7 @@ impl Opening {
     }
 
     /// Tells whether a rule is open.
-    pub fn is_open(&self, rule: usize) -> bool
+    pub(crate) fn is_open(&self, rule: usize) -> bool
         requires { rule < length self.now.opened }
         ensures { IsTrue result ↔ IsOpen self.now rule }
     {
@@ -112,21 +112,21 @@ impl Opening {
     }
 
     /// Walks over the open rules.
-    pub fn open_rules(&self) -> IterSetBits<'_, usize>
+    pub(crate) fn open_rules(&self) -> IterSetBits<'_, usize>
         ensures { (A : ℕ) → Contains result A ↔ IsOpen self.now A }
     {
         self.opened.iter_set_bits(..)
     }
 
     /// A flag for each rule, which tells whether it is open.
-    pub fn opened(&self) -> &Vob
+    pub(crate) fn opened(&self) -> &Vob
         ensures { result.now.bits ≡ self.now.opened }
     {
         &self.opened
     }
 
     /// The lookaheads of a rule.
-    pub fn row(&self, rule: usize) -> &Vob
+    pub(crate) fn row(&self, rule: usize) -> &Vob
         requires { rule < length self.now.rows }
         ensures bits { result.now.bits ≡ get_or self.now.rows rule [] }
         ensures width { length result.now.bits ≡ self.now.tokens }
@@ -179,7 +179,7 @@ impl Opening {
     }
 
     /// The same, and puts the rule with those that wait if something changed.
-    pub fn follow(
+    pub(crate) fn follow(
         &mut self,
         rule: usize,
         rest: &Rest,
@@ -252,7 +252,7 @@ impl Opening {
 
     /// Opens what the open rules lead to: the least sets that hold these and are closed. Each rule that waits is taken,
     /// and again when something came to it.
-    pub fn close(
+    pub(crate) fn close(
         &mut self,
         openers: &Openers,
         looks: &mut Vob,
@@ -333,7 +333,7 @@ impl Opening {
 
 /// What the closings of one core after another are made with.
 #[derive(Drop)]
-pub struct Closer {
+pub(crate) struct Closer {
     pub opening: Opening,
     pub looks: Vob,
     pub rest: Rest,
@@ -342,7 +342,7 @@ pub struct Closer {
 
 impl Closer {
     /// With no open rule.
-    pub fn new<S: IndexStorage>(
+    pub(crate) fn new<S: IndexStorage>(
         alloc: Global,
         grm: &NumberedGrammar<S>,
     ) -> Result<Closer, AllocError>
@@ -359,7 +359,7 @@ impl Closer {
     }
 
     /// Opens the rules that the closure of a core opens, with their lookaheads, and no others.
-    pub fn close<S: IndexStorage>(
+    pub(crate) fn close<S: IndexStorage>(
         &mut self,
         grm: &NumberedGrammar<S>,
         firsts: &YaccFirsts<S>,

@@ -251,7 +251,7 @@ fn end_looks<S: IndexStorage>(alloc: Global, grm: &NumberedGrammar<S>) -> Result
 }
 
 /// The start state: the start production at dot nought with the end token.
-pub fn start_states<S: IndexStorage>(
+pub(crate) fn start_states<S: IndexStorage>(
     alloc: Global,
     grm: &NumberedGrammar<S>,
 ) -> Result<Vec<State<S>>, AllocError>
@@ -276,7 +276,7 @@ pub fn start_states<S: IndexStorage>(
 }
 
 /// So many empty lists.
-pub fn empty_lists(alloc: Global, count: usize) -> Result<Vec<Vec<usize>>, AllocError>
+pub(crate) fn empty_lists(alloc: Global, count: usize) -> Result<Vec<Vec<usize>>, AllocError>
     ensures lists { IfOk result (λ v. map (λ l. l.items) v.items ≡ replicate count []) }
     ensures count { IfOk result (λ v. length v.items ≡ count) }
 {
@@ -300,7 +300,7 @@ fn start_lists(alloc: Global, count: usize, first: usize) -> Result<Vec<Vec<usiz
 }
 
 /// Makes steps until no state is to be taken.
-pub fn finish<S: IndexStorage>(
+pub(crate) fn finish<S: IndexStorage>(
     alloc: Global,
     grm: &NumberedGrammar<S>,
     firsts: &YaccFirsts<S>,
@@ -388,7 +388,7 @@ fn build<S: IndexStorage>(
 }
 
 /// The states of a grammar's graph, in order: those of the building at its end that edges lead to.
-pub fn states<S: IndexStorage>(
+pub(crate) fn states<S: IndexStorage>(
     alloc: Global,
     grm: &NumberedGrammar<S>,
     firsts: &YaccFirsts<S>,

@@ -136,7 +136,7 @@ fn take_all<S: IndexStorage>(
 }
 
 /// The states that edges lead to from the first, in order and with new numbers.
-pub fn prune<S: IndexStorage>(
+pub(crate) fn prune<S: IndexStorage>(
     alloc: Global,
     states: &mut Vec<State<S>>,
 ) -> Result<Vec<State<S>>, AllocError>

@@ -14,14 +14,14 @@ use vob::Vob;
 
 /// What follows a symbol in a production: the tokens that it begins with, and whether it is nullable.
 #[derive(Drop)]
-pub struct Rest {
+pub(crate) struct Rest {
     pub first: Vob,
     pub nullable: bool,
 }
 
 impl Rest {
     /// What nothing follows.
-    pub fn empty(alloc: Global, tokens: usize) -> Result<Rest, AllocError>
+    pub(crate) fn empty(alloc: Global, tokens: usize) -> Result<Rest, AllocError>
         ensures { IfOk result (λ r. length r.first.bits ≡ tokens) }
     {
         let first = Vob::from_elem(alloc, false, tokens)?;
@@ -33,7 +33,7 @@ impl Rest {
 }
 
 /// The symbol behind a dot, if there is one.
-pub fn symbol_after<S: IndexStorage>(
+pub(crate) fn symbol_after<S: IndexStorage>(
     grm: &NumberedGrammar<S>,
     pidx: PIdx<S>,
     dot: usize,
@@ -49,7 +49,7 @@ pub fn symbol_after<S: IndexStorage>(
 }
 
 /// The rule behind a dot, if there is one.
-pub fn rule_after<S: IndexStorage>(
+pub(crate) fn rule_after<S: IndexStorage>(
     grm: &NumberedGrammar<S>,
     pidx: PIdx<S>,
     dot: usize,
@@ -67,7 +67,7 @@ pub fn rule_after<S: IndexStorage>(
 }
 
 /// Writes what follows the symbol behind a dot over what followed another.
-pub fn fill_rest<S: IndexStorage>(
+pub(crate) fn fill_rest<S: IndexStorage>(
     grm: &NumberedGrammar<S>,
     firsts: &YaccFirsts<S>,
     pidx: PIdx<S>,
@@ -87,7 +87,7 @@ pub fn fill_rest<S: IndexStorage>(
 }
 
 /// What follows the symbol behind a dot.
-pub fn rest_after<S: IndexStorage>(
+pub(crate) fn rest_after<S: IndexStorage>(
     alloc: Global,
     grm: &NumberedGrammar<S>,
     firsts: &YaccFirsts<S>,

@@ -10,7 +10,7 @@ use vob::Vob;
 
 /// A set of tokens for each rule.
 #[derive(Drop)]
-pub struct RuleRows {
+pub(crate) struct RuleRows {
     width: usize,
     rows: Vec<Vob>,
 }
@@ -28,7 +28,7 @@ impl Model for RuleRows {
 
 impl RuleRows {
     /// Creates `count` empty sets of numbers below `width`.
-    pub fn empty(alloc: Global, count: usize, width: usize) -> Result<RuleRows, AllocError>
+    pub(crate) fn empty(alloc: Global, count: usize, width: usize) -> Result<RuleRows, AllocError>
         ensures { IfOk result (λ s. s ≡ record { width = width; rows = replicate count (replicate width false) }) }
     {
         let mut rows = Vec::new(alloc);
@@ -39,7 +39,7 @@ impl RuleRows {
     }
 
     /// The set of a rule.
-    pub fn row(&self, rule: usize) -> &Vob
+    pub(crate) fn row(&self, rule: usize) -> &Vob
         requires { rule < length self.now.rows }
         ensures bits { result.now.bits ≡ get_or self.now.rows rule [] }
         ensures width { length result.now.bits ≡ self.now.width }
@@ -48,7 +48,7 @@ impl RuleRows {
     }
 
     /// Adds the tokens to the set of a rule, and says whether that changed it.
-    pub fn join(&mut self, rule: usize, tokens: &Vob) -> bool
+    pub(crate) fn join(&mut self, rule: usize, tokens: &Vob) -> bool
         requires within { rule < length self.old.rows }
         requires width { length tokens.now.bits ≡ self.old.width }
         ensures value { self.new ≡ record { width = self.old.width; rows = joined_to self.old.rows rule tokens.now.bits } }
@@ -60,7 +60,7 @@ impl RuleRows {
     }
 
     /// Empties the set of a rule.
-    pub fn clear(&mut self, rule: usize)
+    pub(crate) fn clear(&mut self, rule: usize)
         requires { rule < length self.old.rows }
         ensures { self.new ≡ record { width = self.old.width; rows = slice_set self.old.rows rule (replicate self.old.width false) } }
     {
@@ -69,7 +69,7 @@ impl RuleRows {
     }
 
     /// Empties the sets of some rules.
-    pub fn clear_all(&mut self, rules: &Vob)
+    pub(crate) fn clear_all(&mut self, rules: &Vob)
         requires { length rules.now.bits ≡ length self.old.rows }
         ensures width { self.new.width ≡ self.old.width }
         ensures count { length self.new.rows ≡ length self.old.rows }

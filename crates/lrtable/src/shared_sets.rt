@@ -22,14 +22,14 @@ use vob::Vob;
 
 /// An item, and the index of its lookaheads.
 #[derive(Clone, Copy)]
-pub struct SharedItem<S> {
+pub(crate) struct SharedItem<S> {
     pub item: CoreItem<S>,
     pub set: usize,
 }
 
 /// Items in ascending order, and the sets of lookaheads that they share.
 #[derive(Drop)]
-pub struct SharedSets<S> {
+pub(crate) struct SharedSets<S> {
     pub entries: Vec<SharedItem<S>>,
     pub sets: Vec<Vob>,
 }
@@ -63,7 +63,7 @@ fn is_at<S: IndexStorage>(entries: &[SharedItem<S>], index: usize, item: &CoreIt
 
 impl<S: IndexStorage> SharedSets<S> {
     /// Without items.
-    pub fn empty(alloc: Global) -> SharedSets<S>
+    pub(crate) fn empty(alloc: Global) -> SharedSets<S>
         ensures core { shared_core S.number result ≡ no_core }
         ensures within { PointIn (rows_in result.sets.items) result.entries.items }
     {
@@ -113,7 +113,7 @@ impl<S: IndexStorage> SharedSets<S> {
 
     /// Adds an item with its lookaheads, or lookaheads to those of the item that is there, and tells whether something
     /// was new.
-    pub fn add(&mut self, item: CoreItem<S>, looks: &Vob) -> Result<bool, AllocError>
+    pub(crate) fn add(&mut self, item: CoreItem<S>, looks: &Vob) -> Result<bool, AllocError>
         requires core { IsCoreOf (length looks.now.bits) (shared_core S.number self.old) }
         requires within { PointIn (rows_in self.old.sets.items) self.old.entries.items }
         ensures added { OnOk result (TakesIn S.number (S.number item.pidx.0) (S.number item.dot.0) looks.now.bits self.old self.new) }
@@ -128,7 +128,7 @@ impl<S: IndexStorage> SharedSets<S> {
     }
 
     /// The lookaheads of an item, if it is there.
-    pub fn get(&self, item: &CoreItem<S>) -> Option<&Vob>
+    pub(crate) fn get(&self, item: &CoreItem<S>) -> Option<&Vob>
         requires { IsShared S.number self.now }
         ensures { option_map (λ v. v.now.bits) result ≡ entry_at (shared_map S.number self.now) (S.number item.now.pidx.0) (S.number item.now.dot.0) }
     {
@@ -188,7 +188,7 @@ impl<S: IndexStorage> SharedSets<S> {
     }
 
     /// Adds the productions of the open rules at dot nought, those of a rule with one set.
-    pub fn open_rules(
+    pub(crate) fn open_rules(
         &mut self,
         grm: &NumberedGrammar<S>,
         opening: &Opening,
@@ -205,7 +205,7 @@ impl<S: IndexStorage> SharedSets<S> {
     }
 
     /// Gives back the room that no item takes.
-    pub fn fit(&mut self)
+    pub(crate) fn fit(&mut self)
         ensures core { shared_core S.number self.new ≡ shared_core S.number self.old }
         ensures within { PointIn (rows_in self.old.sets.items) self.old.entries.items → PointIn (rows_in self.new.sets.items) self.new.entries.items }
     {
@@ -213,7 +213,7 @@ impl<S: IndexStorage> SharedSets<S> {
     }
 
     /// The items of a core, each with a set of its own, and room for the productions of so many rules.
-    pub fn of_core(
+    pub(crate) fn of_core(
         alloc: Global,
         core: &CoreSet<S>,
         rules: usize,
@@ -236,7 +236,7 @@ impl<S: IndexStorage> SharedSets<S> {
     }
 
     /// The items, each with a copy of its lookaheads.
-    pub fn to_core(&self, alloc: Global) -> Result<CoreSet<S>, AllocError>
+    pub(crate) fn to_core(&self, alloc: Global) -> Result<CoreSet<S>, AllocError>
         requires { PointIn (rows_in self.now.sets.items) self.now.entries.items }
         ensures { IfOk result (λ c. core_of_set S.number c ≡ shared_core S.number self.now) }
     {

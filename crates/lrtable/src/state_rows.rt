@@ -28,7 +28,7 @@ pub type ShiftReduce<S> = (TIdx<S>, PIdx<S>, StIdx<S>);
 
 /// A complete item: its production, and the index of its lookaheads in a list of sets.
 #[derive(Clone, Copy)]
-pub struct Reduction<S> {
+pub(crate) struct Reduction<S> {
     pub pidx: PIdx<S>,
     pub set: usize,
 }
@@ -36,7 +36,7 @@ pub struct Reduction<S> {
 /// What a state has for its row: the complete items of other productions than the start's, by production, its edges on
 /// tokens, and whether it has the complete start production.
 #[derive(Drop)]
-pub struct StateParts<S> {
+pub(crate) struct StateParts<S> {
     pub reductions: Vec<Reduction<S>>,
     pub shifts: Vec<(usize, StIdx<S>)>,
     pub accepts: bool,
@@ -44,7 +44,7 @@ pub struct StateParts<S> {
 
 impl<S: IndexStorage> StateParts<S> {
     /// Of no state yet.
-    pub fn new(alloc: Global) -> StateParts<S> {
+    pub(crate) fn new(alloc: Global) -> StateParts<S> {
         StateParts {
             reductions: Vec::new(alloc),
             shifts: Vec::new(alloc),
@@ -367,7 +367,7 @@ fn put_tokens<S: IndexStorage>(
 }
 
 /// The row of a state; its conflicts are listed behind those of the states before.
-pub fn state_row<S: IndexStorage>(
+pub(crate) fn state_row<S: IndexStorage>(
     alloc: Global,
     grm: &NumberedGrammar<S>,
     stidx: StIdx<S>,
@@ -388,7 +388,7 @@ pub fn state_row<S: IndexStorage>(
 }
 
 /// The production that contests accept, if the state accepts and reduces on the end token.
-pub fn contesting<S: IndexStorage>(
+pub(crate) fn contesting<S: IndexStorage>(
     grm: &NumberedGrammar<S>,
     parts: &StateParts<S>,
     sets: &[Vob],

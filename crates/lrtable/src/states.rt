@@ -22,14 +22,14 @@ use vob::Vob;
 
 /// An edge on a symbol.
 #[derive(Clone, Copy)]
-pub struct EdgeTo<S> {
+pub(crate) struct EdgeTo<S> {
     pub symbol: Symbol<S>,
     pub target: usize,
 }
 
 /// A state of a building, and whether it is new or has grown since it was taken last.
 #[derive(Drop)]
-pub struct State<S> {
+pub(crate) struct State<S> {
     pub core: CoreSet<S>,
     pub edges: Vec<EdgeTo<S>>,
     pub todo: bool,
@@ -37,7 +37,7 @@ pub struct State<S> {
 
 impl<S: IndexStorage> State<S> {
     /// A state without items and edges.
-    pub fn empty(alloc: Global) -> State<S> {
+    pub(crate) fn empty(alloc: Global) -> State<S> {
         State {
             core: CoreSet::empty(alloc),
             edges: Vec::new(alloc),
@@ -48,7 +48,7 @@ impl<S: IndexStorage> State<S> {
 
 /// Out of memory, or more states than the index type has numbers for.
 #[derive(Clone, Copy, Debug, PartialEq, Eq)]
-pub enum BuildError {
+pub(crate) enum BuildError {
     Memory(AllocError),
     TooManyStates,
 }
@@ -380,7 +380,7 @@ fn add_listed<S: IndexStorage>(
 /// Puts a set, made from the state `from` by a symbol, among the states: it joins the first that it may, or becomes one.
 /// No state below the cursor is to be taken. The state's edge on the symbol may stand at `near`. The
 /// answer is an empty set, to be used again, and the sets of tokens that it had are put with the spare ones.
-pub fn place<S: IndexStorage>(
+pub(crate) fn place<S: IndexStorage>(
     alloc: Global,
     states: &mut Vec<State<S>>,
     begins: &mut Vec<Vec<usize>>,

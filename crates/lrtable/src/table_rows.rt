@@ -18,7 +18,7 @@ use vob::Vob;
 
 /// The rows of the states so far, and the conflicts that are listed of them.
 #[derive(Drop)]
-pub struct TableRows<S> {
+pub(crate) struct TableRows<S> {
     pub actions: Vec<Vec<(usize, Action<S>)>>,
     pub gotos: Vec<Vec<(usize, StIdx<S>)>>,
     pub pairs: Vec<ReduceReduce<S>>,
@@ -27,7 +27,7 @@ pub struct TableRows<S> {
 
 impl<S: IndexStorage> TableRows<S> {
     /// Without a state.
-    pub fn new(alloc: Global) -> TableRows<S>
+    pub(crate) fn new(alloc: Global) -> TableRows<S>
         ensures actions { result.actions.items ≡ [] }
         ensures gotos { result.gotos.items ≡ [] }
         ensures pairs { result.pairs.items ≡ [] }
@@ -42,7 +42,7 @@ impl<S: IndexStorage> TableRows<S> {
     }
 
     /// Adds the rows of the next state.
-    pub fn add_state(
+    pub(crate) fn add_state(
         &mut self,
         alloc: Global,
         grm: &NumberedGrammar<S>,

@@ -11,7 +11,7 @@ ghost use Rattle.lrpar.specs.Reducing.{rule_number, token_number};
 ghost use Rattle.lrpar.specs.Fitting.{Tells, LeastNot, OfGrammar, IsFor, GoesFrom, HasGotos, AreEdges, least_of};
 
 use crate::numbers::index_below;
-use crate::parserdata::edges::{edge_at, place_of, target_at};
+use crate::parserdata::edges::{edge_at, first_not_before, target_at};
 use crate::parserdata::items::has_end;
 use crate::rows::{cell_of_row, goto_of_row};
 use cfg_base::index::IndexStorage;
@@ -113,12 +113,12 @@ pub(crate) fn least_action<S: IndexStorage>(
 {
     let tokens = stable.tokens_len().0;
     let row = stable.state_cells(state);
-    let mut place = 0;
+    let mut at = 0;
     'cells: for index in 0..row.len() {
         let (number, action) = cell_of_row(row, index);
         let tidx = TIdx(index_below(number, tokens));
-        place = place_of(edges, place, Symbol::Token(tidx));
-        let edge = target_at(edges, place, Symbol::Token(tidx));
+        at = first_not_before(edges, at, Symbol::Token(tidx));
+        let edge = target_at(edges, at, Symbol::Token(tidx));
         if !action_fits(grm, items, edge, tidx, action) {
             return Some(tidx);
         }
@@ -126,7 +126,7 @@ pub(crate) fn least_action<S: IndexStorage>(
     None
 }
 
-/// Whether a goto is the edge at a place.
+/// Whether a goto is the edge at an index.
 fn is_edge<S: IndexStorage>(
     edges: &[(Symbol<S>, StIdx<S>)],
     index: usize,
@@ -150,7 +150,7 @@ fn is_edge<S: IndexStorage>(
     }
 }
 
-/// Whether no edge on a rule below the count stands at a place.
+/// Whether no edge on a rule below the count stands at an index.
 fn ends_at<S: IndexStorage>(edges: &[(Symbol<S>, StIdx<S>)], index: usize, rules: RIdx<S>) -> bool
     ensures { result ≡ true → (A q : ℕ) → slice_get (edges_seen S.number edges.now) index ≡ Some (rule A, q) → A < S.number rules.0 → ⊥ }
 {
@@ -208,11 +208,11 @@ fn first_goto<S: IndexStorage>(
     ensures { LeastNot (λ A. A < stable.now.rules → goto_at stable.now (S.number state.0) A ≡ target_in (edges_seen S.number edges.now) (rule A)) (rule_number S.number result) }
 {
     let rules = stable.rules_len().0;
-    let mut place = 0;
+    let mut at = 0;
     'rules: for number in 0..rules.to_usize() {
         let ridx = RIdx(index_below(number, rules));
-        place = place_of(edges, place, Symbol::Rule(ridx));
-        let edge = target_at(edges, place, Symbol::Rule(ridx));
+        at = first_not_before(edges, at, Symbol::Rule(ridx));
+        let edge = target_at(edges, at, Symbol::Rule(ridx));
         if !same_states(stable.goto(state, ridx), edge) {
             return Some(ridx);
         }

@@ -61,11 +61,11 @@ fn next_of<S: IndexStorage>(
     ensures { option_map (sym_of S.number) result ≡ symbol_at grm.now.grammar (S.number pidx.0) (S.number dot.0) }
 {
     let symbols = grm.prod(pidx);
-    let place = dot.0.to_usize();
-    if place >= symbols.len() {
+    let at = dot.0.to_usize();
+    if at >= symbols.len() {
         return None;
     }
-    Some(symbols[place])
+    Some(symbols[at])
 }
 
 /// Whether a token behind the dot of an item is shifted.

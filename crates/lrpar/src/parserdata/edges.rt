@@ -27,7 +27,7 @@ fn is_before<S: IndexStorage>(a: Symbol<S>, b: Symbol<S>) -> bool
     }
 }
 
-/// The edge at a place.
+/// The edge at an index.
 pub(crate) fn edge_at<S: IndexStorage>(
     edges: &[(Symbol<S>, StIdx<S>)],
     index: usize,
@@ -38,8 +38,8 @@ pub(crate) fn edge_at<S: IndexStorage>(
     edges[index]
 }
 
-/// The first place from `from` on whose edge isn't on a symbol before this one.
-pub(crate) fn place_of<S: IndexStorage>(
+/// The first index from `from` on whose edge isn't on a symbol before this one.
+pub(crate) fn first_not_before<S: IndexStorage>(
     edges: &[(Symbol<S>, StIdx<S>)],
     from: usize,
     symbol: Symbol<S>,
@@ -57,21 +57,21 @@ pub(crate) fn place_of<S: IndexStorage>(
     edges.len()
 }
 
-/// The target of the edge on a symbol, which stands at this place if there is one.
+/// The target of the edge on a symbol, which stands at this index if there is one.
 pub(crate) fn target_at<S: IndexStorage>(
     edges: &[(Symbol<S>, StIdx<S>)],
-    place: usize,
+    index: usize,
     symbol: Symbol<S>,
 ) -> Option<StIdx<S>>
     requires order { AreInOrder (edges_seen S.number edges.now) }
-    requires passed { Passed (edges_seen S.number edges.now) place (sym_of S.number symbol) }
-    requires stops { StopsBefore (edges_seen S.number edges.now) place (sym_of S.number symbol) }
+    requires passed { Passed (edges_seen S.number edges.now) index (sym_of S.number symbol) }
+    requires stops { StopsBefore (edges_seen S.number edges.now) index (sym_of S.number symbol) }
     ensures { state_of S.number result ≡ target_in (edges_seen S.number edges.now) (sym_of S.number symbol) }
 {
-    if place >= edges.len() {
+    if index >= edges.len() {
         return None;
     }
-    let (found, target) = edge_at(edges, place);
+    let (found, target) = edge_at(edges, index);
     if !same_symbols(found, symbol) {
         return None;
     }

@@ -49,11 +49,11 @@ pub(crate) fn is_next<S: IndexStorage>(
         return false;
     }
     let symbols = grm.prod(pidx);
-    let place = dot.0.to_usize();
-    if place >= symbols.len() {
+    let at = dot.0.to_usize();
+    if at >= symbols.len() {
         return false;
     }
-    same_symbols(symbols[place], symbol)
+    same_symbols(symbols[at], symbol)
 }
 
 /// Whether a set has the item of a production whose dot is at its end.
@@ -84,15 +84,15 @@ fn item_fits<S: IndexStorage>(
     if !grm.has_prod(pidx) {
         return false;
     }
-    let place = dot.0.to_usize();
-    if place > grm.prod_len(pidx).0.to_usize() {
+    let at = dot.0.to_usize();
+    if at > grm.prod_len(pidx).0.to_usize() {
         return false;
     }
     if state.0.to_usize() == start.0.to_usize() {
-        return place == 0;
+        return at == 0;
     }
     if pidx.0.to_usize() == grm.start_prod().0.to_usize() {
-        return place != 0;
+        return at != 0;
     }
     true
 }

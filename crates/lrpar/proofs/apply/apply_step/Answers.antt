@@ -5,94 +5,94 @@ use Rattle.lrpar.proofs.Turning.{drop_read, slice_read}
 use Rattle.lrpar.proofs.NextLexeme.{starts_behind, starts_here}
 use Rattle.lrpar.proofs.Applying.{keeps_one, deletes_one, lexeme_in, ahead_made, ahead_kept, way_deleted, next_is_it, past_it, way_put, it_is_inside}
 use Rattle.lrpar.proofs.apply.apply_step.Goals as goal
-use Rattle.lrpar.proofs.apply.apply_step.Goals.{After-index-lexemes-place, In-Delete}
+use Rattle.lrpar.proofs.apply.apply_step.Goals.{After-index-lexemes-index, In-Delete}
 
 pub put_on-requires-clause-inside : goal.put_on-requires-clause-inside
 put_on-requires-clause-inside g c =
     let h = c.requires.on in
     let w = rw c.in-Insert.is at h.6 in
     let y = c.made_before-made.result in
-    let a = ahead_made g.S.IndexStorage.number g.L.Lexeme.lex c.args.grm.now.grammar h.0 c.args.stable.now (g.V.ValueStack.stands c.args.grm.now.grammar) (made_by g.L.Lexeme.faulty_of g.L.Lexeme.lex c.args.end) h.1 h.2 c.args.stacks.now (drop c.args.place c.args.lexemes.now) h.4 (g.S.IndexStorage.number c.in-Insert.tidx.0) y h.3 c.made_before-made.ensures.made w in
-    it_is_inside g.S.IndexStorage.number g.L.Lexeme.lex c.args.grm.now.grammar h.0 c.args.stable.now (g.V.ValueStack.stands c.args.grm.now.grammar) (made_by g.L.Lexeme.faulty_of g.L.Lexeme.lex c.args.end) h.1 h.2 y (drop c.args.place c.args.lexemes.now) h.3 h.4 a c.requires.table c.args.stacks.now w.stand (past_it g.S.IndexStorage.number g.L.Lexeme.lex c.args.grm.now.grammar h.0 c.args.stable.now (g.V.ValueStack.stands c.args.grm.now.grammar) (made_by g.L.Lexeme.faulty_of g.L.Lexeme.lex c.args.end) h.1 h.2 y (drop c.args.place c.args.lexemes.now) h.3 h.4 a w.past)
+    let a = ahead_made g.S.IndexStorage.number g.L.Lexeme.lex c.args.grm.now.grammar h.0 c.args.stable.now (g.V.ValueStack.stands c.args.grm.now.grammar) (made_by g.L.Lexeme.faulty_of g.L.Lexeme.lex c.args.end) h.1 h.2 c.args.stacks.now (drop c.args.index c.args.lexemes.now) h.4 (g.S.IndexStorage.number c.in-Insert.tidx.0) y h.3 c.made_before-made.ensures.made w in
+    it_is_inside g.S.IndexStorage.number g.L.Lexeme.lex c.args.grm.now.grammar h.0 c.args.stable.now (g.V.ValueStack.stands c.args.grm.now.grammar) (made_by g.L.Lexeme.faulty_of g.L.Lexeme.lex c.args.end) h.1 h.2 y (drop c.args.index c.args.lexemes.now) h.3 h.4 a c.requires.table c.args.stacks.now w.stand (past_it g.S.IndexStorage.number g.L.Lexeme.lex c.args.grm.now.grammar h.0 c.args.stable.now (g.V.ValueStack.stands c.args.grm.now.grammar) (made_by g.L.Lexeme.faulty_of g.L.Lexeme.lex c.args.end) h.1 h.2 y (drop c.args.index c.args.lexemes.now) h.3 h.4 a w.past)
 
 pub put_on-requires-clause-stand : goal.put_on-requires-clause-stand
 put_on-requires-clause-stand g c =
     let h = c.requires.on in
     let w = rw c.in-Insert.is at h.6 in
     let y = c.made_before-made.result in
-    let a = ahead_made g.S.IndexStorage.number g.L.Lexeme.lex c.args.grm.now.grammar h.0 c.args.stable.now (g.V.ValueStack.stands c.args.grm.now.grammar) (made_by g.L.Lexeme.faulty_of g.L.Lexeme.lex c.args.end) h.1 h.2 c.args.stacks.now (drop c.args.place c.args.lexemes.now) h.4 (g.S.IndexStorage.number c.in-Insert.tidx.0) y h.3 c.made_before-made.ensures.made w in
-    (h.0, h.1, h.2, h.5, w.stand, next_is_it g.S.IndexStorage.number g.L.Lexeme.lex c.args.grm.now.grammar h.0 c.args.stable.now (g.V.ValueStack.stands c.args.grm.now.grammar) (made_by g.L.Lexeme.faulty_of g.L.Lexeme.lex c.args.end) h.1 h.2 y (drop c.args.place c.args.lexemes.now) h.3 h.4 a, past_it g.S.IndexStorage.number g.L.Lexeme.lex c.args.grm.now.grammar h.0 c.args.stable.now (g.V.ValueStack.stands c.args.grm.now.grammar) (made_by g.L.Lexeme.faulty_of g.L.Lexeme.lex c.args.end) h.1 h.2 y (drop c.args.place c.args.lexemes.now) h.3 h.4 a w.past)
+    let a = ahead_made g.S.IndexStorage.number g.L.Lexeme.lex c.args.grm.now.grammar h.0 c.args.stable.now (g.V.ValueStack.stands c.args.grm.now.grammar) (made_by g.L.Lexeme.faulty_of g.L.Lexeme.lex c.args.end) h.1 h.2 c.args.stacks.now (drop c.args.index c.args.lexemes.now) h.4 (g.S.IndexStorage.number c.in-Insert.tidx.0) y h.3 c.made_before-made.ensures.made w in
+    (h.0, h.1, h.2, h.5, w.stand, next_is_it g.S.IndexStorage.number g.L.Lexeme.lex c.args.grm.now.grammar h.0 c.args.stable.now (g.V.ValueStack.stands c.args.grm.now.grammar) (made_by g.L.Lexeme.faulty_of g.L.Lexeme.lex c.args.end) h.1 h.2 y (drop c.args.index c.args.lexemes.now) h.3 h.4 a, past_it g.S.IndexStorage.number g.L.Lexeme.lex c.args.grm.now.grammar h.0 c.args.stable.now (g.V.ValueStack.stands c.args.grm.now.grammar) (made_by g.L.Lexeme.faulty_of g.L.Lexeme.lex c.args.end) h.1 h.2 y (drop c.args.index c.args.lexemes.now) h.3 h.4 a w.past)
 
 pub returns-in_ok-put_on-in-Insert-clause-on : goal.returns-in_ok-put_on-in-Insert-clause-on
 returns-in_ok-put_on-in-Insert-clause-on g c = λ x input d es left safe way.
     let w = rw c.in-Insert.is at way in
     let y = c.made_before-made.result in
-    let a = ahead_made g.S.IndexStorage.number g.L.Lexeme.lex c.args.grm.now.grammar x c.args.stable.now (g.V.ValueStack.stands c.args.grm.now.grammar) (made_by g.L.Lexeme.faulty_of g.L.Lexeme.lex c.args.end) input d c.args.stacks.now (drop c.args.place c.args.lexemes.now) left (g.S.IndexStorage.number c.in-Insert.tidx.0) y es c.made_before-made.ensures.made w in
-    way_put g.S.IndexStorage.number g.L.Lexeme.lex c.args.grm.now.grammar x c.args.stable.now (g.V.ValueStack.stands c.args.grm.now.grammar) (made_by g.L.Lexeme.faulty_of g.L.Lexeme.lex c.args.end) input d y (drop c.args.place c.args.lexemes.now) es left a c.put_on.new.stacks w.past (c.in_ok-put_on-in-Insert.ensures.goes x input d safe w.stand (next_is_it g.S.IndexStorage.number g.L.Lexeme.lex c.args.grm.now.grammar x c.args.stable.now (g.V.ValueStack.stands c.args.grm.now.grammar) (made_by g.L.Lexeme.faulty_of g.L.Lexeme.lex c.args.end) input d y (drop c.args.place c.args.lexemes.now) es left a))
+    let a = ahead_made g.S.IndexStorage.number g.L.Lexeme.lex c.args.grm.now.grammar x c.args.stable.now (g.V.ValueStack.stands c.args.grm.now.grammar) (made_by g.L.Lexeme.faulty_of g.L.Lexeme.lex c.args.end) input d c.args.stacks.now (drop c.args.index c.args.lexemes.now) left (g.S.IndexStorage.number c.in-Insert.tidx.0) y es c.made_before-made.ensures.made w in
+    way_put g.S.IndexStorage.number g.L.Lexeme.lex c.args.grm.now.grammar x c.args.stable.now (g.V.ValueStack.stands c.args.grm.now.grammar) (made_by g.L.Lexeme.faulty_of g.L.Lexeme.lex c.args.end) input d y (drop c.args.index c.args.lexemes.now) es left a c.put_on.new.stacks w.past (c.in_ok-put_on-in-Insert.ensures.goes x input d safe w.stand (next_is_it g.S.IndexStorage.number g.L.Lexeme.lex c.args.grm.now.grammar x c.args.stable.now (g.V.ValueStack.stands c.args.grm.now.grammar) (made_by g.L.Lexeme.faulty_of g.L.Lexeme.lex c.args.end) input d y (drop c.args.index c.args.lexemes.now) es left a))
 
 -- a lexeme that is kept or deleted is there
-pub bounds-lexemes-place : goal.bounds-lexemes-place
-bounds-lexemes-place g c =
+pub bounds-lexemes-index : goal.bounds-lexemes-index
+bounds-lexemes-index g c =
     let h = c.requires.on in
     let w = rw c.in-Shift.is at h.6 in
-    keeps_one (made_by g.L.Lexeme.faulty_of g.L.Lexeme.lex c.args.end) h.3 c.args.lexemes.now c.args.place (w.put, h.4) w.applied
+    keeps_one (made_by g.L.Lexeme.faulty_of g.L.Lexeme.lex c.args.end) h.3 c.args.lexemes.now c.args.index (w.put, h.4) w.applied
 
-kept_at : (g : _) (c : After-index-lexemes-place g) → slice_get c.args.lexemes.now c.args.place ≡ Some c.index-lexemes-place.result
+kept_at : (g : _) (c : After-index-lexemes-index g) → slice_get c.args.lexemes.now c.args.index ≡ Some c.index-lexemes-index.result
 kept_at g c =
     let h = c.requires.on in
     let w = rw c.in-Shift.is at h.6 in
-    slice_read c.args.lexemes.now c.args.place c.index-lexemes-place.result (keeps_one (made_by g.L.Lexeme.faulty_of g.L.Lexeme.lex c.args.end) h.3 c.args.lexemes.now c.args.place (w.put, h.4) w.applied) c.index-lexemes-place.is
+    slice_read c.args.lexemes.now c.args.index c.index-lexemes-index.result (keeps_one (made_by g.L.Lexeme.faulty_of g.L.Lexeme.lex c.args.end) h.3 c.args.lexemes.now c.args.index (w.put, h.4) w.applied) c.index-lexemes-index.is
 
-kept_before : (g : _) (c : After-index-lexemes-place g) → drop c.args.place c.args.lexemes.now ≡ c.index-lexemes-place.result ∷ (drop (c.args.place + 1) c.args.lexemes.now)
+kept_before : (g : _) (c : After-index-lexemes-index g) → drop c.args.index c.args.lexemes.now ≡ c.index-lexemes-index.result ∷ (drop (c.args.index + 1) c.args.lexemes.now)
 kept_before g c =
     let h = c.requires.on in
     let w = rw c.in-Shift.is at h.6 in
-    drop_read c.args.lexemes.now c.args.place c.index-lexemes-place.result (keeps_one (made_by g.L.Lexeme.faulty_of g.L.Lexeme.lex c.args.end) h.3 c.args.lexemes.now c.args.place (w.put, h.4) w.applied) c.index-lexemes-place.is
+    drop_read c.args.lexemes.now c.args.index c.index-lexemes-index.result (keeps_one (made_by g.L.Lexeme.faulty_of g.L.Lexeme.lex c.args.end) h.3 c.args.lexemes.now c.args.index (w.put, h.4) w.applied) c.index-lexemes-index.is
 
 pub put_on-requires-in-Shift-clause-inside : goal.put_on-requires-in-Shift-clause-inside
-put_on-requires-in-Shift-clause-inside g c = c.requires.lexemes.inside c.args.place c.index-lexemes-place.result (kept_at g (goal.at.put_on-requires-in-Shift-clause-inside g c).After-index-lexemes-place)
+put_on-requires-in-Shift-clause-inside g c = c.requires.lexemes.inside c.args.index c.index-lexemes-index.result (kept_at g (goal.at.put_on-requires-in-Shift-clause-inside g c).After-index-lexemes-index)
 
 pub put_on-requires-in-Shift-clause-start : goal.put_on-requires-in-Shift-clause-start
 put_on-requires-in-Shift-clause-start g c =
-    starts_here g.L.Lexeme.lex (g.V.ValueStack.starts_by c.args.stacks.now.values) c.args.lexemes.now c.args.place c.index-lexemes-place.result (kept_at g (goal.at.put_on-requires-in-Shift-clause-start g c).After-index-lexemes-place) c.requires.starts
+    starts_here g.L.Lexeme.lex (g.V.ValueStack.starts_by c.args.stacks.now.values) c.args.lexemes.now c.args.index c.index-lexemes-index.result (kept_at g (goal.at.put_on-requires-in-Shift-clause-start g c).After-index-lexemes-index) c.requires.starts
 
 pub put_on-requires-in-Shift-clause-stand : goal.put_on-requires-in-Shift-clause-stand
 put_on-requires-in-Shift-clause-stand g c =
     let h = c.requires.on in
     let w = rw c.in-Shift.is at h.6 in
-    let y = c.index-lexemes-place.result in
-    let a = ahead_kept g.S.IndexStorage.number g.L.Lexeme.lex c.args.grm.now.grammar h.0 c.args.stable.now (g.V.ValueStack.stands c.args.grm.now.grammar) (made_by g.L.Lexeme.faulty_of g.L.Lexeme.lex c.args.end) h.1 h.2 c.args.stacks.now (drop c.args.place c.args.lexemes.now) h.4 y (drop (c.args.place + 1) c.args.lexemes.now) h.3 (kept_before g (goal.at.put_on-requires-in-Shift-clause-stand g c).After-index-lexemes-place) w in
-    (h.0, h.1, h.2, h.5, w.stand, next_is_it g.S.IndexStorage.number g.L.Lexeme.lex c.args.grm.now.grammar h.0 c.args.stable.now (g.V.ValueStack.stands c.args.grm.now.grammar) (made_by g.L.Lexeme.faulty_of g.L.Lexeme.lex c.args.end) h.1 h.2 y (drop (c.args.place + 1) c.args.lexemes.now) h.3 h.4 a, past_it g.S.IndexStorage.number g.L.Lexeme.lex c.args.grm.now.grammar h.0 c.args.stable.now (g.V.ValueStack.stands c.args.grm.now.grammar) (made_by g.L.Lexeme.faulty_of g.L.Lexeme.lex c.args.end) h.1 h.2 y (drop (c.args.place + 1) c.args.lexemes.now) h.3 h.4 a w.past)
+    let y = c.index-lexemes-index.result in
+    let a = ahead_kept g.S.IndexStorage.number g.L.Lexeme.lex c.args.grm.now.grammar h.0 c.args.stable.now (g.V.ValueStack.stands c.args.grm.now.grammar) (made_by g.L.Lexeme.faulty_of g.L.Lexeme.lex c.args.end) h.1 h.2 c.args.stacks.now (drop c.args.index c.args.lexemes.now) h.4 y (drop (c.args.index + 1) c.args.lexemes.now) h.3 (kept_before g (goal.at.put_on-requires-in-Shift-clause-stand g c).After-index-lexemes-index) w in
+    (h.0, h.1, h.2, h.5, w.stand, next_is_it g.S.IndexStorage.number g.L.Lexeme.lex c.args.grm.now.grammar h.0 c.args.stable.now (g.V.ValueStack.stands c.args.grm.now.grammar) (made_by g.L.Lexeme.faulty_of g.L.Lexeme.lex c.args.end) h.1 h.2 y (drop (c.args.index + 1) c.args.lexemes.now) h.3 h.4 a, past_it g.S.IndexStorage.number g.L.Lexeme.lex c.args.grm.now.grammar h.0 c.args.stable.now (g.V.ValueStack.stands c.args.grm.now.grammar) (made_by g.L.Lexeme.faulty_of g.L.Lexeme.lex c.args.end) h.1 h.2 y (drop (c.args.index + 1) c.args.lexemes.now) h.3 h.4 a w.past)
 
 pub returns-in_ok-put_on-in-Shift-clause-on : goal.returns-in_ok-put_on-in-Shift-clause-on
 returns-in_ok-put_on-in-Shift-clause-on g c = λ x input d es left safe way.
     let w = rw c.in-Shift.is at way in
-    let y = c.index-lexemes-place.result in
-    let a = ahead_kept g.S.IndexStorage.number g.L.Lexeme.lex c.args.grm.now.grammar x c.args.stable.now (g.V.ValueStack.stands c.args.grm.now.grammar) (made_by g.L.Lexeme.faulty_of g.L.Lexeme.lex c.args.end) input d c.args.stacks.now (drop c.args.place c.args.lexemes.now) left y (drop (c.args.place + 1) c.args.lexemes.now) es (kept_before g (goal.at.returns-in_ok-put_on-in-Shift-clause-on g c).After-index-lexemes-place) w in
-    way_put g.S.IndexStorage.number g.L.Lexeme.lex c.args.grm.now.grammar x c.args.stable.now (g.V.ValueStack.stands c.args.grm.now.grammar) (made_by g.L.Lexeme.faulty_of g.L.Lexeme.lex c.args.end) input d y (drop (c.args.place + 1) c.args.lexemes.now) es left a c.put_on-in-Shift.new.stacks w.past (c.in_ok-put_on-in-Shift.ensures.goes x input d safe w.stand (next_is_it g.S.IndexStorage.number g.L.Lexeme.lex c.args.grm.now.grammar x c.args.stable.now (g.V.ValueStack.stands c.args.grm.now.grammar) (made_by g.L.Lexeme.faulty_of g.L.Lexeme.lex c.args.end) input d y (drop (c.args.place + 1) c.args.lexemes.now) es left a))
+    let y = c.index-lexemes-index.result in
+    let a = ahead_kept g.S.IndexStorage.number g.L.Lexeme.lex c.args.grm.now.grammar x c.args.stable.now (g.V.ValueStack.stands c.args.grm.now.grammar) (made_by g.L.Lexeme.faulty_of g.L.Lexeme.lex c.args.end) input d c.args.stacks.now (drop c.args.index c.args.lexemes.now) left y (drop (c.args.index + 1) c.args.lexemes.now) es (kept_before g (goal.at.returns-in_ok-put_on-in-Shift-clause-on g c).After-index-lexemes-index) w in
+    way_put g.S.IndexStorage.number g.L.Lexeme.lex c.args.grm.now.grammar x c.args.stable.now (g.V.ValueStack.stands c.args.grm.now.grammar) (made_by g.L.Lexeme.faulty_of g.L.Lexeme.lex c.args.end) input d y (drop (c.args.index + 1) c.args.lexemes.now) es left a c.put_on-in-Shift.new.stacks w.past (c.in_ok-put_on-in-Shift.ensures.goes x input d safe w.stand (next_is_it g.S.IndexStorage.number g.L.Lexeme.lex c.args.grm.now.grammar x c.args.stable.now (g.V.ValueStack.stands c.args.grm.now.grammar) (made_by g.L.Lexeme.faulty_of g.L.Lexeme.lex c.args.end) input d y (drop (c.args.index + 1) c.args.lexemes.now) es left a))
 
 pub returns-in_ok-put_on-in-Shift-clause-starts : goal.returns-in_ok-put_on-in-Shift-clause-starts
 returns-in_ok-put_on-in-Shift-clause-starts g c =
-    starts_behind c.args.grm.now.grammar g.L.Lexeme.lex (g.V.ValueStack.starts_by c.put_on-in-Shift.new.stacks.values) (g.V.ValueStack.starts_later c.put_on-in-Shift.new.stacks.values) c.args.lexemes.now c.requires.lexemes c.args.place (Some c.index-lexemes-place.result) (sym (kept_at g (goal.at.returns-in_ok-put_on-in-Shift-clause-starts g c).After-index-lexemes-place)) c.in_ok-put_on-in-Shift.ensures.start
+    starts_behind c.args.grm.now.grammar g.L.Lexeme.lex (g.V.ValueStack.starts_by c.put_on-in-Shift.new.stacks.values) (g.V.ValueStack.starts_later c.put_on-in-Shift.new.stacks.values) c.args.lexemes.now c.requires.lexemes c.args.index (Some c.index-lexemes-index.result) (sym (kept_at g (goal.at.returns-in_ok-put_on-in-Shift-clause-starts g c).After-index-lexemes-index)) c.in_ok-put_on-in-Shift.ensures.start
 
 -- a lexeme that is deleted is there
-deleted_within : (g : _) (c : In-Delete g) → c.args.place < length c.args.lexemes.now
+deleted_within : (g : _) (c : In-Delete g) → c.args.index < length c.args.lexemes.now
 deleted_within g c =
     let h = c.requires.on in
     let w = rw c.in-Delete.is at h.6 in
-    deletes_one (made_by g.L.Lexeme.faulty_of g.L.Lexeme.lex c.args.end) h.3 c.args.lexemes.now c.args.place (w.put, h.4) w.applied
+    deletes_one (made_by g.L.Lexeme.faulty_of g.L.Lexeme.lex c.args.end) h.3 c.args.lexemes.now c.args.index (w.put, h.4) w.applied
 
 pub returns-in-Delete-clause-on : goal.returns-in-Delete-clause-on
 returns-in-Delete-clause-on g c = λ x input d es left safe way.
     let w = rw c.in-Delete.is at way in
-    let y = lexeme_in c.args.lexemes.now c.args.place (deleted_within g (goal.at.returns-in-Delete-clause-on g c).In-Delete) in
-    way_deleted g.S.IndexStorage.number g.L.Lexeme.lex c.args.grm.now.grammar x c.args.stable.now (g.V.ValueStack.stands c.args.grm.now.grammar) (made_by g.L.Lexeme.faulty_of g.L.Lexeme.lex c.args.end) input d c.args.stacks.now (drop c.args.place c.args.lexemes.now) left y.0 (drop (c.args.place + 1) c.args.lexemes.now) es y.2 w
+    let y = lexeme_in c.args.lexemes.now c.args.index (deleted_within g (goal.at.returns-in-Delete-clause-on g c).In-Delete) in
+    way_deleted g.S.IndexStorage.number g.L.Lexeme.lex c.args.grm.now.grammar x c.args.stable.now (g.V.ValueStack.stands c.args.grm.now.grammar) (made_by g.L.Lexeme.faulty_of g.L.Lexeme.lex c.args.end) input d c.args.stacks.now (drop c.args.index c.args.lexemes.now) left y.0 (drop (c.args.index + 1) c.args.lexemes.now) es y.2 w
 
 pub returns-in-Delete-clause-starts : goal.returns-in-Delete-clause-starts
 returns-in-Delete-clause-starts g c =
-    let y = lexeme_in c.args.lexemes.now c.args.place (deleted_within g (goal.at.returns-in-Delete-clause-starts g c).In-Delete) in
-    starts_behind c.args.grm.now.grammar g.L.Lexeme.lex (g.V.ValueStack.starts_by c.args.stacks.now.values) (g.V.ValueStack.starts_later c.args.stacks.now.values) c.args.lexemes.now c.requires.lexemes c.args.place (Some y.0) (sym y.1)
-    (starts_here g.L.Lexeme.lex (g.V.ValueStack.starts_by c.args.stacks.now.values) c.args.lexemes.now c.args.place y.0 y.1 c.requires.starts)
+    let y = lexeme_in c.args.lexemes.now c.args.index (deleted_within g (goal.at.returns-in-Delete-clause-starts g c).In-Delete) in
+    starts_behind c.args.grm.now.grammar g.L.Lexeme.lex (g.V.ValueStack.starts_by c.args.stacks.now.values) (g.V.ValueStack.starts_later c.args.stacks.now.values) c.args.lexemes.now c.requires.lexemes c.args.index (Some y.0) (sym y.1)
+    (starts_here g.L.Lexeme.lex (g.V.ValueStack.starts_by c.args.stacks.now.values) c.args.lexemes.now c.args.index y.0 y.1 c.requires.starts)
 
 pub returns-in-Delete-clause-keeps : goal.returns-in-Delete-clause-keeps
 returns-in-Delete-clause-keeps g c = g.V.ValueStack.keeps_all c.args.stacks.now.values

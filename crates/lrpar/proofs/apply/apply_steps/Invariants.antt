@@ -14,11 +14,11 @@ use Rattle.lrpar.proofs.apply.apply_steps.Given as goal
 abbrev pub invariant-steps : goal.invariant-steps
 invariant-steps g l = record {
   keeps : g.V.ValueStack.keeps l.initial.stacks.values l.stacks.values;
-  within : l.place ≤ length l.lexemes;
+  within : l.index ≤ length l.lexemes;
   stacks : AreStacks g.S.IndexStorage.number l.stable l.stacks;
-  starts : StartsByNext g.L.Lexeme.lex (g.V.ValueStack.starts_by l.stacks.values) l.lexemes l.place;
+  starts : StartsByNext g.L.Lexeme.lex (g.V.ValueStack.starts_by l.stacks.values) l.lexemes l.index;
   on : (x : GraphValue) (input : List g.row.L.Denot) (d : Config g.row.L.Denot) → Safe l.grm.grammar (automaton_of x l.stable) →
       StandFor g.S.IndexStorage.number g.L.Lexeme.lex l.grm.grammar x l.stable (g.V.ValueStack.stands l.grm.grammar) input l.initial.stacks d → d.rest ≡ drop l.fn.at l.lexemes →
       (k : Takes l.grm.grammar (automaton_of x l.stable) (token_by g.L.Lexeme.lex) (made_by g.L.Lexeme.faulty_of g.L.Lexeme.lex l.fn.end) d (edits_of g.S.IndexStorage.number l.steps)) →
-      GoesOnWay g.S.IndexStorage.number g.L.Lexeme.lex l.grm.grammar x l.stable (g.V.ValueStack.stands l.grm.grammar) (made_by g.L.Lexeme.faulty_of g.L.Lexeme.lex l.fn.end) (stack_yield d.trees ++ (k.put ++ k.left)) (with_rest d (k.put ++ k.left)) l.stacks (drop l.place l.lexemes) (edits_of g.S.IndexStorage.number (drop l.number l.steps)) k.left;
+      GoesOnWay g.S.IndexStorage.number g.L.Lexeme.lex l.grm.grammar x l.stable (g.V.ValueStack.stands l.grm.grammar) (made_by g.L.Lexeme.faulty_of g.L.Lexeme.lex l.fn.end) (stack_yield d.trees ++ (k.put ++ k.left)) (with_rest d (k.put ++ k.left)) l.stacks (drop l.index l.lexemes) (edits_of g.S.IndexStorage.number (drop l.number l.steps)) k.left;
 }

@@ -21,7 +21,7 @@ turns-init g c =
     record {
       stacks = c.requires.stacks;
       keeps = g.V.ValueStack.keeps_all c.args.stacks.now.values;
-      starts = λ place up. up;
+      starts = λ index up. up;
       short = λ x. bounded c.args.grm.now.grammar (automaton_of x v) c.args.limit (token_of (token_by g.L.Lexeme.lex) (end_token c.args.grm.now.grammar) c.args.next) (length states.items) (stack_of number states.items) (c.requires.chains x) (omega (arith, level)) (omega (arith, turned, same));
       on = λ x input d safe stand rest. (0, goes_none number g.L.Lexeme.lex c.args.grm.now.grammar x v _ input d c.args.stacks.now d.rest stand refl);
     }
@@ -45,7 +45,7 @@ turns-preserved g c =
     record {
       stacks = rw c.in-Reduced.is at c.in_ok-take_turn.ensures.stacks;
       keeps = g.V.ValueStack.keeps_on c.args.stacks.now.values c.turns.stacks.values c.take_turn.new.stacks.values c.turns.invariant.keeps c.in_ok-take_turn.ensures.keeps;
-      starts = λ place up. (rw c.in-Reduced.is at c.in_ok-take_turn.ensures.starts) place (c.turns.invariant.starts place up);
+      starts = λ index up. (rw c.in-Reduced.is at c.in_ok-take_turn.ensures.starts) index (c.turns.invariant.starts index up);
       short = λ x. still_short G (automaton_of x v) (token_of (token_by g.L.Lexeme.lex) (end_token G) c.args.next) (length c.args.stacks.now.states.items * (c.args.limit + 1)) _ _ (c.turns.invariant.short x) (rw c.in-Reduced.is at (c.in_ok-take_turn.ensures.reduces x));
       on = λ x input d safe stand rest.
           let k = c.turns.invariant.on x input d safe stand rest in

@@ -6,10 +6,10 @@ use Rattle.lrpar.proofs.run.run_from.Goals as goal
 pub lexemes-init : goal.lexemes-init
 lexemes-init g c = record {
   keeps = g.V.ValueStack.keeps_all c.args.stacks.now.values;
-  within = c.requires.place;
+  within = c.requires.index;
   stacks = c.requires.stacks;
   starts = c.requires.starts;
-  on = λ x input d safe stand rest. (0, goes_none g.S.IndexStorage.number g.L.Lexeme.lex c.args.grm.now.grammar x c.args.stable.now _ input d c.args.stacks.now (drop c.args.place c.args.lexemes.now) stand rest);
+  on = λ x input d safe stand rest. (0, goes_none g.S.IndexStorage.number g.L.Lexeme.lex c.args.grm.now.grammar x c.args.stable.now _ input d c.args.stacks.now (drop c.args.index c.args.lexemes.now) stand rest);
 }
 
 pub advance_to-requires-clause-stand : goal.advance_to-requires-clause-stand

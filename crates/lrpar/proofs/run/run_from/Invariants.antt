@@ -13,7 +13,7 @@ invariant-lexemes g l = record {
   stacks : AreStacks g.S.IndexStorage.number l.stable l.stacks;
   starts : StartsByNext g.L.Lexeme.lex (g.V.ValueStack.starts_by l.stacks.values) l.lexemes l.at;
   on : (x : GraphValue) (input : List g.row.L.Denot) (d : Config g.row.L.Denot) → Safe l.grm.grammar (automaton_of x l.stable) →
-      StandFor g.S.IndexStorage.number g.L.Lexeme.lex l.grm.grammar x l.stable (g.V.ValueStack.stands l.grm.grammar) input l.initial.stacks d → d.rest ≡ drop l.fn.place l.lexemes →
+      StandFor g.S.IndexStorage.number g.L.Lexeme.lex l.grm.grammar x l.stable (g.V.ValueStack.stands l.grm.grammar) input l.initial.stacks d → d.rest ≡ drop l.fn.index l.lexemes →
       (steps : ℕ) × GoesOn g.S.IndexStorage.number g.L.Lexeme.lex l.grm.grammar x l.stable (g.V.ValueStack.stands l.grm.grammar) input steps d l.stacks (drop l.at l.lexemes);
 }
 

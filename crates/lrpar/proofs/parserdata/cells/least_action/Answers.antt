@@ -21,23 +21,23 @@ index_below-requires g c =
     let lt = cell_inside c.args.stable.now (number c.args.state.0) (cells_of number c.state_cells-row.result.now) c.state_cells-row.ensures.whole c.state_cells-row.ensures.cells c.cells.index c.cell_of_row-number.result.0 (action_of number c.cell_of_row-number.result.1) c.cell_of_row-number.ensures in
     omega (arith, lt, c.tokens_len.ensures)
 
-pub place_of-place-requires : goal.place_of-place-requires
-place_of-place-requires g c =
+pub first_not_before-at-requires : goal.first_not_before-at-requires
+first_not_before-at-requires g c =
     let number = g.S.IndexStorage.number in
-    subst (λ n. Passed (edges_seen number c.args.edges.now) c.cells.place (token n)) (sym c.index_below.ensures) (c.cells.invariant.passed c.cells.index c.cell_of_row-number.result.0 (action_of number c.cell_of_row-number.result.1) (omega arith) c.cell_of_row-number.ensures)
+    subst (λ n. Passed (edges_seen number c.args.edges.now) c.cells.at (token n)) (sym c.index_below.ensures) (c.cells.invariant.passed c.cells.index c.cell_of_row-number.result.0 (action_of number c.cell_of_row-number.result.1) (omega arith) c.cell_of_row-number.ensures)
 
 pub cells-preserved : goal.cells-preserved
 cells-preserved g c =
     let number = g.S.IndexStorage.number in
     actions_more c.args.grm.now.grammar c.args.items.now (edges_seen number c.args.edges.now) c.args.stable.now (number c.args.state.0) (cells_of number c.state_cells-row.result.now) c.state_cells-row.ensures.whole c.state_cells-row.ensures.cells
-    c.cells.place c.place_of-place.result c.cells.index c.cell_of_row-number.result.0 (number c.index_below.result) (action_of number c.cell_of_row-number.result.1) _
-    c.cells.invariant c.cell_of_row-number.ensures c.index_below.ensures c.place_of-place.ensures.passed c.target_at-edge.ensures (rw c.if-not-action_fits.false at c.action_fits.ensures)
+    c.cells.at c.first_not_before-at.result c.cells.index c.cell_of_row-number.result.0 (number c.index_below.result) (action_of number c.cell_of_row-number.result.1) _
+    c.cells.invariant c.cell_of_row-number.ensures c.index_below.ensures c.first_not_before-at.ensures.passed c.target_at-edge.ensures (rw c.if-not-action_fits.false at c.action_fits.ensures)
 
 pub returns-then-not-action_fits : goal.returns-then-not-action_fits
 returns-then-not-action_fits g c =
     let number = g.S.IndexStorage.number in
     actions_least c.args.grm.now.grammar c.args.items.now (edges_seen number c.args.edges.now) c.args.stable.now (number c.args.state.0) (cells_of number c.state_cells-row.result.now) c.state_cells-row.ensures.whole c.state_cells-row.ensures.cells
-    c.cells.place c.cells.index c.cell_of_row-number.result.0 (number c.index_below.result) (action_of number c.cell_of_row-number.result.1) _
+    c.cells.at c.cells.index c.cell_of_row-number.result.0 (number c.index_below.result) (action_of number c.cell_of_row-number.result.1) _
     c.cells.invariant c.cell_of_row-number.ensures c.index_below.ensures c.target_at-edge.ensures (rw c.if-not-action_fits.true at c.action_fits.ensures)
 
 pub returns : goal.returns
@@ -47,4 +47,4 @@ returns g c =
     let n = length-map c.state_cells-row.result.now f in
     let all : length (cells_of number c.state_cells-row.result.now) ≤ c.cells.index = omega (arith, n) in
     actions_all c.args.grm.now.grammar c.args.items.now (edges_seen number c.args.edges.now) c.args.stable.now (number c.args.state.0) (cells_of number c.state_cells-row.result.now) c.state_cells-row.ensures.whole c.state_cells-row.ensures.cells
-    c.cells.place c.cells.index c.cells.invariant all
+    c.cells.at c.cells.index c.cells.invariant all

@@ -1,6 +1,6 @@
 -- Forms, one after the other.
-use Rattle.std.proofs.Common.{◌≡◌, ℕ, List, [], ◌∷◌, ◌++◌, map, refl, sym, ap, ◌∙◌, subst}
-use Rattle.std.proofs.lemmas.List.{map-append}
+use Rattle.std.proofs.Common.{◌≡◌, ℕ, List, [], ◌∷◌, ◌++◌, map, drop, refl, sym, ap, ◌∙◌, subst}
+use Rattle.std.proofs.lemmas.List.{map-append, drop-map}
 use Rattle.cfg_theory.specs.Grammar.{Sym, rule, token, Grammar, body_of, IsOf, IsEnd}
 use Rattle.cfg_theory.specs.Derivation.{Replaces}
 use Rattle.conflict_examples.specs.Spines.{AreForms, Begins}
@@ -12,9 +12,17 @@ begins_with G t u form (rest, e) same = subst (Begins G t) (sym (e ∙ ap (λ v.
 pub begins_end : (G : Grammar) (t : ℕ) (form : List Sym) → form ≡ [] → IsEnd G t → Begins G t form
 begins_end G t form e end = subst (Begins G t) (sym e) (Begins.ends end)
 
-pub replaced_first : (G : Grammar) (p : ℕ) (form next : List Sym) → (A : ℕ) × (after : List Sym) × (form ≡ rule A ∷ after) × IsOf G p A → (tail : List Sym) → ((X : Sym) (l : List Sym) → form ≡ X ∷ l → tail ≡ l) →
-    next ≡ body_of G p ++ tail → Replaces G form next
-replaced_first G p form next (A, after, e, o) tail t n = record { before = []; after = after; head = A; production = p; is_of = o; old = e; new = n ∙ ap (λ l. body_of G p ++ l) (t (rule A) after e) }
+pub replaced_first : {V : Type 0} (f : V → Sym) (G : Grammar) (p : ℕ) (form none one next body : List V) → (A : ℕ) × (after : List Sym) × (map f form ≡ rule A ∷ after) × IsOf G p A →
+    none ≡ [] → one ≡ none ++ body → next ≡ one ++ drop 1 form → map f body ≡ body_of G p → Replaces G (map f form) (map f next)
+replaced_first f G p form none one next body (A, after, e, o) n b t m = record {
+  before = [];
+  after = after;
+  head = A;
+  production = p;
+  is_of = o;
+  old = e;
+  new = ap (map f) (t ∙ ap (λ l. l ++ drop 1 form) (b ∙ ap (λ l. l ++ body) n)) ∙ map-append f body (drop 1 form) ∙ ap (λ l. l ++ map f (drop 1 form)) m ∙ ap (λ l. body_of G p ++ l) (sym (drop-map f 1 form) ∙ ap (drop 1) e);
+}
 
 module _ (G : Grammar) where
   leaves_more : {a b c : List Sym} {forms : List (List Sym)} → Leaves G a forms b → Replaces G b c → Leaves G a (forms ++ b ∷ []) c
@@ -26,6 +34,9 @@ module _ (G : Grammar) where
   leaves_all (Leaves.one q l) = AreForms.next q (leaves_all l)
 
   module _ {V : Type 0} (h : V → List Sym) where
+    pub leave_none : (a : List Sym) (none : List V) → none ≡ [] → Leaves G a (map h none) a
+    leave_none a none e = subst (λ l. Leaves G a (map h l) a) (sym e) Leaves.none
+
     pub leave_more : (a c : List Sym) (before after : List V) (old : V) → after ≡ before ++ old ∷ [] → Replaces G (h old) c → Leaves G a (map h before) (h old) → Leaves G a (map h after) c
     leave_more a c before after old e r l = subst (λ forms. Leaves G a forms c) (sym (ap (map h) e ∙ map-append h before (old ∷ []))) (leaves_more l r)
 

@@ -4,3 +4,4 @@ pub mod Contests
 pub mod SymbolLists
 pub mod FormLists
 pub mod Openings
+pub mod Shows

@@ -7,7 +7,7 @@ ghost use Rattle.cfg_numbered.specs.Symbols.{sym_of, syms_of};
 ghost use Rattle.conflict_examples.specs.Opening.{LeaveForm, AreFormsTo};
 ghost use Rattle.conflict_examples.specs.Spines.{Begins};
 
-use crate::reading::is_of;
+use crate::reading::{is_of, symbols_behind};
 use cfg_base::index::IndexStorage;
 use cfg_base::symbol::{PIdx, Symbol, TIdx};
 use cfg_numbered::yacc::NumberedGrammar;
@@ -60,7 +60,7 @@ fn replaced<S: IndexStorage>(
     }
     let mut next = Vec::new(alloc);
     next.extend_from_slice(grm.prod(pidx))?;
-    next.extend_from_slice(&form[1..])?;
+    next.extend_from_slice(symbols_behind(form, 0))?;
     Ok(Some(next))
 }
 

@@ -6,23 +6,32 @@
 //! use lrtable::{Conflicts, StateGraph};
 //! use std::alloc::{AllocError, Global};
 //!
-//! /// The names of the symbols before the token of each listed shift against a reduction, a line for each example.
-//! fn told(
+//! /// Of each listed shift against a reduction, how many symbols stand before the token in an example.
+//! fn lengths(
 //!     alloc: Global,
 //!     grm: &NumberedGrammar<u32>,
 //!     graph: &StateGraph<u32>,
 //!     conflicts: &Conflicts<u32>,
-//! ) -> Result<usize, AllocError> {
+//! ) -> Result<Vec<usize>, AllocError> {
 //!     let finder = ExampleFinder::new(alloc, grm, graph)?;
-//!     let mut shown = 0;
+//!     let mut lengths = Vec::new(alloc);
 //!     for entry in conflicts.sr_conflicts() {
 //!         if let Some(example) = finder.shift_reduce(alloc, entry)? {
-//!             shown += example.symbols.len();
+//!             lengths.push(example.symbols.len())?;
 //!         }
 //!     }
-//!     Ok(shown)
+//!     Ok(lengths)
 //! }
 //! ```
+//!
+//! For `%start s %% s: 'if' e 'then' s | 'if' e 'then' s 'else' s | 'x'; e: 'e';` the list holds 6 alone: the example is
+//! `if e then if e then s` before `else`. Its spine for the shift is `^ -> . s`, `s -> if e then . s` and
+//! `s -> if e then s . else s`; for the reduction it is `^ -> . s`, `s -> if e then . s else s` and `s -> if e then s .`,
+//! with the one form `else s`.
+//!
+//! A search over the finished graph (`strings`, `along`, `steps`) comes to the open productions; what it comes to is checked
+//! against the grammar (`opened`, `forms`, `shown`), and only what passes is answered. The contracts that matter most are
+//! those of `finder::ExampleFinder`; the laws that tie examples to canonical LR(1) are in `laws`.
 #![tactic(auto)]
 
 mod along;

@@ -1,12 +1,12 @@
 //! Opens one production within another, and keeps the string before the dots and what stands behind.
 
-ghost use Rattle.std.specs.Prelude.{◌≡◌, ◌<◌, ◌≤◌, ◌++◌, ℕ, suc, take, drop, length, IsTrue, IfOk, IfSome};
+ghost use Rattle.std.specs.Prelude.{◌≡◌, ◌<◌, ◌++◌, ℕ, suc, length, IsTrue, IfOk, IfSome};
 ghost use Rattle.cfg_theory.specs.Grammar.{rule, IsNext, IsOf};
 ghost use Rattle.lr_theory.specs.Canonical.{from_dot};
 ghost use Rattle.cfg_numbered.specs.Symbols.{syms_of};
 ghost use Rattle.conflict_examples.specs.Opening.{IsOpen};
 
-use crate::reading::{has_production, is_of, symbol_after};
+use crate::reading::{has_production, is_of, symbol_after, symbols_before, symbols_behind};
 use cfg_base::index::IndexStorage;
 use cfg_base::symbol::{PIdx, SIdx, Symbol};
 use cfg_numbered::yacc::NumberedGrammar;
@@ -62,24 +62,6 @@ fn stands_after<S: IndexStorage>(
         Some(Symbol::Token(_)) => false,
         None => false,
     }
-}
-
-/// The symbols before the index.
-fn symbols_before<S>(symbols: &[Symbol<S>], index: usize) -> &[Symbol<S>]
-    requires { index ≤ length symbols.now }
-    ensures { result.now ≡ take index symbols.now }
-{
-    &symbols[..index]
-}
-
-/// The symbols behind the one at the index.
-fn symbols_behind<S>(symbols: &[Symbol<S>], index: usize) -> &[Symbol<S>]
-    ensures { result.now ≡ drop (suc index) symbols.now }
-{
-    if index >= symbols.len() {
-        return &symbols[symbols.len()..];
-    }
-    &symbols[index + 1..]
 }
 
 /// The symbols behind the one after the dot, and others behind them.

@@ -1,6 +1,6 @@
 //! Reads productions that need not be those of the grammar.
 
-ghost use Rattle.std.specs.Prelude.{◌≡◌, ◌<◌, ℕ, length, IsTrue, IfSome};
+ghost use Rattle.std.specs.Prelude.{◌≡◌, ◌<◌, ◌≤◌, ℕ, suc, take, drop, length, IsTrue, IfSome};
 ghost use Rattle.cfg_theory.specs.Grammar.{IsNext, IsOf};
 ghost use Rattle.cfg_numbered.specs.Symbols.{sym_of};
 
@@ -43,4 +43,22 @@ pub fn symbol_after<S: IndexStorage>(
         return None;
     }
     Some(symbols[index])
+}
+
+/// The symbols before the index.
+pub fn symbols_before<S>(symbols: &[Symbol<S>], index: usize) -> &[Symbol<S>]
+    requires { index ≤ length symbols.now }
+    ensures { result.now ≡ take index symbols.now }
+{
+    &symbols[..index]
+}
+
+/// The symbols behind the one at the index.
+pub fn symbols_behind<S>(symbols: &[Symbol<S>], index: usize) -> &[Symbol<S>]
+    ensures { result.now ≡ drop (suc index) symbols.now }
+{
+    if index >= symbols.len() {
+        return &symbols[symbols.len()..];
+    }
+    &symbols[index + 1..]
 }

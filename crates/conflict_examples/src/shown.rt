@@ -151,6 +151,19 @@ fn same_symbol<S: IndexStorage>(a: Symbol<S>, b: Symbol<S>) -> bool
     }
 }
 
+/// Whether two lists of one length have the same symbols.
+fn same_each<S: IndexStorage>(a: &[Symbol<S>], b: &[Symbol<S>]) -> bool
+    requires { length a.now ≡ length b.now }
+    ensures { IsTrue result → syms_of S.number a.now ≡ syms_of S.number b.now }
+{
+    'symbols: for k in 0..a.len() {
+        if !same_symbol(a[k], b[k]) {
+            return false;
+        }
+    }
+    true
+}
+
 /// Whether two lists of symbols are one.
 fn same_symbols<S: IndexStorage>(a: &[Symbol<S>], b: &[Symbol<S>]) -> bool
     ensures { IsTrue result → syms_of S.number a.now ≡ syms_of S.number b.now }
@@ -158,12 +171,7 @@ fn same_symbols<S: IndexStorage>(a: &[Symbol<S>], b: &[Symbol<S>]) -> bool
     if a.len() != b.len() {
         return false;
     }
-    'symbols: for k in 0..a.len() {
-        if !same_symbol(a[k], b[k]) {
-            return false;
-        }
-    }
-    true
+    same_each(a, b)
 }
 
 /// The state that the symbols lead to, if there is one.

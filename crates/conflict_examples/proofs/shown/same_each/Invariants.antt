@@ -1,6 +1,6 @@
-use Rattle.std.proofs.Common.{◌≡◌, ℕ, take, length}
-use Rattle.cfg_numbered.specs.Symbols.{sym_of, syms_of}
-use Rattle.conflict_examples.proofs.shown.same_symbols.Given as goal
+use Rattle.std.proofs.Common.{◌≡◌, ℕ, take}
+use Rattle.cfg_numbered.specs.Symbols.{syms_of}
+use Rattle.conflict_examples.proofs.shown.same_each.Given as goal
 
 -- the symbols before the index are the same
 abbrev pub invariant-symbols : goal.invariant-symbols

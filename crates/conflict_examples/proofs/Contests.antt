@@ -1,0 +1,50 @@
+-- Examples are contests.
+use Rattle.std.proofs.Common.{◌≡◌, ◌≢◌, ℕ, zero, suc, ◌⊎◌, inl, inr, List, [], ◌∷◌, ◌++◌, length, refl, sym, ap, ◌∙◌, subst}
+use Rattle.cfg_theory.specs.Grammar.{Sym, rule, token, Grammar, body_of, end_token, IsOf, IsNext, IsEnd}
+use Rattle.cfg_theory.specs.Derivation.{Replaces, Derives, Nullable, IsFirst, IsFirstBefore}
+use Rattle.lr_theory.specs.Canonical.{Present, Look, from_dot, Act, shift, reduce, accept, Allows, Contest}
+use Rattle.conflict_examples.specs.Spines.{Item, IsSpine, around, AreForms, Begins, Shown, Stands, ShowsAct, Example, IsExample, SomeSpine, SomeSpineBefore, ExamplesAreContests}
+use Rattle.conflict_examples.proofs.Items.{present_spine, look_spine, stands_present, stands_look}
+
+module _ (G : Grammar) where
+  forms_derive : {a c : List Sym} {forms : List (List Sym)} → AreForms G a forms c → Derives G a c
+  forms_derive AreForms.last = Derives.none
+  forms_derive (AreForms.next r f) = Derives.one r (forms_derive f)
+
+  derived_forms : {a c : List Sym} → Derives G a c → (forms : List (List Sym)) × AreForms G a forms c
+  derived_forms {a} Derives.none = (a ∷ [], AreForms.last)
+  derived_forms {a} (Derives.one r d) = let (forms, f) = derived_forms d in (a ∷ forms, AreForms.next r f)
+
+  begun_first : (t : ℕ) {a c : List Sym} → Derives G a c → Begins G t c → IsFirstBefore G a (end_token G) t
+  begun_first t d (Begins.opens rest) = inl (rest, d)
+  begun_first t d (Begins.ends e) = inr (d, e)
+
+  shown_allows : (w : List Sym) (t : ℕ) (x : Shown) (a : Act) → ShowsAct G w t x a → Allows G (Present G w) (Look G w) t a
+  shown_allows w t x shift (ShowsAct.shifts i s n e) = (i.production, i.dot, stands_present G s, n)
+  shown_allows w t x (reduce p) (ShowsAct.reduces i c s differ e f b) = (differ, subst (λ d. Look G w i.production d t) e (stands_look G t s (begun_first t (forms_derive f) b)))
+  shown_allows w t x accept h = elim h [ ]
+
+  reduced : (w : List Sym) (t p : ℕ) → p ≢ G.start → SomeSpineBefore G w p (length (body_of G p)) t → (x : Shown) × ShowsAct G w t x (reduce p)
+  reduced w t p differ (spine, s, inl (rest, d)) =
+      let (forms, f) = derived_forms d in
+      (record { spine = spine; forms = forms }, ShowsAct.reduces (record { production = p; dot = length (body_of G p) }) (token t ∷ rest) s differ refl f (Begins.opens rest))
+  reduced w t p differ (spine, s, inr (d, e)) =
+      let (forms, f) = derived_forms d in
+      (record { spine = spine; forms = forms }, ShowsAct.reduces (record { production = p; dot = length (body_of G p) }) [] s differ refl f (Begins.ends e))
+
+  shifted : (w : List Sym) (t p d : ℕ) → SomeSpine G w p d → IsNext G p d (token t) → (x : Shown) × ShowsAct G w t x shift
+  shifted w t p d (spine, s) n = (record { spine = spine; forms = [] }, ShowsAct.shifts (record { production = p; dot = d }) s n refl)
+
+  allowed_shown : (w : List Sym) (t : ℕ) (a : Act) → a ≢ accept → Allows G (Present G w) (Look G w) t a → (x : Shown) × ShowsAct G w t x a
+  allowed_shown w t shift other (p, d, h, n) = shifted w t p d (present_spine G h) n
+  allowed_shown w t (reduce p) other (differ, l) = reduced w t p differ (look_spine G l)
+  allowed_shown w t accept other h = absurd (other refl)
+
+pub examples_are_contests : ExamplesAreContests
+examples_are_contests = record {
+  contest = λ G x a b h. record { differ = h.differ; one = shown_allows G x.string x.token x.first a h.one; other = shown_allows G x.string x.token x.second b h.other };
+  shown = λ G w t a b na nb h.
+      let (x, f) = allowed_shown G w t a na h.one in
+      let (y, g) = allowed_shown G w t b nb h.other in
+      (record { string = w; token = t; first = x; second = y }, refl, refl, record { differ = h.differ; one = f; other = g });
+}

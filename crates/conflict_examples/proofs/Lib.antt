@@ -1,0 +1,7 @@
+pub mod Firsts
+pub mod Items
+pub mod Contests
+pub mod SymbolLists
+pub mod FormLists
+pub mod Openings
+pub mod Shows

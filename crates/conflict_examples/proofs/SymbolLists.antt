@@ -1,0 +1,45 @@
+-- Lists of symbols, symbol by symbol.
+use Rattle.std.proofs.Common.{arith, ◌≡◌, ℕ, zero, suc, ◌+◌, ◌<◌, ◌≤◌, List, [], ◌∷◌, ◌++◌, length, map, take, reverse, get_or, Some, Option, refl, sym, ap, ◌∙◌, subst, append_assoc}
+use Rattle.std.proofs.lemmas.List.{get_or-map, length-map, take_more, take_more_same, reverse-append}
+use Rattle.cfg_theory.specs.Grammar.{Sym}
+use Rattle.lr_theory.specs.Graph.{Graph, Leads}
+
+module _ {A B : Type 0} (f : A → B) where
+  pub map_at : (xs : List A) (k : ℕ) (x : A) (d : B) → k < length xs → x ≡ get_or xs k x → get_or (map f xs) k d ≡ f x
+  map_at xs k x d lt e = get_or-map f xs k x d lt ∙ ap f (sym e)
+
+  pub first_is : (xs : List A) (x : A) → x ≡ get_or xs 0 x → (length xs ≡ 0 → ⊥) → (rest : List B) × (map f xs ≡ f x ∷ rest)
+  first_is [] x e n = absurd (n refl)
+  first_is (y ∷ xs) x e n = (map f xs, ap (λ z. f z ∷ map f xs) (sym e))
+
+  pub none_is : (xs : List A) → length xs ≡ 0 → map f xs ≡ []
+  none_is [] e = refl
+  none_is (x ∷ xs) e = absurd (omega (arith, e))
+
+  pub same_more : (xs ys : List A) (k : ℕ) (x y : A) → k < length xs → length xs ≡ length ys → x ≡ get_or xs k x → y ≡ get_or ys k y → f x ≡ f y →
+      take k (map f xs) ≡ take k (map f ys) → take (k + 1) (map f xs) ≡ take (k + 1) (map f ys)
+  same_more xs ys k x y lt same a b e before =
+      let left : k < length (map f xs) = omega (arith, lt, length-map xs f) in
+      let right : k < length (map f ys) = omega (arith, lt, same, length-map ys f) in
+      let other : k < length ys = omega (arith, lt, same) in
+      take_more_same (map f xs) (map f ys) k (f x) left right before (map_at xs k x (f x) lt a ∙ e ∙ sym (map_at ys k y (f x) other b))
+
+all_taken : {A : Type 0} (xs : List A) (k : ℕ) → length xs ≤ k → take k xs ≡ xs
+all_taken [] zero h = refl
+all_taken [] (suc k) h = refl
+all_taken (x ∷ xs) zero h = absurd (omega (arith, h))
+all_taken (x ∷ xs) (suc k) h = ap (λ l. x ∷ l) (all_taken xs k (omega (arith, h)))
+
+pub same_all : {A B : Type 0} (f : A → B) (xs ys : List A) (k : ℕ) → length xs ≤ k → length xs ≡ length ys → take k (map f xs) ≡ take k (map f ys) → map f xs ≡ map f ys
+same_all f xs ys k h same e =
+    sym (all_taken (map f xs) k (omega (arith, h, length-map xs f))) ∙ e ∙ all_taken (map f ys) k (omega (arith, h, same, length-map ys f))
+
+pub all_of : {A B : Type 0} (f : A → B) (xs : List A) (k : ℕ) → length xs ≤ k → take k (map f xs) ≡ map f xs
+all_of f xs k h = all_taken (map f xs) k (omega (arith, h, length-map xs f))
+
+pub leads_more : {A : Type 0} (f : A → Sym) (g : Graph) (xs : List A) (k : ℕ) (x : A) (s t : ℕ) → k < length xs → x ≡ get_or xs k x → g.edge s (f x) ≡ Some t →
+    Leads g (reverse (take k (map f xs))) s → Leads g (reverse (take (k + 1) (map f xs))) t
+leads_more f g xs k x s t lt e edge before =
+    let inside : k < length (map f xs) = omega (arith, lt, length-map xs f) in
+    let one : take (k + 1) (map f xs) ≡ take k (map f xs) ++ f x ∷ [] = take_more (map f xs) k (f x) inside ∙ ap (λ y. take k (map f xs) ++ y ∷ []) (map_at f xs k x (f x) lt e) in
+    subst (λ w. Leads g w t) (sym (ap reverse one ∙ reverse-append (take k (map f xs)) (f x ∷ []))) (Leads.on before edge)

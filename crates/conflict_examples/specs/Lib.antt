@@ -1,0 +1,4 @@
+-- Examples of conflicts that can be checked against the grammar alone.
+pub mod Spines
+pub mod ExampleViews
+pub mod Opening

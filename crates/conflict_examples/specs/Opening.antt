@@ -1,0 +1,45 @@
+-- What is open while an example is put together.
+use Rattle.std.specs.Prelude.{◌≡◌, ℕ, List, [], ◌∷◌, map, reverse}
+use Rattle.cfg_base.specs.declared.symbol.PIdx.{PIdx}
+use Rattle.cfg_base.specs.declared.symbol.SIdx.{SIdx}
+use Rattle.cfg_theory.specs.Grammar.{Sym, Grammar}
+use Rattle.cfg_theory.specs.Derivation.{Replaces}
+use Rattle.lr_theory.specs.Canonical.{Act}
+use Rattle.cfg_numbered.specs.Symbols.{syms_of}
+use Rattle.conflict_examples.specs.Spines.{Item, IsSpine, before_dots, around, AreForms, Begins, ShowsAct}
+use Rattle.conflict_examples.specs.ExampleViews.{open_item, spine_of, shown_of}
+use Rattle.conflict_examples.specs.declared.opened.Opened.{Opened}
+use Rattle.conflict_examples.specs.declared.forms.Forms.{Forms}
+use Rattle.conflict_examples.specs.declared.shown.Part.{Part}
+
+-- the list is a spine, with the string before its dots and the list behind its innermost production
+pub record IsOpened (G : Grammar) (spine : List Item) (w others : List Sym) : Type 0 where
+  pub is_spine : IsSpine G spine
+  pub string : before_dots G spine ≡ w
+  pub rest : around G spine ≡ others
+
+-- the innermost first
+abbrev pub opened_spine : {S : Type 0} → (S → ℕ) → Opened S → List Item
+opened_spine number o = open_item number (o.pidx, o.dot) ∷ spine_of number o.outer.items
+
+abbrev pub IsOpen : {S : Type 0} → (S → ℕ) → Grammar → Opened S → Type 0
+IsOpen number G o = IsOpened G (opened_spine number o) (reverse (syms_of number o.symbols.items)) (syms_of number o.rest.items)
+
+-- each of the forms gives the next one by a replacement, and the last one gives c
+pub data Leaves (G : Grammar) : List Sym → List (List Sym) → List Sym → Type 0 where
+  none : {a : List Sym} → Leaves G a [] a
+  one : {a b c : List Sym} {forms : List (List Sym)} → Replaces G a b → Leaves G b forms c → Leaves G a (a ∷ forms) c
+
+-- so far
+abbrev pub LeaveForm : {S : Type 0} → (S → ℕ) → Grammar → List Sym → Forms S → Type 0
+LeaveForm number G a f = Leaves G a (map (λ x. syms_of number x.items) f.before.items) (syms_of number f.form.items)
+
+-- forms from the first one to one that begins with the token
+pub record AreFormsTo (G : Grammar) (t : ℕ) (a : List Sym) (forms : List (List Sym)) : Type 0 where
+  pub last : List Sym
+  pub forms_are : AreForms G a forms last
+  pub begins : Begins G t last
+
+-- what is shown of the action on the token after the symbols
+abbrev pub PartShows : {S : Type 0} → (S → ℕ) → Grammar → ℕ → Act → Part S → Type 0
+PartShows number G t a x = ShowsAct G (reverse (syms_of number x.symbols.items)) t (shown_of number x.shown) a

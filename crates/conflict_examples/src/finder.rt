@@ -1,0 +1,129 @@
+//! Finds examples of the conflicts of a table.
+
+ghost use Rattle.std.specs.Prelude.{◌≡◌, IfOk, IfSome};
+ghost use Rattle.lr_theory.specs.Canonical.{shift, reduce};
+ghost use Rattle.lr_theory.specs.Graph.{Leads};
+ghost use Rattle.lrtable.specs.Graphs.{graph_of};
+ghost use Rattle.conflict_examples.specs.ExampleViews.{FinderValue, example_of};
+ghost use Rattle.conflict_examples.specs.Spines.{IsExample};
+
+use crate::checked::{checked_pair, checked_shift};
+use crate::examples::ConflictExample;
+use crate::source::Source;
+use crate::tables::Tables;
+use crate::traces::{pair_traces, shift_traces};
+use cfg_base::index::IndexStorage;
+use cfg_base::symbol::{PIdx, TIdx};
+use cfg_numbered::yacc::NumberedGrammar;
+use lrtable::stategraph::StateGraph;
+use lrtable::stidx::StIdx;
+use std::alloc::{AllocError, Global};
+use std::marker::Model;
+
+/// Finds examples of the conflicts in the states of a grammar's graph. Contracts see the grammar and the graph.
+#[derive(Drop)]
+pub struct ExampleFinder<'a, S: IndexStorage> {
+    grm: &'a NumberedGrammar<S>,
+    graph: &'a StateGraph<S>,
+    tables: Tables<S>,
+}
+
+impl<'a, S: IndexStorage> Model for ExampleFinder<'a, S> {
+    ghost use Rattle.conflict_examples.specs.ExampleViews.{FinderValue};
+
+    ghost Value = { FinderValue };
+
+    ghost view = { λ f. record { grammar = f.grm.now; graph = f.graph.now } };
+}
+
+impl<'a, S: IndexStorage> ExampleFinder<'a, S> {
+    /// Makes what serves the search for each conflict. The graph is to be that of the grammar; of another one no example may
+    /// be found.
+    pub fn new(
+        alloc: Global,
+        grm: &'a NumberedGrammar<S>,
+        graph: &'a StateGraph<S>,
+    ) -> Result<ExampleFinder<'a, S>, AllocError>
+        ensures { IfOk result (λ f. f ≡ record { grammar = grm.now; graph = graph.now }) }
+    {
+        let tables = Tables::new(alloc, grm, graph)?;
+        Ok(ExampleFinder { grm, graph, tables })
+    }
+
+    /// An example of a listed shift against a reduction: on its own token, after symbols that lead to its state. None where
+    /// the search finds none; that it finds one for each entry that a table lists is not proved.
+    pub fn shift_reduce(
+        &self,
+        alloc: Global,
+        entry: &(TIdx<S>, PIdx<S>, StIdx<S>),
+    ) -> Result<Option<ConflictExample<S>>, AllocError>
+        ensures example { IfOk result (λ o. IfSome o (λ x. IsExample self.now.grammar.grammar (example_of S.number x) shift (reduce (S.number entry.now.1.0)))) }
+        ensures token { IfOk result (λ o. IfSome o (λ x. S.number x.token.0 ≡ S.number entry.now.0.0)) }
+        ensures state { IfOk result (λ o. IfSome o (λ x. Leads (graph_of self.now.graph) (example_of S.number x).string (S.number entry.now.2.0))) }
+    {
+        let (token, production, stidx) = *entry;
+        let source = self.source(token);
+        let Some((first, second)) = shift_traces(alloc, &source, production, stidx)? else {
+            return Ok(None);
+        };
+        checked_shift(
+            alloc, self.grm, self.graph, token, production, stidx, &first, &second,
+        )
+    }
+
+    /// An example of a listed pair of reductions, after symbols that lead to its state. Its token may be another than the
+    /// listed one: states that were merged share lookaheads that no single string has. None where the search finds none;
+    /// that it finds one for each entry that a table lists is not proved.
+    pub fn reduce_reduce(
+        &self,
+        alloc: Global,
+        entry: &(TIdx<S>, PIdx<S>, PIdx<S>, StIdx<S>),
+    ) -> Result<Option<ConflictExample<S>>, AllocError>
+        ensures example { IfOk result (λ o. IfSome o (λ x. IsExample self.now.grammar.grammar (example_of S.number x) (reduce (S.number entry.now.1.0)) (reduce (S.number entry.now.2.0)))) }
+        ensures state { IfOk result (λ o. IfSome o (λ x. Leads (graph_of self.now.graph) (example_of S.number x).string (S.number entry.now.3.0))) }
+    {
+        let (listed, first, second, stidx) = *entry;
+        let found = self.pair_on(alloc, listed, first, second, stidx)?;
+        if found.is_some() {
+            return Ok(found);
+        }
+        'tokens: for number in 0..self.grm.tokens_len().0.to_usize() {
+            let token = self.grm.token_at(number);
+            let found = self.pair_on(alloc, token, first, second, stidx)?;
+            if found.is_some() {
+                return Ok(found);
+            }
+        }
+        Ok(None)
+    }
+
+    fn source(&self, token: TIdx<S>) -> Source<'_, S> {
+        Source {
+            grm: self.grm,
+            graph: self.graph,
+            tables: &self.tables,
+            token,
+        }
+    }
+
+    /// An example of a pair of reductions on the token.
+    fn pair_on(
+        &self,
+        alloc: Global,
+        token: TIdx<S>,
+        first: PIdx<S>,
+        second: PIdx<S>,
+        stidx: StIdx<S>,
+    ) -> Result<Option<ConflictExample<S>>, AllocError>
+        ensures example { IfOk result (λ o. IfSome o (λ x. IsExample self.now.grammar.grammar (example_of S.number x) (reduce (S.number first.0)) (reduce (S.number second.0)))) }
+        ensures state { IfOk result (λ o. IfSome o (λ x. Leads (graph_of self.now.graph) (example_of S.number x).string (S.number stidx.0))) }
+    {
+        let source = self.source(token);
+        let Some((one, other)) = pair_traces(alloc, &source, first, second, stidx)? else {
+            return Ok(None);
+        };
+        checked_pair(
+            alloc, self.grm, self.graph, token, first, second, stidx, &one, &other,
+        )
+    }
+}

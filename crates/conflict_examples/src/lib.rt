@@ -1,0 +1,53 @@
+//! Examples of the conflicts of a table, which can be checked against the grammar alone.
+//!
+//! ```rust
+//! use cfg_numbered::yacc::NumberedGrammar;
+//! use conflict_examples::ExampleFinder;
+//! use lrtable::{Conflicts, StateGraph};
+//! use std::alloc::{AllocError, Global};
+//!
+//! /// Of each listed shift against a reduction, how many symbols stand before the token in an example.
+//! fn lengths(
+//!     alloc: Global,
+//!     grm: &NumberedGrammar<u32>,
+//!     graph: &StateGraph<u32>,
+//!     conflicts: &Conflicts<u32>,
+//! ) -> Result<Vec<usize>, AllocError> {
+//!     let finder = ExampleFinder::new(alloc, grm, graph)?;
+//!     let mut lengths = Vec::new(alloc);
+//!     for entry in conflicts.sr_conflicts() {
+//!         if let Some(example) = finder.shift_reduce(alloc, entry)? {
+//!             lengths.push(example.symbols.len())?;
+//!         }
+//!     }
+//!     Ok(lengths)
+//! }
+//! ```
+//!
+//! For `%start s %% s: 'if' e 'then' s | 'if' e 'then' s 'else' s | 'x'; e: 'e';` the list holds 6 alone: the example is
+//! `if e then if e then s` before `else`. Its spine for the shift is `^ -> . s`, `s -> if e then . s` and
+//! `s -> if e then s . else s`; for the reduction it is `^ -> . s`, `s -> if e then . s else s` and `s -> if e then s .`,
+//! with the one form `else s`.
+//!
+//! A search over the finished graph (`strings`, `along`, `steps`) comes to the open productions; what it comes to is checked
+//! against the grammar (`opened`, `forms`, `shown`), and only what passes is answered. The contracts that matter most are
+//! those of `finder::ExampleFinder`; the laws that tie examples to canonical LR(1) are in `laws`.
+#![tactic(auto)]
+
+mod along;
+mod checked;
+pub mod examples;
+pub mod finder;
+mod forms;
+pub mod laws;
+mod opened;
+mod reading;
+mod shown;
+mod source;
+mod steps;
+mod strings;
+mod tables;
+mod traces;
+
+pub use examples::{ActionExample, ConflictExample};
+pub use finder::ExampleFinder;

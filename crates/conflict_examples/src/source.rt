@@ -1,0 +1,99 @@
+//! What a search for one token reads.
+
+use crate::reading::symbol_after;
+use crate::tables::{Start, Tables};
+use cfg_base::index::IndexStorage;
+use cfg_base::symbol::{PIdx, RIdx, SIdx, Symbol, TIdx};
+use cfg_numbered::yacc::NumberedGrammar;
+use lrtable::stategraph::StateGraph;
+use lrtable::stidx::StIdx;
+use std::alloc::{AllocError, Global};
+
+/// The grammar, its graph, and the token.
+#[derive(Drop)]
+pub struct Source<'a, S: IndexStorage> {
+    pub grm: &'a NumberedGrammar<S>,
+    pub graph: &'a StateGraph<S>,
+    pub tables: &'a Tables<S>,
+    pub token: TIdx<S>,
+}
+
+/// An item before whose rule others stand, and how what follows the rule begins.
+#[derive(Clone, Copy)]
+pub struct Outer<S> {
+    pub pidx: PIdx<S>,
+    pub dot: SIdx<S>,
+    pub rest: Start,
+}
+
+impl<'a, S: IndexStorage> Source<'a, S> {
+    /// Whether the token is among the lookaheads of the item in the state.
+    pub fn has_look(&self, stidx: StIdx<S>, pidx: PIdx<S>, dot: SIdx<S>) -> bool {
+        if !self.graph.has_state(stidx) {
+            return false;
+        }
+        match self.graph.closed_state(stidx).get(pidx, dot) {
+            Some(looks) => looks.get(self.token.0.to_usize()).unwrap_or(false),
+            None => false,
+        }
+    }
+
+    /// Whether the symbol is the one after the dot.
+    pub fn is_after(&self, pidx: PIdx<S>, dot: SIdx<S>, wanted: Symbol<S>) -> bool {
+        match (symbol_after(self.grm, pidx, dot), wanted) {
+            (Some(Symbol::Rule(a)), Symbol::Rule(b)) => a.0.to_usize() == b.0.to_usize(),
+            (Some(Symbol::Token(a)), Symbol::Token(b)) => a.0.to_usize() == b.0.to_usize(),
+            _ => false,
+        }
+    }
+
+    /// The items of the state with the symbol after their dot.
+    pub fn items_before(
+        &self,
+        alloc: Global,
+        stidx: StIdx<S>,
+        symbol: Symbol<S>,
+    ) -> Result<Vec<(PIdx<S>, SIdx<S>)>, AllocError> {
+        let mut found = Vec::new(alloc);
+        if !self.graph.has_state(stidx) {
+            return Ok(found);
+        }
+        let items = self.graph.closed_state(stidx);
+        'items: for index in 0..items.len() {
+            let (pidx, dot) = items.item_at(index);
+            if self.is_after(pidx, dot, symbol) {
+                found.push((pidx, dot))?;
+            }
+        }
+        Ok(found)
+    }
+
+    /// The items of the state before whose rule those of the rule stand.
+    pub fn outer(
+        &self,
+        alloc: Global,
+        stidx: StIdx<S>,
+        ridx: RIdx<S>,
+    ) -> Result<Vec<Outer<S>>, AllocError> {
+        let mut outer = Vec::new(alloc);
+        let items = self.items_before(alloc, stidx, Symbol::Rule(ridx))?;
+        'items: for index in 0..items.len() {
+            let (pidx, dot) = items[index];
+            let rest = self
+                .tables
+                .rest_start(self.grm, pidx, dot.0.to_usize(), self.token);
+            outer.push(Outer { pidx, dot, rest })?;
+        }
+        Ok(outer)
+    }
+
+    /// Whether the token is the end token.
+    pub fn is_end(&self) -> bool {
+        self.token.0.to_usize() == self.grm.eof_token_idx().0.to_usize()
+    }
+
+    /// Whether the production is that of the start.
+    pub fn is_start(&self, pidx: PIdx<S>) -> bool {
+        pidx.0.to_usize() == self.grm.start_prod().0.to_usize()
+    }
+}

@@ -1,0 +1,213 @@
+//! Finds the productions by which a list derives one that begins with a token, each put in the place of the first symbol.
+
+use crate::reading::{has_production, symbol_after};
+use crate::source::Source;
+use cfg_base::index::IndexStorage;
+use cfg_base::symbol::{PIdx, RIdx, SIdx, Symbol};
+use std::alloc::{AllocError, Global};
+
+/// For each rule that begins with the token, a production by which it comes nearer to that, and how many are needed.
+#[derive(Drop)]
+struct Ways<S> {
+    by: Vec<Option<PIdx<S>>>,
+    ranks: Vec<usize>,
+}
+
+/// Where the token comes from in a list: the index of a symbol before which all may vanish, and how many productions are
+/// needed there.
+#[derive(Clone, Copy)]
+struct Origin {
+    index: usize,
+    rank: usize,
+}
+
+impl<S: IndexStorage> Ways<S> {
+    /// How many productions a symbol needs to begin with the token; `usize::MAX` where it doesn't.
+    fn rank<'a>(&self, source: &Source<'a, S>, symbol: Symbol<S>) -> usize {
+        match symbol {
+            Symbol::Rule(ridx) => self.rank_of(ridx),
+            Symbol::Token(tidx) => {
+                if tidx.0.to_usize() == source.token.0.to_usize() {
+                    0
+                } else {
+                    usize::MAX
+                }
+            }
+        }
+    }
+
+    fn rank_of(&self, ridx: RIdx<S>) -> usize {
+        let number = ridx.0.to_usize();
+        if number >= self.ranks.len() {
+            return usize::MAX;
+        }
+        self.ranks[number]
+    }
+
+    fn way(&self, ridx: RIdx<S>) -> Option<PIdx<S>> {
+        let number = ridx.0.to_usize();
+        if number >= self.by.len() {
+            return None;
+        }
+        self.by[number]
+    }
+
+    /// The origin of the least rank.
+    fn origin<'a>(&self, source: &Source<'a, S>, symbols: &[Symbol<S>]) -> Origin {
+        let mut best = Origin {
+            index: 0,
+            rank: usize::MAX,
+        };
+        'symbols: for index in 0..symbols.len() {
+            let rank = self.rank(source, symbols[index]);
+            if rank < best.rank {
+                best = Origin { index, rank };
+            }
+            if !source
+                .tables
+                .symbol_start(symbols[index], source.token)
+                .vanishes
+            {
+                return best;
+            }
+        }
+        best
+    }
+
+    /// Notes a production by which its rule comes to the token with so many productions.
+    fn note(&mut self, ridx: RIdx<S>, pidx: PIdx<S>, rank: usize) -> bool {
+        let number = ridx.0.to_usize();
+        if number >= self.ranks.len() || number >= self.by.len() {
+            return false;
+        }
+        if self.ranks[number] <= rank {
+            return false;
+        }
+        self.ranks[number] = rank;
+        self.by[number] = Some(pidx);
+        true
+    }
+
+    /// Goes through the productions, and tells whether a rule was found to need so many.
+    fn more<'a>(&mut self, source: &Source<'a, S>, rank: usize) -> bool {
+        let mut changed = false;
+        'prods: for number in 0..source.grm.prods_len().0.to_usize() {
+            let pidx = source.grm.prod_at(number);
+            let origin = self.origin(source, source.grm.prod(pidx));
+            if origin.rank < rank {
+                changed |= self.note(source.grm.prod_to_rule(pidx), pidx, rank);
+            }
+        }
+        changed
+    }
+}
+
+/// The ways of all rules.
+fn ways_of<'a, S: IndexStorage>(
+    alloc: Global,
+    source: &Source<'a, S>,
+) -> Result<Ways<S>, AllocError> {
+    let rules = source.grm.rules_len().0.to_usize();
+    let mut by = Vec::new(alloc);
+    by.resize(rules, None)?;
+    let mut ranks = Vec::new(alloc);
+    ranks.resize(rules, usize::MAX)?;
+    let mut ways = Ways { by, ranks };
+    'passes: for rank in 0..rules {
+        if !ways.more(source, rank + 1) {
+            return Ok(ways);
+        }
+    }
+    Ok(ways)
+}
+
+/// What stands behind the innermost production of these.
+fn behind<'a, S: IndexStorage>(
+    alloc: Global,
+    source: &Source<'a, S>,
+    items: &[(PIdx<S>, SIdx<S>)],
+) -> Result<Vec<Symbol<S>>, AllocError> {
+    let mut rest = Vec::new(alloc);
+    'items: for back in 1..items.len() {
+        let (pidx, dot) = items[items.len() - 1 - back];
+        if symbol_after(source.grm, pidx, dot).is_some() {
+            push_rest(source, pidx, dot.0.to_usize(), &mut rest)?;
+        }
+    }
+    Ok(rest)
+}
+
+/// Puts the symbols behind the one after the dot to the end.
+fn push_rest<'a, S: IndexStorage>(
+    source: &Source<'a, S>,
+    pidx: PIdx<S>,
+    dot: usize,
+    rest: &mut Vec<Symbol<S>>,
+) -> Result<(), AllocError> {
+    if !has_production(source.grm, pidx) {
+        return Ok(());
+    }
+    let body = source.grm.prod(pidx);
+    if dot < body.len() {
+        rest.extend_from_slice(&body[dot + 1..])?;
+    }
+    Ok(())
+}
+
+/// The production that is to be put in the place of the first symbol, if one is.
+fn next_step<'a, S: IndexStorage>(
+    source: &Source<'a, S>,
+    ways: &Ways<S>,
+    form: &[Symbol<S>],
+) -> Option<PIdx<S>> {
+    if form.is_empty() {
+        return None;
+    }
+    let origin = ways.origin(source, form);
+    match form[0] {
+        Symbol::Rule(ridx) => {
+            if origin.index == 0 && origin.rank < usize::MAX {
+                ways.way(ridx)
+            } else {
+                source.tables.vanishing(ridx)
+            }
+        }
+        Symbol::Token(_) => None,
+    }
+}
+
+/// The production, and the form behind its first symbol.
+fn after_step<'a, S: IndexStorage>(
+    alloc: Global,
+    source: &Source<'a, S>,
+    pidx: PIdx<S>,
+    form: &[Symbol<S>],
+) -> Result<Vec<Symbol<S>>, AllocError> {
+    let mut next = Vec::new(alloc);
+    if has_production(source.grm, pidx) {
+        next.extend_from_slice(source.grm.prod(pidx))?;
+    }
+    if !form.is_empty() {
+        next.extend_from_slice(&form[1..])?;
+    }
+    Ok(next)
+}
+
+/// The productions by which what stands behind the innermost production comes to begin with the token, or to be empty.
+pub fn steps_behind<'a, S: IndexStorage>(
+    alloc: Global,
+    source: &Source<'a, S>,
+    items: &[(PIdx<S>, SIdx<S>)],
+) -> Result<Vec<PIdx<S>>, AllocError> {
+    let ways = ways_of(alloc, source)?;
+    let mut form = behind(alloc, source, items)?;
+    let mut steps = Vec::new(alloc);
+    'steps: for _ in 0..usize::MAX {
+        let Some(pidx) = next_step(source, &ways, form.as_slice()) else {
+            return Ok(steps);
+        };
+        steps.push(pidx)?;
+        form = after_step(alloc, source, pidx, form.as_slice())?;
+    }
+    Ok(steps)
+}

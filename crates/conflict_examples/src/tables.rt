@@ -1,0 +1,273 @@
+//! What the searches for all conflicts of a graph share. What it tells need not be right: an example is checked.
+
+use crate::reading::has_production;
+use cfg_base::index::IndexStorage;
+use cfg_base::symbol::{PIdx, RIdx, Symbol, TIdx};
+use cfg_numbered::yacc::NumberedGrammar;
+use lrtable::stategraph::StateGraph;
+use lrtable::stidx::StIdx;
+use std::alloc::{AllocError, Global};
+use vob::Vob;
+
+/// For each rule the tokens that it begins with and a production by which it vanishes, if there is one; for each state the
+/// edges that lead to it, and the last edge of a shortest string that does.
+#[derive(Drop)]
+pub struct Tables<S> {
+    firsts: Vec<Vob>,
+    vanishing: Vec<Option<PIdx<S>>>,
+    back: Vec<Vec<EdgeBack<S>>>,
+    last_edges: Vec<Option<EdgeBack<S>>>,
+}
+
+/// An edge back: the state that it comes from, and its symbol.
+#[derive(Clone, Copy)]
+pub struct EdgeBack<S> {
+    pub from: StIdx<S>,
+    pub symbol: Symbol<S>,
+}
+
+/// How a list goes on: whether the token begins it, and whether it may be empty.
+#[derive(Clone, Copy)]
+pub struct Start {
+    pub has: bool,
+    pub vanishes: bool,
+}
+
+/// The FIRST sets of the rules.
+fn first_sets<S: IndexStorage>(
+    alloc: Global,
+    grm: &NumberedGrammar<S>,
+) -> Result<Vec<Vob>, AllocError> {
+    let firsts = grm.firsts(alloc)?;
+    let mut sets = Vec::new(alloc);
+    'rules: for number in 0..grm.rules_len().0.to_usize() {
+        let set = firsts.firsts(grm.rule_at(number)).clone()?;
+        sets.push(set)?;
+    }
+    Ok(sets)
+}
+
+/// What stands in a list at an index, or None past the end.
+fn entry<T: Copy>(list: &[Option<T>], index: usize) -> Option<T> {
+    if index >= list.len() {
+        return None;
+    }
+    list[index]
+}
+
+/// Puts an entry in the place of None, and tells whether that was so.
+fn put_first<T: Copy>(list: &mut [Option<T>], index: usize, value: T) -> bool {
+    if index >= list.len() {
+        return false;
+    }
+    if list[index].is_some() {
+        return false;
+    }
+    list[index] = Some(value);
+    true
+}
+
+/// Whether all symbols are rules that vanish by what was found so far.
+fn all_vanish<S: IndexStorage>(vanishing: &[Option<PIdx<S>>], symbols: &[Symbol<S>]) -> bool {
+    'symbols: for k in 0..symbols.len() {
+        let vanishes = match symbols[k] {
+            Symbol::Rule(ridx) => entry(vanishing, ridx.0.to_usize()).is_some(),
+            Symbol::Token(_) => false,
+        };
+        if !vanishes {
+            return false;
+        }
+    }
+    true
+}
+
+/// Goes through the productions, from the last one, and tells whether a rule was found to vanish.
+fn vanish_more<S: IndexStorage>(
+    grm: &NumberedGrammar<S>,
+    vanishing: &mut [Option<PIdx<S>>],
+) -> bool {
+    let mut changed = false;
+    let count = grm.prods_len().0.to_usize();
+    'prods: for back in 0..count {
+        let pidx = grm.prod_at(count - 1 - back);
+        if all_vanish(vanishing, grm.prod(pidx)) {
+            changed |= put_first(vanishing, grm.prod_to_rule(pidx).0.to_usize(), pidx);
+        }
+    }
+    changed
+}
+
+/// The productions by which rules vanish, by rules.
+fn vanishing_by<S: IndexStorage>(
+    alloc: Global,
+    grm: &NumberedGrammar<S>,
+) -> Result<Vec<Option<PIdx<S>>>, AllocError> {
+    let rules = grm.rules_len().0.to_usize();
+    let mut vanishing = Vec::new(alloc);
+    vanishing.resize(rules, None)?;
+    'passes: for _ in 0..rules {
+        if !vanish_more(grm, vanishing.as_mut_slice()) {
+            return Ok(vanishing);
+        }
+    }
+    Ok(vanishing)
+}
+
+/// Lists the edges of a state with the states that they lead to.
+fn list_back<S: IndexStorage>(
+    graph: &StateGraph<S>,
+    from: StIdx<S>,
+    back: &mut Vec<Vec<EdgeBack<S>>>,
+) -> Result<(), AllocError> {
+    if !graph.has_state(from) {
+        return Ok(());
+    }
+    let edges = graph.edges(from);
+    'edges: for k in 0..edges.len() {
+        let (symbol, target) = edges[k];
+        let target = target.0.to_usize();
+        if target < back.len() {
+            back[target].push(EdgeBack { from, symbol })?;
+        }
+    }
+    Ok(())
+}
+
+/// For each state the edges that lead to it.
+fn edges_back<S: IndexStorage>(
+    alloc: Global,
+    graph: &StateGraph<S>,
+) -> Result<Vec<Vec<EdgeBack<S>>>, AllocError> {
+    let states = graph.all_states_len().0.to_usize();
+    let mut back = Vec::new(alloc);
+    'lists: for _ in 0..states {
+        back.push(Vec::new(alloc))?;
+    }
+    'states: for number in 0..states {
+        list_back(graph, graph.state_at(number), &mut back)?;
+    }
+    Ok(back)
+}
+
+/// Notes the edges of a state that lead to states not met before, which wait in their turn.
+fn go_on<S: IndexStorage>(
+    graph: &StateGraph<S>,
+    from: StIdx<S>,
+    last_edges: &mut [Option<EdgeBack<S>>],
+    waiting: &mut Vec<StIdx<S>>,
+) -> Result<(), AllocError> {
+    if !graph.has_state(from) {
+        return Ok(());
+    }
+    let edges = graph.edges(from);
+    'edges: for k in 0..edges.len() {
+        let (symbol, target) = edges[k];
+        if put_first(last_edges, target.0.to_usize(), EdgeBack { from, symbol }) {
+            waiting.push(target)?;
+        }
+    }
+    Ok(())
+}
+
+/// For each state the last edge of a shortest string that leads to it. The start state may have one too.
+fn shortest<S: IndexStorage>(
+    alloc: Global,
+    graph: &StateGraph<S>,
+) -> Result<Vec<Option<EdgeBack<S>>>, AllocError> {
+    let states = graph.all_states_len().0.to_usize();
+    let mut last_edges = Vec::new(alloc);
+    last_edges.resize(states, None)?;
+    let mut waiting = Vec::new(alloc);
+    waiting.push(graph.start_state())?;
+    'states: for index in 0..states {
+        if index < waiting.len() {
+            let from = waiting[index];
+            go_on(graph, from, last_edges.as_mut_slice(), &mut waiting)?;
+        }
+    }
+    Ok(last_edges)
+}
+
+impl<S: IndexStorage> Tables<S> {
+    /// Those of a grammar and its graph.
+    pub fn new(
+        alloc: Global,
+        grm: &NumberedGrammar<S>,
+        graph: &StateGraph<S>,
+    ) -> Result<Tables<S>, AllocError> {
+        Ok(Tables {
+            firsts: first_sets(alloc, grm)?,
+            vanishing: vanishing_by(alloc, grm)?,
+            back: edges_back(alloc, graph)?,
+            last_edges: shortest(alloc, graph)?,
+        })
+    }
+
+    /// A production by which the rule vanishes, if there is one.
+    pub fn vanishing(&self, ridx: RIdx<S>) -> Option<PIdx<S>> {
+        entry(self.vanishing.as_slice(), ridx.0.to_usize())
+    }
+
+    /// Whether the rule begins with the token.
+    fn begins(&self, ridx: RIdx<S>, token: TIdx<S>) -> bool {
+        let number = ridx.0.to_usize();
+        if number >= self.firsts.len() {
+            return false;
+        }
+        self.firsts[number].get(token.0.to_usize()).unwrap_or(false)
+    }
+
+    /// How a symbol begins.
+    pub fn symbol_start(&self, symbol: Symbol<S>, token: TIdx<S>) -> Start {
+        match symbol {
+            Symbol::Rule(ridx) => Start {
+                has: self.begins(ridx, token),
+                vanishes: self.vanishing(ridx).is_some(),
+            },
+            Symbol::Token(tidx) => Start {
+                has: tidx.0.to_usize() == token.0.to_usize(),
+                vanishes: false,
+            },
+        }
+    }
+
+    /// How the symbols behind the one after the dot begin.
+    pub fn rest_start(
+        &self,
+        grm: &NumberedGrammar<S>,
+        pidx: PIdx<S>,
+        dot: usize,
+        token: TIdx<S>,
+    ) -> Start {
+        let mut rest = Start {
+            has: false,
+            vanishes: true,
+        };
+        if !has_production(grm, pidx) {
+            return rest;
+        }
+        let symbols = grm.prod(pidx);
+        'symbols: for k in 0..symbols.len() {
+            if k > dot && rest.vanishes {
+                let start = self.symbol_start(symbols[k], token);
+                rest.has |= start.has;
+                rest.vanishes = start.vanishes;
+            }
+        }
+        rest
+    }
+
+    /// The edges that lead to a state.
+    pub fn back(&self, stidx: StIdx<S>) -> Option<&[EdgeBack<S>]> {
+        let number = stidx.0.to_usize();
+        if number >= self.back.len() {
+            return None;
+        }
+        Some(self.back[number].as_slice())
+    }
+
+    /// The last edge of a shortest string that leads to the state.
+    pub fn last_edge(&self, stidx: StIdx<S>) -> Option<EdgeBack<S>> {
+        entry(self.last_edges.as_slice(), stidx.0.to_usize())
+    }
+}

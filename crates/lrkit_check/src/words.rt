@@ -1,0 +1,51 @@
+//! The arguments.
+
+use std::env::Args;
+
+/// What the arguments say.
+#[derive(Drop)]
+pub struct Words {
+    pub grammar: Option<String>,
+    pub states: bool,
+    pub sentences: bool,
+}
+
+/// Takes a word: an option, or the path of the grammar. It answers whether the word may stand there.
+fn take_word(read: &mut Words, word: String) -> bool {
+    match word.as_str() {
+        "--states" => {
+            read.states = true;
+            true
+        }
+        "--sentences" => {
+            read.sentences = true;
+            true
+        }
+        path => {
+            if path.starts_with("--") || read.grammar.is_some() {
+                return false;
+            }
+            read.grammar = Some(word);
+            true
+        }
+    }
+}
+
+/// What the arguments say behind the program's name; None where they say nothing that can be done.
+pub fn read_words(mut words: Args) -> Option<Words> {
+    let _program = words.next();
+    let mut read = Words {
+        grammar: None,
+        states: false,
+        sentences: false,
+    };
+    'words: for word in words {
+        if !take_word(&mut read, word) {
+            return None;
+        }
+    }
+    if read.grammar.is_none() {
+        return None;
+    }
+    Some(read)
+}

@@ -1,6 +1,8 @@
 //! Examples of conflicts as a person reads them.
 
-use crate::names::{Grammar, push_body, push_indent, push_item, push_prod, push_symbols, push_token, push_word};
+use crate::names::{
+    Grammar, push_body, push_indent, push_item, push_prod, push_symbols, push_token, push_word,
+};
 use cfg_base::symbol::{PIdx, SIdx, Symbol};
 use conflict_examples::{ActionExample, ConflictExample};
 use std::alloc::AllocError;

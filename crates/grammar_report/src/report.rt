@@ -22,7 +22,9 @@ fn push_completeness(text: &mut String, kit: &ParserKit<u32>) -> Result<(), Allo
     if kit.complete() {
         text.push_str("Each line that is a sentence gets its tree, which is its only one.\n")
     } else {
-        text.push_str("A line that is a sentence may have other trees than the one it gets, or get none.\n")
+        text.push_str(
+            "A line that is a sentence may have other trees than the one it gets, or get none.\n",
+        )
     }
 }
 
@@ -55,11 +57,7 @@ fn push_told(
 }
 
 /// Adds the closed states.
-fn push_states(
-    alloc: Global,
-    text: &mut String,
-    kit: &ParserKit<u32>,
-) -> Result<(), AllocError> {
+fn push_states(alloc: Global, text: &mut String, kit: &ParserKit<u32>) -> Result<(), AllocError> {
     kit.stays_kit();
     text.push_str("\nStates:\n")?;
     let states = kit.sgraph().pp_closed_states(alloc, kit.grm())?;
@@ -133,12 +131,7 @@ fn report_of(
 
 /// The report on a grammar's text, of the kind that its section tells, else of `Original(GenericParseTree)`. Places are told
 /// with the path. No chain of reductions on one token goes past 1000.
-pub fn report(
-    alloc: Global,
-    text: &str,
-    path: &str,
-    asked: Asked,
-) -> Result<Report, AllocError>
+pub fn report(alloc: Global, text: &str, path: &str, asked: Asked) -> Result<Report, AllocError>
     ensures { IfOk result (λ r. IsOutcome text.now r.outcome) }
 {
     let formatter = SpannedDiagnosticFormatter::new(alloc, text, path)?;

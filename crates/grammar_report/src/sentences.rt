@@ -29,7 +29,14 @@ fn push_unproductive(
     span: Span,
 ) -> Result<(), AllocError> {
     let shown = formatter.underline_span_with_text(alloc, span, "Unproductive rule", '^')?;
-    push_shown(alloc, text, formatter, "Warning", Some(span), shown.as_str())
+    push_shown(
+        alloc,
+        text,
+        formatter,
+        "Warning",
+        Some(span),
+        shown.as_str(),
+    )
 }
 
 fn push_unproductive_of(
@@ -91,7 +98,9 @@ fn push_cheapest(
         }
         Err(SentenceError::Memory(e)) => Err(e),
         Err(SentenceError::NoSentence) => text.push_str(" derives no sentence"),
-        Err(SentenceError::CostTooLarge) => text.push_str(" derives no sentence of at most 65535 tokens"),
+        Err(SentenceError::CostTooLarge) => text.push_str(
+            " derives no sentence of at most 65535 tokens",
+        ),
     }
 }
 

@@ -1,6 +1,7 @@
 //! The report on a text.
 
-ghost use Rattle.std.specs.Prelude.{IfOk};
+ghost use Rattle.std.specs.Prelude.{IfOk, OnOk};
+ghost use Rattle.parser_kit.specs.KitErrors.{IsMemory};
 ghost use Rattle.grammar_report.specs.Outcomes.{IsOutcome};
 
 use crate::asked::Asked;
@@ -58,7 +59,7 @@ fn push_told(
 
 /// Adds the closed states.
 fn push_states(alloc: Global, text: &mut String, kit: &ParserKit<u32>) -> Result<(), AllocError> {
-    kit.stays_kit();
+    kit.kit().stays_tabled();
     text.push_str("\nStates:\n")?;
     let states = kit.sgraph().pp_closed_states(alloc, kit.grm())?;
     text.push_str(states.as_str())
@@ -92,11 +93,17 @@ fn text_of_kit(
     Ok(text)
 }
 
+/// The report on a text that gives no parser.
 fn text_of_refusal(
     alloc: Global,
     formatter: &SpannedDiagnosticFormatter<'_>,
     refusal: &KitError<u32>,
-) -> Result<String, AllocError> {
+) -> Result<String, AllocError>
+    ensures { OnOk result (IsMemory refusal.now → ⊥) }
+{
+    if let KitError::Memory(e) = refusal {
+        return Err(*e);
+    }
     let mut text = String::new(alloc);
     push_refusal(alloc, &mut text, formatter, refusal)?;
     Ok(text)
@@ -118,7 +125,6 @@ fn report_of(
             let text = told?;
             Ok(Report { text, outcome })
         }
-        Err(KitError::Memory(e)) => Err(e),
         Err(refusal) => {
             let told = text_of_refusal(alloc, formatter, &refusal);
             drop(refusal);

@@ -24,7 +24,8 @@ for family in near far; do
 done
 size=${1:-500}
 for pair in mixed:firsts mixed:follows tokens:firsts tokens:follows turned:path units:costs cycles:costs beside:costs \
-    chain:costs chain:sentence turned:costs turned:sentence ties:sentence falls:costs rises:costs; do
+    chain:costs chain:sentence chain:ended turned:costs turned:sentence ties:sentence falls:costs falls:sentence \
+    rises:costs; do
     family=${pair%%:*}
     what=${pair##*:}
     echo "$what, $family, $size and $((size * 4)): $(once "$what" "$family" "$size") $(once "$what" "$family" $((size * 4)))"

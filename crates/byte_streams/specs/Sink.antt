@@ -1,5 +1,5 @@
 -- What a write does to a sink: the bytes that it has, where they are known, and its count of failures.
-use Rattle.std.specs.Prelude.{◌≡◌, ◌≤◌, ◌<◌, ℕ, List, length, take, Option, Result, MatchResult}
+use Rattle.std.specs.Prelude.{◌≡◌, ◌≤◌, ◌<◌, ℕ, List, ◌++◌, length, take, Option, Result, MatchResult}
 use Rattle.std.specs.Io.KnownBytes.{Appends, Keeps}
 use Rattle.byte_streams.specs.Source.{one_more}
 
@@ -17,3 +17,13 @@ Writes known faults known' faults' result bytes =
 -- a beginning of the text is out
 abbrev pub BeginningWritten : Option (List ℕ) → Option (List ℕ) → List ℕ → Type 0
 BeginningWritten known known' text = (n : ℕ) × (n ≤ length text) × Appends known known' (take n text)
+
+-- of a text all is out but this rest, which waits
+pub record IsOutBut (known known' : Option (List ℕ)) (text rest : List ℕ) : Type 0 where
+  pub part : List ℕ
+  pub written : Appends known known' part
+  pub is_front : text ≡ part ++ rest
+
+-- so many bytes don't wait any longer
+abbrev pub most_waiting : ℕ
+most_waiting = 65536

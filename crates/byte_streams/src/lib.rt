@@ -1,5 +1,6 @@
 //! What gives bytes and what takes them, with a count of failures: `Source` and `Sink`, and `Counted`, which makes either
-//! of any reader or writer of std. `read_text` reads an input to its end as a text, `write_all` writes a whole text.
+//! of any reader or writer of std. `read_text` reads an input to its end as a text, `write_all` writes a whole text, and
+//! `write_long` writes a text as it is made, a part at a time, so that few bytes wait.
 //!
 //! ```rust
 //! use byte_streams::{Counted, InputFault, read_text};
@@ -26,4 +27,4 @@ mod writing;
 
 pub use counting::Counted;
 pub use reading::{InputFault, MOST_BYTES, Source, read_text};
-pub use writing::{Sink, WriteFault, write_all};
+pub use writing::{MOST_WAITING, Sink, WriteFault, write_all, write_long};

@@ -1,11 +1,14 @@
 //! What takes bytes, and a text written as a whole.
 
-ghost use Rattle.std.specs.Prelude.{◌≡◌, ℕ, List, Option, length, OnOk, OnErr};
+ghost use Rattle.std.specs.Prelude.{◌≡◌, ◌<◌, ℕ, List, Option, length, vec_len, OnOk, OnErr};
 ghost use Rattle.std.specs.Io.KnownBytes.{Appends};
-ghost use Rattle.byte_streams.specs.Sink.{Writes, BeginningWritten};
+ghost use Rattle.byte_streams.specs.Sink.{Writes, BeginningWritten, IsOutBut, most_waiting};
 ghost use Rattle.byte_streams.specs.Source.{one_more};
 
 use std::io;
+
+/// A text that is written as it is made waits until it has this many bytes.
+pub const MOST_WAITING: usize = 65_536;
 
 /// What takes bytes, tells them where they are known, and counts its failures: each one, and nothing
 /// else, raises the count by one, or finds it at `u64::MAX`. An error is a failure, and so is a write that takes nothing
@@ -44,5 +47,21 @@ pub fn write_all<W: Sink>(out: &mut W, bytes: &[u8]) -> Result<(), WriteFault>
             Err(_) => return Err(WriteFault),
         }
     }
+    Ok(())
+}
+
+/// Writes the bytes that wait, and empties them, once they are `MOST_WAITING`; fewer wait on.
+pub fn write_long<W: Sink>(out: &mut W, waiting: &mut Vec<u8>) -> Result<(), WriteFault>
+    ensures ok { OnOk result (IsOutBut (W.known out.old) (W.known out.new) waiting.old.items waiting.new.items) }
+    ensures kept { OnOk result (W.faults out.new ≡ W.faults out.old) }
+    ensures short { OnOk result (vec_len waiting.new < most_waiting) }
+    ensures err { OnErr result (BeginningWritten (W.known out.old) (W.known out.new) waiting.old.items) }
+    ensures cause { OnErr result (W.faults out.new ≡ one_more (W.faults out.old)) }
+{
+    if waiting.len() < MOST_WAITING {
+        return Ok(());
+    }
+    write_all(out, waiting.as_slice())?;
+    waiting.clear();
     Ok(())
 }

@@ -1,6 +1,6 @@
-//! Texts written whole.
+//! Texts written whole, and texts written as they are made.
 
-use byte_streams::{Counted, Sink, write_all};
+use byte_streams::{Counted, MOST_WAITING, Sink, write_all, write_long};
 use std::io;
 use std::io::{ErrorKind, Write};
 use std::test::Fail;
@@ -77,5 +77,32 @@ fn nothing_is_written_of_an_empty_text(rt: HostRuntime) -> Result<(), Fail> {
     });
     assert!(rt; write_all(&mut out, b"").is_ok());
     assert_eq!(rt; Sink::failures(&out), 0);
+    Ok(())
+}
+
+// One byte too few waits; one more, and all of it goes out.
+#[test]
+fn a_long_text_goes_out_once_it_is_long(rt: HostRuntime) -> Result<(), Fail> {
+    let mut out = Counted::new(Bounded {
+        taken: Vec::new(rt.alloc()),
+        room: 65_536,
+        at_once: 1000,
+        fails: true,
+    });
+    let mut waiting = Vec::new(rt.alloc());
+    waiting.resize(MOST_WAITING - 1, b' ')?;
+    assert!(rt; write_long(&mut out, &mut waiting).is_ok());
+    assert_eq!(rt; waiting.len(), 65_535);
+
+    waiting.push(b'E')?;
+    assert!(rt; write_long(&mut out, &mut waiting).is_ok());
+    assert_eq!(rt; waiting.len(), 0);
+
+    waiting.resize(MOST_WAITING + 1, b' ')?;
+    assert!(rt; write_long(&mut out, &mut waiting).is_err());
+    assert_eq!(rt; Sink::failures(&out), 1);
+    let taken = out.into_inner().taken;
+    assert_eq!(rt; taken.len(), 65_536);
+    assert_eq!(rt; taken.last().copied(), Some(b'E'));
     Ok(())
 }

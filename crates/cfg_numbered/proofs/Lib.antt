@@ -26,3 +26,4 @@ pub mod WantedSteps
 pub mod CheapestSteps
 pub mod EarliestSteps
 pub mod SharedSteps
+pub mod TurnSteps

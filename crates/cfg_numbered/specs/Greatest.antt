@@ -1,7 +1,7 @@
 -- Greatest costs as passes raise them, the set of the unbounded rules as rounds narrow it, and what contracts see of both.
-use Rattle.std.specs.Prelude.{◌≡◌, ℕ, suc, ◌-◌, ◌<◌, ◌≤◌, Bool, false, IsTrue, List, length, Option, Some, None, min}
+use Rattle.std.specs.Prelude.{◌≡◌, ℕ, suc, ◌-◌, ◌<◌, ◌≤◌, ◌⊎◌, Bool, false, IsTrue, List, length, get_or, Option, Some, None, min}
 use Rattle.std.specs.List.{sum_by, count_by}
-use Rattle.cfg_theory.specs.Grammar.{Sym, rule, token, Grammar, IsNext, head_of, body_of}
+use Rattle.cfg_theory.specs.Grammar.{Sym, rule, token, Grammar, IsOf, IsNext, head_of, body_of}
 use Rattle.cfg_theory.specs.Derivation.{IsProductive}
 use Rattle.cfg_theory.specs.Cost.{cost, Has, IsGreatestCost}
 use Rattle.cfg_theory.specs.CostTables.{Sums}
@@ -69,6 +69,32 @@ AreOut G f costs bits = (p : ℕ) → p < length G.productions → is_set bits (
 -- how many rules are in the set
 abbrev pub held : List Bool → ℕ
 held bits = count_by (λ b. b) bits
+
+-- A is one of the first n of the list
+abbrev pub IsOneOf : List ℕ → ℕ → ℕ → Type 0
+IsOneOf list n A = (i : ℕ) × (i < n) × (i < length list) × (get_or list i 0 ≡ A)
+
+-- each production of these settles
+abbrev pub AreSettled : Grammar → (ℕ → ℕ) → List (Option ℕ) → List Bool → List Bool → List ℕ → ℕ → Type 0
+AreSettled G f costs bits rest list n = (A p : ℕ) → IsOneOf list n A → IsOf G p A → Settles G f costs bits rest p
+
+-- the first n of the list were taken out of the set
+pub record TakesOut (list : List ℕ) (n : ℕ) (old new : List Bool) : Type 0 where
+  pub width : length new ≡ length old
+  pub fewer : (R : ℕ) → is_set old R ≡ false → is_set new R ≡ false
+  pub gone : (R : ℕ) → IsOneOf list n R → is_set new R ≡ false
+  pub only : (R : ℕ) → is_set new R ≡ false → (is_set old R ≡ false) ⊎ IsOneOf list n R
+  pub less : held new ≤ held old
+
+-- those of the first n that are in the set were put back into the rest
+pub record PutsBack (list : List ℕ) (n : ℕ) (bits old new : List Bool) : Type 0 where
+  pub width : length new ≡ length old
+  pub grows : (R : ℕ) → is_set new R ≡ false → is_set old R ≡ false
+  pub back : (R : ℕ) → IsOneOf list n R → is_set new R ≡ false → is_set bits R ≡ false
+
+-- the rest has what is in the set
+abbrev pub Covers : List Bool → List Bool → Type 0
+Covers rest bits = (R : ℕ) → is_set rest R ≡ false → is_set bits R ≡ false
 
 -- ---- both
 

@@ -1,7 +1,8 @@
 -- Token lists that share their parts.
-use Rattle.std.specs.Prelude.{◌≡◌, ℕ, ◌+◌, ◌-◌, ◌*◌, ◌<◌, List, [], ◌∷◌, ◌++◌, length, get_or, Option, Some, slice_get}
+use Rattle.std.specs.Prelude.{◌≡◌, ℕ, ◌+◌, ◌-◌, ◌*◌, ◌<◌, Bool, true, false, List, [], ◌∷◌, ◌++◌, length, get_or, Option, Some, slice_get}
 use Rattle.std.specs.List.{sum_by}
 use Rattle.std.specs.Option.{option_map}
+use Rattle.cfg_theory.specs.Cost.{IsBefore}
 use Rattle.cfg_numbered.specs.declared.yacc.sentences.shared_lists.Part.{Part}
 use Rattle.cfg_numbered.specs.declared.yacc.sentences.shared_lists.Part.TheVariants.{Empty, Token, Pair}
 
@@ -21,11 +22,15 @@ abbrev pub spelled_on : {S : Type 0} → (S → ℕ) → List (List ℕ) → Lis
 spelled_on number lists [] = lists
 spelled_on number lists (x ∷ parts) = spelled_on number (lists ++ spelled_by number lists x ∷ []) parts
 
+-- the list has tokens
+abbrev pub HasTokens : List (List ℕ) → ℕ → Type 0
+HasTokens lists k = 0 < length (get_or lists k [])
+
 -- the two lists of a pair have tokens
 abbrev pub IsFit : {S : Type 0} → List (List ℕ) → Part S → Type 0
 IsFit lists Empty = Unit {0}
 IsFit lists (Token t) = Unit {0}
-IsFit lists (Pair a b) = (0 < length (get_or lists a [])) × (0 < length (get_or lists b []))
+IsFit lists (Pair a b) = HasTokens lists a × HasTokens lists b
 
 -- each part spells its list
 pub record AreSpelled {S : Type 0} (number : S → ℕ) (parts : List (Part S)) (lists : List (List ℕ)) : Type 0 where
@@ -47,6 +52,17 @@ AreNumbers n table = (A k : ℕ) → slice_get table A ≡ Some (Some k) → k <
 abbrev pub stacked : List (List ℕ) → List ℕ → List ℕ
 stacked lists [] = []
 stacked lists (k ∷ rest) = stacked lists rest ++ get_or lists k []
+
+-- two lists without a list that both begin with
+pub record AreRests (u v rest_of_u rest_of_v : List ℕ) : Type 0 where
+  pub front : List ℕ
+  pub left : u ≡ front ++ rest_of_u
+  pub right : v ≡ front ++ rest_of_v
+
+-- whether the first of two lists is before the second one, or the second before the first
+abbrev pub IsTold : List ℕ → List ℕ → Bool → Type 0
+IsTold u v true = IsBefore u v
+IsTold u v false = IsBefore v u
 
 -- how many turns the walk through a list takes at most
 abbrev pub turns_of : List (List ℕ) → ℕ → ℕ

@@ -1,9 +1,13 @@
 //! Parses lists of a million lexemes, left- and right-recursive ones, drops their trees, and answers an error at the end of
 //! such a line. A tree is as deep as its line is long: what recursed by depth would end the program by a stack overflow.
+//! Then recoverers hand in what no sensible one does: a sequence of a million steps, a thousand sequences, none that can be
+//! taken.
 #![tactic(auto)]
 
 mod lexer;
 mod make;
+mod mended;
+mod offers;
 mod runs;
 
 use std::io;
@@ -18,5 +22,7 @@ fn main(rt: HostRuntime) -> io::Result<()> {
         let told = runs::tell(rt.alloc(), text)?;
         print!(rt; "{text}\n{told}")?;
     }
+    let told = mended::tell(rt.alloc())?;
+    print!(rt; "{told}")?;
     Ok(())
 }

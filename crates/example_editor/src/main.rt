@@ -1,5 +1,9 @@
 //! Underlines the errors of a text as an editor does, each with the tokens that could be inserted there: of the parser's
 //! own `Recoverer`, which offers every token, it lists those that get past the next lexeme, and goes on with the first.
+//!
+//! The clause of its `AnyToken::sequences`, that each token is offered once and in order, is what the clause of
+//! `Recoverer::sequences` asks of it, by the edits that steps stand for. A view of steps that loses the token of an insertion,
+//! or hands on sequences in another order, would break it.
 #![tactic(auto)]
 
 mod lexer;

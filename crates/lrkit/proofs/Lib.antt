@@ -1,5 +1,6 @@
 pub mod Written
-pub mod LineWritten
+pub mod OutBut
 pub mod Lines
 pub mod ShownLines
 pub mod Outcomes
+pub mod OneOutput

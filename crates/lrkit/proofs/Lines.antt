@@ -1,5 +1,5 @@
 -- What is out after each line.
-use Rattle.std.proofs.Common.{◌≡◌, ℕ, ◌≤◌, ◌<◌, ◌+◌, Bool, true, false, Option, List, [], ◌∷◌, ◌++◌, length, take, drop, get_or, refl, sym, ap, ◌∙◌, append_assoc, append-nil, take-append-drop, subst}
+use Rattle.std.proofs.Common.{◌≡◌, ℕ, ◌≤◌, ◌<◌, ◌+◌, Bool, true, false, Option, List, [], ◌∷◌, ◌++◌, length, take, drop, get_or, refl, sym, ap, ◌∙◌, append_assoc, append-nil, take-append-drop, subst, ⊎_elim}
 use Rattle.std.specs.Prelude.{◌||◌}
 use Rattle.std.specs.Io.KnownBytes.{Keeps}
 use Rattle.std.proofs.KnownBytes.{Appends-nil, Appends-trans, Appends-kept}
@@ -65,7 +65,7 @@ module _ (k : KitValue) (rs : List (List Edit)) (all : List (List ℕ)) (i : ℕ
 
   pub BeginsTexts-more : (e : RunFault) → BeginsLine k rs x b c e → BeginsTexts k rs all a c
   BeginsTexts-more Write l = begun l
-  BeginsTexts-more (Kit e) l = kept l
+  BeginsTexts-more (Kit e) l = ⊎_elim kept begun l
   BeginsTexts-more (Conflicts p q x y) l = absurd l
   BeginsTexts-more (NotARepair n) l = absurd l
   BeginsTexts-more (NotUtf8 input) l = absurd l

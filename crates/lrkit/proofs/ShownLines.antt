@@ -1,7 +1,9 @@
 -- What stands of a line's errors and tree, and that they can be shown.
-use Rattle.std.proofs.Common.{◌≡◌, ℕ, zero, suc, ◌+◌, ◌≤◌, Bool, true, false, not, eqb, Option, Some, None, Result, List, [], ◌∷◌, ◌++◌, length, refl, sym, ap, ◌∙◌, subst, append_assoc, arith, IsUtf8}
-use Rattle.std.specs.List.{AllByRecursion, flat_map}
+use Rattle.std.proofs.Common.{◌≡◌, ℕ, zero, suc, ◌+◌, ◌≤◌, Bool, true, false, not, eqb, Option, Some, None, Result, Ok, Err, IfErr, OnErr, List, [], ◌∷◌, length, refl, sym, ap, ◌∙◌, subst, arith, inr, IsUtf8}
+use Rattle.std.specs.List.{AllByRecursion}
+use Rattle.std.specs.Io.KnownBytes.{Appends}
 use Rattle.std.proofs.lemmas.Bool.Decides.{nat_tests}
+use Rattle.byte_streams.specs.Sink.{BeginningWritten}
 use Rattle.cfg_numbered.specs.Value.{GrammarValue}
 use Rattle.cfg_theory.specs.Grammar.{WellFormed, end_token}
 use Rattle.cfg_theory.specs.Tree.{Tree}
@@ -15,10 +17,14 @@ use Rattle.lrpar.specs.declared.parse_error.ParseError.{ParseError}
 use Rattle.parser_kit.specs.Kit.{KitValue}
 use Rattle.parser_kit.specs.KitParses.{IsExactParse, IsKitParse}
 use Rattle.word_lines.specs.Lexing.{items_of, lex_of}
-use Rattle.word_lines.specs.LineTexts.{ErrorCanBeShown, TreeCanBeShown, error_line, fault_line, value_text}
+use Rattle.word_lines.specs.LineTexts.{ErrorCanBeShown, TreeCanBeShown, fault_line}
 use Rattle.word_lines.specs.declared.lexeme.WordLexError.{WordLexError}
-use Rattle.lrkit.specs.LineSteps.{AddsParsed}
-use Rattle.lrkit.specs.Output.{AddsLineText, LineText, Word, has_some, id, made_up}
+use Rattle.lrkit.specs.LineSteps.{WritesParsed}
+use Rattle.lrkit.specs.Output.{LineText, Word, has_some, id, made_up, parsed_text}
+use Rattle.lrkit.specs.Run.{IsLate}
+use Rattle.lrkit.specs.Writing.{BeginsLine, BeginsLineText, WritesLine}
+use Rattle.lrkit.specs.declared.fault.RunFault.{RunFault}
+use Rattle.lrkit.specs.declared.fault.RunFault.TheVariants.{Kit, Conflicts, NotARepair, NotUtf8, Read, TooLong, Write}
 
 -- ---- a number that no inserted token passes
 
@@ -80,52 +86,70 @@ module _ (k : KitValue) (repairs : List (List Edit)) (line : List ℕ) (well_for
   tree_can_be_shown (Some v) errors q =
       law.tree top id k.parser.grammar k.parser.graph k.parser.table (lex_of id) made_up line (items_of id k.parser.grammar line) v errors within (λ lexemes items. fit k.parser.grammar line lexemes utf8 items) (flat_parse (Some v) errors q)
 
--- ---- what it adds
+-- ---- what is written of it
 
 pub some_or_none : {X : Type 0} (xs : List X) (n : ℕ) (empty : Bool) → empty ≡ eqb n 0 → n ≡ length xs → not empty ≡ has_some xs
 some_or_none [] n empty is long = ap not (is ∙ ap (λ m. eqb m 0) long)
 some_or_none (x ∷ xs) n empty is long = ap not (is ∙ ap (λ m. eqb m 0) long) ∙ (let e : eqb (suc (length xs)) 0 ≡ false = grind (arith, nat_tests) in ap not e)
 
-pub adds_both : (g : GrammarValue) (line old between new : List ℕ) (errors : List (ParseError Word ℕ)) (t : Option (Tree Word)) (faulty : Bool) →
-    between ≡ old ++ flat_map (error_line id g line) errors → new ≡ between ++ value_text id g line t → faulty ≡ has_some errors → AddsParsed g line old new t errors faulty
-adds_both g line old between new errors t faulty first then is =
-    record { grown = then ∙ ap (λ x. x ++ value_text id g line t) first ∙ append_assoc old (flat_map (error_line id g line) errors) (value_text id g line t); faulty_is = is }
-
-module _ (k : KitValue) (repairs : List (List Edit)) (line old new : List ℕ) where
-  pub adds_parsed : (value : Option (FlatValue Word)) (errors : List (ParseError Word ℕ)) → (q : IsLineParse k repairs line value errors) →
-      (faulty : Bool) → AddsParsed k.parser.grammar line old new q.exact.parse.parsed.tree errors faulty → AddsLineText k repairs line old new faulty
-  adds_parsed value errors q faulty added =
+module _ (k : KitValue) (repairs : List (List Edit)) (line : List ℕ) where
+  -- the text of a parse
+  parsed_is : (value : Option (FlatValue Word)) (errors : List (ParseError Word ℕ)) → (q : IsLineParse k repairs line value errors) →
+      (faulty : Bool) → faulty ≡ has_some errors → LineText k repairs line (parsed_text k.parser.grammar line errors q.exact.parse.parsed.tree) faulty
+  parsed_is value errors q faulty is =
       let p = q.exact.parse in
       let tree = p.parsed.tree in
-      record {
-        added = _;
-        is_text = LineText.parsed tree errors (record {
-          lexemes = q.lexemes;
-          are_items = q.are_items;
-          are_lexemes = q.are_lexemes;
-          found = q.found;
-          exact = record {
-            parse = record {
-              parsed = record { handed = p.parsed.handed; places = p.parsed.places; tree = tree; repaired = p.parsed.repaired; parses = p.parsed.parses; told = p.parsed.told; gives_tree = refl };
-              derives = p.derives;
-              by_repairs = p.by_repairs;
-              few = p.few;
-              advance = p.advance;
-              further = p.further;
-              fits = p.fits;
-              flawless = p.flawless;
-              same_value = p.same_value;
-              true_errors = p.true_errors;
-            };
-            fits = q.exact.fits;
-            flawless = q.exact.flawless;
-            same_value = q.exact.same_value;
-            true_errors = q.exact.true_errors;
+      LineText.parsed tree errors (record {
+        lexemes = q.lexemes;
+        are_items = q.are_items;
+        are_lexemes = q.are_lexemes;
+        found = q.found;
+        exact = record {
+          parse = record {
+            parsed = record { handed = p.parsed.handed; places = p.parsed.places; tree = tree; repaired = p.parsed.repaired; parses = p.parsed.parses; told = p.parsed.told; gives_tree = refl };
+            derives = p.derives;
+            by_repairs = p.by_repairs;
+            few = p.few;
+            advance = p.advance;
+            further = p.further;
+            fits = p.fits;
+            flawless = p.flawless;
+            same_value = p.same_value;
+            true_errors = p.true_errors;
           };
-          told = q.told;
-        }) refl added.faulty_is;
-        grown = added.grown;
-      }
+          fits = q.exact.fits;
+          flawless = q.exact.flawless;
+          same_value = q.exact.same_value;
+          true_errors = q.exact.true_errors;
+        };
+        told = q.told;
+      }) refl is
 
-  pub adds_fault : (e : WordLexError) → IsFirstLexError (items_of id k.parser.grammar line) e → (faulty : Bool) → (new ≡ old ++ fault_line line e) × (faulty ≡ true) → AddsLineText k repairs line old new faulty
-  adds_fault e is faulty (grown, wrong) = record { added = fault_line line e; is_text = LineText.lexing_error e is refl wrong; grown = grown }
+  module _ (a b : Option (List ℕ)) where
+    pub writes_parsed : (value : Option (FlatValue Word)) (errors : List (ParseError Word ℕ)) → (q : IsLineParse k repairs line value errors) →
+        (faulty : Bool) → WritesParsed k.parser.grammar line a b q.exact.parse.parsed.tree errors faulty → WritesLine k repairs line a b faulty
+    writes_parsed value errors q faulty w = record { text = parsed_text k.parser.grammar line errors q.exact.parse.parsed.tree; is_text = parsed_is value errors q faulty w.faulty_is; written = w.written }
+
+    pub begins_parsed : (value : Option (FlatValue Word)) (errors : List (ParseError Word ℕ)) → (q : IsLineParse k repairs line value errors) →
+        BeginningWritten a b (parsed_text k.parser.grammar line errors q.exact.parse.parsed.tree) → BeginsLineText k repairs line a b
+    begins_parsed value errors q w = record { text = parsed_text k.parser.grammar line errors q.exact.parse.parsed.tree; faulty = has_some errors; is_text = parsed_is value errors q (has_some errors) refl; written = w }
+
+    pub writes_fault : (e : WordLexError) → IsFirstLexError (items_of id k.parser.grammar line) e → (faulty : Bool) → Appends a b (fault_line line e) × (faulty ≡ true) → WritesLine k repairs line a b faulty
+    writes_fault e is faulty (written, wrong) = record { text = fault_line line e; is_text = LineText.lexing_error e is refl wrong; written = written }
+
+    pub begins_fault : (e : WordLexError) → IsFirstLexError (items_of id k.parser.grammar line) e → BeginningWritten a b (fault_line line e) → BeginsLineText k repairs line a b
+    begins_fault e is w = record { text = fault_line line e; faulty = true; is_text = LineText.lexing_error e is refl refl; written = w }
+
+    -- whatever fault of writing it is
+    begins_line : (e : RunFault) → IsLate e → BeginsLineText k repairs line a b → BeginsLine k repairs line a b e
+    begins_line Write late l = l
+    begins_line (Kit e) late l = inr l
+    begins_line (Conflicts p q x y) late l = absurd late
+    begins_line (NotARepair n) late l = absurd late
+    begins_line (NotUtf8 i) late l = absurd late
+    begins_line (Read i) late l = absurd late
+    begins_line (TooLong i) late l = absurd late
+
+    pub begins_late : (r : Result Bool RunFault) → IfErr r IsLate → OnErr r (BeginsLineText k repairs line a b) → IfErr r (BeginsLine k repairs line a b)
+    begins_late (Ok faulty) late l = tt
+    begins_late (Err e) late l = begins_line e late l

@@ -47,12 +47,6 @@ module _ (k : KitValue) (repairs : List (List Edit)) (line : List ℕ) where
         IsKitParse id (lex_of id) made_up k.parser (λ state index lexeme offered. offered ≡ repairs) items (λ t. t ≡ tree) errors →
         text ≡ parsed_text k.parser.grammar line errors tree → faulty ≡ has_some errors → LineText text faulty
 
--- the text of a line was added
-pub record AddsLineText (k : KitValue) (repairs : List (List Edit)) (line old new : List ℕ) (faulty : Bool) : Type 0 where
-  pub added : List ℕ
-  pub is_text : LineText k repairs line added faulty
-  pub grown : new ≡ old ++ added
-
 -- the text of a line before those of others
 pub record BeforeTexts (First Others : List ℕ → Bool → Type 0) (text : List ℕ) (faulty : Bool) : Type 0 where
   pub first_text : List ℕ

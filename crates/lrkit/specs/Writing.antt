@@ -1,5 +1,5 @@
 -- What writing the answer to a line, or to some lines, leaves.
-use Rattle.std.specs.Prelude.{ℕ, Bool, List, Option}
+use Rattle.std.specs.Prelude.{◌⊎◌, ℕ, Bool, List, Option}
 use Rattle.std.specs.Io.KnownBytes.{Appends, Keeps}
 use Rattle.byte_streams.specs.Sink.{BeginningWritten}
 use Rattle.lr_theory.specs.Repair.{Edit}
@@ -22,10 +22,10 @@ pub record BeginsLineText (k : KitValue) (repairs : List (List Edit)) (line : Li
   pub is_text : LineText k repairs line text faulty
   pub written : BeginningWritten known known' text
 
--- what is out of a line at a fault: a beginning of its text where a write failed, and nothing where memory ran out
+-- what is out of a line at a fault: a beginning of its text where a write failed, that or nothing where memory ran out
 abbrev pub BeginsLine : KitValue → List (List Edit) → List ℕ → Option (List ℕ) → Option (List ℕ) → RunFault → Type 0
 BeginsLine k repairs line known known' Write = BeginsLineText k repairs line known known'
-BeginsLine k repairs line known known' (Kit e) = Keeps known known'
+BeginsLine k repairs line known known' (Kit e) = Keeps known known' ⊎ BeginsLineText k repairs line known known'
 BeginsLine k repairs line known known' (Conflicts a b c d) = ⊥
 BeginsLine k repairs line known known' (NotARepair n) = ⊥
 BeginsLine k repairs line known known' (NotUtf8 i) = ⊥

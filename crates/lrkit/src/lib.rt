@@ -28,7 +28,9 @@
 mod answering;
 mod counts;
 mod fault;
+pub mod laws;
 mod running;
+mod trees;
 
 pub use byte_streams::{Counted, Sink, Source};
 pub use fault::{Input, RunFault, status};

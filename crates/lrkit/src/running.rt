@@ -5,12 +5,12 @@ ghost use Rattle.std.specs.Str.Lines.{lines};
 ghost use Rattle.byte_streams.specs.Inputs.{most_bytes, TakesAtMost};
 ghost use Rattle.lrkit.specs.Output.{BeginsTexts};
 ghost use Rattle.lrkit.specs.Run.{AreGoodBefore, IsCauseIn, IsEarlyIn, IsGoodKitIn, IsInput, IsLate, IsOutAt, IsReadFaultOf, IsRefusal, IsWriteCause, ReadsRepairsIn, WritesOutput};
-ghost use Rattle.lrkit.specs.Writing.{BeginsLine, WritesLine, WritesLines};
+ghost use Rattle.lrkit.specs.Writing.{WritesLines};
 
-use crate::answering::push_line;
+use crate::answering::write_line;
 use crate::counts::check_counts;
 use crate::fault::{Input, RunFault, run_fault};
-use byte_streams::{Sink, Source, read_text, write_all};
+use byte_streams::{Sink, Source, read_text};
 use parser_kit::ParserKit;
 use std::alloc::Global;
 use word_lines::{RepairLines, RepairsError, read_repairs};
@@ -159,26 +159,4 @@ fn either(a: bool, b: bool) -> bool
     ensures { result ≡ (a || b) }
 {
     a || b
-}
-
-// Writes the text of a line. It answers whether the line has an error.
-fn write_line<W: Sink>(
-    alloc: Global,
-    kit: &ParserKit<u32>,
-    repairs: &RepairLines<u32>,
-    line: &str,
-    out: &mut W,
-) -> Result<bool, RunFault>
-    ensures ok { IfOk result (WritesLine kit.now repairs.now line.now (W.known out.old) (W.known out.new)) }
-    ensures late { IfErr result IsLate }
-    ensures begins { IfErr result (BeginsLine kit.now repairs.now line.now (W.known out.old) (W.known out.new)) }
-    ensures cause { IfErr result (IsWriteCause (W.faults out.old) (W.faults out.new)) }
-    ensures kept { OnOk result (W.faults out.new ≡ W.faults out.old) }
-{
-    let mut text = Vec::new(alloc);
-    let faulty = push_line(alloc, kit, repairs, line, &mut text)?;
-    match write_all(out, text.as_slice()) {
-        Ok(()) => Ok(faulty),
-        Err(_) => Err(RunFault::Write),
-    }
 }

@@ -132,7 +132,7 @@ set_other (x ∷ xs) zero (suc u) b ne = refl
 set_other (x ∷ xs) (suc q) zero b ne = refl
 set_other (x ∷ xs) (suc q) (suc u) b ne = set_other xs q u b (λ e. ne (ap suc e))
 
-set_length : (xs : List Bool) (q : ℕ) (b : Bool) → length (slice_set xs q b) ≡ length xs
+pub set_length : (xs : List Bool) (q : ℕ) (b : Bool) → length (slice_set xs q b) ≡ length xs
 set_length [] q b = refl
 set_length (x ∷ xs) zero b = refl
 set_length (x ∷ xs) (suc q) b = ap suc (set_length xs q b)

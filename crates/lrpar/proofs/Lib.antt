@@ -48,3 +48,7 @@ pub mod RowWalks
 pub mod FittingRows
 pub mod ChainRows
 pub mod SetBits
+pub mod NextRuns
+pub mod SentenceTokens
+pub mod NextFacts
+pub mod NextTold

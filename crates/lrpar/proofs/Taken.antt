@@ -18,7 +18,7 @@ use Rattle.lrpar.specs.Taking.{TakesOn, EditsAreTaken}
 use Rattle.lrpar.proofs.Turning.{accept_of, good_is_not_stuck, one_step}
 use Rattle.lrpar.proofs.Replays.{led, Kept, kept}
 
-some_pair : {L : Type 0} (p q : List L × List L) → Some p ≡ Some q → p ≡ q
+pub some_pair : {L : Type 0} (p q : List L × List L) → Some p ≡ Some q → p ≡ q
 some_pair p q e = cc
 
 -- what a sequence that puts y first does
@@ -50,7 +50,7 @@ module _ (L : Type 0) (G : Grammar) (a : Automaton) (tok : L → ℕ) where
       let q : suc n + k ≡ suc (n + k) = omega arith in
       ap (λ j. run G a tok j d) q ∙ accepted_after n k (λ b u h. accepted_more n k b u h) (step G a tok d) t e
 
-  shift_step : (ss : List ℕ) (ts : List (Tree L)) (y : L) (ws : List L) (q : ℕ) → action_on a (tok y) ss ≡ shift q →
+  pub shift_step : (ss : List ℕ) (ts : List (Tree L)) (y : L) (ws : List L) (q : ℕ) → action_on a (tok y) ss ≡ shift q →
       step G a tok (record { states = ss; trees = ts; rest = y ∷ ws }) ≡ going (record { states = q ∷ ss; trees = leaf y ∷ ts; rest = ws })
   shift_step [] ts y ws q e = cc
   shift_step (s ∷ ss) ts y ws q e = ap (λ k. act G a k (s ∷ ss) ts (y ∷ ws)) e

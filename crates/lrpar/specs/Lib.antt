@@ -30,3 +30,5 @@ pub mod Completing
 pub mod FlatParses
 pub mod NodeValues
 pub mod Acting
+pub mod NextTokens
+pub mod NextStates

@@ -20,10 +20,11 @@
 //! repairs, and in place of `parse_noaction` stand `parse_generictree`, `parse_map`, `parse_actions`, `parse_fold` and
 //! `parse_flat`, which make values. `crates/example_editor` shows a lexer and a recoverer.
 //!
-//! `ParserData` holds a grammar, a graph and a table that were checked against it, so that no call on it asks for more. A
-//! parser (`RTParserBuilder`) runs the lexemes of a lexer over them: it tells the first fault of the lexer, or the value
-//! and the errors of the machine with repairs, where a `Recoverer` hands in sequences at each error and the first that can
-//! be taken is applied. The contracts that matter most: `parserdata::ParserData::new` (a pair of a graph and a table is
+//! `ParserData` holds a grammar, a graph and a table that were checked against it, so that no call on it asks for more.
+//! Its `next_tokens` tells which tokens may come after some lexemes, as those before an error. A parser
+//! (`RTParserBuilder`) runs the lexemes of a lexer over them: it tells the first fault of the lexer, or the value and the
+//! errors of the machine with repairs, where a `Recoverer` hands in sequences at each error and the first that can be
+//! taken is applied. The contracts that matter most: `parserdata::ParserData::new` (a pair of a graph and a table is
 //! refused exactly where it isn't safe, at its least place, or where a chain of reductions passes the cap), and those of
 //! `builder::RTParserBuilder`, by `specs/Parses` (`IsParse`: what a parse comes to, and what follows of it).
 #![tactic(auto)]
@@ -41,6 +42,7 @@ mod handed_out;
 pub mod laws;
 pub mod lex_api;
 pub mod lexemes;
+mod next_tokens;
 pub mod node;
 mod node_lists;
 mod numbers;

@@ -1,7 +1,11 @@
-//! Tests of `lrpar`: which grammars and tables are refused, and where.
+//! Tests of `lrpar`: which grammars and tables are refused, and where; which tokens may come next.
 #![tactic(auto)]
 
 #[cfg(test)]
+mod lexeme;
+#[cfg(test)]
 mod make;
+#[cfg(test)]
+mod next;
 #[cfg(test)]
 mod refusals;

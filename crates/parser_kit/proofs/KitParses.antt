@@ -60,7 +60,7 @@ told_none f g xs [] e none = refl
 told_none f g [] (y ∷ ys) e none = cc
 told_none f g (x ∷ xs) (y ∷ ys) e none = cc
 
-oks_same : {L E : Type 0} (xs ys : List L) → map {B = Result L E} Ok xs ≡ map Ok ys → xs ≡ ys
+pub oks_same : {L E : Type 0} (xs ys : List L) → map {B = Result L E} Ok xs ≡ map Ok ys → xs ≡ ys
 oks_same [] [] e = refl
 oks_same [] (y ∷ ys) e = cc
 oks_same (x ∷ xs) [] e = cc

@@ -1,4 +1,5 @@
 pub mod KitParses
+mod ParsedAlike
 pub mod Kits
 pub mod Tabled
 mod Searches

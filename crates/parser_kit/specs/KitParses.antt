@@ -75,3 +75,12 @@ pub record LeavesNoTrace {S L E : Type 0} (number : S → ℕ) (lex : L → Lex)
 pub data IsHanded {S L E V X : Type 0} (fault : E → X) (wrong : ParseError L S → X) (items : List (Result L E)) (P : Option V → List (ParseError L S) → Type 0) (value : Option V) (errors : List X) : Type 0 where
   faulty : (e : E) → IsFirstLexError items e → value ≡ None → errors ≡ fault e ∷ [] → IsHanded fault wrong items P value errors
   parsed : (es : List (ParseError L S)) → errors ≡ map wrong es → P value es → IsHanded fault wrong items P value errors
+
+-- two kits parse alike: of the lexemes of one list, where at an error the same sequences are handed in, by its state, its index and its lexeme, they tell the same errors and give the same tree or none
+abbrev pub ParseAlike : (S U L E : Type 0) → ParserValue → ParserValue → Type 0
+ParseAlike S U L E d e =
+    (number : S → ℕ) (other_number : U → ℕ) (lex : L → Lex) (faulty : ℕ → ℕ → ℕ → L) (lists : ℕ → ℕ → L → List (List Edit)) (items : List (Result L E))
+    (tree other_tree : Option (Tree L)) (errors : List (ParseError L S)) (others : List (ParseError L U)) →
+    IsKitParse number lex faulty d (λ state index lexeme offered. offered ≡ lists state index lexeme) items (λ t. t ≡ tree) errors →
+    IsKitParse other_number lex faulty e (λ state index lexeme offered. offered ≡ lists state index lexeme) items (λ t. t ≡ other_tree) others →
+    (map (told_of number) errors ≡ map (told_of other_number) others) × (tree ≡ other_tree)

@@ -4,10 +4,12 @@ ghost use Rattle.std.specs.Prelude.{◌≡◌, ℕ, List};
 ghost use Rattle.cfg_read.specs.declared.yacc.YaccKind.{YaccKind};
 ghost use Rattle.lrpar.specs.Checked.{ParserValue};
 ghost use Rattle.parser_kit.specs.Kit.{IsKitOf, KitValue};
+ghost use Rattle.parser_kit.specs.KitParses.{ParseAlike};
 ghost use Rattle.parser_kit.specs.Tabled.{IsTabled};
 ghost use Rattle.parser_kit.specs.TextKinds.{IsKindOfText};
 
 use cfg_read::yacc::{one_answer, one_kind};
+use lrpar::laws::parses_are_one;
 use lrtable::laws::tables_are_one;
 
 /// A grammar has one kit of a cap, whatever type its numbers are stored in: kits of `u8`, `u16` and `u32` have the same
@@ -24,6 +26,15 @@ pub fn kits_of_texts_are_one()
 {
     one_answer();
     kits_are_one();
+}
+
+/// Kits of one text, kind and cap parse alike, whatever types their numbers are stored in: of the same lexemes, where the
+/// same sequences are handed in at the same errors, they tell the same errors and give the same tree or none.
+pub fn kits_of_texts_parse_alike<S, U, L, E>()
+    ensures { (top top' cap : ℕ) (kind : YaccKind) (text : List ℕ) (k l : KitValue) → IsKitOf top kind text cap k → IsKitOf top' kind text cap l → ParseAlike S U L E k.parser l.parser }
+{
+    kits_of_texts_are_one();
+    parses_are_one::<L, L>();
 }
 
 /// A text has one kind at most: the one that its section tells, or, where it has no key for it, that of Yacc's own syntax

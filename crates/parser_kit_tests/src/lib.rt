@@ -1,4 +1,4 @@
-//! Tests of `parser_kit`: what kits tell of their texts, which texts give none, and what lines come to.
+//! Tests of `parser_kit`: what kits tell of their texts, which texts give none, what lines come to, and that repairs leave no trace.
 #![tactic(auto)]
 
 #[cfg(test)]
@@ -6,7 +6,11 @@ mod kits;
 #[cfg(test)]
 mod lexer;
 #[cfg(test)]
+mod lines;
+#[cfg(test)]
 mod parses;
+#[cfg(test)]
+mod repaired;
 #[cfg(test)]
 mod spell;
 #[cfg(test)]

@@ -1,1 +1,2 @@
 pub mod Undeclared
+pub mod LeastSentences

@@ -1,18 +1,23 @@
 //! Values fold derivations, sentences come through with their only tree, repairs leave no trace.
 
-ghost use Rattle.std.specs.Prelude.{◌≡◌, [], IfErr, IfOk, IsNone};
+ghost use Rattle.std.specs.Prelude.{◌≡◌, ℕ, List, [], map, IfErr, IfOk, IsNone};
+ghost use Rattle.cfg_theory.specs.Cost.{IsCheapest};
 ghost use Rattle.cfg_theory.specs.Derivation.{AllProductive};
+ghost use Rattle.cfg_theory.specs.Grammar.{rule, start_symbol};
 ghost use Rattle.lrpar.specs.FlatParses.{HasFlat};
-ghost use Rattle.lrpar.specs.Lexemes.{IsFirstLexError};
+ghost use Rattle.lrpar.specs.Lexemes.{AreItems, IsFirstLexError};
 ghost use Rattle.lrpar.specs.Refusals.{IsParseRefusal};
-ghost use Rattle.lrpar.specs.Run.{span_by};
-ghost use Rattle.parser_kit.specs.KitParses.{IsKitParse, ItemsFollowSentences, LeavesNoTrace};
+ghost use Rattle.lrpar.specs.Run.{span_by, token_by};
+ghost use Rattle.cfg_read.specs.declared.yacc.YaccKind.{YaccKind};
+ghost use Rattle.parser_kit.specs.Kit.{IsKitOf, KitValue};
+ghost use Rattle.parser_kit.specs.KitParses.{IsKitParse, ItemsFollowSentences, LeavesNoTrace, ParseAlike};
 
 use cfg_base::index::IndexStorage;
 use cfgrammar::yacc::from_ast::trees_without_precedences_make_grammars_without;
 use lrpar::{FlatTree, Lexer, LexerTypes, ParseError, ParseRefusal, Recoverer};
 use lrtable::laws::precedences_are_kept;
 use parser_kit::ParserKit;
+use parser_kit::laws::{kits_of_texts_are_one, kits_of_texts_parse_alike};
 use std::alloc::Global;
 
 /// For any lexer and any recoverer a parse tells the lexer's first fault alone, or is that of the machine with repairs: the
@@ -77,6 +82,37 @@ pub fn sentences_get_their_only_tree<
     kit.parse_flat::<T, X, R>(alloc, lexer, recoverer)
 }
 
+/// There each least sentence of the start rule, by any costs of tokens, comes through without errors.
+/// Shown by `example_shortest`; refused: `least_by_any_production`.
+pub fn least_sentences_come_through<
+    S: IndexStorage,
+    T: LexerTypes<StorageT = S>,
+    X: Lexer<T>,
+    R: Recoverer<S, T::LexemeT>,
+>(
+    kit: &ParserKit<S>,
+    alloc: Global,
+    lexer: &X,
+    recoverer: &R,
+) -> Result<
+    Result<
+        (
+            Option<FlatTree<S, T::LexemeT>>,
+            Vec<ParseError<T::LexemeT, S>>,
+        ),
+        T::LexErrorT,
+    >,
+    ParseRefusal,
+>
+    ensures { kit.now.kept.ast.precedences ≡ [] → IsNone kit.now.parser.table.conflicts → (A : ℕ) (cost : ℕ → ℕ) (lexemes : List T.LexemeT) → start_symbol kit.now.parser.grammar.grammar ≡ rule A → AreItems (X.lexed lexer.now) lexemes →
+        IsCheapest kit.now.parser.grammar.grammar cost A (map (token_by T.LexemeT.lex) lexemes) → IfOk result (λ r. IfOk r (λ p. p.1.items ≡ [])) }
+{
+    trees_without_precedences_make_grammars_without();
+    precedences_are_kept();
+    kit.stays_kit();
+    kit.parse_flat::<T, X, R>(alloc, lexer, recoverer)
+}
+
 /// Where moreover each rule derives some text, repairs leave no trace: the tree is that of a run without repairs on the
 /// lexemes as repaired, and each error stands at the first lexeme up to which no sentence begins.
 /// Shown by `a_missing_lexeme_is_inserted` of `lr_theory`; refused: `edges_without_lookaheads`.
@@ -106,4 +142,16 @@ pub fn repairs_leave_no_trace<
     precedences_are_kept();
     kit.stays_kit();
     kit.parse_flat::<T, X, R>(alloc, lexer, recoverer)
+}
+
+/// Kits of one text, kind and cap, whatever types their numbers are stored in, are the same in numbers, conflicts and tables,
+/// and of the same lexemes, where the same sequences are handed in at the same errors, they tell the same errors and give the
+/// same tree or none.
+/// Shown by `table_rows`, by three index types.
+pub fn kits_of_a_text_answer_alike<S, U, L, E>()
+    ensures kits { (top top' cap : ℕ) (kind : YaccKind) (text : List ℕ) (k l : KitValue) → IsKitOf top kind text cap k → IsKitOf top' kind text cap l → k ≡ l }
+    ensures parses { (top top' cap : ℕ) (kind : YaccKind) (text : List ℕ) (k l : KitValue) → IsKitOf top kind text cap k → IsKitOf top' kind text cap l → ParseAlike S U L E k.parser l.parser }
+{
+    kits_of_texts_are_one();
+    kits_of_texts_parse_alike::<S, U, L, E>();
 }

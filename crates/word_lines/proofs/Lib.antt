@@ -6,3 +6,4 @@ mod TakenLexemes
 mod LineCuts
 mod FittedWords
 mod ShownNames
+mod Spaces

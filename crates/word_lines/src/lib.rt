@@ -30,7 +30,8 @@
 //! `specs/Lexing` (`items_of`): a word that is a token's name is a lexeme, any other a lexing error. No such list is refused by
 //! a parse, and its items are parts of the line (`laws::items_are_parts_of_their_line`). `read_repairs` reads a text of lines
 //! of repairs (`specs/Repairs`), which `RepairLines` hands in, all of them, at each error. `shown` adds the texts of errors and
-//! of a tree of a line to a text (`specs/LineTexts`).
+//! of a tree of a line to a text (`specs/LineTexts`); `trees` adds that of a tree node by node, so that a caller may let it go
+//! a part at a time.
 #![tactic(auto)]
 
 pub mod laws;
@@ -39,6 +40,7 @@ pub mod lexer;
 mod names;
 pub mod repairs;
 pub mod shown;
+pub mod trees;
 
 pub use lexeme::{WordLexError, WordLexeme, WordLexerTypes};
 pub use lexer::WordLexer;

@@ -14,9 +14,9 @@ use vob::Vob;
 
 /// A rule to which a walk comes: before those that its productions name, and again behind them.
 #[derive(Clone, Copy)]
-struct Stop {
-    rule: usize,
-    is_behind: bool,
+pub struct Stop {
+    pub rule: usize,
+    pub is_behind: bool,
 }
 
 /// Puts the rules that a production names on the stack.
@@ -100,7 +100,7 @@ fn go_on<S: IndexStorage>(
 }
 
 /// Puts all rules on the stack, the first on top.
-fn push_rules(rules: usize, stack: &mut Vec<Stop>) -> Result<(), AllocError> {
+pub(crate) fn push_rules(rules: usize, stack: &mut Vec<Stop>) -> Result<(), AllocError> {
     'rules: for number in 0..rules {
         let rule = rules - 1 - number;
         let is_behind = false;
@@ -170,6 +170,15 @@ impl Order {
         let prods = grm.prods_len().0.to_usize();
         let mut order = WorkList::new(alloc, prods)?;
         walk(alloc, grm, &mut order)?;
+        Order::begun_with(prods, order)
+    }
+
+    /// The productions of a list, and behind them the others.
+    pub fn begun_with(prods: usize, list: WorkList) -> Result<Order, AllocError>
+        requires { list.rules ≡ prods }
+        ensures { IfOk result (λ o. IsOrder prods o) }
+    {
+        let mut order = list;
         put_rest(prods, &mut order)?;
         Ok(Order {
             list: order.into_list(),

@@ -8,12 +8,15 @@ ghost use Rattle.cfg_numbered.specs.declared.yacc.sentences.SentenceError.TheVar
 
 mod bounded;
 mod cheapest;
+mod cheapest_first;
 mod first_cheapest;
+mod groups;
 mod kept_costs;
 mod least;
 mod max_cost;
 mod needed;
 mod shared_lists;
+mod shared_order;
 mod token_costs;
 mod token_lists;
 mod unbounded;
@@ -22,6 +25,7 @@ use crate::yacc::grammar::NumberedGrammar;
 use cfg_base::index::IndexStorage;
 use cfg_base::symbol::{RIdx, TIdx};
 use cfg_theory::cost::productive_rules_have_least_costs;
+use cheapest_first::cheapest_first;
 use least::LeastCosts;
 use max_cost::greatest_tables;
 use std::alloc::{AllocError, Global};
@@ -119,6 +123,7 @@ impl<'a, S: IndexStorage> SentenceGenerator<'a, S> {
         let naming = tokens.naming(alloc)?;
         let order = tokens.order(alloc)?;
         let (unbounded, greatest) = greatest_tables(alloc, &tokens, &naming, &order)?;
+        let order = cheapest_first(alloc, &tokens, &naming)?;
         let least = LeastCosts::new(alloc, tokens, &naming, &order)?;
         Ok(SentenceGenerator {
             least,

@@ -18,8 +18,8 @@ ghost use Rattle.cfg_numbered.specs.EarliestTable.{GivesNone, GivesOne, ComesFir
 use super::least::LeastCosts;
 use super::needed::wanted_rules;
 use super::shared_lists::{SharedLists, write};
+use super::shared_order::is_list_before;
 use super::token_costs::BOUND;
-use super::token_lists::is_before;
 use super::{SentenceError, SentenceGenerator};
 use crate::yacc::by_prods::{ByProds, ProdTable, close_by_prods};
 use cfg_base::index::IndexStorage;
@@ -134,11 +134,7 @@ fn comes_first<S: IndexStorage>(
 {
     match shared.of_rule(rule) {
         None => Ok(true),
-        Some(kept) => {
-            let list = write(alloc, shared, list)?;
-            let kept = write(alloc, shared, kept)?;
-            Ok(is_before(list.as_slice(), kept.as_slice()))
-        }
+        Some(kept) => is_list_before(alloc, shared, list, kept),
     }
 }
 

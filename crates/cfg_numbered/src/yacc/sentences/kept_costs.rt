@@ -73,6 +73,21 @@ impl<'t, 'a, S: IndexStorage> KeptCosts<'t, 'a, S> {
         self.tokens.rules_len()
     }
 
+    /// How many productions the grammar has.
+    pub fn prods_len(&self) -> PIdx<S>
+        ensures { S.number result.0 ≡ length self.now.grammar.productions }
+    {
+        self.tokens.prods_len()
+    }
+
+    /// The rule of a number.
+    pub fn rule_at(&self, number: usize) -> RIdx<S>
+        requires { number < self.now.grammar.rules }
+        ensures { S.number result.0 ≡ number }
+    {
+        self.tokens.rule_at(number)
+    }
+
     /// The production of a number.
     pub fn prod_at(&self, number: usize) -> PIdx<S>
         requires { number < length self.now.grammar.productions }

@@ -74,7 +74,7 @@ fn is_more(new: u32, old: Option<u32>) -> bool
     }
 }
 
-fn at_most(cost: u32, top: u32) -> u32
+pub(super) fn at_most(cost: u32, top: u32) -> u32
     ensures { result ≡ min cost top }
 {
     if cost > top {

@@ -3,7 +3,7 @@
 ghost use Rattle.std.specs.Prelude.{◌≡◌, ℕ, ◌+◌, ◌<◌, ◌++◌, ◌∷◌, IfOk, MatchOption, List, [], length, get_or, set, replicate, Some, None, true, false};
 ghost use Rattle.std.specs.List.{All};
 ghost use Rattle.cfg_numbered.specs.TokenLists.{tokens_of};
-ghost use Rattle.cfg_numbered.specs.SharedLists.{Shared, spelled_by, IsFit, stacked, turns, turns_of};
+ghost use Rattle.cfg_numbered.specs.SharedLists.{Shared, spelled_by, IsFit, HasTokens, stacked, turns, turns_of};
 
 use cfg_base::index::IndexStorage;
 use cfg_base::symbol::TIdx;
@@ -106,7 +106,7 @@ impl<S: IndexStorage> SharedLists<S> {
     }
 
     /// Whether a list has no token.
-    fn is_empty(&self, list: usize) -> bool
+    pub fn is_empty(&self, list: usize) -> bool
         requires { list < length self.now.lists }
         ensures empty { result ≡ true → get_or self.now.lists list [] ≡ [] }
         ensures some { result ≡ false → 0 < length (get_or self.now.lists list []) }
@@ -150,6 +150,25 @@ impl<S: IndexStorage> SharedLists<S> {
             }
         }
         Ok(())
+    }
+
+    /// Takes a list with tokens apart: its token is given, or its two lists wait to be taken apart, the left one first.
+    pub fn split(&self, list: usize, rest: &mut Vec<usize>) -> Result<Option<TIdx<S>>, AllocError>
+        requires list { HasTokens self.now.lists list }
+        requires rest { All (HasTokens self.now.lists) rest.old.items }
+        ensures rest { IfOk result (λ _. All (HasTokens self.now.lists) rest.new.items) }
+        ensures list { IfOk result (λ o. MatchOption o (stacked self.now.lists rest.new.items ≡ get_or self.now.lists list [] ++ stacked self.now.lists rest.old.items) (λ t. (get_or self.now.lists list [] ≡ S.number t.0 ∷ []) × (rest.new.items ≡ rest.old.items))) }
+        ensures fewer { IfOk result (λ _. turns self.now.lists rest.new.items < turns self.now.lists rest.old.items + turns_of self.now.lists list) }
+    {
+        match self.parts[list] {
+            Part::Empty => unreachable!(),
+            Part::Token(token) => Ok(Some(token)),
+            Part::Pair(left, right) => {
+                rest.push(right)?;
+                rest.push(left)?;
+                Ok(None)
+            }
+        }
     }
 }
 

@@ -120,7 +120,7 @@ fn free_place<S: IndexStorage>(lists: &[Vec<TIdx<S>>], list: &[TIdx<S>]) -> Opti
 }
 
 /// Whether a list is before another in the dictionary order of token numbers.
-pub(crate) fn is_before<S: IndexStorage>(a: &[TIdx<S>], b: &[TIdx<S>]) -> bool
+fn is_before<S: IndexStorage>(a: &[TIdx<S>], b: &[TIdx<S>]) -> bool
     ensures { IsTrue result ↔ IsBefore (tokens_of S.number a.now) (tokens_of S.number b.now) }
 {
     'indices: for index in 0..a.len() {

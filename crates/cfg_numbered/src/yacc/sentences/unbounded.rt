@@ -156,13 +156,11 @@ pub(super) fn unbounded_rules<S: IndexStorage>(
     costly.stays_kept();
     let rules = costly.rules_len().0.to_usize();
     let mut kept = Vob::from_elem(alloc, true, rules)?;
-    let mut rest = Vob::from_elem(alloc, true, rules)?;
     'rounds: loop {
-        settle(costly, order, &mut kept, &mut rest);
+        settle(alloc, costly, naming, &mut kept)?;
         let new = narrowed(alloc, costly, naming, order, &kept)?;
         if !kept.and(&new) {
             return Ok(kept);
         }
-        rest.and(&new);
     }
 }

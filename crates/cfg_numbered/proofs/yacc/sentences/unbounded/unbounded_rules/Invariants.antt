@@ -9,7 +9,6 @@ abbrev pub invariant-rounds : goal.invariant-rounds
 invariant-rounds g l = record {
   width : length l.kept.bits ≡ l.costly.grammar.rules;
   bounded : (n : ℕ) × IsBoundedBy l.costly.grammar (cost_of l.costly.costs) (is_set l.kept.bits) n;
-  same : l.rest.bits ≡ l.kept.bits;
   out : AreOut l.costly.grammar (cost_of l.costly.costs) l.costly.table l.kept.bits;
 }
 

@@ -1,0 +1,172 @@
+-- How two lists that share their parts are compared from their fronts.
+use Rattle.std.proofs.Common.{◌≡◌, ℕ, zero, suc, ◌+◌, ◌<◌, inl, inr, ◌↔◌, Bool, true, false, List, [], ◌∷◌, ◌++◌, length, get_or, Option, Some, None, refl, sym, ap, ◌∙◌, subst, append_assoc, arith}
+use Rattle.std.specs.Prelude.{IsTrue, not, MatchOption}
+use Rattle.std.specs.List.{All}
+use Rattle.std.specs.Option.{option_map}
+use Rattle.std.proofs.lemmas.List.{length-append, get_or_append_left}
+use Rattle.std.proofs.lemmas.List.Sums.{sum_by_push}
+use Rattle.std.proofs.lemmas.List.Elements.{All-push, All-same}
+use Rattle.cfg_theory.specs.Cost.{IsBefore}
+use Rattle.cfg_numbered.specs.SharedLists.{HasTokens, AreRests, IsTold, stacked, turns, turns_of}
+use Rattle.cfg_numbered.proofs.SharedSteps.{stacked_push}
+use Rattle.cfg_numbered.proofs.Dictionary.{Before, as_before}
+
+-- ---- the order of two lists
+
+asym : (u v : List ℕ) → Before u v → Before v u → ⊥
+asym [] [] h k = h
+asym [] (t ∷ v) h k = k
+asym (t ∷ u) [] h k = h
+asym (t ∷ u) (s ∷ v) (inl lt) (inl gt) = absurd (omega (arith, lt, gt))
+asym (t ∷ u) (s ∷ v) (inl lt) (inr (e, k)) = absurd (omega (arith, lt, e))
+asym (t ∷ u) (s ∷ v) (inr (e, h)) (inl gt) = absurd (omega (arith, gt, e))
+asym (t ∷ u) (s ∷ v) (inr (e, h)) (inr (q, k)) = asym u v h k
+
+not_both : (u v : List ℕ) → IsBefore u v → IsBefore v u → ⊥
+not_both u v h k = asym u v ((as_before u v).1 h) ((as_before v u).1 k)
+
+behind : (s u v : List ℕ) → IsBefore u v → IsBefore (s ++ u) (s ++ v)
+behind [] u v h = h
+behind (t ∷ s) u v h = IsBefore.later (behind s u v h)
+
+without : (s u v : List ℕ) → Before (s ++ u) (s ++ v) → Before u v
+without [] u v h = h
+without (t ∷ s) u v (inl lt) = absurd (omega (arith, lt))
+without (t ∷ s) u v (inr (e, h)) = without s u v h
+
+front_gone : (s u v : List ℕ) → IsBefore (s ++ u) (s ++ v) → IsBefore u v
+front_gone s u v h = (as_before u v).0 (without s u v ((as_before (s ++ u) (s ++ v)).1 h))
+
+-- ---- what was told
+
+pub told_if : (u v : List ℕ) (b : Bool) → IsTold u v b → IsTrue b ↔ IsBefore u v
+told_if u v true h = ((λ e. h), (λ k. refl))
+told_if u v false h = ((λ e. absurd (wrong e)), (λ k. absurd (not_both u v k h)))
+  where
+    wrong : ◌≡◌ {A = Bool} false true → ⊥
+    wrong e = cc
+
+pub told_behind : (u v a z : List ℕ) (b : Bool) → AreRests u v a z → IsTold a z b → IsTold u v b
+told_behind u v a z true r h = subst (λ l. IsBefore l v) (sym r.left) (subst (λ l. IsBefore (r.front ++ a) l) (sym r.right) (behind r.front a z h))
+told_behind u v a z false r h = subst (λ l. IsBefore l u) (sym r.right) (subst (λ l. IsBefore (r.front ++ z) l) (sym r.left) (behind r.front z a h))
+
+one_token : (t s : ℕ) (a z : List ℕ) → IsBefore (t ∷ []) (s ∷ []) → IsBefore (t ∷ a) (s ∷ z)
+one_token t s a z h = (as_before (t ∷ a) (s ∷ z)).0 (more ((as_before (t ∷ []) (s ∷ [])).1 h))
+  where
+    more : Before (t ∷ []) (s ∷ []) → Before (t ∷ a) (s ∷ z)
+    more (inl lt) = inl lt
+    more (inr (e, k)) = absurd k
+
+pub token_told : (u v a z : List ℕ) (t s : ℕ) (b : Bool) → u ≡ t ∷ [] → v ≡ s ∷ [] → IsTold (t ∷ []) (s ∷ []) b → IsTold (u ++ a) (v ++ z) b
+token_told u v a z t s true e q h = subst (λ l. IsBefore (l ++ a) (v ++ z)) (sym e) (subst (λ l. IsBefore (t ∷ a) (l ++ z)) (sym q) (one_token t s a z h))
+token_told u v a z t s false e q h = subst (λ l. IsBefore (l ++ z) (u ++ a)) (sym q) (subst (λ l. IsBefore (s ∷ z) (l ++ a)) (sym e) (one_token s t z a h))
+
+pub less_told : (t s : ℕ) → t < s → IsBefore (t ∷ []) (s ∷ [])
+less_told t s lt = IsBefore.smaller lt
+
+other_way : (u v : List ℕ) (b : Bool) → IsTold v u b → IsTold u v (not b)
+other_way u v true h = h
+other_way u v false h = h
+
+pub turned_told : (u v a z : List ℕ) (o q : Option Bool) → q ≡ option_map not o → MatchOption o (AreRests v u z a) (λ b. IsTold v u b) → MatchOption q (AreRests u v a z) (λ b. IsTold u v b)
+turned_told u v a z None q e h = subst (λ (r : Option Bool). MatchOption r (AreRests u v a z) (λ b. IsTold u v b)) (sym e) (record { front = h.front; left = h.right; right = h.left })
+turned_told u v a z (Some b) q e h = subst (λ (r : Option Bool). MatchOption r (AreRests u v a z) (λ b. IsTold u v b)) (sym e) (other_way u v b h)
+
+-- ---- the stacks
+
+pub in_range : (lists : List (List ℕ)) (k : ℕ) → HasTokens lists k → k < length lists
+in_range [] k h = absurd (omega (arith, h))
+in_range (l ∷ lists) zero h = omega arith
+in_range (l ∷ lists) (suc k) h = let lt = in_range lists k h in omega (arith, lt)
+
+-- both were taken apart, and what they spell stayed
+pub same_rests : (u v a z : List ℕ) → a ≡ u → z ≡ v → AreRests u v a z
+same_rests u v a z e q = record { front = []; left = sym e; right = sym q }
+
+-- both began with one list
+pub front_rests : (s u v a z : List ℕ) → u ≡ s ++ a → v ≡ s ++ z → AreRests u v a z
+front_rests s u v a z e q = record { front = s; left = e; right = q }
+
+pub rests_on : (u v a z b y : List ℕ) → AreRests u v a z → AreRests a z b y → AreRests u v b y
+rests_on u v a z b y h k = record {
+  front = h.front ++ k.front;
+  left = h.left ∙ ap (λ l. h.front ++ l) k.left ∙ sym (append_assoc h.front k.front b);
+  right = h.right ∙ ap (λ l. h.front ++ l) k.right ∙ sym (append_assoc h.front k.front y);
+}
+
+module _ (lists : List (List ℕ)) where
+  pub pushed_on : (old new : List ℕ) (k : ℕ) → new ≡ old ++ k ∷ [] → stacked lists new ≡ get_or lists k [] ++ stacked lists old
+  pushed_on old new k e = ap (stacked lists) e ∙ stacked_push lists old k
+
+  pub pushed_turns : (old new : List ℕ) (k : ℕ) → new ≡ old ++ k ∷ [] → turns lists new ≡ turns lists old + turns_of lists k
+  pushed_turns old new k e = ap (turns lists) e ∙ sum_by_push (turns_of lists) old k
+
+  pub pushed_tokens : (old new : List ℕ) (k : ℕ) → new ≡ old ++ k ∷ [] → All (HasTokens lists) old → HasTokens lists k → All (HasTokens lists) new
+  pushed_tokens old new k e h t = All-same (HasTokens lists) new (old ++ k ∷ []) e (All-push (HasTokens lists) old k h t)
+
+  some_tokens : (ks : List ℕ) → All (HasTokens lists) ks → 0 < length ks → 0 < length (stacked lists ks)
+  some_tokens [] h lt = absurd (omega (arith, lt))
+  some_tokens (k ∷ ks) h lt = let t = h 0 k (omega arith) in let n = length-append (stacked lists ks) (get_or lists k []) in omega (arith, n, t)
+
+  -- the first list ends
+  pub left_ends : (u v : List ℕ) (ls rs : List ℕ) → AreRests u v (stacked lists ls) (stacked lists rs) → ls ≡ [] → All (HasTokens lists) rs → (0 < length rs) ↔ IsBefore u v
+  left_ends u v ls rs r e h = ((λ lt. shown (some_tokens rs h lt)), λ k. many rs (front_gone r.front [] (stacked lists rs) (subst (λ l. IsBefore l (r.front ++ stacked lists rs)) ends (subst (λ l. IsBefore u l) r.right k))))
+    where
+      ends : u ≡ r.front ++ []
+      ends = r.left ∙ ap (λ l. r.front ++ stacked lists l) e
+
+      shown : 0 < length (stacked lists rs) → IsBefore u v
+      shown lt = subst (λ l. IsBefore l v) (sym ends) (subst (λ l. IsBefore (r.front ++ []) l) (sym r.right) (behind r.front [] (stacked lists rs) (begun (stacked lists rs) lt)))
+        where
+          begun : (w : List ℕ) → 0 < length w → IsBefore [] w
+          begun [] less = absurd (omega (arith, less))
+          begun (t ∷ w) less = IsBefore.shorter
+
+      many : (ks : List ℕ) → IsBefore [] (stacked lists ks) → 0 < length ks
+      many [] k = absurd ((as_before [] []).1 k)
+      many (j ∷ ks) k = omega arith
+
+  -- the second one does
+  pub right_ends : (u v : List ℕ) (ls rs : List ℕ) → AreRests u v (stacked lists ls) (stacked lists rs) → rs ≡ [] → IsBefore u v → ⊥
+  right_ends u v ls rs r e k = nothing (stacked lists ls) ((as_before (stacked lists ls) []).1 (front_gone r.front (stacked lists ls) [] (subst (λ l. IsBefore l (r.front ++ [])) r.left (subst (λ l. IsBefore u l) (r.right ∙ ap (λ l. r.front ++ stacked lists l) e) k))))
+    where
+      nothing : (w : List ℕ) → Before w [] → ⊥
+      nothing [] h = h
+      nothing (t ∷ w) h = h
+
+-- both are tokens
+pub both_tokens : (u v a z b y : List ℕ) (t s : ℕ) (o : Option Bool) → u ≡ t ∷ [] → v ≡ s ∷ [] → b ≡ a → y ≡ z → MatchOption o (t ≡ s) (λ r. IsTold (t ∷ []) (s ∷ []) r) → MatchOption o (AreRests (u ++ a) (v ++ z) b y) (λ r. IsTold (u ++ a) (v ++ z) r)
+both_tokens u v a z b y t s None e q m n h = record {
+  front = t ∷ [];
+  left = ap (λ l. l ++ a) e ∙ ap (λ l. t ∷ l) (sym m);
+  right = ap (λ l. l ++ z) q ∙ ap (λ k. k ∷ z) (sym h) ∙ ap (λ l. t ∷ l) (sym n);
+}
+both_tokens u v a z b y t s (Some r) e q m n h = token_told u v a z t s r e q h
+
+-- ---- what a call answered
+
+pub match_none : {X : Type 0} {P : Type 0} (Q : X → Type 0) (o : Option X) → MatchOption o P Q → o ≡ None → P
+match_none Q None h e = h
+match_none Q (Some x) h e = cc
+
+pub match_some : {X : Type 0} (P : Type 0) (Q : X → Type 0) (o : Option X) (x : X) → MatchOption o P Q → o ≡ Some x → Q x
+match_some {X} P Q o x h e = subst (λ (r : Option X). MatchOption r P Q) e h
+
+pub rests_by : (u v a z b y : List ℕ) → AreRests u v a z → a ≡ b → z ≡ y → AreRests u v b y
+rests_by u v a z b y h e q = record { front = h.front; left = h.left ∙ ap (λ l. h.front ++ l) e; right = h.right ∙ ap (λ l. h.front ++ l) q }
+
+pub empty_first : (u v : List ℕ) → u ≡ [] → 0 < length v → IsTrue true ↔ IsBefore u v
+empty_first u v e lt = ((λ q. subst (λ l. IsBefore l v) (sym e) (begun v lt)), (λ h. refl))
+  where
+    begun : (w : List ℕ) → 0 < length w → IsBefore [] w
+    begun [] less = absurd (omega (arith, less))
+    begun (t ∷ w) less = IsBefore.shorter
+
+pub popped_all : (P : ℕ → Type 0) (old new : List ℕ) (k : ℕ) → old ≡ new ++ k ∷ [] → All P old → All P new
+popped_all P old new k e h = λ i d lt. subst P (get_or_append_left new (k ∷ []) d i lt) (All-same P (new ++ k ∷ []) old (sym e) h i d (let n = length-append new (k ∷ []) in omega (arith, n, lt)))
+
+pub told_false : (u v : List ℕ) → (IsBefore u v → ⊥) → IsTrue false ↔ IsBefore u v
+told_false u v n = ((λ e. absurd (wrong e)), (λ h. absurd (n h)))
+  where
+    wrong : ◌≡◌ {A = Bool} false true → ⊥
+    wrong e = cc

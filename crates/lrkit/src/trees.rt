@@ -1,0 +1,120 @@
+//! The text of a tree, which goes out as it is made.
+
+ghost use Rattle.std.specs.Prelude.{◌≡◌, ◌++◌, Option, IfErr, OnOk, OnErr};
+ghost use Rattle.std.specs.Io.KnownBytes.{Appends};
+ghost use Rattle.std.specs.List.{flat_map};
+ghost use Rattle.byte_streams.specs.Sink.{BeginningWritten, IsOutBut};
+ghost use Rattle.cfg_theory.specs.Tree.{Tree};
+ghost use Rattle.lrpar.specs.FlatLines.{CanVisit, visit_line};
+ghost use Rattle.lrpar.specs.FlatParses.{HasFlat};
+ghost use Rattle.lrpar.specs.FlatTrees.{IsFlat, pieces_of};
+ghost use Rattle.lrpar.specs.Run.{span_by};
+ghost use Rattle.word_lines.specs.Lexing.{lex_of};
+ghost use Rattle.word_lines.specs.LineTexts.{TreeCanBeShown, value_text};
+ghost use Rattle.lrkit.specs.Output.{Word, id};
+ghost use Rattle.lrkit.specs.Run.{IsLate, IsWriteCause};
+
+use crate::fault::RunFault;
+use byte_streams::{Sink, write_all, write_long};
+use cfg_numbered::yacc::NumberedGrammar;
+use lrpar::FlatTree;
+use lrpar::flat::{FlatNode, Visit};
+use std::alloc::Global;
+use word_lines::WordLexeme;
+use word_lines::trees::{push_node, shown_nodes};
+
+type LineTree = FlatTree<u32, WordLexeme<u32>>;
+
+/// Writes the text that waits, and then that of the tree, if there is one. Little of it waits at any time.
+pub(crate) fn write_tree<W: Sink>(
+    alloc: Global,
+    grm: &NumberedGrammar<u32>,
+    line: &str,
+    tree: &Option<LineTree>,
+    text: &mut Vec<u8>,
+    out: &mut W,
+) -> Result<(), RunFault>
+    requires { TreeCanBeShown id grm.now line.now tree.now }
+    ensures ok { (t : Option (Tree Word)) → HasFlat (span_by (lex_of id)) tree.now t → OnOk result (Appends (W.known out.old) (W.known out.new) (text.old.items ++ value_text id grm.now line.now t)) }
+    ensures late { IfErr result IsLate }
+    ensures begins { (t : Option (Tree Word)) → HasFlat (span_by (lex_of id)) tree.now t → OnErr result (BeginningWritten (W.known out.old) (W.known out.new) (text.old.items ++ value_text id grm.now line.now t)) }
+    ensures cause { IfErr result (IsWriteCause (W.faults out.old) (W.faults out.new)) }
+    ensures kept { OnOk result (W.faults out.new ≡ W.faults out.old) }
+{
+    match tree {
+        Some(tree) => write_nodes(alloc, grm, line, tree, text, out),
+        None => write_rest(text.as_slice(), out),
+    }
+}
+
+// Writes what waits, and then the text of the tree.
+fn write_nodes<W: Sink>(
+    alloc: Global,
+    grm: &NumberedGrammar<u32>,
+    line: &str,
+    tree: &LineTree,
+    text: &mut Vec<u8>,
+    out: &mut W,
+) -> Result<(), RunFault>
+    requires { TreeCanBeShown id grm.now line.now (Option.Some tree.now) }
+    ensures ok { (t : Tree Word) → IsFlat (span_by (lex_of id)) t tree.now.pieces → OnOk result (Appends (W.known out.old) (W.known out.new) (text.old.items ++ value_text id grm.now line.now (Option.Some t))) }
+    ensures late { IfErr result IsLate }
+    ensures begins { (t : Tree Word) → IsFlat (span_by (lex_of id)) t tree.now.pieces → OnErr result (BeginningWritten (W.known out.old) (W.known out.new) (text.old.items ++ value_text id grm.now line.now (Option.Some t))) }
+    ensures cause { IfErr result (IsWriteCause (W.faults out.old) (W.faults out.new)) }
+    ensures kept { OnOk result (W.faults out.new ≡ W.faults out.old) }
+{
+    let visits = shown_nodes(alloc, grm, line, tree)?;
+    write_visits(grm, line, tree.nodes(), visits.as_slice(), text, out)?;
+    write_rest(text.as_slice(), out)
+}
+
+// Adds the lines of these nodes to what waits, and writes it whenever it is long.
+fn write_visits<W: Sink>(
+    grm: &NumberedGrammar<u32>,
+    line: &str,
+    nodes: &[FlatNode<u32, WordLexeme<u32>>],
+    visits: &[Visit],
+    text: &mut Vec<u8>,
+    out: &mut W,
+) -> Result<(), RunFault>
+    requires { CanVisit grm.now (lex_of id) line.now (pieces_of id nodes.now) visits.now }
+    ensures ok { OnOk result (IsOutBut (W.known out.old) (W.known out.new) (text.old.items ++ flat_map (visit_line grm.now (lex_of id) line.now (pieces_of id nodes.now)) visits.now) text.new.items) }
+    ensures late { IfErr result IsLate }
+    ensures begins { OnErr result (BeginningWritten (W.known out.old) (W.known out.new) (text.old.items ++ flat_map (visit_line grm.now (lex_of id) line.now (pieces_of id nodes.now)) visits.now)) }
+    ensures cause { IfErr result (IsWriteCause (W.faults out.old) (W.faults out.new)) }
+    ensures kept { OnOk result (W.faults out.new ≡ W.faults out.old) }
+{
+    'visits: for visit in visits {
+        push_node(grm, line, nodes, *visit, text)?;
+        give_out(text, out)?;
+    }
+    Ok(())
+}
+
+// Writes what waits, if it is long.
+fn give_out<W: Sink>(text: &mut Vec<u8>, out: &mut W) -> Result<(), RunFault>
+    ensures ok { OnOk result (IsOutBut (W.known out.old) (W.known out.new) text.old.items text.new.items) }
+    ensures late { IfErr result IsLate }
+    ensures begins { OnErr result (BeginningWritten (W.known out.old) (W.known out.new) text.old.items) }
+    ensures cause { IfErr result (IsWriteCause (W.faults out.old) (W.faults out.new)) }
+    ensures kept { OnOk result (W.faults out.new ≡ W.faults out.old) }
+{
+    match write_long(out, text) {
+        Ok(()) => Ok(()),
+        Err(_) => Err(RunFault::Write),
+    }
+}
+
+// Writes what waits.
+fn write_rest<W: Sink>(text: &[u8], out: &mut W) -> Result<(), RunFault>
+    ensures ok { OnOk result (Appends (W.known out.old) (W.known out.new) text.now) }
+    ensures late { IfErr result IsLate }
+    ensures begins { OnErr result (BeginningWritten (W.known out.old) (W.known out.new) text.now) }
+    ensures cause { IfErr result (IsWriteCause (W.faults out.old) (W.faults out.new)) }
+    ensures kept { OnOk result (W.faults out.new ≡ W.faults out.old) }
+{
+    match write_all(out, text) {
+        Ok(()) => Ok(()),
+        Err(_) => Err(RunFault::Write),
+    }
+}

@@ -1,0 +1,12 @@
+use Rattle.std.proofs.Common.{◌<◌, length}
+use Rattle.lrpar.specs.Replay.{overlaid, IsOver}
+use Rattle.lrpar.specs.Run.{token_by}
+use Rattle.lrpar.proofs.NextTold.{ComesWith}
+use Rattle.lrpar.proofs.next_tokens.states_behind.Given as goal
+
+abbrev pub invariant-lexemes : goal.invariant-lexemes
+invariant-lexemes g l = record {
+  over : IsOver g.S.IndexStorage.number l.stable l.base.items l.overlay;
+  some : 0 < length (overlaid g.S.IndexStorage.number l.base.items l.overlay);
+  comes : ComesWith l.grm.grammar l.stable (token_by g.L.Lexeme.lex) l.lexemes l.index (overlaid g.S.IndexStorage.number l.base.items l.overlay);
+}

@@ -1,0 +1,8 @@
+use Rattle.lrtable.specs.Graphs.{GraphValue}
+use Rattle.lrtable.specs.Tables.{automaton_of}
+use Rattle.lrpar.specs.NextStates.{TellBelow}
+use Rattle.lrpar.specs.Reducing.{stack_of}
+use Rattle.lrpar.proofs.next_tokens.tokens_behind.Given as goal
+
+abbrev pub invariant-tokens : goal.invariant-tokens
+invariant-tokens g l = (x : GraphValue) → TellBelow l.grm.grammar (automaton_of x l.stable) (stack_of g.S.IndexStorage.number l.base) l.number l.bits.bits

@@ -1,0 +1,177 @@
+//! The tokens that may come after some lexemes.
+
+ghost use Rattle.std.specs.Prelude.{◌≡◌, ◌<◌, ◌↔◌, ℕ, [], ◌∷◌, ◌++◌, length, map, IfOk, IfSome, IsNone, IsSome};
+ghost use Rattle.cfg_theory.specs.Derivation.{AllProductive, BeginsSentence, IsSentence};
+ghost use Rattle.cfg_theory.specs.Grammar.{end_token, start_symbol};
+ghost use Rattle.lr_theory.specs.Automaton.{Complete, Safe};
+ghost use Rattle.lr_theory.specs.Chains.{ChainsWithin};
+ghost use Rattle.lr_theory.specs.Machine.{Config};
+ghost use Rattle.lrtable.specs.Graphs.{GraphValue};
+ghost use Rattle.lrtable.specs.Tables.{IsTableOf, automaton_of};
+ghost use Rattle.lrpar.specs.NextStates.{AreInside, TellsInside, TellsNext, TellBelow, TellsStates, TellsAfter};
+ghost use Rattle.lrpar.specs.NextTokens.{Reaches, HasError, IsSet, AreNext};
+ghost use Rattle.lrpar.specs.Reducing.{IsTableFor, AreStates, stack_of};
+ghost use Rattle.lrpar.specs.Run.{token_by};
+
+use crate::lex_api::Lexeme;
+use crate::overlay::{Overlay, accepts_on, shift_on};
+use crate::parserdata::ParserData;
+use cfg_base::index::IndexStorage;
+use cfg_base::symbol::TIdx;
+use cfg_numbered::yacc::grammar::NumberedGrammar;
+use lrtable::{StIdx, StateTable};
+use std::alloc::{AllocError, Global};
+use vob::Vob;
+
+/// Whether all lexemes are of tokens of the grammar other than the end.
+fn are_inside<S: IndexStorage, L: Lexeme<S>>(grm: &NumberedGrammar<S>, lexemes: &[L]) -> bool
+    ensures { TellsInside grm.now.grammar (token_by L.lex) lexemes.now result }
+{
+    let end = grm.eof_token_idx().0.to_usize();
+    'lexemes: for index in 0..lexemes.len() {
+        if lexemes[index].tok_id().to_usize() >= end {
+            return false;
+        }
+    }
+    true
+}
+
+/// The states right after the last of the lexemes was shifted, the last one on top; None where the run fails before one.
+fn states_behind<S: IndexStorage, L: Lexeme<S>>(
+    alloc: Global,
+    grm: &NumberedGrammar<S>,
+    stable: &StateTable<S>,
+    limit: u16,
+    lexemes: &[L],
+) -> Result<Option<Vec<StIdx<S>>>, AllocError>
+    requires table { IsTableFor grm.now.grammar stable.now }
+    requires chains { (g : GraphValue) → ChainsWithin grm.now.grammar (automaton_of g stable.now) limit }
+    requires inside { AreInside grm.now.grammar (token_by L.lex) lexemes.now }
+    ensures reaches { IfOk result (λ o. (g : GraphValue) → Safe grm.now.grammar (automaton_of g stable.now) → stable.now.start ≡ g.start →
+        TellsStates S.number grm.now.grammar (automaton_of g stable.now) (token_by L.lex) lexemes.now o) }
+    ensures states { IfOk result (λ o. IfSome o (λ ss. AreStates stable.now (stack_of S.number ss.items))) }
+    ensures some { IfOk result (λ o. IfSome o (λ ss. 0 < length ss.items)) }
+{
+    let mut over = Vec::new(alloc);
+    over.push(stable.start_state())?;
+    let mut overlay = Overlay { kept: 0, over };
+    let base = Vec::new(alloc);
+    'lexemes: for index in 0..lexemes.len() {
+        let tidx = TIdx(lexemes[index].tok_id());
+        if !shift_on(grm, stable, limit, base.as_slice(), &mut overlay, tidx)? {
+            return Ok(None);
+        }
+    }
+    Ok(Some(overlay.over))
+}
+
+/// Whether a token may come next on the base: it is shifted after the reductions that it asks for, or for the end token
+/// the run accepts. What the overlay held is let go.
+fn may_follow<S: IndexStorage>(
+    grm: &NumberedGrammar<S>,
+    stable: &StateTable<S>,
+    limit: u16,
+    base: &[StIdx<S>],
+    overlay: &mut Overlay<S>,
+    tidx: TIdx<S>,
+) -> Result<bool, AllocError>
+    requires table { IsTableFor grm.now.grammar stable.now }
+    requires chains { (g : GraphValue) → ChainsWithin grm.now.grammar (automaton_of g stable.now) limit }
+    requires token { S.number tidx.0 < stable.now.tokens }
+    requires states { AreStates stable.now (stack_of S.number base.now) }
+    requires some { 0 < length base.now }
+    ensures { IfOk result (λ told. (g : GraphValue) → TellsNext grm.now.grammar (automaton_of g stable.now) (S.number tidx.0) (stack_of S.number base.now) told) }
+{
+    overlay.kept = base.len();
+    overlay.over.clear();
+    if tidx.0.to_usize() == grm.eof_token_idx().0.to_usize() {
+        let accepts = accepts_on(grm, stable, limit, base, overlay)?;
+        return Ok(accepts);
+    }
+    let shifts = shift_on(grm, stable, limit, base, overlay, tidx)?;
+    Ok(shifts)
+}
+
+/// A bit for each token: whether it may come next on the base.
+fn tokens_behind<S: IndexStorage>(
+    alloc: Global,
+    grm: &NumberedGrammar<S>,
+    stable: &StateTable<S>,
+    limit: u16,
+    base: &[StIdx<S>],
+) -> Result<Vob, AllocError>
+    requires table { IsTableFor grm.now.grammar stable.now }
+    requires chains { (g : GraphValue) → ChainsWithin grm.now.grammar (automaton_of g stable.now) limit }
+    requires states { AreStates stable.now (stack_of S.number base.now) }
+    requires some { 0 < length base.now }
+    ensures { IfOk result (λ v. (g : GraphValue) → TellBelow grm.now.grammar (automaton_of g stable.now) (stack_of S.number base.now) grm.now.grammar.tokens v.bits) }
+{
+    let count = grm.tokens_len().0.to_usize();
+    let mut bits = Vob::from_elem(alloc, false, count)?;
+    let mut overlay = Overlay {
+        kept: 0,
+        over: Vec::new(alloc),
+    };
+    'tokens: for number in 0..count {
+        let tidx = grm.token_at(number);
+        let told = may_follow(grm, stable, limit, base, &mut overlay, tidx)?;
+        bits.set(number, told);
+    }
+    Ok(bits)
+}
+
+/// A bit for each token: whether it may come after the lexemes. None where these have an error themselves.
+fn told_behind<S: IndexStorage, L: Lexeme<S>>(
+    alloc: Global,
+    grm: &NumberedGrammar<S>,
+    stable: &StateTable<S>,
+    limit: u16,
+    lexemes: &[L],
+) -> Result<Option<Vob>, AllocError>
+    requires table { IsTableFor grm.now.grammar stable.now }
+    requires chains { (g : GraphValue) → ChainsWithin grm.now.grammar (automaton_of g stable.now) limit }
+    ensures { IfOk result (λ o. (g : GraphValue) → Safe grm.now.grammar (automaton_of g stable.now) → stable.now.start ≡ g.start →
+        TellsAfter grm.now.grammar (automaton_of g stable.now) (token_by L.lex) lexemes.now o) }
+{
+    if !are_inside(grm, lexemes) {
+        return Ok(None);
+    }
+    let Some(states) = states_behind(alloc, grm, stable, limit, lexemes)? else {
+        return Ok(None);
+    };
+    let bits = tokens_behind(alloc, grm, stable, limit, states.as_slice())?;
+    Ok(Some(bits))
+}
+
+impl<S: IndexStorage> ParserData<S> {
+    /// The tokens that may come after these lexemes, a bit for each token by its number; that of the end token is set where
+    /// they are a sentence as they stand. None where they have an error themselves. What was wanted at an error are those
+    /// after the lexemes before its index.
+    ///
+    /// A token is told exactly where a run on the lexemes and that token comes past it. It is asked of the stack right after
+    /// the last shift: the one at an error may have been reduced on the wrong lexeme already, and would tell too few. With a
+    /// grammar's own table, where each rule derives some text, each token that is told goes on with a beginning of a
+    /// sentence; where `complete` holds too, no other does. A token costs the reductions that it asks for, one chain at most.
+    pub fn next_tokens<L: Lexeme<S>>(
+        &self,
+        alloc: Global,
+        lexemes: &[L],
+    ) -> Result<Option<Vob>, AllocError>
+        ensures some { IfOk result (λ o. IfSome o (λ v. (c : Config L) × Reaches self.now.grammar.grammar (automaton_of self.now.graph self.now.table) (token_by L.lex) lexemes.now [] c × AreNext self.now.grammar.grammar (automaton_of self.now.graph self.now.table) (token_by L.lex) c v.bits)) }
+        ensures none { IfOk result (λ o. IsNone o → HasError self.now.grammar.grammar (automaton_of self.now.graph self.now.table) (token_by L.lex) lexemes.now) }
+        ensures sound { IfOk result (λ o. IfSome o (λ v. IsTableOf self.now.grammar self.now.graph self.now.table → AllProductive self.now.grammar.grammar →
+            (t : ℕ) → t < end_token self.now.grammar.grammar → IsSet v.bits t → BeginsSentence self.now.grammar.grammar (start_symbol self.now.grammar.grammar) (map (token_by L.lex) lexemes.now ++ t ∷ []))) }
+        ensures sound_end { IfOk result (λ o. IfSome o (λ v. IsSet v.bits (end_token self.now.grammar.grammar) → IsSentence self.now.grammar.grammar (start_symbol self.now.grammar.grammar) (map (token_by L.lex) lexemes.now))) }
+        ensures exact { IfOk result (λ o. IfSome o (λ v. IsTableOf self.now.grammar self.now.graph self.now.table → Complete self.now.grammar.grammar (automaton_of self.now.graph self.now.table) → AllProductive self.now.grammar.grammar →
+            (t : ℕ) → t < end_token self.now.grammar.grammar → IsSet v.bits t ↔ BeginsSentence self.now.grammar.grammar (start_symbol self.now.grammar.grammar) (map (token_by L.lex) lexemes.now ++ t ∷ []))) }
+        ensures exact_end { IfOk result (λ o. IfSome o (λ v. IsTableOf self.now.grammar self.now.graph self.now.table → Complete self.now.grammar.grammar (automaton_of self.now.graph self.now.table) → AllProductive self.now.grammar.grammar →
+            IsSet v.bits (end_token self.now.grammar.grammar) ↔ IsSentence self.now.grammar.grammar (start_symbol self.now.grammar.grammar) (map (token_by L.lex) lexemes.now))) }
+        ensures begins { IfOk result (λ o. IsTableOf self.now.grammar self.now.graph self.now.table → Complete self.now.grammar.grammar (automaton_of self.now.graph self.now.table) → AllProductive self.now.grammar.grammar →
+            IsSome o ↔ BeginsSentence self.now.grammar.grammar (start_symbol self.now.grammar.grammar) (map (token_by L.lex) lexemes.now)) }
+    {
+        self.facts();
+        // Read, so that the proof may use that each token's number is one.
+        let _end = self.grm().eof_token_idx().0.to_usize();
+        told_behind(alloc, self.grm(), self.stable(), self.cap(), lexemes)
+    }
+}

@@ -1,0 +1,57 @@
+//! Repairs by hand.
+
+ghost use Rattle.std.specs.Prelude.{IfOk};
+
+use crate::lexer::RowLexeme;
+use cfg_base::index::IndexStorage;
+use cfg_base::symbol::TIdx;
+use lrpar::{Recoverer, RepairStep};
+use lrtable::StIdx;
+use std::alloc::{AllocError, Global};
+
+/// Hands in the same sequences at each error.
+#[derive(Drop)]
+pub struct Lines<S> {
+    sequences: Vec<Vec<RepairStep<S>>>,
+}
+
+impl<S: IndexStorage> Recoverer<S, RowLexeme<S>> for Lines<S> {
+    ghost answers = { λ lines state index lexeme offered. Unit {0} };
+
+    fn sequences(
+        &self,
+        alloc: Global,
+        _stidx: StIdx<S>,
+        _laidx: usize,
+        _lexeme: RowLexeme<S>,
+    ) -> Result<Vec<Vec<RepairStep<S>>>, AllocError>
+        ensures { IfOk result (λ r. Unit {0}) }
+    {
+        let mut all = Vec::new(alloc);
+        for sequence in self.sequences.as_slice() {
+            all.push(Vec::from_clones(alloc, sequence.as_slice())?)?;
+        }
+        Ok(all)
+    }
+}
+
+/// The sequences of letters: `d` deletes, `s` shifts, a digit inserts that token, and a blank ends a sequence.
+pub fn lines_of<S: IndexStorage>(alloc: Global, letters: &str) -> Result<Lines<S>, AllocError> {
+    let mut sequences = Vec::new(alloc);
+    let mut sequence = Vec::new(alloc);
+    for byte in letters.as_bytes() {
+        let letter = *byte;
+        if letter == b' ' {
+            sequences.push(sequence)?;
+            sequence = Vec::new(alloc);
+        } else if letter == b'd' {
+            sequence.push(RepairStep::Delete)?;
+        } else if letter == b's' {
+            sequence.push(RepairStep::Shift)?;
+        } else if let Some(token) = S::from_usize((letter % 16) as usize) {
+            sequence.push(RepairStep::Insert(TIdx(token)))?;
+        }
+    }
+    sequences.push(sequence)?;
+    Ok(Lines { sequences })
+}

@@ -1,6 +1,7 @@
 //! The report on a text.
 
-ghost use Rattle.std.specs.Prelude.{IfOk};
+ghost use Rattle.std.specs.Prelude.{IfOk, OnOk};
+ghost use Rattle.parser_kit.specs.KitErrors.{IsMemory};
 ghost use Rattle.grammar_report.specs.Outcomes.{IsOutcome};
 
 use crate::asked::Asked;
@@ -96,11 +97,17 @@ fn text_of_kit(
     Ok(text)
 }
 
+/// The report on a text that gives no parser.
 fn text_of_refusal(
     alloc: Global,
     formatter: &SpannedDiagnosticFormatter<'_>,
     refusal: &KitError<u32>,
-) -> Result<String, AllocError> {
+) -> Result<String, AllocError>
+    ensures { OnOk result (IsMemory refusal.now → ⊥) }
+{
+    if let KitError::Memory(e) = refusal {
+        return Err(*e);
+    }
     let mut text = String::new(alloc);
     push_refusal(alloc, &mut text, formatter, refusal)?;
     Ok(text)
@@ -122,7 +129,6 @@ fn report_of(
             let text = told?;
             Ok(Report { text, outcome })
         }
-        Err(KitError::Memory(e)) => Err(e),
         Err(refusal) => {
             let told = text_of_refusal(alloc, formatter, &refusal);
             drop(refusal);

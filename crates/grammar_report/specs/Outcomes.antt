@@ -22,11 +22,16 @@ pub record IsKitIn (text : List ℕ) (k : KitValue) : Type 0 where
   pub is_kind : IsKindOfText text kind
   pub is_kit : IsKitOf top kind text cap k
 
+abbrev pub expect_of : KitValue → ℕ
+expect_of k = unwrap_or k.parser.grammar.kept.expect 0
+
+abbrev pub expect_rr_of : KitValue → ℕ
+expect_rr_of k = unwrap_or k.parser.grammar.kept.expect_rr 0
+
 -- these conflicts are as many as is expected of the kit; where none is listed, no number is asked for
 abbrev pub CountsFit : KitValue → Option Conflicts → Type 0
 CountsFit k None = Unit {0}
-CountsFit k (Some c) =
-    (length c.shift_reduce ≡ unwrap_or k.parser.grammar.kept.expect 0) × (length c.reduce_reduce ≡ unwrap_or k.parser.grammar.kept.expect_rr 0)
+CountsFit k (Some c) = (length c.shift_reduce ≡ expect_of k) × (length c.reduce_reduce ≡ expect_rr_of k)
 
 abbrev pub AreExpected : KitValue → Type 0
 AreExpected k = CountsFit k k.parser.table.conflicts

@@ -1,7 +1,7 @@
 //! Counts of a grammar, and whether its conflicts are expected.
 
 ghost use Rattle.std.specs.Prelude.{◌≡◌, Some};
-ghost use Rattle.grammar_report.specs.Outcomes.{AreExpected, TellsExpected};
+ghost use Rattle.grammar_report.specs.Outcomes.{TellsExpected, expect_of, expect_rr_of};
 
 use crate::outcome::Outcome;
 use cfg_base::index::IndexStorage;
@@ -20,13 +20,21 @@ pub(crate) fn outcome_of(kit: &ParserKit<u32>) -> Outcome
     }
 }
 
+/// How many shifts against reductions are expected, and how many pairs of reductions.
+fn expected(kit: &ParserKit<u32>) -> (usize, usize)
+    ensures { result ≡ (expect_of kit.now, expect_rr_of kit.now) }
+{
+    let shifts = kit.grm().expect().unwrap_or(0);
+    let pairs = kit.grm().expectrr().unwrap_or(0);
+    (shifts, pairs)
+}
+
 // Compares the counts of these conflicts with those that are expected.
 fn compare(kit: &ParserKit<u32>, conflicts: &Conflicts<u32>) -> Outcome
     requires { kit.now.parser.table.conflicts ≡ Some conflicts.now }
     ensures { TellsExpected kit.now result }
 {
-    let expect = kit.grm().expect().unwrap_or(0);
-    let expect_rr = kit.grm().expectrr().unwrap_or(0);
+    let (expect, expect_rr) = expected(kit);
     if conflicts.sr_len() == expect && conflicts.rr_len() == expect_rr {
         Outcome::Expected
     } else {
@@ -42,8 +50,7 @@ fn push_conflict_counts(
     conflicts: &Conflicts<u32>,
 ) -> Result<(), AllocError> {
     let (sr, rr) = (conflicts.sr_len(), conflicts.rr_len());
-    let expect = kit.grm().expect().unwrap_or(0);
-    let expect_rr = kit.grm().expectrr().unwrap_or(0);
+    let (expect, expect_rr) = expected(kit);
     let line = format!(in alloc;
         "conflicts: {sr} shift/reduce, {rr} reduce/reduce, expected {expect} and {expect_rr}\n"
     )?;

@@ -123,9 +123,14 @@ fn push_if_settled(
     tidx: TIdx<u32>,
     reductions: usize,
 ) -> Result<(), AllocError> {
+    if reductions == 0 {
+        return Ok(());
+    }
     let shifts = kit.sgraph().edge(stidx, Symbol::Token(tidx)).is_some();
-    let needed: usize = if shifts { 1 } else { 2 };
-    if reductions < needed || is_listed(kit, stidx, tidx) {
+    if !shifts && reductions == 1 {
+        return Ok(());
+    }
+    if is_listed(kit, stidx, tidx) {
         return Ok(());
     }
     push_cell(alloc, text, kit, stidx, tidx)

@@ -1,5 +1,7 @@
 //! Cheapest sentences of rules, and rules without sentences. Each token costs one.
 
+ghost use Rattle.std.specs.Prelude.{◌≡◌, ◌<◌};
+
 use crate::faults::push_shown;
 use crate::names::{Grammar, push_line, push_token, push_word};
 use cfg_base::span::Span;
@@ -89,7 +91,7 @@ fn push_cheapest(
     costs: &SentenceGenerator<'_, u32>,
     ridx: RIdx<u32>,
 ) -> Result<(), AllocError>
-    requires { number ridx.0 < costs.now.grammar.rules }
+    requires { ridx.0 < costs.now.grammar.rules }
 {
     match costs.min_sentence(alloc, ridx) {
         Ok(tokens) => {

@@ -11,6 +11,7 @@
 //!     let asked = Asked {
 //!         states: false,
 //!         sentences: false,
+//!         next: None,
 //!     };
 //!     let told = report(alloc, text, "grammar.y", asked)?;
 //!     Ok(status(told.outcome))
@@ -28,11 +29,12 @@ mod counts;
 mod examples;
 mod faults;
 mod names;
+mod next;
 mod outcome;
 mod report;
 mod sentences;
 mod settled;
 
-pub use asked::Asked;
+pub use asked::{Asked, LineFile};
 pub use outcome::{Outcome, Report, status};
 pub use report::report;

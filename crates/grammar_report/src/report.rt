@@ -8,6 +8,7 @@ use crate::asked::Asked;
 use crate::conflicts::push_conflicts;
 use crate::counts::{outcome_of, push_counts};
 use crate::faults::{push_refusal, push_warnings};
+use crate::next::push_next;
 use crate::outcome::{Outcome, Report};
 use crate::sentences::{push_all_unproductive, push_sentences};
 use crate::settled::push_settled;
@@ -70,13 +71,16 @@ fn push_asked(
     alloc: Global,
     text: &mut String,
     kit: &ParserKit<u32>,
-    asked: Asked,
+    asked: Asked<'_>,
 ) -> Result<(), AllocError> {
     if asked.states {
         push_states(alloc, text, kit)?;
     }
     if asked.sentences {
         push_sentences(alloc, text, kit.grm(), kit.ast())?;
+    }
+    if let Some(lines) = asked.next {
+        push_next(alloc, text, kit, lines)?;
     }
     Ok(())
 }
@@ -85,7 +89,7 @@ fn text_of_kit(
     alloc: Global,
     formatter: &SpannedDiagnosticFormatter<'_>,
     kit: &ParserKit<u32>,
-    asked: Asked,
+    asked: Asked<'_>,
 ) -> Result<String, AllocError> {
     let mut text = String::new(alloc);
     push_told(alloc, &mut text, formatter, kit)?;
@@ -113,7 +117,7 @@ fn report_of(
     alloc: Global,
     formatter: &SpannedDiagnosticFormatter<'_>,
     text: &str,
-    asked: Asked,
+    asked: Asked<'_>,
 ) -> Result<Report, AllocError>
     ensures { IfOk result (λ r. IsOutcome text.now r.outcome) }
 {
@@ -137,7 +141,7 @@ fn report_of(
 
 /// The report on a grammar's text, of the kind that its section tells, else of `Original(GenericParseTree)`. Places are told
 /// with the path. No chain of reductions on one token goes past 1000.
-pub fn report(alloc: Global, text: &str, path: &str, asked: Asked) -> Result<Report, AllocError>
+pub fn report(alloc: Global, text: &str, path: &str, asked: Asked<'_>) -> Result<Report, AllocError>
     ensures { IfOk result (λ r. IsOutcome text.now r.outcome) }
 {
     let formatter = SpannedDiagnosticFormatter::new(alloc, text, path)?;

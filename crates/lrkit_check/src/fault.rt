@@ -13,12 +13,14 @@ use thiserror::Error;
 #[derive(Clone, Copy, Debug, PartialEq, Eq)]
 pub enum Input {
     Grammar,
+    Lines,
 }
 
 impl fmt::Display for Input {
     fn fmt<W: fmt::Write>(&self, f: &mut fmt::Formatter<W>) -> fmt::Result {
         match self {
             Input::Grammar => write!(f, "grammar"),
+            Input::Lines => write!(f, "lines"),
         }
     }
 }

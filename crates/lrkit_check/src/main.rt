@@ -1,5 +1,5 @@
-//! The program `lrkit-check GRAMMAR [--states] [--sentences]`: its arguments, files and standard output around the library's
-//! `report`.
+//! The program `lrkit-check GRAMMAR [--states] [--sentences] [--next LINES]`: its arguments, files and standard output around
+//! the library's `report`.
 #![tactic(auto)]
 
 ghost use Rattle.std.specs.Prelude.{◌≡◌};
@@ -43,7 +43,7 @@ fn answer<R: Files + Print + Eprint + AllocGlobal>(rt: &R, words: &Words) -> u8 
 fn usage(rt: &impl Eprint) -> u8
     ensures { result ≡ USAGE }
 {
-    let _ = eprintln!(rt; "usage: lrkit-check GRAMMAR [--states] [--sentences]");
+    let _ = eprintln!(rt; "usage: lrkit-check GRAMMAR [--states] [--sentences] [--next LINES]");
     USAGE
 }
 

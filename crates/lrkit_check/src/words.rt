@@ -6,6 +6,7 @@ use std::env::Args;
 #[derive(Drop)]
 pub struct Words {
     pub grammar: Option<String>,
+    pub lines: Option<String>,
     pub states: bool,
     pub sentences: bool,
 }
@@ -36,15 +37,22 @@ pub fn read_words(mut words: Args) -> Option<Words> {
     let _program = words.next();
     let mut read = Words {
         grammar: None,
+        lines: None,
         states: false,
         sentences: false,
     };
+    let mut wants_lines = false;
     'words: for word in words {
-        if !take_word(&mut read, word) {
+        if wants_lines {
+            read.lines = Some(word);
+            wants_lines = false;
+        } else if word.as_str() == "--next" && read.lines.is_none() {
+            wants_lines = true;
+        } else if !take_word(&mut read, word) {
             return None;
         }
     }
-    if read.grammar.is_none() {
+    if wants_lines || read.grammar.is_none() {
         return None;
     }
     Some(read)

@@ -1,6 +1,6 @@
 //! Reports on texts as answers.
 
-use grammar_report::{Asked, Report, report, status};
+use grammar_report::{Asked, LineFile, Report, report, status};
 use row_files::{Part, parts};
 use std::alloc::{AllocError, Global};
 
@@ -43,17 +43,33 @@ fn path_of(heading: &str) -> &str {
     "g.y"
 }
 
+/// The grammar of a row, and the lines behind a line of four dashes, if there is one.
+fn grammar_and_lines(text: &str) -> (&str, Option<LineFile<'_>>) {
+    match text.split_once("\n----\n") {
+        Some((grammar, lines)) => (
+            grammar,
+            Some(LineFile {
+                text: lines,
+                path: "g.lines",
+            }),
+        ),
+        None => (text, None),
+    }
+}
+
 fn push_answer(
     alloc: Global,
     out: &mut String,
     heading: &str,
     text: &str,
 ) -> Result<(), AllocError> {
+    let (grammar, next) = grammar_and_lines(text);
     let asked = Asked {
         states: asks(heading, "states"),
         sentences: asks(heading, "sentences"),
+        next,
     };
-    let told = report(alloc, text, path_of(heading), asked)?;
+    let told = report(alloc, grammar, path_of(heading), asked)?;
     push_report(alloc, out, &told)
 }
 

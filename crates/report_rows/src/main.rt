@@ -2,7 +2,8 @@
 //! file of right answers is printed as it is. `row_files` tells the form of the files, and `tools/rows` makes `stdout` of
 //! those in `data/`. An answer is the text of the report, each line behind `>`, and then the exit status. A heading
 //! `= report WORD ..` asks for `states`, for `sentences`, or for both; `path:PATH` tells the path of the texts below it, which
-//! is else `g.y`.
+//! is else `g.y`. What stands behind a line `|----` of a text are lines of token names, whose errors are asked for; their path
+//! is `g.lines`.
 #![tactic(auto)]
 
 mod answer;

@@ -31,10 +31,10 @@ mod faults;
 mod names;
 mod next;
 mod outcome;
-mod report;
+mod reporting;
 mod sentences;
 mod settled;
 
 pub use asked::{Asked, LineFile};
 pub use outcome::{Outcome, Report, status};
-pub use report::report;
+pub use reporting::report;

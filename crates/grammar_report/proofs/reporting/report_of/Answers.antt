@@ -1,4 +1,4 @@
-use Rattle.grammar_report.proofs.report.report_of.Goals as goal
+use Rattle.grammar_report.proofs.reporting.report_of.Goals as goal
 
 pub returns-in_ok-text-in-Err : goal.returns-in_ok-text-in-Err
 returns-in_ok-text-in-Err c =

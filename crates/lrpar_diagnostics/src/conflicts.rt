@@ -281,4 +281,38 @@ impl<'a> SpannedDiagnosticFormatter<'a> {
         )?;
         Ok(text)
     }
+
+    /// A listed shift against a reduction as `format_conflicts` tells it, alone.
+    pub fn format_shift_reduce<S: IndexStorage>(
+        &self,
+        alloc: Global,
+        grm: &NumberedGrammar<S>,
+        ast: &GrammarAST,
+        entry: &(TIdx<S>, PIdx<S>, StIdx<S>),
+    ) -> Result<String, AllocError>
+        requires { S.number entry.now.1.0 < length grm.now.grammar.productions }
+        ensures { IfOk result (λ text. (dollar : _) × IsSpanOfToken grm.now (codes "$") dollar × (string_bytes text ≡ shift_text self.now grm.now ast.now dollar (shift_of S.number entry.now))) }
+    {
+        let dollar = span_of_token(grm, "$");
+        let mut text = String::new(alloc);
+        self.push_shift(alloc, &mut text, grm, ast, &dollar, *entry)?;
+        Ok(text)
+    }
+
+    /// A listed pair of reductions as `format_conflicts` tells it, alone.
+    pub fn format_reduce_reduce<S: IndexStorage>(
+        &self,
+        alloc: Global,
+        grm: &NumberedGrammar<S>,
+        entry: &(TIdx<S>, PIdx<S>, PIdx<S>, StIdx<S>),
+    ) -> Result<String, AllocError>
+        requires first { S.number entry.now.1.0 < length grm.now.grammar.productions }
+        requires second { S.number entry.now.2.0 < length grm.now.grammar.productions }
+        ensures { IfOk result (λ text. (dollar : _) × IsSpanOfToken grm.now (codes "$") dollar × (string_bytes text ≡ pair_text self.now grm.now dollar (pair_of S.number entry.now))) }
+    {
+        let dollar = span_of_token(grm, "$");
+        let mut text = String::new(alloc);
+        self.push_pair(alloc, &mut text, grm, &dollar, *entry)?;
+        Ok(text)
+    }
 }

@@ -1,0 +1,40 @@
+//! A report on a grammar's text for who writes the grammar: errors and warnings under the text, counts, conflicts each with
+//! an example that can be checked against the grammar alone, what precedences settle, and whether each sentence gets its only
+//! tree.
+//!
+//! ```rust
+//! use grammar_report::{Asked, report, status};
+//! use std::alloc::{AllocError, Global};
+//!
+//! /// The exit status of a report that asks for nothing more.
+//! fn judged(alloc: Global, text: &str) -> Result<u8, AllocError> {
+//!     let asked = Asked {
+//!         states: false,
+//!         sentences: false,
+//!         next: None,
+//!     };
+//!     let told = report(alloc, text, "grammar.y", asked)?;
+//!     Ok(status(told.outcome))
+//! }
+//! ```
+//!
+//! For `%start E %% E: E '+' 'n' | 'n';` it answers 0, for `%start E %% E: E '+' E | 'n';` 1, and for `%start E %% E: E '+'`
+//! 2. The contract of `report` is that its outcome is so of the text (`specs/Outcomes`); which text it has is said in
+//! `docs/CHECKER.md`, and tested.
+#![tactic(auto)]
+
+mod asked;
+mod conflicts;
+mod counts;
+mod examples;
+mod faults;
+mod names;
+mod next;
+mod outcome;
+mod reporting;
+mod sentences;
+mod settled;
+
+pub use asked::{Asked, LineFile};
+pub use outcome::{Outcome, Report, status};
+pub use reporting::report;

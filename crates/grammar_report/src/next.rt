@@ -1,0 +1,196 @@
+//! Errors of lines, each with the tokens that may come there.
+
+use crate::asked::LineFile;
+use crate::faults::push_shown;
+use crate::names::push_token;
+use cfg_base::index::IndexStorage;
+use cfg_base::span::Span;
+use lrpar::{LexError, LexParseError, Lexer, ParseRefusal, RTParserBuilder};
+use lrpar_diagnostics::SpannedDiagnosticFormatter;
+use parser_kit::ParserKit;
+use std::alloc::{AllocError, Global};
+use vob::Vob;
+use word_lines::{WordLexeme, WordLexer, WordLexerTypes};
+
+/// The lexemes of a line that begin before an offset.
+fn lexemes_before(
+    alloc: Global,
+    lexer: &WordLexer<'_, u32>,
+    end: usize,
+) -> Result<Vec<WordLexeme<u32>>, AllocError> {
+    let mut lexemes = Vec::new(alloc);
+    'items: for item in lexer.iter() {
+        if let Ok(lexeme) = item {
+            if lexeme.span.start() < end {
+                lexemes.push(*lexeme)?;
+            }
+        }
+    }
+    Ok(lexemes)
+}
+
+/// Adds the tokens whose bits are set.
+fn push_set(text: &mut String, kit: &ParserKit<u32>, bits: &Vob) -> Result<(), AllocError> {
+    'tokens: for token in 0..kit.grm().tokens_len().0.to_usize() {
+        if bits.get(token) == Some(true) {
+            push_token(text, kit.grm(), kit.grm().token_at(token))?;
+        }
+    }
+    Ok(())
+}
+
+/// Which tokens may come after lexemes.
+fn next_text(
+    alloc: Global,
+    kit: &ParserKit<u32>,
+    lexemes: &[WordLexeme<u32>],
+) -> Result<String, AllocError> {
+    let mut text = String::from_str(alloc, "May come here:")?;
+    if let Some(bits) = kit.parser_data().next_tokens(alloc, lexemes)? {
+        push_set(&mut text, kit, &bits)?;
+    }
+    Ok(text)
+}
+
+/// A span of a line as one of the file that the line begins in at `start`.
+fn moved(span: Span, start: usize) -> Span {
+    let first = start.saturating_add(span.start());
+    let last = start.saturating_add(span.end());
+    Span::new(first, first.max(last))
+}
+
+/// Adds an error under its line.
+fn push_told(
+    alloc: Global,
+    text: &mut String,
+    formatter: &SpannedDiagnosticFormatter<'_>,
+    heading: &str,
+    span: Span,
+    message: &str,
+) -> Result<(), AllocError> {
+    let shown = formatter.underline_span_with_text(alloc, span, message, '^')?;
+    push_shown(alloc, text, formatter, heading, Some(span), shown.as_str())
+}
+
+/// Adds an error of the line that begins at `start`.
+fn push_error(
+    alloc: Global,
+    text: &mut String,
+    formatter: &SpannedDiagnosticFormatter<'_>,
+    kit: &ParserKit<u32>,
+    lexer: &WordLexer<'_, u32>,
+    error: &LexParseError<WordLexerTypes<u32>>,
+    start: usize,
+) -> Result<(), AllocError> {
+    match error {
+        LexParseError::LexError(e) => {
+            let message = "No token has this name";
+            push_told(
+                alloc,
+                text,
+                formatter,
+                "Lexing error",
+                moved(e.span(), start),
+                message,
+            )
+        }
+        LexParseError::ParseError(e) => {
+            let span = e.lexeme.span;
+            let lexemes = lexemes_before(alloc, lexer, span.start())?;
+            let message = next_text(alloc, kit, lexemes.as_slice())?;
+            push_told(
+                alloc,
+                text,
+                formatter,
+                "Parsing error",
+                moved(span, start),
+                message.as_str(),
+            )
+        }
+    }
+}
+
+/// Adds the first error of a line's words, if there is one.
+fn push_first(
+    alloc: Global,
+    text: &mut String,
+    formatter: &SpannedDiagnosticFormatter<'_>,
+    kit: &ParserKit<u32>,
+    lexer: &WordLexer<'_, u32>,
+    start: usize,
+) -> Result<(), AllocError> {
+    let parser = RTParserBuilder::<WordLexerTypes<u32>, _>::new(kit.parser_data());
+    match parser.parse_noaction(alloc, lexer) {
+        Ok(errors) => {
+            match errors.first() {
+                Some(error) => push_error(alloc, text, formatter, kit, lexer, error, start),
+                None => Ok(()),
+            }
+        }
+        Err(ParseRefusal::Memory(e)) => Err(e),
+        Err(_) => Ok(()),
+    }
+}
+
+/// Adds the first error of a line, which has an LF behind it or ends the file.
+fn push_line_error(
+    alloc: Global,
+    text: &mut String,
+    formatter: &SpannedDiagnosticFormatter<'_>,
+    kit: &ParserKit<u32>,
+    line: &str,
+    start: usize,
+) -> Result<(), AllocError> {
+    let words = line.strip_suffix('\r').unwrap_or(line);
+    let lexer = WordLexer::new(alloc, kit.grm(), words)?;
+    let pushed = push_first(alloc, text, formatter, kit, &lexer, start);
+    drop(lexer);
+    pushed
+}
+
+/// Adds the errors of all lines; behind a last LF no line follows.
+fn push_lines(
+    alloc: Global,
+    text: &mut String,
+    formatter: &SpannedDiagnosticFormatter<'_>,
+    kit: &ParserKit<u32>,
+    lines: &str,
+) -> Result<(), AllocError> {
+    let mut start: usize = 0;
+    'lines: for line in lines.split('\n') {
+        if start < lines.len() {
+            push_line_error(alloc, text, formatter, kit, line, start)?;
+        }
+        start = start.saturating_add(line.len()).saturating_add(1);
+    }
+    Ok(())
+}
+
+/// The errors of a file's lines.
+fn errors_of(
+    alloc: Global,
+    kit: &ParserKit<u32>,
+    lines: LineFile<'_>,
+) -> Result<String, AllocError> {
+    let mut text = String::new(alloc);
+    let formatter = SpannedDiagnosticFormatter::new(alloc, lines.text, lines.path)?;
+    let pushed = push_lines(alloc, &mut text, &formatter, kit, lines.text);
+    drop(formatter);
+    pushed?;
+    Ok(text)
+}
+
+/// Adds for each line with an error the first one, and which tokens may come there.
+pub(crate) fn push_next(
+    alloc: Global,
+    text: &mut String,
+    kit: &ParserKit<u32>,
+    lines: LineFile<'_>,
+) -> Result<(), AllocError> {
+    text.push_str("\nLines:\n")?;
+    let errors = errors_of(alloc, kit, lines)?;
+    if errors.is_empty() {
+        return text.push_str("No line has an error.\n");
+    }
+    text.push_str(errors.as_str())
+}

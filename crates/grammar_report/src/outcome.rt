@@ -1,0 +1,33 @@
+//! What a report comes to.
+
+ghost use Rattle.std.specs.Prelude.{◌≡◌};
+ghost use Rattle.grammar_report.specs.Outcomes.{status_of};
+
+/// What is so of a grammar's text.
+#[derive(Clone, Copy, Debug, PartialEq, Eq)]
+pub enum Outcome {
+    /// It gives no parser.
+    Invalid,
+    /// It gives one, with other conflicts than expected.
+    Unexpected,
+    /// It gives one, with no conflicts, or as many as expected.
+    Expected,
+}
+
+/// A report on a grammar's text.
+#[derive(Debug, Drop)]
+pub struct Report {
+    pub text: String,
+    pub outcome: Outcome,
+}
+
+/// The exit status of a program that tells the report.
+pub fn status(outcome: Outcome) -> u8
+    ensures { result ≡ status_of outcome }
+{
+    match outcome {
+        Outcome::Expected => 0,
+        Outcome::Unexpected => 1,
+        Outcome::Invalid => 2,
+    }
+}

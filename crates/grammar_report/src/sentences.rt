@@ -1,0 +1,153 @@
+//! Cheapest sentences of rules, and rules without sentences. Each token costs one.
+
+ghost use Rattle.std.specs.Prelude.{◌≡◌, ◌<◌};
+
+use crate::faults::push_shown;
+use crate::names::{Grammar, push_line, push_token, push_word};
+use cfg_base::span::Span;
+use cfg_base::symbol::{RIdx, TIdx};
+use cfg_numbered::yacc::{CostError, SentenceError, SentenceGenerator};
+use cfg_read::yacc::ast::GrammarAST;
+use lrpar_diagnostics::SpannedDiagnosticFormatter;
+use std::alloc::{AllocError, Global};
+
+/// Whether a rule of the text derives no list of tokens.
+fn is_unproductive(grm: &Grammar, costs: &SentenceGenerator<'_, u32>, name: &str) -> bool
+    requires { costs.now.grammar ≡ grm.now.grammar }
+{
+    let Some(ridx) = grm.rule_idx(name) else {
+        return false;
+    };
+    match costs.min_sentence_cost(ridx) {
+        Err(CostError::NoSentence) => true,
+        _ => false,
+    }
+}
+
+fn push_unproductive(
+    alloc: Global,
+    text: &mut String,
+    formatter: &SpannedDiagnosticFormatter<'_>,
+    span: Span,
+) -> Result<(), AllocError> {
+    let shown = formatter.underline_span_with_text(alloc, span, "Unproductive rule", '^')?;
+    push_shown(
+        alloc,
+        text,
+        formatter,
+        "Warning",
+        Some(span),
+        shown.as_str(),
+    )
+}
+
+fn push_unproductive_of(
+    alloc: Global,
+    text: &mut String,
+    formatter: &SpannedDiagnosticFormatter<'_>,
+    grm: &Grammar,
+    ast: &GrammarAST,
+    costs: &SentenceGenerator<'_, u32>,
+) -> Result<(), AllocError>
+    requires { costs.now.grammar ≡ grm.now.grammar }
+{
+    'rules: for (name, rule) in ast.rules() {
+        if is_unproductive(grm, costs, name.as_str()) {
+            push_unproductive(alloc, text, formatter, rule.name.1)?;
+        }
+    }
+    Ok(())
+}
+
+/// Adds the rules of the text that derive no list of tokens.
+pub(crate) fn push_all_unproductive(
+    alloc: Global,
+    text: &mut String,
+    formatter: &SpannedDiagnosticFormatter<'_>,
+    grm: &Grammar,
+    ast: &GrammarAST,
+) -> Result<(), AllocError> {
+    let costs = grm.sentence_generator(alloc, |_token| 1)?;
+    let pushed = push_unproductive_of(alloc, text, formatter, grm, ast, &costs);
+    drop(costs);
+    pushed
+}
+
+fn push_tokens(text: &mut String, grm: &Grammar, tokens: &[TIdx<u32>]) -> Result<(), AllocError> {
+    if tokens.is_empty() {
+        return push_word(text, "%empty");
+    }
+    'tokens: for index in 0..tokens.len() {
+        push_token(text, grm, tokens[index])?;
+    }
+    Ok(())
+}
+
+/// Adds the cheapest list of a rule, or why none is given.
+fn push_cheapest(
+    alloc: Global,
+    text: &mut String,
+    grm: &Grammar,
+    costs: &SentenceGenerator<'_, u32>,
+    ridx: RIdx<u32>,
+) -> Result<(), AllocError>
+    requires { ridx.0 < costs.now.grammar.rules }
+{
+    match costs.min_sentence(alloc, ridx) {
+        Ok(tokens) => {
+            text.push(':')?;
+            push_tokens(text, grm, tokens.as_slice())
+        }
+        Err(SentenceError::Memory(e)) => Err(e),
+        Err(SentenceError::NoSentence) => text.push_str(" derives no sentence"),
+        Err(SentenceError::CostTooLarge) => text.push_str(
+            " derives no sentence of at most 65535 tokens",
+        ),
+    }
+}
+
+/// Adds a line for a rule of the text.
+fn push_sentence(
+    alloc: Global,
+    text: &mut String,
+    grm: &Grammar,
+    costs: &SentenceGenerator<'_, u32>,
+    name: &str,
+) -> Result<(), AllocError>
+    requires { costs.now.grammar ≡ grm.now.grammar }
+{
+    text.push_str(name)?;
+    if let Some(ridx) = grm.rule_idx(name) {
+        push_cheapest(alloc, text, grm, costs, ridx)?;
+    }
+    text.push('\n')
+}
+
+fn push_sentences_of(
+    alloc: Global,
+    text: &mut String,
+    grm: &Grammar,
+    ast: &GrammarAST,
+    costs: &SentenceGenerator<'_, u32>,
+) -> Result<(), AllocError>
+    requires { costs.now.grammar ≡ grm.now.grammar }
+{
+    'rules: for (name, _rule) in ast.rules() {
+        push_sentence(alloc, text, grm, costs, name.as_str())?;
+    }
+    Ok(())
+}
+
+/// Adds a cheapest sentence of each rule of the text.
+pub(crate) fn push_sentences(
+    alloc: Global,
+    text: &mut String,
+    grm: &Grammar,
+    ast: &GrammarAST,
+) -> Result<(), AllocError> {
+    push_line(text, "\nCheapest sentences:")?;
+    let costs = grm.sentence_generator(alloc, |_token| 1)?;
+    let pushed = push_sentences_of(alloc, text, grm, ast, &costs);
+    drop(costs);
+    pushed
+}

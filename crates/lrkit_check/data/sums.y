@@ -1,0 +1,7 @@
+// Sums that group to both sides.
+%start Sum
+%token NUM
+%%
+Sum: Sum '+' Sum
+   | NUM
+   ;

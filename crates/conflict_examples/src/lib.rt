@@ -41,6 +41,7 @@ pub mod finder;
 mod forms;
 pub mod laws;
 mod opened;
+mod places;
 mod reading;
 mod shown;
 mod source;

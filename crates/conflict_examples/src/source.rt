@@ -1,6 +1,5 @@
 //! What a search for one token reads.
 
-use crate::reading::symbol_after;
 use crate::tables::{Start, Tables};
 use cfg_base::index::IndexStorage;
 use cfg_base::symbol::{PIdx, RIdx, SIdx, Symbol, TIdx};
@@ -38,13 +37,12 @@ impl<'a, S: IndexStorage> Source<'a, S> {
         }
     }
 
-    /// Whether the symbol is the one after the dot.
-    pub fn is_after(&self, pidx: PIdx<S>, dot: SIdx<S>, wanted: Symbol<S>) -> bool {
-        match (symbol_after(self.grm, pidx, dot), wanted) {
-            (Some(Symbol::Rule(a)), Symbol::Rule(b)) => a.0.to_usize() == b.0.to_usize(),
-            (Some(Symbol::Token(a)), Symbol::Token(b)) => a.0.to_usize() == b.0.to_usize(),
-            _ => false,
+    /// Whether the state, closed, has the item.
+    fn has_item(&self, stidx: StIdx<S>, pidx: PIdx<S>, dot: SIdx<S>) -> bool {
+        if !self.graph.has_state(stidx) {
+            return false;
         }
+        self.graph.closed_state(stidx).get(pidx, dot).is_some()
     }
 
     /// The items of the state with the symbol after their dot.
@@ -55,13 +53,12 @@ impl<'a, S: IndexStorage> Source<'a, S> {
         symbol: Symbol<S>,
     ) -> Result<Vec<(PIdx<S>, SIdx<S>)>, AllocError> {
         let mut found = Vec::new(alloc);
-        if !self.graph.has_state(stidx) {
+        let Some(places) = self.tables.places.of(symbol) else {
             return Ok(found);
-        }
-        let items = self.graph.closed_state(stidx);
-        'items: for index in 0..items.len() {
-            let (pidx, dot) = items.item_at(index);
-            if self.is_after(pidx, dot, symbol) {
+        };
+        'places: for index in 0..places.len() {
+            let (pidx, dot) = places[index];
+            if self.has_item(stidx, pidx, dot) {
                 found.push((pidx, dot))?;
             }
         }

@@ -193,15 +193,29 @@ fn after_step<'a, S: IndexStorage>(
     Ok(next)
 }
 
+/// Whether a rule stands first in a form.
+fn begins_with_rule<S: IndexStorage>(form: &[Symbol<S>]) -> bool {
+    if form.is_empty() {
+        return false;
+    }
+    match form[0] {
+        Symbol::Rule(_) => true,
+        Symbol::Token(_) => false,
+    }
+}
+
 /// The productions by which what stands behind the innermost production comes to begin with the token, or to be empty.
 pub fn steps_behind<'a, S: IndexStorage>(
     alloc: Global,
     source: &Source<'a, S>,
     items: &[(PIdx<S>, SIdx<S>)],
 ) -> Result<Vec<PIdx<S>>, AllocError> {
-    let ways = ways_of(alloc, source)?;
-    let mut form = behind(alloc, source, items)?;
     let mut steps = Vec::new(alloc);
+    let mut form = behind(alloc, source, items)?;
+    if !begins_with_rule(form.as_slice()) {
+        return Ok(steps);
+    }
+    let ways = ways_of(alloc, source)?;
     'steps: for _ in 0..usize::MAX {
         let Some(pidx) = next_step(source, &ways, form.as_slice()) else {
             return Ok(steps);

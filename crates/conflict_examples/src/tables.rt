@@ -1,5 +1,6 @@
 //! What the searches for all conflicts of a graph share. What it tells need not be right: an example is checked.
 
+use crate::places::Places;
 use crate::reading::has_production;
 use cfg_base::index::IndexStorage;
 use cfg_base::symbol::{PIdx, RIdx, Symbol, TIdx};
@@ -9,10 +10,11 @@ use lrtable::stidx::StIdx;
 use std::alloc::{AllocError, Global};
 use vob::Vob;
 
-/// For each rule the tokens that it begins with and a production by which it vanishes, if there is one; for each state the
-/// edges that lead to it, and the last edge of a shortest string that does.
+/// For each rule the tokens that it begins with and a production by which it vanishes, if there is one; for each symbol where
+/// it stands; for each state the edges that lead to it, and the last edge of a shortest string that does.
 #[derive(Drop)]
 pub struct Tables<S> {
+    pub places: Places<S>,
     firsts: Vec<Vob>,
     vanishing: Vec<Option<PIdx<S>>>,
     back: Vec<Vec<EdgeBack<S>>>,
@@ -196,6 +198,7 @@ impl<S: IndexStorage> Tables<S> {
         graph: &StateGraph<S>,
     ) -> Result<Tables<S>, AllocError> {
         Ok(Tables {
+            places: Places::new(alloc, grm)?,
             firsts: first_sets(alloc, grm)?,
             vanishing: vanishing_by(alloc, grm)?,
             back: edges_back(alloc, graph)?,

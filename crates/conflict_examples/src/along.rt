@@ -116,7 +116,7 @@ impl<S: IndexStorage> Links<S> {
 
 /// The productions that are open after a string that goes through these states, from that of the start to this one with its
 /// dot; so that the token may stand behind, if that is needed.
-pub fn items_along<'a, S: IndexStorage>(
+pub(crate) fn items_along<'a, S: IndexStorage>(
     alloc: Global,
     source: &Source<'a, S>,
     states: &[StIdx<S>],

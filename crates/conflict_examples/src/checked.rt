@@ -17,7 +17,7 @@ use lrtable::stidx::StIdx;
 use std::alloc::{AllocError, Global};
 
 /// The example of a shift against a reduction, if the traces give one.
-pub fn checked_shift<S: IndexStorage>(
+pub(crate) fn checked_shift<S: IndexStorage>(
     alloc: Global,
     grm: &NumberedGrammar<S>,
     graph: &StateGraph<S>,
@@ -42,7 +42,7 @@ pub fn checked_shift<S: IndexStorage>(
 }
 
 /// The example of two reductions, if the traces give one.
-pub fn checked_pair<S: IndexStorage>(
+pub(crate) fn checked_pair<S: IndexStorage>(
     alloc: Global,
     grm: &NumberedGrammar<S>,
     graph: &StateGraph<S>,

@@ -16,7 +16,7 @@ use std::mem;
 
 /// A form, and those from which it came, in their order.
 #[derive(Drop)]
-pub struct Forms<S> {
+pub(crate) struct Forms<S> {
     pub before: Vec<Vec<Symbol<S>>>,
     pub form: Vec<Symbol<S>>,
 }
@@ -96,7 +96,7 @@ fn begins<S: IndexStorage>(grm: &NumberedGrammar<S>, form: &[Symbol<S>], token: 
 
 /// The forms that come by the productions, one after the other in the place of the first symbol, from the first form to
 /// one that begins with the token. None where they don't come there.
-pub fn forms_to<S: IndexStorage>(
+pub(crate) fn forms_to<S: IndexStorage>(
     alloc: Global,
     grm: &NumberedGrammar<S>,
     form: Vec<Symbol<S>>,

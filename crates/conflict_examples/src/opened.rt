@@ -15,7 +15,7 @@ use std::alloc::{AllocError, Global};
 /// The productions that are open: those around the innermost one, from the outermost in, the innermost one with its dot,
 /// the symbols before the dots, and those that stand behind the innermost production.
 #[derive(Drop)]
-pub struct Opened<S> {
+pub(crate) struct Opened<S> {
     pub outer: Vec<(PIdx<S>, SIdx<S>)>,
     pub pidx: PIdx<S>,
     pub dot: SIdx<S>,
@@ -24,7 +24,7 @@ pub struct Opened<S> {
 }
 
 /// Opens the start production.
-pub fn open_start<S: IndexStorage>(
+pub(crate) fn open_start<S: IndexStorage>(
     alloc: Global,
     grm: &NumberedGrammar<S>,
     dot: SIdx<S>,
@@ -85,7 +85,7 @@ fn rest_behind<S: IndexStorage>(
 impl<S: IndexStorage> Opened<S> {
     /// Opens a production within the innermost one, and tells whether it is one of the rule after the dot there. Where it
     /// isn't, nothing changes.
-    pub fn open(
+    pub(crate) fn open(
         &mut self,
         alloc: Global,
         grm: &NumberedGrammar<S>,
@@ -118,7 +118,7 @@ impl<S: IndexStorage> Opened<S> {
 
 /// Opens one production after the other, the first of which is to be that of the start. None where one is not of the rule
 /// after the dot of the one before it, or has no such dot.
-pub fn open_all<S: IndexStorage>(
+pub(crate) fn open_all<S: IndexStorage>(
     alloc: Global,
     grm: &NumberedGrammar<S>,
     items: &[(PIdx<S>, SIdx<S>)],

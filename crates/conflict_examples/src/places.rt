@@ -10,7 +10,7 @@ type Place<S> = (PIdx<S>, SIdx<S>);
 
 /// For each rule, and for each token, where it stands, in the order of the productions.
 #[derive(Drop)]
-pub struct Places<S> {
+pub(crate) struct Places<S> {
     rules: Vec<Vec<Place<S>>>,
     tokens: Vec<Vec<Place<S>>>,
 }
@@ -49,7 +49,7 @@ fn list_at<S: IndexStorage>(lists: &[Vec<Place<S>>], index: usize) -> Option<&[P
 
 impl<S: IndexStorage> Places<S> {
     /// Those of a grammar.
-    pub fn new(alloc: Global, grm: &NumberedGrammar<S>) -> Result<Places<S>, AllocError> {
+    pub(crate) fn new(alloc: Global, grm: &NumberedGrammar<S>) -> Result<Places<S>, AllocError> {
         let mut places = Places {
             rules: empty_lists(alloc, grm.rules_len().0.to_usize())?,
             tokens: empty_lists(alloc, grm.tokens_len().0.to_usize())?,
@@ -79,7 +79,7 @@ impl<S: IndexStorage> Places<S> {
     }
 
     /// Where the symbol stands; None for one that the grammar doesn't have.
-    pub fn of(&self, symbol: Symbol<S>) -> Option<&[Place<S>]> {
+    pub(crate) fn of(&self, symbol: Symbol<S>) -> Option<&[Place<S>]> {
         match symbol {
             Symbol::Rule(ridx) => list_at(self.rules.as_slice(), ridx.0.to_usize()),
             Symbol::Token(tidx) => list_at(self.tokens.as_slice(), tidx.0.to_usize()),

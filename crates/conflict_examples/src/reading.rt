@@ -9,14 +9,14 @@ use cfg_base::symbol::{PIdx, RIdx, SIdx, Symbol};
 use cfg_numbered::yacc::NumberedGrammar;
 
 /// Whether the grammar has the production.
-pub fn has_production<S: IndexStorage>(grm: &NumberedGrammar<S>, pidx: PIdx<S>) -> bool
+pub(crate) fn has_production<S: IndexStorage>(grm: &NumberedGrammar<S>, pidx: PIdx<S>) -> bool
     ensures { IsTrue result → S.number pidx.0 < length grm.now.grammar.productions }
 {
     pidx.0.to_usize() < grm.prods_len().0.to_usize()
 }
 
 /// Whether the grammar has the production, and it is one of the rule.
-pub fn is_of<S: IndexStorage>(grm: &NumberedGrammar<S>, pidx: PIdx<S>, ridx: RIdx<S>) -> bool
+pub(crate) fn is_of<S: IndexStorage>(grm: &NumberedGrammar<S>, pidx: PIdx<S>, ridx: RIdx<S>) -> bool
     ensures { IsTrue result → IsOf grm.now.grammar (S.number pidx.0) (S.number ridx.0) }
 {
     if !has_production(grm, pidx) {
@@ -26,7 +26,7 @@ pub fn is_of<S: IndexStorage>(grm: &NumberedGrammar<S>, pidx: PIdx<S>, ridx: RId
 }
 
 /// The symbol after the dot, if there is one.
-pub fn symbol_after<S: IndexStorage>(
+pub(crate) fn symbol_after<S: IndexStorage>(
     grm: &NumberedGrammar<S>,
     pidx: PIdx<S>,
     dot: SIdx<S>,
@@ -46,7 +46,7 @@ pub fn symbol_after<S: IndexStorage>(
 }
 
 /// The symbols before the index.
-pub fn symbols_before<S>(symbols: &[Symbol<S>], index: usize) -> &[Symbol<S>]
+pub(crate) fn symbols_before<S>(symbols: &[Symbol<S>], index: usize) -> &[Symbol<S>]
     requires { index ≤ length symbols.now }
     ensures { result.now ≡ take index symbols.now }
 {
@@ -54,7 +54,7 @@ pub fn symbols_before<S>(symbols: &[Symbol<S>], index: usize) -> &[Symbol<S>]
 }
 
 /// The symbols behind the one at the index.
-pub fn symbols_behind<S>(symbols: &[Symbol<S>], index: usize) -> &[Symbol<S>]
+pub(crate) fn symbols_behind<S>(symbols: &[Symbol<S>], index: usize) -> &[Symbol<S>]
     ensures { result.now ≡ drop (suc index) symbols.now }
 {
     if index >= symbols.len() {

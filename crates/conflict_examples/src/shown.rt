@@ -23,7 +23,7 @@ use std::alloc::{AllocError, Global};
 
 /// What is shown of an action, and the symbols before the dots.
 #[derive(Drop)]
-pub struct Part<S> {
+pub(crate) struct Part<S> {
     pub symbols: Vec<Symbol<S>>,
     pub shown: ActionExample<S>,
 }
@@ -31,7 +31,7 @@ pub struct Part<S> {
 /// Where a search came to for one action: the productions that are open, from that of the start in, and the productions
 /// by which what stands behind derives the token. It may be wrong.
 #[derive(Drop)]
-pub struct Trace<S> {
+pub(crate) struct Trace<S> {
     pub items: Vec<(PIdx<S>, SIdx<S>)>,
     pub steps: Vec<PIdx<S>>,
 }
@@ -85,7 +85,7 @@ fn closed<S: IndexStorage>(
 }
 
 /// What is shown of a shift of the token. None where the trace doesn't show it.
-pub fn shown_shift<S: IndexStorage>(
+pub(crate) fn shown_shift<S: IndexStorage>(
     alloc: Global,
     grm: &NumberedGrammar<S>,
     trace: &Trace<S>,
@@ -111,7 +111,7 @@ pub fn shown_shift<S: IndexStorage>(
 }
 
 /// What is shown of a reduction on the token. None where the trace doesn't show it.
-pub fn shown_reduce<S: IndexStorage>(
+pub(crate) fn shown_reduce<S: IndexStorage>(
     alloc: Global,
     grm: &NumberedGrammar<S>,
     trace: &Trace<S>,
@@ -175,7 +175,7 @@ fn same_symbols<S: IndexStorage>(a: &[Symbol<S>], b: &[Symbol<S>]) -> bool
 }
 
 /// The state that the symbols lead to, if there is one.
-pub fn state_after<S: IndexStorage>(
+pub(crate) fn state_after<S: IndexStorage>(
     graph: &StateGraph<S>,
     symbols: &[Symbol<S>],
 ) -> Option<StIdx<S>>
@@ -202,7 +202,7 @@ fn leads_to<S: IndexStorage>(graph: &StateGraph<S>, symbols: &[Symbol<S>], stidx
 }
 
 /// The example of two actions. None where they are shown after different symbols, or the symbols don't lead to the state.
-pub fn joined<S: IndexStorage>(
+pub(crate) fn joined<S: IndexStorage>(
     graph: &StateGraph<S>,
     token: TIdx<S>,
     stidx: StIdx<S>,

@@ -10,7 +10,7 @@ use std::alloc::{AllocError, Global};
 
 /// The grammar, its graph, and the token.
 #[derive(Drop)]
-pub struct Source<'a, S: IndexStorage> {
+pub(crate) struct Source<'a, S: IndexStorage> {
     pub grm: &'a NumberedGrammar<S>,
     pub graph: &'a StateGraph<S>,
     pub tables: &'a Tables<S>,
@@ -19,7 +19,7 @@ pub struct Source<'a, S: IndexStorage> {
 
 /// An item before whose rule others stand, and how what follows the rule begins.
 #[derive(Clone, Copy)]
-pub struct Outer<S> {
+pub(crate) struct Outer<S> {
     pub pidx: PIdx<S>,
     pub dot: SIdx<S>,
     pub rest: Start,
@@ -27,7 +27,7 @@ pub struct Outer<S> {
 
 impl<'a, S: IndexStorage> Source<'a, S> {
     /// Whether the token is among the lookaheads of the item in the state.
-    pub fn has_look(&self, stidx: StIdx<S>, pidx: PIdx<S>, dot: SIdx<S>) -> bool {
+    pub(crate) fn has_look(&self, stidx: StIdx<S>, pidx: PIdx<S>, dot: SIdx<S>) -> bool {
         if !self.graph.has_state(stidx) {
             return false;
         }
@@ -46,7 +46,7 @@ impl<'a, S: IndexStorage> Source<'a, S> {
     }
 
     /// The items of the state with the symbol after their dot.
-    pub fn items_before(
+    pub(crate) fn items_before(
         &self,
         alloc: Global,
         stidx: StIdx<S>,
@@ -66,7 +66,7 @@ impl<'a, S: IndexStorage> Source<'a, S> {
     }
 
     /// The items of the state before whose rule those of the rule stand.
-    pub fn outer(
+    pub(crate) fn outer(
         &self,
         alloc: Global,
         stidx: StIdx<S>,
@@ -85,12 +85,12 @@ impl<'a, S: IndexStorage> Source<'a, S> {
     }
 
     /// Whether the token is the end token.
-    pub fn is_end(&self) -> bool {
+    pub(crate) fn is_end(&self) -> bool {
         self.token.0.to_usize() == self.grm.eof_token_idx().0.to_usize()
     }
 
     /// Whether the production is that of the start.
-    pub fn is_start(&self, pidx: PIdx<S>) -> bool {
+    pub(crate) fn is_start(&self, pidx: PIdx<S>) -> bool {
         pidx.0.to_usize() == self.grm.start_prod().0.to_usize()
     }
 }

@@ -205,7 +205,7 @@ fn begins_with_rule<S: IndexStorage>(form: &[Symbol<S>]) -> bool {
 }
 
 /// The productions by which what stands behind the innermost production comes to begin with the token, or to be empty.
-pub fn steps_behind<'a, S: IndexStorage>(
+pub(crate) fn steps_behind<'a, S: IndexStorage>(
     alloc: Global,
     source: &Source<'a, S>,
     items: &[(PIdx<S>, SIdx<S>)],

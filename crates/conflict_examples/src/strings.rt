@@ -283,7 +283,7 @@ fn string_from<'a, S: IndexStorage>(
 }
 
 /// The symbols of a string that leads to the state, after which the items there have the token for a lookahead.
-pub fn string_to<'a, S: IndexStorage>(
+pub(crate) fn string_to<'a, S: IndexStorage>(
     alloc: Global,
     source: &Source<'a, S>,
     stidx: StIdx<S>,

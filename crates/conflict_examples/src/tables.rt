@@ -13,7 +13,7 @@ use vob::Vob;
 /// For each rule the tokens that it begins with and a production by which it vanishes, if there is one; for each symbol where
 /// it stands; for each state the edges that lead to it, and the last edge of a shortest string that does.
 #[derive(Drop)]
-pub struct Tables<S> {
+pub(crate) struct Tables<S> {
     pub places: Places<S>,
     firsts: Vec<Vob>,
     vanishing: Vec<Option<PIdx<S>>>,
@@ -23,14 +23,14 @@ pub struct Tables<S> {
 
 /// An edge back: the state that it comes from, and its symbol.
 #[derive(Clone, Copy)]
-pub struct EdgeBack<S> {
+pub(crate) struct EdgeBack<S> {
     pub from: StIdx<S>,
     pub symbol: Symbol<S>,
 }
 
 /// How a list goes on: whether the token begins it, and whether it may be empty.
 #[derive(Clone, Copy)]
-pub struct Start {
+pub(crate) struct Start {
     pub has: bool,
     pub vanishes: bool,
 }
@@ -192,7 +192,7 @@ fn shortest<S: IndexStorage>(
 
 impl<S: IndexStorage> Tables<S> {
     /// Those of a grammar and its graph.
-    pub fn new(
+    pub(crate) fn new(
         alloc: Global,
         grm: &NumberedGrammar<S>,
         graph: &StateGraph<S>,
@@ -207,7 +207,7 @@ impl<S: IndexStorage> Tables<S> {
     }
 
     /// A production by which the rule vanishes, if there is one.
-    pub fn vanishing(&self, ridx: RIdx<S>) -> Option<PIdx<S>> {
+    pub(crate) fn vanishing(&self, ridx: RIdx<S>) -> Option<PIdx<S>> {
         entry(self.vanishing.as_slice(), ridx.0.to_usize())
     }
 
@@ -221,7 +221,7 @@ impl<S: IndexStorage> Tables<S> {
     }
 
     /// How a symbol begins.
-    pub fn symbol_start(&self, symbol: Symbol<S>, token: TIdx<S>) -> Start {
+    pub(crate) fn symbol_start(&self, symbol: Symbol<S>, token: TIdx<S>) -> Start {
         match symbol {
             Symbol::Rule(ridx) => Start {
                 has: self.begins(ridx, token),
@@ -235,7 +235,7 @@ impl<S: IndexStorage> Tables<S> {
     }
 
     /// How the symbols behind the one after the dot begin.
-    pub fn rest_start(
+    pub(crate) fn rest_start(
         &self,
         grm: &NumberedGrammar<S>,
         pidx: PIdx<S>,
@@ -261,7 +261,7 @@ impl<S: IndexStorage> Tables<S> {
     }
 
     /// The edges that lead to a state.
-    pub fn back(&self, stidx: StIdx<S>) -> Option<&[EdgeBack<S>]> {
+    pub(crate) fn back(&self, stidx: StIdx<S>) -> Option<&[EdgeBack<S>]> {
         let number = stidx.0.to_usize();
         if number >= self.back.len() {
             return None;
@@ -270,7 +270,7 @@ impl<S: IndexStorage> Tables<S> {
     }
 
     /// The last edge of a shortest string that leads to the state.
-    pub fn last_edge(&self, stidx: StIdx<S>) -> Option<EdgeBack<S>> {
+    pub(crate) fn last_edge(&self, stidx: StIdx<S>) -> Option<EdgeBack<S>> {
         entry(self.last_edges.as_slice(), stidx.0.to_usize())
     }
 }

@@ -77,7 +77,7 @@ fn shift_trace<'a, S: IndexStorage>(
 }
 
 /// Where a shift and a reduction are shown after one string to the state.
-pub fn shift_traces<'a, S: IndexStorage>(
+pub(crate) fn shift_traces<'a, S: IndexStorage>(
     alloc: Global,
     source: &Source<'a, S>,
     production: PIdx<S>,
@@ -100,7 +100,7 @@ pub fn shift_traces<'a, S: IndexStorage>(
 }
 
 /// Where two reductions are shown after one string to the state.
-pub fn pair_traces<'a, S: IndexStorage>(
+pub(crate) fn pair_traces<'a, S: IndexStorage>(
     alloc: Global,
     source: &Source<'a, S>,
     first: PIdx<S>,

@@ -11,7 +11,7 @@ use Rattle.cfg_theory.specs.First.{AllOf}
 use Rattle.cfg_theory.proofs.Derivation.{derives_rule, nullable_of, first_of_list}
 use Rattle.cfg_numbered.specs.Sets.{is_set, is_set_in, missing, missing_in, joined_to, AreRows}
 use Rattle.cfg_numbered.specs.WorkLists.{NamesOne}
-use Rattle.cfg_numbered.specs.Firsts.{FirstSets, HasEpsilon, HasFirst, AreOf, AreSound, AreSoundOf, IsClosedAt, IsClosedOrWaits, IsClosedBut, IsWithin, IsNullableIn, SymbolFirst, FirstsOf, Adds}
+use Rattle.cfg_numbered.specs.Firsts.{FirstSets, HasEpsilon, HasFirst, AreOf, AreSound, AreSoundOf, IsClosedAt, IsClosedOrWaits, AreFirstsClosedBut, IsWithin, IsNullableIn, SymbolFirst, FirstsOf, Adds}
 use Rattle.cfg_numbered.specs.Passes.{PassStep, Anything}
 use Rattle.cfg_numbered.proofs.Bits.{join, length-bitwise, joined, put_in, put_fills, put_again, set_same, row_set, rows_set}
 
@@ -353,7 +353,7 @@ adds_of G p q A a old new same head body h =
     (subst (λ B. Adds B (FirstsOf old a) (AllOf (HasEpsilon old) a) old new) head h))
 
 -- where no rule waits, all is closed
-pub closed_all : (G : Grammar) (s : FirstSets) → IsClosedBut G s [] → (p : ℕ) → p < length G.productions → IsClosedAt G s p
+pub closed_all : (G : Grammar) (s : FirstSets) → AreFirstsClosedBut G s [] → (p : ℕ) → p < length G.productions → IsClosedAt G s p
 closed_all G s closed p lt = by (closed p lt)
   where
     by : IsClosedOrWaits G s [] p → IsClosedAt G s p

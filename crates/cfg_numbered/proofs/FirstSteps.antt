@@ -7,7 +7,7 @@ use Rattle.cfg_theory.specs.Grammar.{Sym, rule, token, Grammar, WellFormed, InRa
 use Rattle.cfg_theory.specs.First.{AllOf, IsFirstTable, FirstTablesAreExact}
 use Rattle.cfg_theory.proofs.Derivation.{derives_rule, nullable_of, first_of_list}
 use Rattle.cfg_numbered.specs.Sets.{is_set, is_set_in, missing, missing_in, AreRows}
-use Rattle.cfg_numbered.specs.Firsts.{FirstSets, HasEpsilon, HasFirst, AreOf, AreFirsts, AreSound, IsClosedAt, IsWithin, AllWithin, IsNullableIn, FirstBefore, FirstsOf, room}
+use Rattle.cfg_numbered.specs.Firsts.{FirstSets, HasEpsilon, HasFirst, AreOf, AreFirsts, AreSound, IsClosedAt, IsWithin, AllWithin, IsNullableIn, FirstBefore, FirstsOf, first_room}
 use Rattle.cfg_numbered.specs.Passes.{PassStep}
 use Rattle.cfg_numbered.proofs.Bits.{join, length-bitwise, joined, none_set, none_in, empty_sized}
 use Rattle.cfg_theory.proofs.Lists.{get_from_drop}
@@ -82,7 +82,7 @@ same_sets a b t r e =
     ap (λ x. record { tokens = b.tokens; rows = b.rows; epsilons = x }) e
 
 -- a step of the rows, and one of the nullable rules, are steps of the sets
-pub rows_lifted : (C : List (List Bool) → Type 0) (old new : FirstSets) (changed : Bool) → new.tokens ≡ old.tokens → new.epsilons ≡ old.epsilons → PassStep missing_in C old.rows new.rows changed → PassStep room (λ s. C s.rows) old new changed
+pub rows_lifted : (C : List (List Bool) → Type 0) (old new : FirstSets) (changed : Bool) → new.tokens ≡ old.tokens → new.epsilons ≡ old.epsilons → PassStep missing_in C old.rows new.rows changed → PassStep first_room (λ s. C s.rows) old new changed
 rows_lifted C old new changed tokens epsilons r = record {
   still = λ e. same_sets new old tokens (r.still e) epsilons;
   closed = r.closed;

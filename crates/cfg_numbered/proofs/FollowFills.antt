@@ -13,7 +13,7 @@ use Rattle.cfg_numbered.specs.Value.{productions_of}
 use Rattle.cfg_numbered.specs.Sets.{is_set, is_set_in, missing_in, joined_to, AreRows}
 use Rattle.cfg_numbered.specs.WorkLists.{Work, StandsFrom}
 use Rattle.cfg_numbered.specs.Firsts.{FirstSets, HasEpsilon, IsNullableIn, AreFirsts}
-use Rattle.cfg_numbered.specs.Follows.{FollowSets, HasFollow, AreSoundOf, Behind, HoldsAll, HandsOn, HandsOnOrWaits, IsClosedBut, Adds, Hands, GoesOn, HasAll, added}
+use Rattle.cfg_numbered.specs.Follows.{FollowSets, HasFollow, AreFollowsSoundOf, Behind, HoldsAll, HandsOn, HandsOnOrWaits, AreFollowsClosedBut, AddsFollows, Hands, FollowsGoOn, HasAll, added}
 use Rattle.cfg_numbered.proofs.Bits.{join, length-bitwise, joined, row_set, rows_set}
 use Rattle.cfg_numbered.proofs.RuleLists.{listed, alone}
 use Rattle.cfg_numbered.proofs.FollowSteps.{behind_follows, some_same, none_next}
@@ -51,7 +51,7 @@ added_has n m old new (rule A) bits r within len e = λ t h.
 
 -- ---- what follows one rule, added to what follows another
 
-pub adds_row : (A R : ℕ) (ys : List Bool) (old new : FollowSets) → R < length old.rows → length (get_or old.rows R []) ≡ length ys → ((t : ℕ) → IsTrue (is_set ys t) ↔ HasFollow old A t) → new.tokens ≡ old.tokens → new.rows ≡ joined_to old.rows R ys → Adds A R old new
+pub adds_row : (A R : ℕ) (ys : List Bool) (old new : FollowSets) → R < length old.rows → length (get_or old.rows R []) ≡ length ys → ((t : ℕ) → IsTrue (is_set ys t) ↔ HasFollow old A t) → new.tokens ≡ old.tokens → new.rows ≡ joined_to old.rows R ys → AddsFollows A R old new
 adds_row A R ys old new lt len tells tokens rows = record {
   tokens = tokens;
   count = ap length rows ∙ length-set old.rows R (join row ys);
@@ -79,7 +79,7 @@ adds_row A R ys old new lt len tells tokens rows = record {
 same_rule : (A B : ℕ) → ◌≡◌ {A = Sym} (rule A) (rule B) → A ≡ B
 same_rule A B e = cc
 
-pub hands_rule : (A R : ℕ) (old new : FollowSets) (was is : Work) → Adds A R old new → (new ≡ old) ⊎ Contains is.list R → ((B : ℕ) → Contains was.list B → Contains is.list B) → is.rules ≡ was.rules → missing_in new.rows + length is.list ≤ missing_in old.rows + length was.list → Hands A (rule R) old new was is
+pub hands_rule : (A R : ℕ) (old new : FollowSets) (was is : Work) → AddsFollows A R old new → (new ≡ old) ⊎ Contains is.list R → ((B : ℕ) → Contains was.list B → Contains is.list B) → is.rules ≡ was.rules → missing_in new.rows + length is.list ≤ missing_in old.rows + length was.list → Hands A (rule R) old new was is
 hands_rule A R old new was is a waits list rules less = record {
   tokens = a.tokens;
   count = a.count;
@@ -116,10 +116,10 @@ pub is_rule : (X : Sym) (B : ℕ) → (X ≡ rule B) ⊎ (X ≡ rule B → ⊥)
 is_rule (rule A) B = elim (cases_eq A B) [ inl e ↦ inl (ap rule e) | inr ne ↦ inr (λ e. ne (same_rule A B e)) ]
 is_rule (token u) B = inr (λ e. cc)
 
-pub went_none : (G : Grammar) (f : FirstSets) (s : FollowSets) (w : Work) → GoesOn G f s s w w
+pub went_none : (G : Grammar) (f : FirstSets) (s : FollowSets) (w : Work) → FollowsGoOn G f s s w w
 went_none G f s w = record { kept = λ A t h. h; closed = λ p h. h; rules = refl; room = omega arith }
 
-pub went_more : (G : Grammar) (f : FirstSets) (A : ℕ) (X : Sym) (start old new : FollowSets) (first was is : Work) → GoesOn G f start old first was → Hands A X old new was is → GoesOn G f start new first is
+pub went_more : (G : Grammar) (f : FirstSets) (A : ℕ) (X : Sym) (start old new : FollowSets) (first was is : Work) → FollowsGoOn G f start old first was → Hands A X old new was is → FollowsGoOn G f start new first is
 went_more G f A X start old new first was is g h = record {
   kept = λ B t x. h.kept B t (g.kept B t x);
   closed = λ p x. next p (g.closed p x);
@@ -186,7 +186,7 @@ module _ (G : Grammar) (f : FirstSets) (p d : ℕ) (X : Sym) (old new : FollowSe
       before i = cases_lt i d
 
   -- what is handed on is true
-  pub handed_sound : (row new_row : List Bool) → AreFirsts G f → p < length G.productions → AllOf (HasEpsilon f) (drop (suc d) (body_of G p)) → AreSoundOf G old row → length new_row ≡ old.tokens → AreSoundOf G new new_row
+  pub handed_sound : (row new_row : List Bool) → AreFirsts G f → p < length G.productions → AllOf (HasEpsilon f) (drop (suc d) (body_of G p)) → AreFollowsSoundOf G old row → length new_row ≡ old.tokens → AreFollowsSoundOf G new new_row
   handed_sound row new_row k lt all s len = record {
     sizes = record { tokens = h.tokens ∙ s.sizes.tokens; rows = h.rows G.rules G.tokens s.sizes.rows };
     sound = λ R t x. elim (h.only R t x) [ inl y ↦ s.sound R t y | inr q ↦ behind_follows G f old k s.sound p d R t lt (record { at = at ∙ ap Some q.0 }) (inr (all, q.1)) ];
@@ -219,14 +219,14 @@ of_rule G A i n l e lt at = (alone G A n (subst (λ k. Contains k n) e (i, lt, i
 pub head_is : (G : Grammar) (A i n : ℕ) (l : List ℕ) → l ≡ productions_of G A → i < length l → get_or l i 0 ≡ n → head_of G n ≡ A
 head_is G A i n l e lt at = (alone G A n (subst (λ k. Contains k n) e (i, lt, in_list l i n lt at))).1
 
-pub holds_still : (G : Grammar) (f : FirstSets) (old new : FollowSets) (was is : Work) → GoesOn G f old new was is → HoldsAll G f old → HoldsAll G f new
+pub holds_still : (G : Grammar) (f : FirstSets) (old new : FollowSets) (was is : Work) → FollowsGoOn G f old new was is → HoldsAll G f old → HoldsAll G f new
 holds_still G f old new was is g h = record {
   firsts = λ p lt d R t n x. g.kept R t (h.firsts p lt d R t n x);
   end = λ t e. g.kept 0 t (h.end t e);
 }
 
 -- where no rule waits, all hand on
-pub hands_all : (G : Grammar) (f : FirstSets) (s : FollowSets) → IsClosedBut G f s [] → (p : ℕ) → p < length G.productions → HandsOn G f s p
+pub hands_all : (G : Grammar) (f : FirstSets) (s : FollowSets) → AreFollowsClosedBut G f s [] → (p : ℕ) → p < length G.productions → HandsOn G f s p
 hands_all G f s closed p lt = by (closed p lt)
   where
     by : HandsOnOrWaits G f s [] p → HandsOn G f s p
@@ -234,5 +234,5 @@ hands_all G f s closed p lt = by (closed p lt)
     by (inr (k, within, e)) = absurd (omega (arith, within))
 
 -- where all rules wait, nothing is asked
-pub all_wait : (G H : Grammar) (f : FirstSets) (s : FollowSets) (list : List ℕ) (n : ℕ) → WellFormed G → H ≡ G → n ≡ G.rules → ((A : ℕ) → A < n → Contains list A) → IsClosedBut H f s list
-all_wait G H f s list n good same rules all = subst (λ K. IsClosedBut K f s list) (sym same) (λ p lt. inr (all (head_of G p) (subst (λ k. head_of G p < k) (sym rules) (good.heads p (head_of G p) (record { in_range = lt; head = refl })))))
+pub all_wait : (G H : Grammar) (f : FirstSets) (s : FollowSets) (list : List ℕ) (n : ℕ) → WellFormed G → H ≡ G → n ≡ G.rules → ((A : ℕ) → A < n → Contains list A) → AreFollowsClosedBut H f s list
+all_wait G H f s list n good same rules all = subst (λ K. AreFollowsClosedBut K f s list) (sym same) (λ p lt. inr (all (head_of G p) (subst (λ k. head_of G p < k) (sym rules) (good.heads p (head_of G p) (record { in_range = lt; head = refl })))))

@@ -9,7 +9,7 @@ use Rattle.cfg_theory.proofs.Derivation.{nullable_of, first_of_list}
 use Rattle.cfg_theory.proofs.Follow.{follow_after, follow_passed, follow_end}
 use Rattle.cfg_numbered.specs.Sets.{is_set, is_set_in, AreRows}
 use Rattle.cfg_numbered.specs.Firsts.{FirstSets, HasEpsilon, HasFirst, AreFirsts, IsWithin, FirstBefore}
-use Rattle.cfg_numbered.specs.Follows.{FollowSets, HasFollow, AreOf, AreFollows, AreSound, Behind, HoldsAll, HandsOn, HasSet, added}
+use Rattle.cfg_numbered.specs.Follows.{FollowSets, HasFollow, AreFollowsOf, AreFollows, AreFollowsSound, Behind, HoldsAll, HandsOn, HasSet, added}
 use Rattle.std.proofs.lemmas.List.{get_or-set_same, get_or-replicate, length-replicate, length-set}
 use Rattle.cfg_numbered.proofs.Bits.{join, length-bitwise, joined, row_set, rows_set, alone, none_in, empty_sized}
 use Rattle.cfg_numbered.proofs.FirstSteps.{first_table, within_of}
@@ -33,7 +33,7 @@ pub behind_none : (f : FirstSets) (P : ℕ → Type 0) (t : ℕ) → P t ↔ Beh
 behind_none f P t = (λ x. inr (tt, x), λ x. elim x [ inl e ↦ absurd e | inr z ↦ z.1 ])
 
 -- what is behind a rule in a body follows it
-pub behind_follows : (G : Grammar) (f : FirstSets) (s : FollowSets) → AreFirsts G f → AreSound G s → (p d R t : ℕ) → p < length G.productions → IsNext G p d (rule R) → Behind f (HasFollow s (head_of G p)) (drop (suc d) (body_of G p)) t → IsFollow G R t
+pub behind_follows : (G : Grammar) (f : FirstSets) (s : FollowSets) → AreFirsts G f → AreFollowsSound G s → (p d R t : ℕ) → p < length G.productions → IsNext G p d (rule R) → Behind f (HasFollow s (head_of G p)) (drop (suc d) (body_of G p)) t → IsFollow G R t
 behind_follows G f s k sound p d R t lt n (inl x) =
     follow_after G p (head_of G p) d R t (record { in_range = lt; head = refl }) n (first_of_list G (HasEpsilon f) (HasFirst f) (λ A. (k.nullable A).0) (λ A u. (k.first A u).0) (drop (suc d) (body_of G p)) t x)
 behind_follows G f s k sound p d R t lt n (inr (m, w)) =
@@ -46,8 +46,8 @@ added_sizes n m rows (rule A) bits r within e =
     let lt = within A refl in
     rows_set n m rows A (join (get_or rows A []) bits) r (length-bitwise (λ x y. x || y) (get_or rows A []) bits (r.width A lt ∙ sym e) ∙ r.width A lt)
 
-pub added_sound : (G : Grammar) (old new : FollowSets) (X : Sym) (bits : List Bool) → AreSound G old → AreRows G.rules G.tokens old.rows → ((A : ℕ) → X ≡ rule A → A < G.rules) → length bits ≡ G.tokens → new.rows ≡ added old.rows X bits →
-    ((R t : ℕ) → X ≡ rule R → IsTrue (is_set bits t) → IsFollow G R t) → AreSound G new
+pub added_sound : (G : Grammar) (old new : FollowSets) (X : Sym) (bits : List Bool) → AreFollowsSound G old → AreRows G.rules G.tokens old.rows → ((A : ℕ) → X ≡ rule A → A < G.rules) → length bits ≡ G.tokens → new.rows ≡ added old.rows X bits →
+    ((R t : ℕ) → X ≡ rule R → IsTrue (is_set bits t) → IsFollow G R t) → AreFollowsSound G new
 added_sound G old new (token u) bits sound rows within len e true_bits = λ R t h. sound R t (subst (λ l. IsTrue (is_set_in l R t)) e h)
 added_sound G old new (rule A) bits sound rows within len e true_bits = λ R t h. by R t (subst (λ l. IsTrue (is_set_in l R t)) e h)
   where
@@ -74,7 +74,7 @@ get_some f (y ∷ xs) zero x d lt e = ap (λ z. Some (f z)) (sym e)
 get_some f (y ∷ xs) (suc i) x d lt e = get_some f xs i x d (omega (arith, lt)) e
 
 -- closed everywhere and true: exact
-pub table_of : (G : Grammar) (f : FirstSets) (s : FollowSets) → AreSound G s → HoldsAll G f s → ((p : ℕ) → p < length G.productions → HandsOn G f s p) →
+pub table_of : (G : Grammar) (f : FirstSets) (s : FollowSets) → AreFollowsSound G s → HoldsAll G f s → ((p : ℕ) → p < length G.productions → HandsOn G f s p) →
     IsFollowTable G (λ A. IsTrue (is_set f.epsilons A)) (λ A t. IsTrue (is_set_in f.rows A t)) (λ R t. IsTrue (is_set_in s.rows R t))
 table_of G f s sound holds hands = record {
   follow = sound;
@@ -83,12 +83,12 @@ table_of G f s sound holds hands = record {
   at_end = holds.end;
 }
 
-pub exact_follows : (G : Grammar) (f : FirstSets) (s : FollowSets) → FirstTablesAreExact → FollowTablesAreExact → AreFirsts G f → AreOf G s → AreSound G s → HoldsAll G f s → ((p : ℕ) → p < length G.productions → HandsOn G f s p) → AreFollows G s
+pub exact_follows : (G : Grammar) (f : FirstSets) (s : FollowSets) → FirstTablesAreExact → FollowTablesAreExact → AreFirsts G f → AreFollowsOf G s → AreFollowsSound G s → HoldsAll G f s → ((p : ℕ) → p < length G.productions → HandsOn G f s p) → AreFollows G s
 exact_follows G f s first_law law firsts sizes sound holds hands =
     record { sizes = sizes; follow = λ R t. law.exact G (is_set f.epsilons) (is_set_in f.rows) (is_set_in s.rows) (first_table G f firsts) (table_of G f s sound holds hands) R t }
 
 -- the end token alone
-pub end_sound : (G : Grammar) (n m : ℕ) (s : FollowSets) → 0 < n → end_token G < m → s.rows ≡ set (replicate n (replicate m false)) 0 (set (get_or (replicate n (replicate m false)) 0 []) (end_token G) true) → AreSound G s
+pub end_sound : (G : Grammar) (n m : ℕ) (s : FollowSets) → 0 < n → end_token G < m → s.rows ≡ set (replicate n (replicate m false)) 0 (set (get_or (replicate n (replicate m false)) 0 []) (end_token G) true) → AreFollowsSound G s
 end_sound G n m s some within e R t h = elim (row_set (replicate n (replicate m false)) 0 R t (set (get_or (replicate n (replicate m false)) 0 []) (end_token G) true) (let len = length-replicate n (replicate m false) in omega (arith, some, len))) [
   | inl q ↦ subst (λ B. IsFollow G B t) (sym q.0) (follow_end G t (sym ((alone (end_token G) m t within).0 (subst (λ l. IsTrue (is_set (set l (end_token G) true) t)) (get_or-replicate n 0 (replicate m false) [] some) (sym q.1 ∙ subst (λ l. IsTrue (is_set_in l R t)) e h)))))
   | inr q ↦ absurd (none_in n m R t (sym q.1 ∙ subst (λ l. IsTrue (is_set_in l R t)) e h))
@@ -134,7 +134,7 @@ module _ (G : Grammar) (good : WellFormed G) (f : FirstSets) (k : AreFirsts G f)
   ranged : InRange G (view x)
   ranged = good.symbols p at (view x) (record { at = here })
 
-  pub has_set : (s : FollowSets) → AreOf G s → HasSet s (view x)
+  pub has_set : (s : FollowSets) → AreFollowsOf G s → HasSet s (view x)
   has_set s h = by (view x) ranged
     where
       by : (Y : Sym) → InRange G Y → HasSet s Y
@@ -151,7 +151,7 @@ module _ (G : Grammar) (good : WellFormed G) (f : FirstSets) (k : AreFirsts G f)
     pub told : (t : ℕ) → IsTrue (is_set bits t) ↔ Behind f (HasFollow start (head_of G p)) (drop (suc at) (body_of G p)) t
     told t = let n : length xs - index ≡ suc at = omega (arith, e) in subst (λ d. IsTrue (is_set bits t) ↔ Behind f (HasFollow start (head_of G p)) (drop d (body_of G p)) t) n (tells t)
 
-    pub true_bits : AreSound G start → (R t : ℕ) → view x ≡ rule R → IsTrue (is_set bits t) → IsFollow G R t
+    pub true_bits : AreFollowsSound G start → (R t : ℕ) → view x ≡ rule R → IsTrue (is_set bits t) → IsFollow G R t
     true_bits sound R t q h = behind_follows G f start k sound p at R t in_range (record { at = here ∙ ap Some q }) ((told t).0 h)
 
     pub new_bits : (new : List Bool) → ((t : ℕ) → IsTrue (is_set new t) ↔ FirstBefore f (view x) (λ u. IsTrue (is_set bits u)) t) → (t : ℕ) → IsTrue (is_set new t) ↔ Behind f (HasFollow start (head_of G p)) (drop (length xs - (index + 1)) (body_of G p)) t
@@ -161,8 +161,8 @@ module _ (G : Grammar) (good : WellFormed G) (f : FirstSets) (k : AreFirsts G f)
 
 -- where takings begin
 pub record Begins (G : Grammar) (s : FollowSets) : Type 0 where
-  pub sizes : AreOf G s
-  pub sound : AreSound G s
+  pub sizes : AreFollowsOf G s
+  pub sound : AreFollowsSound G s
   pub end : (t : ℕ) → IsEnd G t → HasFollow s 0 t
 
 pub begins : (G : Grammar) (n m r e : ℕ) (old new : FollowSets) → n ≡ G.rules → m ≡ G.tokens → r ≡ 0 → e ≡ end_token G → 0 < G.rules → end_token G < G.tokens → old.tokens ≡ m → old.rows ≡ replicate n (replicate m false) → new.tokens ≡ old.tokens → new.rows ≡ set old.rows r (set (get_or old.rows r []) e true) → Begins G new

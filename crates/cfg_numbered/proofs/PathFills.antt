@@ -8,7 +8,7 @@ use Rattle.cfg_theory.specs.Grammar.{Sym, rule, token, Grammar, head_of, body_of
 use Rattle.cfg_numbered.specs.Value.{productions_of}
 use Rattle.cfg_numbered.specs.Sets.{is_set, missing}
 use Rattle.cfg_numbered.specs.WorkLists.{Work, StandsFrom}
-use Rattle.cfg_numbered.specs.Paths.{IsReachedFrom, IsIn, HasPlace, with_rule, Reaches, ReachedOrWaits, AreFrom, IsClosedBut, GoesOn}
+use Rattle.cfg_numbered.specs.Paths.{IsReachedFrom, IsIn, HasPlace, with_rule, Reaches, ReachedOrWaits, AreFrom, IsReachClosedBut, ReachGoesOn}
 use Rattle.cfg_numbered.proofs.Bits.{none_set, put_in}
 use Rattle.cfg_numbered.proofs.RuleLists.{listed}
 use Rattle.cfg_numbered.proofs.FollowFills.{is_rule}
@@ -60,7 +60,7 @@ reaches_token t old new w bits = reaches_same (token t) old new w bits bits
 
 -- ---- one production
 
-pub went_none : (G : Grammar) (A : ℕ) (bits : List Bool) (w : Work) → GoesOn G A bits bits w w
+pub went_none : (G : Grammar) (A : ℕ) (bits : List Bool) (w : Work) → ReachGoesOn G A bits bits w w
 went_none G A bits w = record { kept = λ B h. h; closed = λ p h. h; from = λ h. h; rules = refl; room = omega arith }
 
 module _ (X : Sym) (old new : List Bool) (was is : Work) (place : HasPlace old X) (h : Reaches X old new was is) where
@@ -96,7 +96,7 @@ module _ (G : Grammar) (A : ℕ) (X : Sym) (old new : List Bool) (was is : Work)
     | inr e ↦ inr (subst (λ l. IsTrue (is_set l B)) (sym h.bits) (with_here old X B place e))
   ]
 
-  pub went_more : (start : List Bool) (first : Work) → GoesOn G A start old first was → GoesOn G A start new first is
+  pub went_more : (start : List Bool) (first : Work) → ReachGoesOn G A start old first was → ReachGoesOn G A start new first is
   went_more start first g = record {
     kept = λ B x. on B (g.kept B x);
     closed = λ p x. closed_on p (g.closed p x);
@@ -121,7 +121,7 @@ from_rest A bits work R h = (λ B w. h B (before B w), h R (Contains-push work R
     before B w = Contains-append_left work (R ∷ []) B w
 
 -- where no rule waits, all is reached
-pub reached_all : (G : Grammar) (A : ℕ) (bits : List Bool) → IsClosedBut G A bits [] → (p : ℕ) → p < length G.productions → IsReachedFrom G A p bits
+pub reached_all : (G : Grammar) (A : ℕ) (bits : List Bool) → IsReachClosedBut G A bits [] → (p : ℕ) → p < length G.productions → IsReachedFrom G A p bits
 reached_all G A bits h p lt = by (h.closed p lt)
   where
     by : ReachedOrWaits G A bits [] p → IsReachedFrom G A p bits
@@ -129,7 +129,7 @@ reached_all G A bits h p lt = by (h.closed p lt)
     by (inr (k, within, e)) = absurd (omega (arith, within))
 
 -- where the first rule alone waits, and none is reached
-pub first_waits : (G : Grammar) (A n : ℕ) (bits : List Bool) (list : List ℕ) → bits ≡ replicate n false → Contains list A → ((B : ℕ) → Contains list B → B ≡ A) → IsClosedBut G A bits list
+pub first_waits : (G : Grammar) (A n : ℕ) (bits : List Bool) (list : List ℕ) → bits ≡ replicate n false → Contains list A → ((B : ℕ) → Contains list B → B ≡ A) → IsReachClosedBut G A bits list
 first_waits G A n bits list none waits only = record {
   closed = λ p lt. elim (cases_eq (head_of G p) A) [
     | inl e ↦ inr (subst (Contains list) (sym e) waits)

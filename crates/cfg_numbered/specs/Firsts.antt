@@ -60,8 +60,8 @@ pub record IsClosedAt (G : Grammar) (s : FirstSets) (p : ℕ) : Type 0 where
   pub first : (t : ℕ) → FirstsOf s (body_of G p) t → HasFirst s (head_of G p) t
 
 -- how many bits of the sets are clear
-abbrev pub room : FirstSets → ℕ
-room s = missing_in s.rows + missing s.epsilons
+abbrev pub first_room : FirstSets → ℕ
+first_room s = missing_in s.rows + missing s.epsilons
 
 -- each symbol has one
 abbrev pub AllWithin : FirstSets → List Sym → Type 0
@@ -93,5 +93,5 @@ abbrev pub IsClosedOrWaits : Grammar → FirstSets → List ℕ → ℕ → Type
 IsClosedOrWaits G s list p = IsClosedAt G s p ⊎ NamesOne G list p
 
 -- so with each production
-abbrev pub IsClosedBut : Grammar → FirstSets → List ℕ → Type 0
-IsClosedBut G s list = (p : ℕ) → p < length G.productions → IsClosedOrWaits G s list p
+abbrev pub AreFirstsClosedBut : Grammar → FirstSets → List ℕ → Type 0
+AreFirstsClosedBut G s list = (p : ℕ) → p < length G.productions → IsClosedOrWaits G s list p

@@ -17,18 +17,18 @@ abbrev pub HasFollow : FollowSets → ℕ → ℕ → Type 0
 HasFollow s R t = IsTrue (is_set_in s.rows R t)
 
 -- there is a set for each rule of the grammar, of its tokens
-pub record AreOf (G : Grammar) (s : FollowSets) : Type 0 where
+pub record AreFollowsOf (G : Grammar) (s : FollowSets) : Type 0 where
   pub tokens : s.tokens ≡ G.tokens
   pub rows : AreRows G.rules G.tokens s.rows
 
 -- the sets hold exactly what derivations show
 pub record AreFollows (G : Grammar) (s : FollowSets) : Type 0 where
-  pub sizes : AreOf G s
+  pub sizes : AreFollowsOf G s
   pub follow : (R t : ℕ) → HasFollow s R t ↔ IsFollow G R t
 
 -- the sets hold no more
-abbrev pub AreSound : Grammar → FollowSets → Type 0
-AreSound G s = (R t : ℕ) → HasFollow s R t → IsFollow G R t
+abbrev pub AreFollowsSound : Grammar → FollowSets → Type 0
+AreFollowsSound G s = (R t : ℕ) → HasFollow s R t → IsFollow G R t
 
 -- t begins the list, or is in P where the list is nullable
 abbrev pub Behind : FirstSets → (ℕ → Type 0) → List Sym → ℕ → Type 0
@@ -52,24 +52,24 @@ abbrev pub HandsOnOrWaits : Grammar → FirstSets → FollowSets → List ℕ �
 HandsOnOrWaits G f s list p = HandsOn G f s p ⊎ Contains list (head_of G p)
 
 -- so with each production
-abbrev pub IsClosedBut : Grammar → FirstSets → FollowSets → List ℕ → Type 0
-IsClosedBut G f s list = (p : ℕ) → p < length G.productions → HandsOnOrWaits G f s list p
+abbrev pub AreFollowsClosedBut : Grammar → FirstSets → FollowSets → List ℕ → Type 0
+AreFollowsClosedBut G f s list = (p : ℕ) → p < length G.productions → HandsOnOrWaits G f s list p
 
 -- sets of the grammar's rules that hold no more than derivations show, and a further one
-pub record AreSoundOf (G : Grammar) (s : FollowSets) (row : List Bool) : Type 0 where
-  pub sizes : AreOf G s
-  pub sound : AreSound G s
+pub record AreFollowsSoundOf (G : Grammar) (s : FollowSets) (row : List Bool) : Type 0 where
+  pub sizes : AreFollowsOf G s
+  pub sound : AreFollowsSound G s
   pub width : length row ≡ G.tokens
 
 -- the set of the rule A was added to that of the rule R, and nothing else changed
-pub record Adds (A R : ℕ) (old new : FollowSets) : Type 0 where
+pub record AddsFollows (A R : ℕ) (old new : FollowSets) : Type 0 where
   pub tokens : new.tokens ≡ old.tokens
   pub count : length new.rows ≡ length old.rows
   pub rows : (n m : ℕ) → AreRows n m old.rows → AreRows n m new.rows
   pub follow : (B t : ℕ) → HasFollow new B t ↔ (HasFollow old B t ⊎ ((B ≡ R) × HasFollow old A t))
 
 -- from one table and work list to another nothing is lost: sets grew, and what handed on or waited does
-pub record GoesOn (G : Grammar) (f : FirstSets) (old new : FollowSets) (was is : Work) : Type 0 where
+pub record FollowsGoOn (G : Grammar) (f : FirstSets) (old new : FollowSets) (was is : Work) : Type 0 where
   pub kept : (A t : ℕ) → HasFollow old A t → HasFollow new A t
   pub closed : (p : ℕ) → HandsOnOrWaits G f old was.list p → HandsOnOrWaits G f new is.list p
   pub rules : is.rules ≡ was.rules
@@ -103,5 +103,5 @@ abbrev pub HasAll : FollowSets → Sym → List Bool → Type 0
 HasAll s (rule A) bits = HasAllOf A bits s.rows
 HasAll s (token t) bits = Unit {0}
 
-abbrev pub room : FollowSets → ℕ
-room s = missing_in s.rows
+abbrev pub follow_room : FollowSets → ℕ
+follow_room s = missing_in s.rows

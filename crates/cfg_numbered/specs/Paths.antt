@@ -47,12 +47,12 @@ abbrev pub AreFrom : ℕ → List Bool → List ℕ → Type 0
 AreFrom A bits list = (B : ℕ) → Contains list B → (B ≡ A) ⊎ IsTrue (is_set bits B)
 
 -- so with each production
-pub record IsClosedBut (G : Grammar) (A : ℕ) (bits : List Bool) (list : List ℕ) : Type 0 where
+pub record IsReachClosedBut (G : Grammar) (A : ℕ) (bits : List Bool) (list : List ℕ) : Type 0 where
   pub closed : (p : ℕ) → p < length G.productions → ReachedOrWaits G A bits list p
   pub from : AreFrom A bits list
 
 -- from one set and work list to another nothing is lost: the set grew, and what was reached or waited is or does
-pub record GoesOn (G : Grammar) (A : ℕ) (old new : List Bool) (was is : Work) : Type 0 where
+pub record ReachGoesOn (G : Grammar) (A : ℕ) (old new : List Bool) (was is : Work) : Type 0 where
   pub kept : (B : ℕ) → IsTrue (is_set old B) → IsTrue (is_set new B)
   pub closed : (p : ℕ) → ReachedOrWaits G A old was.list p → ReachedOrWaits G A new is.list p
   pub from : AreFrom A old was.list → AreFrom A new is.list

@@ -5,7 +5,7 @@ ghost use Rattle.cfg_theory.specs.Grammar.{rule, Grammar};
 ghost use Rattle.cfg_theory.specs.First.{AllOf};
 ghost use Rattle.cfg_numbered.specs.Symbols.{sym_of, syms_of};
 ghost use Rattle.cfg_numbered.specs.Sets.{is_set, joined_to, HasAllOf};
-ghost use Rattle.cfg_numbered.specs.Firsts.{FirstSets, HasEpsilon, HasFirst, AreFirsts, AreSoundOf, IsClosedOrWaits, IsClosedBut, IsWithin, IsNullableIn, FirstBefore, SymbolFirst, FirstsOf, AllWithin, Adds, room};
+ghost use Rattle.cfg_numbered.specs.Firsts.{FirstSets, HasEpsilon, HasFirst, AreFirsts, AreSoundOf, IsClosedOrWaits, AreFirstsClosedBut, IsWithin, IsNullableIn, FirstBefore, SymbolFirst, FirstsOf, AllWithin, Adds, first_room};
 ghost use Rattle.cfg_numbered.specs.Orders.{IsOrder};
 ghost use Rattle.cfg_numbered.specs.Passes.{PassStep, Anything};
 
@@ -126,7 +126,7 @@ impl<S: IndexStorage> YaccFirsts<S> {
         ensures rows { self.new.rows ≡ joined_to self.old.rows (S.number rule.0) tokens.now.bits }
         ensures epsilons { self.new.epsilons ≡ self.old.epsilons }
         ensures width_was { length (get_or self.old.rows (S.number rule.0) []) ≡ self.old.tokens }
-        ensures steps { PassStep room (λ s. HasAllOf (S.number rule.0) tokens.now.bits s.rows) self.old self.new result }
+        ensures steps { PassStep first_room (λ s. HasAllOf (S.number rule.0) tokens.now.bits s.rows) self.old self.new result }
     {
         self.firsts.join(rule.0.to_usize(), tokens)
     }
@@ -138,7 +138,7 @@ impl<S: IndexStorage> YaccFirsts<S> {
         ensures rows { self.new.rows ≡ self.old.rows }
         ensures within { S.number rule.0 < length self.old.epsilons }
         ensures epsilons { self.new.epsilons ≡ slice_set self.old.epsilons (S.number rule.0) true }
-        ensures steps { PassStep room Anything self.old self.new result }
+        ensures steps { PassStep first_room Anything self.old self.new result }
     {
         self.epsilons.set(rule.0.to_usize(), true)
     }
@@ -213,7 +213,7 @@ impl<S: IndexStorage> YaccFirsts<S> {
         requires width { length row.old.bits ≡ self.old.tokens }
         ensures width { length row.new.bits ≡ self.old.tokens }
         ensures added { Adds (S.number head.0) (HasFirst self.old (S.number rule.0)) ⊥ self.old self.new }
-        ensures steps { PassStep room Anything self.old self.new result }
+        ensures steps { PassStep first_room Anything self.old self.new result }
     {
         row.set_all(false);
         row.or(self.firsts.row(rule.0.to_usize()));
@@ -225,7 +225,7 @@ impl<S: IndexStorage> YaccFirsts<S> {
         requires head { S.number head.0 < length self.old.rows }
         requires token { S.number token.0 < self.old.tokens }
         ensures added { Adds (S.number head.0) (λ t. S.number token.0 ≡ t) ⊥ self.old self.new }
-        ensures steps { PassStep room Anything self.old self.new result }
+        ensures steps { PassStep first_room Anything self.old self.new result }
     {
         // Read, so that the proof may use how wide the set is.
         let _set = self.firsts(head);
@@ -239,7 +239,7 @@ impl<S: IndexStorage> YaccFirsts<S> {
         requires width { length row.old.bits ≡ self.old.tokens }
         ensures width { length row.new.bits ≡ self.old.tokens }
         ensures added { Adds (S.number head.0) (SymbolFirst self.old (sym_of S.number symbol)) ⊥ self.old self.new }
-        ensures steps { PassStep room Anything self.old self.new result }
+        ensures steps { PassStep first_room Anything self.old self.new result }
     {
         match symbol {
             Symbol::Rule(rule) => self.add_row(head, rule, row),
@@ -255,7 +255,7 @@ impl<S: IndexStorage> YaccFirsts<S> {
         requires width { length row.old.bits ≡ self.old.tokens }
         ensures width { length row.new.bits ≡ self.old.tokens }
         ensures added { Adds (S.number head.0) (FirstsOf self.old (syms_of S.number symbols.now)) (AllOf (HasEpsilon self.old) (syms_of S.number symbols.now)) self.old self.new }
-        ensures steps { PassStep room Anything self.old self.new result }
+        ensures steps { PassStep first_room Anything self.old self.new result }
     {
         let mut changed = false;
         'front: for index in 0..symbols.len() {
@@ -284,7 +284,7 @@ impl<S: IndexStorage> YaccFirsts<S> {
         ensures work { OnOk result (work.new.rules ≡ work.old.rules) }
         ensures kept { OnOk result ((p : ℕ) → IsClosedOrWaits grm.now.grammar self.old work.old.list p → IsClosedOrWaits grm.now.grammar self.new work.new.list p) }
         ensures here { OnOk result (IsClosedOrWaits grm.now.grammar self.new work.new.list number) }
-        ensures room { OnOk result (room self.new + length work.new.list ≤ room self.old + length work.old.list) }
+        ensures room { OnOk result (first_room self.new + length work.new.list ≤ first_room self.old + length work.old.list) }
     {
         grm.stays_well_formed();
         let pidx = grm.prod_at(number);
@@ -309,16 +309,16 @@ struct Filling<'a, S: IndexStorage> {
 impl<'a, S: IndexStorage> WorkTable for Filling<'a, S> {
     ghost use Rattle.std.specs.Prelude.{◌≡◌, length, refl};
     ghost use Rattle.std.proofs.Common.{◌∙◌};
-    ghost use Rattle.cfg_numbered.specs.Firsts.{AreSoundOf, IsClosedBut, room as firsts_room};
+    ghost use Rattle.cfg_numbered.specs.Firsts.{AreSoundOf, AreFirstsClosedBut, first_room};
     ghost use Rattle.cfg_numbered.specs.WorkLists.{ListsNaming};
 
     ghost rules = { λ s. s.grm.now.grammar.rules };
 
     ghost is_sound = { λ s. AreSoundOf s.grm.now.grammar s.firsts s.row.bits × ListsNaming s.grm.now.grammar (length s.grm.now.grammar.productions) s.naming.now };
 
-    ghost room = { λ s. firsts_room s.firsts };
+    ghost room = { λ s. first_room s.firsts };
 
-    ghost is_closed_but = { λ s list. IsClosedBut s.grm.now.grammar s.firsts list };
+    ghost is_closed_but = { λ s list. AreFirstsClosedBut s.grm.now.grammar s.firsts list };
 
     ghost is_of_same = { λ s t. t.grm.now ≡ s.grm.now };
 
@@ -346,7 +346,7 @@ impl<'a, S: IndexStorage> Filling<'a, S> {
         ensures grammar { IfOk result (λ f. f.grm.now ≡ grm.now) }
         ensures naming { IfOk result (λ f. f.naming.now ≡ naming.now) }
         ensures sound { IfOk result (λ f. AreSoundOf grm.now.grammar f.firsts f.row.bits) }
-        ensures room { IfOk result (λ f. room f.firsts ≡ grm.now.grammar.rules * (grm.now.grammar.tokens + 1)) }
+        ensures room { IfOk result (λ f. first_room f.firsts ≡ grm.now.grammar.rules * (grm.now.grammar.tokens + 1)) }
     {
         let rules = grm.rules_len().0.to_usize();
         let tokens = grm.tokens_len().0.to_usize();
@@ -367,8 +367,8 @@ impl<'a, S: IndexStorage> Filling<'a, S> {
         ensures naming { OnOk result (self.new.naming.now ≡ self.old.naming.now) }
         ensures sound { OnOk result (AreSoundOf self.old.grm.now.grammar self.new.firsts self.new.row.bits) }
         ensures work { OnOk result (work.new.rules ≡ work.old.rules) }
-        ensures closed { OnOk result (IsClosedBut self.old.grm.now.grammar self.new.firsts work.new.list) }
-        ensures room { OnOk result (room self.new.firsts + length work.new.list ≤ room self.old.firsts + length work.old.list) }
+        ensures closed { OnOk result (AreFirstsClosedBut self.old.grm.now.grammar self.new.firsts work.new.list) }
+        ensures room { OnOk result (first_room self.new.firsts + length work.new.list ≤ first_room self.old.firsts + length work.old.list) }
     {
         'prods: for index in 0..order.len() {
             self.firsts

@@ -5,7 +5,7 @@ ghost use Rattle.cfg_theory.specs.Grammar.{rule, Grammar, IsEnd};
 ghost use Rattle.cfg_numbered.specs.Symbols.{sym_of, syms_of};
 ghost use Rattle.cfg_numbered.specs.Sets.{is_set, joined_to, HasAllOf};
 ghost use Rattle.cfg_numbered.specs.Firsts.{AreFirsts};
-ghost use Rattle.cfg_numbered.specs.Follows.{FollowSets, HasFollow, AreFollows, AreSoundOf, HoldsFirsts, HoldsAll, HandsOn, GoesOn, Hands, Adds, HasSet, HasAll, added, room};
+ghost use Rattle.cfg_numbered.specs.Follows.{FollowSets, HasFollow, AreFollows, AreFollowsSoundOf, HoldsFirsts, HoldsAll, HandsOn, FollowsGoOn, Hands, AddsFollows, HasSet, HasAll, added, follow_room};
 ghost use Rattle.cfg_numbered.specs.Orders.{IsOrder};
 ghost use Rattle.cfg_numbered.specs.Passes.{PassStep, Anything};
 
@@ -101,7 +101,7 @@ impl<S: IndexStorage> YaccFollows<S> {
         ensures tokens { self.new.tokens ≡ self.old.tokens }
         ensures rows { self.new.rows ≡ joined_to self.old.rows (S.number rule.0) tokens.now.bits }
         ensures width_was { length (get_or self.old.rows (S.number rule.0) []) ≡ self.old.tokens }
-        ensures steps { PassStep room (λ s. HasAllOf (S.number rule.0) tokens.now.bits s.rows) self.old self.new result }
+        ensures steps { PassStep follow_room (λ s. HasAllOf (S.number rule.0) tokens.now.bits s.rows) self.old self.new result }
     {
         self.follows.join(rule.0.to_usize(), tokens)
     }
@@ -112,7 +112,7 @@ impl<S: IndexStorage> YaccFollows<S> {
         requires width { length tokens.now.bits ≡ self.old.tokens }
         ensures tokens { self.new.tokens ≡ self.old.tokens }
         ensures rows { self.new.rows ≡ added self.old.rows (sym_of S.number symbol) tokens.now.bits }
-        ensures steps { PassStep room (λ s. HasAll s (sym_of S.number symbol) tokens.now.bits) self.old self.new result }
+        ensures steps { PassStep follow_room (λ s. HasAll s (sym_of S.number symbol) tokens.now.bits) self.old self.new result }
     {
         match symbol {
             Symbol::Rule(rule) => self.add_tokens(rule, tokens),
@@ -131,8 +131,8 @@ impl<S: IndexStorage> YaccFollows<S> {
     )
         requires production { S.number pidx.0 < length grm.now.grammar.productions }
         requires firsts { AreFirsts grm.now.grammar firsts.now }
-        requires sound { AreSoundOf grm.now.grammar self.old behind.old.bits }
-        ensures sound { AreSoundOf grm.now.grammar self.new behind.new.bits }
+        requires sound { AreFollowsSoundOf grm.now.grammar self.old behind.old.bits }
+        ensures sound { AreFollowsSoundOf grm.now.grammar self.new behind.new.bits }
         ensures kept { (A t : ℕ) → HasFollow self.old A t → HasFollow self.new A t }
         ensures firsts { HoldsFirsts grm.now.grammar firsts.now self.new (S.number pidx.0) }
     {
@@ -152,8 +152,8 @@ impl<S: IndexStorage> YaccFollows<S> {
         requires from { S.number from.0 < length self.old.rows }
         requires width { length row.old.bits ≡ self.old.tokens }
         ensures width { length row.new.bits ≡ self.old.tokens }
-        ensures added { Adds (S.number from.0) (S.number to.0) self.old self.new }
-        ensures steps { PassStep room Anything self.old self.new result }
+        ensures added { AddsFollows (S.number from.0) (S.number to.0) self.old self.new }
+        ensures steps { PassStep follow_room Anything self.old self.new result }
     {
         self.copy_set(from, row);
         self.add_tokens(to, row)
@@ -214,10 +214,10 @@ impl<S: IndexStorage> YaccFollows<S> {
     ) -> Result<(), AllocError>
         requires production { S.number pidx.0 < length grm.now.grammar.productions }
         requires firsts { AreFirsts grm.now.grammar firsts.now }
-        requires sound { AreSoundOf grm.now.grammar self.old row.old.bits }
+        requires sound { AreFollowsSoundOf grm.now.grammar self.old row.old.bits }
         requires work { work.old.rules ≡ grm.now.grammar.rules }
-        ensures sound { OnOk result (AreSoundOf grm.now.grammar self.new row.new.bits) }
-        ensures went_on { OnOk result (GoesOn grm.now.grammar firsts.now self.old self.new work.old work.new) }
+        ensures sound { OnOk result (AreFollowsSoundOf grm.now.grammar self.new row.new.bits) }
+        ensures went_on { OnOk result (FollowsGoOn grm.now.grammar firsts.now self.old self.new work.old work.new) }
         ensures here { OnOk result (HandsOn grm.now.grammar firsts.now self.new (S.number pidx.0)) }
     {
         grm.stays_well_formed();
@@ -247,15 +247,15 @@ impl<'a, S: IndexStorage> WorkTable for Filling<'a, S> {
     ghost use Rattle.std.specs.Prelude.{◌≡◌, length, refl};
     ghost use Rattle.std.proofs.Common.{◌∙◌};
     ghost use Rattle.cfg_numbered.specs.Firsts.{AreFirsts};
-    ghost use Rattle.cfg_numbered.specs.Follows.{AreSoundOf, HoldsAll, IsClosedBut, room as follows_room};
+    ghost use Rattle.cfg_numbered.specs.Follows.{AreFollowsSoundOf, HoldsAll, AreFollowsClosedBut, follow_room};
 
     ghost rules = { λ s. s.grm.now.grammar.rules };
 
-    ghost is_sound = { λ s. AreSoundOf s.grm.now.grammar s.follows s.row.bits × AreFirsts s.grm.now.grammar s.firsts.now × HoldsAll s.grm.now.grammar s.firsts.now s.follows };
+    ghost is_sound = { λ s. AreFollowsSoundOf s.grm.now.grammar s.follows s.row.bits × AreFirsts s.grm.now.grammar s.firsts.now × HoldsAll s.grm.now.grammar s.firsts.now s.follows };
 
-    ghost room = { λ s. follows_room s.follows };
+    ghost room = { λ s. follow_room s.follows };
 
-    ghost is_closed_but = { λ s list. IsClosedBut s.grm.now.grammar s.firsts.now s.follows list };
+    ghost is_closed_but = { λ s list. AreFollowsClosedBut s.grm.now.grammar s.firsts.now s.follows list };
 
     ghost is_of_same = { λ s t. (t.grm.now ≡ s.grm.now) × (t.firsts.now ≡ s.firsts.now) };
 
@@ -282,7 +282,7 @@ impl<'a, S: IndexStorage> Filling<'a, S> {
     ) -> Result<Filling<'a, S>, AllocError>
         ensures grammar { IfOk result (λ f. f.grm.now ≡ grm.now) }
         ensures firsts { IfOk result (λ f. f.firsts.now ≡ firsts.now) }
-        ensures sound { IfOk result (λ f. AreSoundOf grm.now.grammar f.follows f.row.bits) }
+        ensures sound { IfOk result (λ f. AreFollowsSoundOf grm.now.grammar f.follows f.row.bits) }
         ensures end { IfOk result (λ f. (t : ℕ) → IsEnd grm.now.grammar t → HasFollow f.follows 0 t) }
     {
         let rules = grm.rules_len().0.to_usize();
@@ -304,12 +304,12 @@ impl<'a, S: IndexStorage> Filling<'a, S> {
     /// Goes through all productions once, from the end of the order.
     fn start(&mut self, mut order: Order)
         requires order { IsOrder (length self.old.grm.now.grammar.productions) order }
-        requires sound { AreSoundOf self.old.grm.now.grammar self.old.follows self.old.row.bits }
+        requires sound { AreFollowsSoundOf self.old.grm.now.grammar self.old.follows self.old.row.bits }
         requires firsts { AreFirsts self.old.grm.now.grammar self.old.firsts.now }
         requires end { (t : ℕ) → IsEnd self.old.grm.now.grammar t → HasFollow self.old.follows 0 t }
         ensures grammar { self.new.grm.now ≡ self.old.grm.now }
         ensures firsts { self.new.firsts.now ≡ self.old.firsts.now }
-        ensures sound { AreSoundOf self.old.grm.now.grammar self.new.follows self.new.row.bits }
+        ensures sound { AreFollowsSoundOf self.old.grm.now.grammar self.new.follows self.new.row.bits }
         ensures holds { HoldsAll self.old.grm.now.grammar self.old.firsts.now self.new.follows }
     {
         'prods: loop {

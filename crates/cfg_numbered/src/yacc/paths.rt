@@ -5,7 +5,7 @@ ghost use Rattle.cfg_theory.specs.Grammar.{head_of};
 ghost use Rattle.cfg_theory.specs.Derivation.{HasPath};
 ghost use Rattle.cfg_numbered.specs.Symbols.{sym_of};
 ghost use Rattle.cfg_numbered.specs.Sets.{is_set, missing};
-ghost use Rattle.cfg_numbered.specs.Paths.{AreReached, IsReachedFrom, IsIn, HasPlace, Reaches, GoesOn, with_rule};
+ghost use Rattle.cfg_numbered.specs.Paths.{AreReached, IsReachedFrom, IsIn, HasPlace, Reaches, ReachGoesOn, with_rule};
 ghost use Rattle.cfg_numbered.specs.Passes.{PassStep};
 
 use crate::yacc::grammar::NumberedGrammar;
@@ -79,7 +79,7 @@ fn reach_named<S: IndexStorage>(
     requires work { work.old.rules ≡ grm.now.grammar.rules }
     ensures width { OnOk result (length reached.new.bits ≡ grm.now.grammar.rules) }
     ensures sound { OnOk result (AreReached grm.now.grammar (S.number from.0) reached.new.bits) }
-    ensures went_on { OnOk result (GoesOn grm.now.grammar (S.number from.0) reached.old.bits reached.new.bits work.old work.new) }
+    ensures went_on { OnOk result (ReachGoesOn grm.now.grammar (S.number from.0) reached.old.bits reached.new.bits work.old work.new) }
     ensures here { OnOk result (IsReachedFrom grm.now.grammar (S.number from.0) (S.number pidx.0) reached.new.bits) }
 {
     grm.stays_well_formed();
@@ -102,7 +102,7 @@ impl<'a, S: IndexStorage> WorkTable for Reaching<'a, S> {
     ghost use Rattle.std.specs.Prelude.{◌≡◌, length, refl};
     ghost use Rattle.std.proofs.Common.{◌∙◌};
     ghost use Rattle.cfg_numbered.specs.Sets.{missing};
-    ghost use Rattle.cfg_numbered.specs.Paths.{AreReached, IsClosedBut};
+    ghost use Rattle.cfg_numbered.specs.Paths.{AreReached, IsReachClosedBut};
 
     ghost rules = { λ s. s.grm.now.grammar.rules };
 
@@ -110,7 +110,7 @@ impl<'a, S: IndexStorage> WorkTable for Reaching<'a, S> {
 
     ghost room = { λ s. missing s.reached.bits };
 
-    ghost is_closed_but = { λ s list. IsClosedBut s.grm.now.grammar (S.number s.from.0) s.reached.bits list };
+    ghost is_closed_but = { λ s list. IsReachClosedBut s.grm.now.grammar (S.number s.from.0) s.reached.bits list };
 
     ghost is_of_same = { λ s t. (t.grm.now ≡ s.grm.now) × (S.number t.from.0 ≡ S.number s.from.0) };
 

@@ -1,5 +1,5 @@
 use Rattle.std.proofs.Common.{◌≡◌, ℕ, ◌+◌, ◌<◌, ◌≤◌, ◌⊎◌, length}
-use Rattle.cfg_numbered.specs.Firsts.{AreSoundOf, IsClosedOrWaits, room}
+use Rattle.cfg_numbered.specs.Firsts.{AreSoundOf, IsClosedOrWaits, first_room}
 use Rattle.cfg_numbered.specs.WorkLists.{StandsFrom}
 use Rattle.cfg_numbered.proofs.yacc.firsts.FillingWorkTable.take.Given as goal
 
@@ -10,5 +10,5 @@ invariant-prods g l = record {
   sound : AreSoundOf l.self.grm.now.grammar l.self.firsts l.self.row.bits;
   work : l.work.rules ≡ l.self.grm.now.grammar.rules;
   closed : (p : ℕ) → p < length l.self.grm.now.grammar.productions → IsClosedOrWaits l.self.grm.now.grammar l.self.firsts l.work.list p ⊎ StandsFrom l.named l.index p;
-  room : room l.self.firsts + length l.work.list ≤ room l.initial.self.firsts + length l.initial.work.list;
+  room : first_room l.self.firsts + length l.work.list ≤ first_room l.initial.self.firsts + length l.initial.work.list;
 }

@@ -3,7 +3,7 @@ use Rattle.std.proofs.lemmas.List.{length-map}
 use Rattle.cfg_theory.specs.Grammar.{Sym}
 use Rattle.cfg_theory.specs.First.{AllOf}
 use Rattle.cfg_numbered.specs.Symbols.{sym_of, syms_of}
-use Rattle.cfg_numbered.specs.Firsts.{HasEpsilon, FirstsOf, SymbolFirst, Adds, room}
+use Rattle.cfg_numbered.specs.Firsts.{HasEpsilon, FirstsOf, SymbolFirst, Adds, first_room}
 use Rattle.cfg_numbered.specs.Passes.{Anything}
 use Rattle.cfg_numbered.proofs.FirstSteps.{all_at}
 use Rattle.cfg_numbered.proofs.FollowSteps.{get_some}
@@ -65,7 +65,7 @@ front-preserved g c =
       width = c.add_symbol-changed.ensures.width ∙ inv.adds.tokens;
       prefix = next_all A start old new a i (sym_of number x) at inv.adds inv.prefix c.add_symbol-changed.ensures.added (c.is_nullable.ensures.0 c.if-not-is_nullable.false);
       adds = next_adds A start old new a i (sym_of number x) at inv.adds inv.prefix c.add_symbol-changed.ensures.added;
-      steps = step_loose room Anything start old new c.front.changed c.add_symbol-changed.result inv.steps c.add_symbol-changed.ensures.steps;
+      steps = step_loose first_room Anything start old new c.front.changed c.add_symbol-changed.result inv.steps c.add_symbol-changed.ensures.steps;
     }
 
 pub returns-clause-added : goal.returns-clause-added

@@ -1,7 +1,7 @@
 use Rattle.std.proofs.Common.{◌≡◌, length, take}
 use Rattle.cfg_theory.specs.First.{AllOf}
 use Rattle.cfg_numbered.specs.Symbols.{syms_of}
-use Rattle.cfg_numbered.specs.Firsts.{HasEpsilon, FirstsOf, Adds, room}
+use Rattle.cfg_numbered.specs.Firsts.{HasEpsilon, FirstsOf, Adds, first_room}
 use Rattle.cfg_numbered.specs.Passes.{PassStep, Anything}
 use Rattle.cfg_numbered.proofs.yacc.firsts.YaccFirsts.add_body.Given as goal
 
@@ -10,5 +10,5 @@ invariant-front g l = record {
   width : length l.row.bits ≡ l.initial.self.tokens;
   prefix : AllOf (HasEpsilon l.initial.self) (take l.index (syms_of g.S.IndexStorage.number l.symbols));
   adds : Adds (g.S.IndexStorage.number l.fn.head.0) (FirstsOf l.initial.self (take l.index (syms_of g.S.IndexStorage.number l.symbols))) ⊥ l.initial.self l.self;
-  steps : PassStep room Anything l.initial.self l.self l.changed;
+  steps : PassStep first_room Anything l.initial.self l.self l.changed;
 }

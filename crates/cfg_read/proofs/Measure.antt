@@ -6,13 +6,12 @@ use Rattle.cfg_read.specs.declared.yacc.YaccKind.{YaccKind}
 use Rattle.cfg_read.specs.declared.yacc.parser.declaration.Declaration.{Declaration}
 use Rattle.cfg_read.specs.declared.yacc.parser.declaration.Declaration.TheVariants as declarations
 use Rattle.cfg_read.specs.declared.yacc.parser.error.YaccGrammarErrorKind.{YaccGrammarErrorKind}
-use Rattle.cfg_base.specs.declared.text.GapPart.{GapPart}
 use Rattle.cfg_base.specs.declared.text.GapPart.TheVariants as gaps
 use Rattle.cfg_read.specs.declared.yacc.parser.scan.TokenKind.{TokenKind}
 use Rattle.cfg_read.specs.declared.yacc.parser.scan.TokenKind.TheVariants as tokens
 use Rattle.cfg_read.specs.declared.yacc.parser.scan.StringKind.{StringKind}
 use Rattle.cfg_read.specs.declared.yacc.parser.scan.StringKind.TheVariants as strings
-use Rattle.cfg_base.specs.Text.{is_white, is_digit, is_in_line, stands, is_at, passes, run_end, line_end, first_among, first_offset, gap_at, comment_part, comment_end}
+use Rattle.cfg_base.specs.Text.{is_digit, stands, is_at, run_end, line_end, first_offset, comment_end}
 use Rattle.cfg_read.specs.Bytes.{is_blank, is_name_start, is_name_byte, is_quote, is_quoted_by, is_keyword_byte, holds_line_feed}
 use Rattle.cfg_read.specs.Words.{token_kind_at, token_kind_of, sign_kind, quoted_kind, line_gap_at, line_comment_part, keyword_end, string_at, string_of, string_stop, stops_string, closes_string}
 use Rattle.cfg_read.specs.SyntaxTexts.{SymbolText, SyntaxText}

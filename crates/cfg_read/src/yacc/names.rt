@@ -21,7 +21,7 @@ pub(crate) fn distinct_names<'a>(
     ensures names { IfOk result (λ s. names_in s ≡ texts (distinct (words_at words.now))) }
     ensures has { IfOk result (λ s. has_name s ≡ is_among (words_at words.now)) }
 {
-    let mut names = IndexSet::new(alloc);
+    let mut names = IndexSet::with_capacity(alloc, words.len())?;
     'words: for word in words {
         names.insert(word.text.as_str())?;
     }
@@ -42,7 +42,7 @@ fn push_words<'a>(found: &mut Vec<&'a Word>, symbols: &'a [Symbol]) -> Result<()
 fn words<'a>(alloc: Global, symbols: &'a [Symbol]) -> Result<Vec<&'a Word>, AllocError>
     ensures { IfOk result (λ found. words_at found.items ≡ words_in (symbols_of symbols.now)) }
 {
-    let mut found = Vec::new(alloc);
+    let mut found = Vec::with_capacity(alloc, symbols.len())?;
     push_words(&mut found, symbols)?;
     Ok(found)
 }
@@ -51,7 +51,7 @@ fn words<'a>(alloc: Global, symbols: &'a [Symbol]) -> Result<Vec<&'a Word>, Allo
 pub(crate) fn line_words<'a>(alloc: Global, lines: &'a [Line]) -> Result<Vec<&'a Word>, AllocError>
     ensures { IfOk result (λ found. words_at found.items ≡ flat_map words_in (map line_of lines.now)) }
 {
-    let mut found = Vec::new(alloc);
+    let mut found = Vec::with_capacity(alloc, lines.len())?;
     'lines: for line in lines {
         push_words(&mut found, &line.items)?;
     }
@@ -73,7 +73,7 @@ fn push_if<'a>(found: &mut Vec<&'a Word>, word: &'a Word, wanted: bool) -> Resul
 fn heading_words<'a>(alloc: Global, rules: &'a [Rule]) -> Result<Vec<&'a Word>, AllocError>
     ensures { IfOk result (λ found. words_at found.items ≡ map (λ r. r.name) (map rule_of rules.now)) }
 {
-    let mut found = Vec::new(alloc);
+    let mut found = Vec::with_capacity(alloc, rules.len())?;
     'rules: for rule in rules {
         found.push(&rule.name)?;
     }
@@ -87,7 +87,7 @@ pub(crate) fn level_words<'a>(
 ) -> Result<Vec<&'a Word>, AllocError>
     ensures { IfOk result (λ found. words_at found.items ≡ flat_map (λ l. words_in l.tokens) (map level_of levels.now)) }
 {
-    let mut found = Vec::new(alloc);
+    let mut found = Vec::with_capacity(alloc, levels.len())?;
     'levels: for level in levels {
         push_words(&mut found, &level.tokens)?;
     }
@@ -98,7 +98,7 @@ pub(crate) fn level_words<'a>(
 pub(crate) fn epp_words<'a>(alloc: Global, epp: &'a [Epp]) -> Result<Vec<&'a Word>, AllocError>
     ensures { IfOk result (λ found. words_at found.items ≡ map (λ e. e.token) (map epp_of epp.now)) }
 {
-    let mut found = Vec::new(alloc);
+    let mut found = Vec::with_capacity(alloc, epp.len())?;
     'epp: for one in epp {
         found.push(&one.token)?;
     }
@@ -134,7 +134,7 @@ fn push_precs<'a>(
 pub(crate) fn prec_words<'a>(alloc: Global, rules: &'a [Rule]) -> Result<Vec<&'a Word>, AllocError>
     ensures { IfOk result (λ found. words_at found.items ≡ flat_map precs_in (map rule_of rules.now)) }
 {
-    let mut found = Vec::new(alloc);
+    let mut found = Vec::with_capacity(alloc, rules.len())?;
     'rules: for rule in rules {
         push_precs(&mut found, &rule.alternatives)?;
     }
@@ -172,7 +172,7 @@ pub(crate) fn used_symbols<'a>(
 ) -> Result<Vec<&'a Symbol>, AllocError>
     ensures { IfOk result (λ found. symbols_at found.items ≡ flat_map symbols_in (map rule_of rules.now)) }
 {
-    let mut found = Vec::new(alloc);
+    let mut found = Vec::with_capacity(alloc, rules.len())?;
     'rules: for rule in rules {
         push_symbols_in(&mut found, &rule.alternatives)?;
     }
@@ -186,7 +186,7 @@ pub(crate) fn line_symbols<'a>(
 ) -> Result<Vec<&'a Symbol>, AllocError>
     ensures { IfOk result (λ found. symbols_at found.items ≡ flat_map (λ l. l) (map line_of lines.now)) }
 {
-    let mut found = Vec::new(alloc);
+    let mut found = Vec::with_capacity(alloc, lines.len())?;
     'lines: for line in lines {
         push_symbols(&mut found, &line.items)?;
     }
@@ -223,7 +223,7 @@ fn rule_words<'a>(
 ) -> Result<Vec<&'a Word>, AllocError>
     ensures { IfOk result (λ found. words_at found.items ≡ rules_by (has_name declared.now) (symbols_at symbols.now)) }
 {
-    let mut found = Vec::new(alloc);
+    let mut found = Vec::with_capacity(alloc, symbols.len())?;
     'symbols: for symbol in symbols {
         push_if(&mut found, &symbol.word, !is_token(symbol, declared))?;
     }
@@ -274,7 +274,7 @@ fn words_by_offset<'a>(
 ) -> Result<Vec<&'a Word>, AllocError>
     ensures { IfOk result (λ found. words_at found.items ≡ by_offset (words_at words.now) (words_at others.now)) }
 {
-    let mut found = Vec::new(alloc);
+    let mut found = Vec::with_capacity(alloc, words.len())?;
     let mut next = 0usize;
     'words: for word in words {
         next = push_before(&mut found, others, next, word.span.start())?;

@@ -108,7 +108,7 @@ fn line_spans(alloc: Global, lines: &[Line]) -> Result<IndexMap<String, Span>, A
     ensures { IfOk result (λ spans. named_spans spans ≡ distinct (flat_map words_in (map line_of lines.now))) }
 {
     let words = names::line_words(alloc, lines)?;
-    let spans = parts::first_spans(alloc, &words)?;
+    let spans = parts::first_spans(alloc, &words, words.len())?;
     Ok(spans)
 }
 
@@ -116,7 +116,7 @@ fn line_spans(alloc: Global, lines: &[Line]) -> Result<IndexMap<String, Span>, A
 fn tokens(alloc: Global, names: &Names) -> Result<IndexMap<String, Span>, AllocError>
     ensures { IfOk result (λ spans. named_spans spans ≡ tokens_of names.now) }
 {
-    parts::first_spans(alloc, names.token_words())
+    parts::first_spans(alloc, names.token_words(), names.tokens().len())
 }
 
 /// The productions of these rules, in the order of the text, where a text declares tokens, and behind them the fresh ones.
@@ -200,7 +200,7 @@ fn headed_rules(
         ≡ fold with_first [] (map (headed (text_of (option_map (λ w. word_of w.now) shared.entry))) (map rule_of headings.now))) }
     ensures names { IfOk result (λ rules. own_names rules ≡ rule_keys rules) }
 {
-    let mut rules = IndexMap::new(alloc);
+    let mut rules = IndexMap::with_capacity(alloc, headings.len())?;
     'headings: for rule in headings {
         insert_heading(alloc, &mut rules, rule, shared)?;
     }
@@ -221,7 +221,7 @@ fn push_heads<'a>(heads: &mut Vec<&'a str>, rule: &'a syntax::Rule) -> Result<()
 fn heads<'a>(alloc: Global, rules: &'a [syntax::Rule]) -> Result<Vec<&'a str>, AllocError>
     ensures { IfOk result (λ heads. names_at heads.items ≡ flat_map heads_in (map rule_of rules.now)) }
 {
-    let mut heads = Vec::new(alloc);
+    let mut heads = Vec::with_capacity(alloc, rules.len())?;
     'rules: for rule in rules {
         push_heads(&mut heads, rule)?;
     }

@@ -152,7 +152,7 @@ pub(super) fn productions(
     ensures { IfOk result (λ made. map production_of made.items
         ≡ flat_map (productions_in (has_name declared.now)) (map rule_of rules.items)) }
 {
-    let mut made = Vec::new(alloc);
+    let mut made = Vec::with_capacity(alloc, rules.len())?;
     'rules: for rule in rules {
         let syntax::Rule {
             name: _,
@@ -175,14 +175,15 @@ fn insert_first(spans: &mut IndexMap<String, Span>, word: &Word) -> Result<(), A
     Ok(())
 }
 
-/// Each name of the words with its first span, in the order of these.
+/// Each name of the words with its first span, in the order of these, in a map with room for so many.
 pub(super) fn first_spans(
     alloc: Global,
     words: &[&Word],
+    room: usize,
 ) -> Result<IndexMap<String, Span>, AllocError>
     ensures { IfOk result (λ spans. named_spans spans ≡ distinct (words_at words.now)) }
 {
-    let mut spans = IndexMap::new(alloc);
+    let mut spans = IndexMap::with_capacity(alloc, room)?;
     'words: for word in words {
         insert_first(&mut spans, word)?;
     }
@@ -221,7 +222,7 @@ pub(super) fn take_spans(
 ) -> Result<IndexMap<String, Span>, AllocError>
     ensures { IfOk result (λ spans. named_spans spans ≡ distinct (flat_map words_in (map line_of lines.items))) }
 {
-    let mut spans = IndexMap::new(alloc);
+    let mut spans = IndexMap::with_capacity(alloc, lines.len())?;
     'lines: for line in lines {
         let Line { items } = line;
         take_all_first(&mut spans, items)?;
@@ -258,7 +259,7 @@ pub(super) fn first_epps(
 ) -> Result<IndexMap<String, (Span, (String, Span))>, AllocError>
     ensures { IfOk result (λ epps. named_epps epps ≡ fold with_epp_of [] (map epp_of all.items)) }
 {
-    let mut epps = IndexMap::new(alloc);
+    let mut epps = IndexMap::with_capacity(alloc, all.len())?;
     'epps: for epp in all {
         insert_epp(&mut epps, epp)?;
     }
@@ -307,7 +308,7 @@ pub(super) fn first_precedences(
 ) -> Result<IndexMap<String, (Precedence, Span)>, AllocError>
     ensures { IfOk result (λ found. named_precedences found ≡ precedences_of (map level_of levels.now)) }
 {
-    let mut found = IndexMap::new(alloc);
+    let mut found = IndexMap::with_capacity(alloc, levels.len())?;
     'levels: for (number, level) in levels.iter().enumerate() {
         insert_level(&mut found, number as PrecedenceLevel, level)?;
     }

@@ -277,7 +277,7 @@ impl GrammarAST {
     fn start_names(&self, alloc: Global) -> Result<IndexSet<&str>, AllocError>
         ensures { IfOk result (λ s. names_in s ≡ start_names self.now) }
     {
-        let mut names = IndexSet::new(alloc);
+        let mut names = IndexSet::with_capacity(alloc, self.rules.len())?;
         if let Some((start, _span)) = &self.start {
             names.insert(start.as_str())?;
         }
@@ -307,7 +307,7 @@ impl GrammarAST {
         requires { (name : List ℕ) → IsTrue (has_name reached.now name) ↔ IsReached self.now name }
         ensures { IfOk result (λ s. (token : List ℕ) → IsTrue (has_name s token) ↔ IsUsed self.now token) }
     {
-        let mut names = IndexSet::new(alloc);
+        let mut names = IndexSet::with_capacity(alloc, self.tokens.len())?;
         'rules: for name in reached.as_slice() {
             self.insert_tokens_under(&mut names, name)?;
         }

@@ -1,4 +1,3 @@
-use Rattle.std.proofs.Common.{◌++◌}
 use Rattle.cfg_read.proofs.Joined.{joined}
 use Rattle.cfg_read.specs.SyntaxTexts.{SyntaxText}
 use Rattle.cfg_read.specs.Names.{is_rule, is_grammar_token}

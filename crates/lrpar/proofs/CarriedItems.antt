@@ -47,16 +47,16 @@ pub record PastTo {S : Type 0} (number : S → ℕ) (s : ItemSet) (xs : List (Pa
   pub each : (k : ℕ) (x : PastItem S) → slice_get xs k ≡ Some x → HasItem s (number x.pidx.0) (suc (number x.before.0))
   pub all : ItemsBelow s (InPast number xs) i
 
-before_end : {X : Type 0} (xs : List X) (x y : X) (k : ℕ) → slice_get xs k ≡ Some y → slice_get (xs ++ x ∷ []) k ≡ Some y
+pub before_end : {X : Type 0} (xs : List X) (x y : X) (k : ℕ) → slice_get xs k ≡ Some y → slice_get (xs ++ x ∷ []) k ≡ Some y
 before_end [] x y k e = cc
 before_end (z ∷ xs) x y zero e = e
 before_end (z ∷ xs) x y (suc k) e = before_end xs x y k e
 
-at_end : {X : Type 0} (xs : List X) (x : X) → slice_get (xs ++ x ∷ []) (length xs) ≡ Some x
+pub at_end : {X : Type 0} (xs : List X) (x : X) → slice_get (xs ++ x ∷ []) (length xs) ≡ Some x
 at_end [] x = refl
 at_end (z ∷ xs) x = at_end xs x
 
-split_end : {X : Type 0} (xs : List X) (x y : X) (k : ℕ) → slice_get (xs ++ x ∷ []) k ≡ Some y → (slice_get xs k ≡ Some y) ⊎ (x ≡ y)
+pub split_end : {X : Type 0} (xs : List X) (x y : X) (k : ℕ) → slice_get (xs ++ x ∷ []) k ≡ Some y → (slice_get xs k ≡ Some y) ⊎ (x ≡ y)
 split_end [] x y zero e = inr (same_Some x y e)
 split_end [] x y (suc k) e = cc
 split_end (z ∷ xs) x y zero e = inl e

@@ -52,3 +52,4 @@ pub mod NextRuns
 pub mod SentenceTokens
 pub mod NextFacts
 pub mod NextTold
+pub mod StacksAhead

@@ -2,6 +2,7 @@
 use Rattle.std.specs.Prelude.{◌≡◌, ◌≢◌, ◌<◌, ◌≤◌, ◌⊎◌, ℕ, suc, Bool, true, false, List, [], length, Option, Some, None, slice_get, nat_lt, cond, get_or}
 use Rattle.std.specs.declared.alloc.Global.{Global}
 use Rattle.std.specs.declared.vec.Vec.{Vec}
+use Rattle.cfg_base.specs.declared.symbol.PIdx.{PIdx}
 use Rattle.cfg_theory.specs.Grammar.{Sym, rule, Grammar, head_of, body_of, end_token, IsNext, IsEnd}
 use Rattle.lr_theory.specs.Automaton.{Action, shift, reduce, accept, error, Automaton, Safe}
 use Rattle.lr_theory.specs.Itemset.{ItemSet, HasItem}
@@ -45,6 +46,11 @@ IsFor G s edge t (shift q) = (edge ≡ Some q) × (t ≢ end_token G)
 IsFor G s edge t (reduce p) = HasItem s p (length (body_of G p)) × (p ≢ G.start)
 IsFor G s edge t accept = HasItem s G.start (length (body_of G G.start)) × IsEnd G t
 IsFor G s edge t error = Unit {0}
+
+-- a reduction by the production, if there is one, fits a state with these items
+abbrev pub ReducesWell : {S : Type 0} → (S → ℕ) → Grammar → ItemSet → Option (PIdx S) → Type 0
+ReducesWell number G s None = Unit {0}
+ReducesWell number G s (Some i) = HasItem s (number i.0) (length (body_of G (number i.0))) × (number i.0 ≢ G.start)
 
 -- the items past dot nought, each by its production and the dot one less
 pub record ArePast {S : Type 0} (number : S → ℕ) (s : ItemSet) (xs : List (PastItem S)) : Type 0 where

@@ -32,3 +32,4 @@ pub mod NodeValues
 pub mod Acting
 pub mod NextTokens
 pub mod NextStates
+pub mod Branching

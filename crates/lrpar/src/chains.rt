@@ -4,14 +4,17 @@ ghost use Rattle.std.specs.Prelude.{◌≡◌, ◌<◌, ◌+◌, ℕ, false, Som
 ghost use Rattle.lr_theory.specs.Automaton.{reduce};
 ghost use Rattle.lrtable.specs.Tables.{automaton_of};
 ghost use Rattle.lrpar.specs.Reducing.{states_of, stack_of, IsTableFor, AreStates, ReducesTo, TellsLong, TellsToken, TellsAbove, TellsOf, TellsChain, AreShorts, BeginsNone, token_number, chain_states, chain_top, chain_depth};
+ghost use Rattle.lrpar.specs.Branching.{AreAllReducers};
 ghost use Rattle.lrtable.specs.Graphs.{GraphValue};
 ghost use Rattle.lrtable.specs.CellViews.{action_of, state_of};
 
+use crate::branches::ends_soon;
 use crate::numbers::index_below;
+use crate::reducers::all_reducers;
 use crate::rows::{cell_of_row, goto_of_row};
 use crate::shorts::{Short, all_shorts, is_quiet, short_at};
 use cfg_base::index::IndexStorage;
-use cfg_base::symbol::{RIdx, TIdx};
+use cfg_base::symbol::{PIdx, RIdx, TIdx};
 use cfg_numbered::yacc::grammar::NumberedGrammar;
 use lrtable::{Action, StIdx, StateTable};
 use std::alloc::{AllocError, Global};
@@ -166,15 +169,18 @@ pub(crate) fn long_token<S: IndexStorage>(
 
 /// The least token on which a chain of the state alone passes the limit. Such a chain begins with an empty reduction.
 fn long_alone<S: IndexStorage>(
+    alloc: Global,
     grm: &NumberedGrammar<S>,
     stable: &StateTable<S>,
     shorts: &[Short<S>],
+    reducers: &[Vec<PIdx<S>>],
     limit: u16,
     stack: &mut Vec<StIdx<S>>,
     state: StIdx<S>,
 ) -> Result<Option<TIdx<S>>, AllocError>
     requires table { IsTableFor grm.now.grammar stable.now }
     requires shorts { AreShorts S.number grm.now.grammar stable.now shorts.now }
+    requires reducers { AreAllReducers S.number grm.now.grammar stable.now reducers.now }
     requires state { S.number state.0 < stable.now.states }
     ensures { IfOk result (λ found. (g : GraphValue) → TellsToken grm.now.grammar (automaton_of g stable.now) limit stable.now.tokens (S.number state.0) None (token_number S.number found)) }
 {
@@ -182,6 +188,9 @@ fn long_alone<S: IndexStorage>(
         Short::Nothing => Ok(None),
         Short::Unit(_) => Ok(None),
         Short::Other => {
+            if ends_soon(alloc, grm, stable, reducers, limit, state, None)? {
+                return Ok(None);
+            }
             let found = long_token(grm, stable, limit, stack, state, None)?;
             Ok(found)
         }
@@ -190,15 +199,18 @@ fn long_alone<S: IndexStorage>(
 
 /// The least chain of the state with a goto above it that passes the limit.
 fn long_above<S: IndexStorage>(
+    alloc: Global,
     grm: &NumberedGrammar<S>,
     stable: &StateTable<S>,
     shorts: &[Short<S>],
+    reducers: &[Vec<PIdx<S>>],
     limit: u16,
     stack: &mut Vec<StIdx<S>>,
     state: StIdx<S>,
 ) -> Result<Option<LongChain<S>>, AllocError>
     requires table { IsTableFor grm.now.grammar stable.now }
     requires shorts { AreShorts S.number grm.now.grammar stable.now shorts.now }
+    requires reducers { AreAllReducers S.number grm.now.grammar stable.now reducers.now }
     requires state { S.number state.0 < stable.now.states }
     ensures { IfOk result (λ found. (g : GraphValue) → TellsAbove S.number grm.now.grammar (automaton_of g stable.now) limit (S.number state.0) found) }
 {
@@ -208,6 +220,9 @@ fn long_above<S: IndexStorage>(
         let (number, above) = goto_of_row(row, index);
         let ridx = RIdx(index_below(number, rules));
         if is_quiet(grm, stable, shorts, limit, state, ridx) {
+            continue;
+        }
+        if ends_soon(alloc, grm, stable, reducers, limit, state, Some(above))? {
             continue;
         }
         if let Some(tidx) = long_token(grm, stable, limit, stack, state, Some(above))? {
@@ -223,26 +238,29 @@ fn long_above<S: IndexStorage>(
 
 /// The least chain of the state that passes the limit.
 fn long_of<S: IndexStorage>(
+    alloc: Global,
     grm: &NumberedGrammar<S>,
     stable: &StateTable<S>,
     shorts: &[Short<S>],
+    reducers: &[Vec<PIdx<S>>],
     limit: u16,
     stack: &mut Vec<StIdx<S>>,
     state: StIdx<S>,
 ) -> Result<Option<LongChain<S>>, AllocError>
     requires table { IsTableFor grm.now.grammar stable.now }
     requires shorts { AreShorts S.number grm.now.grammar stable.now shorts.now }
+    requires reducers { AreAllReducers S.number grm.now.grammar stable.now reducers.now }
     requires state { S.number state.0 < stable.now.states }
     ensures { IfOk result (λ found. (g : GraphValue) → TellsOf S.number grm.now.grammar (automaton_of g stable.now) limit (S.number state.0) found) }
 {
-    if let Some(tidx) = long_alone(grm, stable, shorts, limit, stack, state)? {
+    if let Some(tidx) = long_alone(alloc, grm, stable, shorts, reducers, limit, stack, state)? {
         return Ok(Some(LongChain {
             state,
             ridx: None,
             tidx,
         }));
     }
-    let found = long_above(grm, stable, shorts, limit, stack, state)?;
+    let found = long_above(alloc, grm, stable, shorts, reducers, limit, stack, state)?;
     Ok(found)
 }
 
@@ -257,11 +275,21 @@ pub(crate) fn long_chain<S: IndexStorage>(
     ensures { IfOk result (λ found. (g : GraphValue) → TellsChain S.number grm.now.grammar (automaton_of g stable.now) limit found) }
 {
     let shorts = all_shorts(alloc, grm, stable)?;
+    let reducers = all_reducers(alloc, grm, stable)?;
     let mut stack = Vec::new(alloc);
     let states = stable.states_len().0;
     'states: for number in 0..states.to_usize() {
         let state = StIdx(index_below(number, states));
-        if let Some(found) = long_of(grm, stable, shorts.as_slice(), limit, &mut stack, state)? {
+        if let Some(found) = long_of(
+            alloc,
+            grm,
+            stable,
+            shorts.as_slice(),
+            reducers.as_slice(),
+            limit,
+            &mut stack,
+            state,
+        )? {
             return Ok(Some(found));
         }
     }

@@ -30,6 +30,7 @@
 #![tactic(auto)]
 
 mod apply;
+mod branches;
 pub mod builder;
 mod chains;
 mod error_texts;
@@ -57,6 +58,7 @@ pub mod parse_repair;
 mod parser;
 pub mod parserdata;
 pub mod recoverer;
+mod reducers;
 mod repair;
 mod rows;
 mod run;

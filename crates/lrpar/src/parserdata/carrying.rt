@@ -2,7 +2,7 @@
 
 ghost use Rattle.std.specs.Prelude.{◌≡◌, ◌<◌, ◌+◌, ℕ, [], Some, length, get_or, slice_get, slice_set, true, IfOk};
 ghost use Rattle.cfg_numbered.specs.Symbols.{sym_of};
-ghost use Rattle.lr_theory.specs.Itemset.{ItemSet};
+ghost use Rattle.lr_theory.specs.Itemset.{HasItem, ItemSet};
 ghost use Rattle.lrtable.specs.Graphs.{IsGraphValue};
 ghost use Rattle.lrpar.specs.Fitting.{Tells, Carries, ArePast, AreAllPast, AreFlags, closed_at};
 
@@ -11,7 +11,7 @@ use crate::parserdata::edges::edge_at;
 use crate::parserdata::fitting::PastItem;
 use crate::parserdata::items::{has_item, is_next};
 use cfg_base::index::IndexStorage;
-use cfg_base::symbol::{SIdx, Symbol};
+use cfg_base::symbol::{PIdx, SIdx, Symbol};
 use cfg_numbered::yacc::grammar::NumberedGrammar;
 use lrtable::{Itemset, StIdx, StateGraph};
 use std::alloc::{AllocError, Global};
@@ -73,10 +73,68 @@ fn past_of<'a, S: IndexStorage>(
     past[state.0.to_usize()].as_slice()
 }
 
+/// Keeps a place for a production, if there is room for it.
+fn put_place<S: IndexStorage>(places: &mut Vec<usize>, pidx: PIdx<S>, index: usize)
+    ensures { length places.new.items ≡ length places.old.items }
+{
+    let number = pidx.0.to_usize();
+    if number < places.len() {
+        places[number] = index;
+    }
+}
+
+/// Keeps for each production of a set where its last item stands; the places of the others are left.
+fn put_places<S: IndexStorage>(items: &Itemset<S>, places: &mut Vec<usize>)
+    ensures { length places.new.items ≡ length places.old.items }
+{
+    'items: for index in 0..items.len() {
+        let (pidx, _) = items.item_at(index);
+        put_place(places, pidx, index);
+    }
+}
+
+/// Whether an item stands at an index.
+fn is_item_at<S: IndexStorage>(
+    items: &Itemset<S>,
+    index: usize,
+    pidx: PIdx<S>,
+    dot: SIdx<S>,
+) -> bool
+    ensures { result ≡ true → HasItem items.now (S.number pidx.0) (S.number dot.0) }
+{
+    if index >= items.len() {
+        return false;
+    }
+    let (found, at) = items.item_at(index);
+    if found.0.to_usize() != pidx.0.to_usize() {
+        return false;
+    }
+    at.0.to_usize() == dot.0.to_usize()
+}
+
+/// Whether a set has an item. It is looked for at its production's place first.
+fn has_item_by<S: IndexStorage>(
+    items: &Itemset<S>,
+    places: &[usize],
+    pidx: PIdx<S>,
+    dot: SIdx<S>,
+) -> bool
+    ensures { Tells (HasItem items.now (S.number pidx.0) (S.number dot.0)) result }
+{
+    let number = pidx.0.to_usize();
+    if number < places.len() {
+        if is_item_at(items, places[number], pidx, dot) {
+            return true;
+        }
+    }
+    has_item(items, pidx, dot)
+}
+
 /// Whether an edge carries the items past dot nought of the set that it leads to.
 fn carries<S: IndexStorage>(
     grm: &NumberedGrammar<S>,
     from: &Itemset<S>,
+    places: &[usize],
     symbol: Symbol<S>,
     past: &[PastItem<S>],
 ) -> bool
@@ -84,7 +142,7 @@ fn carries<S: IndexStorage>(
 {
     'items: for index in 0..past.len() {
         let PastItem { pidx, before } = past_at(past, index);
-        if !has_item(from, pidx, before) {
+        if !has_item_by(from, places, pidx, before) {
             return false;
         }
         if !is_next(grm, pidx, before, symbol) {
@@ -115,6 +173,7 @@ fn flag_from<S: IndexStorage>(
     grm: &NumberedGrammar<S>,
     sgraph: &StateGraph<S>,
     past: &[Vec<PastItem<S>>],
+    places: &mut Vec<usize>,
     flags: &mut Vec<bool>,
     state: StIdx<S>,
 )
@@ -126,12 +185,19 @@ fn flag_from<S: IndexStorage>(
 {
     let from = sgraph.closed_state(state);
     let edges = sgraph.edges(state);
+    put_places(from, places);
     'edges: for index in 0..edges.len() {
         let (symbol, target) = edge_at(edges, index);
         if is_flagged(flags, target) {
             continue;
         }
-        if carries(grm, from, symbol, past_of(sgraph, past, target)) {
+        if carries(
+            grm,
+            from,
+            places.as_slice(),
+            symbol,
+            past_of(sgraph, past, target),
+        ) {
             continue;
         }
         flag(flags, target);
@@ -148,10 +214,11 @@ pub(crate) fn flags_of<S: IndexStorage>(
 {
     let past = all_past(alloc, sgraph)?;
     let states = sgraph.all_states_len().0;
+    let mut places = vec![in alloc; 0; grm.prods_len().0.to_usize()]?;
     let mut flags = vec![in alloc; false; states.to_usize()]?;
     'states: for number in 0..states.to_usize() {
         let state = StIdx(index_below(number, states));
-        flag_from(grm, sgraph, past.as_slice(), &mut flags, state);
+        flag_from(grm, sgraph, past.as_slice(), &mut places, &mut flags, state);
     }
     Ok(flags)
 }

@@ -1,14 +1,15 @@
 //! Whether the cells and gotos of a state fit a grammar.
 
-ghost use Rattle.std.specs.Prelude.{◌≡◌, ◌<◌, ℕ, true, Some, length, slice_get};
-ghost use Rattle.cfg_theory.specs.Grammar.{rule, token};
+ghost use Rattle.std.specs.Prelude.{◌≡◌, ◌<◌, ℕ, true, Option, Some, length, slice_get};
+ghost use Rattle.cfg_theory.specs.Grammar.{Grammar, rule, token};
+ghost use Rattle.lr_theory.specs.Itemset.{ItemSet};
 ghost use Rattle.lrtable.specs.CellViews.{action_of, state_of, targets_of};
 ghost use Rattle.lrtable.specs.declared.cells.Action.TheVariants as actions;
 ghost use Rattle.lrtable.specs.Graphs.{AreInOrder, target_in};
 ghost use Rattle.lrtable.specs.GraphViews.{edges_seen};
 ghost use Rattle.lrtable.specs.TableValues.{action_at, goto_at};
 ghost use Rattle.lrpar.specs.Reducing.{rule_number, token_number};
-ghost use Rattle.lrpar.specs.Fitting.{Tells, LeastNot, OfGrammar, IsFor, GoesFrom, HasGotos, AreEdges, least_of};
+ghost use Rattle.lrpar.specs.Fitting.{Tells, LeastNot, OfGrammar, IsFor, ReducesWell, GoesFrom, HasGotos, AreEdges, least_of};
 
 use crate::numbers::index_below;
 use crate::parserdata::edges::{edge_at, first_not_before, target_at};
@@ -98,6 +99,26 @@ fn action_fits<S: IndexStorage>(
     }
 }
 
+/// Whether an action reduces by the production of which that was seen to fit.
+fn is_seen<S: IndexStorage>(seen: Option<PIdx<S>>, action: Action<S>) -> bool
+    ensures { result ≡ true → (G : Grammar) (i : ItemSet) (edge : Option ℕ) (t : ℕ) → ReducesWell S.number G i seen → IsFor G i edge t (action_of S.number action) }
+{
+    match (seen, action) {
+        (Some(seen), Action::Reduce(pidx)) => seen.0.to_usize() == pidx.0.to_usize(),
+        _ => false,
+    }
+}
+
+/// The production of a reduction that fits, or else the one before.
+fn seen_after<S: IndexStorage>(seen: Option<PIdx<S>>, action: Action<S>) -> Option<PIdx<S>>
+    ensures { (G : Grammar) (i : ItemSet) (edge : Option ℕ) (t : ℕ) → ReducesWell S.number G i seen → IsFor G i edge t (action_of S.number action) → ReducesWell S.number G i result }
+{
+    match action {
+        Action::Reduce(pidx) => Some(pidx),
+        _ => seen,
+    }
+}
+
 /// The least token whose action doesn't fit.
 pub(crate) fn least_action<S: IndexStorage>(
     grm: &NumberedGrammar<S>,
@@ -114,14 +135,19 @@ pub(crate) fn least_action<S: IndexStorage>(
     let tokens = stable.tokens_len().0;
     let row = stable.state_cells(state);
     let mut at = 0;
+    let mut seen = None;
     'cells: for index in 0..row.len() {
         let (number, action) = cell_of_row(row, index);
+        if is_seen(seen, action) {
+            continue;
+        }
         let tidx = TIdx(index_below(number, tokens));
         at = first_not_before(edges, at, Symbol::Token(tidx));
         let edge = target_at(edges, at, Symbol::Token(tidx));
         if !action_fits(grm, items, edge, tidx, action) {
             return Some(tidx);
         }
+        seen = seen_after(seen, action);
     }
     None
 }

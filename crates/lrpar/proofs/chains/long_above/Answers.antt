@@ -1,7 +1,7 @@
-use Rattle.std.proofs.Common.{◌≡◌, ◌<◌, ◌≤◌, ℕ, length, Some, None, refl, sym, ap, ◌∙◌, subst, arith}
+use Rattle.std.proofs.Common.{◌≡◌, ◌<◌, ◌≤◌, ℕ, length, Some, refl, sym, ap, ◌∙◌, subst, arith}
 use Rattle.std.proofs.lemmas.List.{length-map}
 use Rattle.lr_theory.specs.LongChains.{GoesPast}
-use Rattle.lrtable.specs.CellViews.{state_of, targets_of}
+use Rattle.lrtable.specs.CellViews.{targets_of}
 use Rattle.lrtable.specs.TableValues.{goto_at}
 use Rattle.lrtable.specs.declared.stidx.StIdx.{StIdx}
 use Rattle.lrtable.specs.Tables.{automaton_of}
@@ -36,6 +36,20 @@ gotos-preserved-then-is_quiet g c = λ x.
     let number = g.S.IndexStorage.number in
     row_more (targets_of number c.state_gotos-row.result.now) _ c.gotos.index c.goto_of_row-number.result.0 (number c.goto_of_row-number.result.1.0) (c.gotos.invariant x) c.goto_of_row-number.ensures
     (λ u h. c.is_quiet.ensures c.if-is_quiet.true x u (subst (λ r. GoesPast c.args.grm.now.grammar (automaton_of x c.args.stable.now) c.args.limit (number c.args.state.0) (Some r) u) (sym c.index_below.ensures) h))
+
+pub ends_soon-requires-clause-above : goal.ends_soon-requires-clause-above
+ends_soon-requires-clause-above g c = λ q e.
+    let number = g.S.IndexStorage.number in
+    let same : Some (number c.goto_of_row-number.result.1.0) ≡ Some q = e in
+    c.requires.table.is_table.targets _ _ q (there g (goal.at.ends_soon-requires-clause-above g c).After-above-1 ∙ same)
+
+pub gotos-preserved-then-branch : goal.gotos-preserved-then-branch
+gotos-preserved-then-branch g c = λ x.
+    let number = g.S.IndexStorage.number in
+    let p = number c.args.state.0 in
+    let q = number c.goto_of_row-number.result.1.0 in
+    row_more (targets_of number c.state_gotos-row.result.now) _ c.gotos.index c.goto_of_row-number.result.0 q (c.gotos.invariant x) c.goto_of_row-number.ensures
+    (λ u. at_rule c.args.grm.now.grammar x c.args.stable.now c.requires.table.is_table c.args.limit p c.goto_of_row-number.result.0 q u (there g (goal.at.gotos-preserved-then-branch g c).After-above-1) (c.in_ok-ends_soon.ensures c.if-branch.true x u))
 
 pub gotos-preserved : goal.gotos-preserved
 gotos-preserved g c = λ x.

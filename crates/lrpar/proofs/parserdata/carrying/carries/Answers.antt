@@ -6,12 +6,12 @@ use Rattle.lrpar.proofs.parserdata.carrying.carries.Goals as goal
 pub items-preserved : goal.items-preserved
 items-preserved g c =
     let number = g.S.IndexStorage.number in
-    carried_more number c.args.grm.now.grammar c.args.from.now (sym_of number c.args.symbol) c.args.past.now c.items.index c.past_at.result c.items.invariant c.past_at.ensures (rw c.if-not-has_item.false at c.has_item.ensures, rw c.if-not-is_next.false at c.is_next.ensures)
+    carried_more number c.args.grm.now.grammar c.args.from.now (sym_of number c.args.symbol) c.args.past.now c.items.index c.past_at.result c.items.invariant c.past_at.ensures (rw c.if-not-has_item_by.false at c.has_item_by.ensures, rw c.if-not-is_next.false at c.is_next.ensures)
 
-pub returns-then-not-has_item : goal.returns-then-not-has_item
-returns-then-not-has_item g c = λ to past.
+pub returns-then-not-has_item_by : goal.returns-then-not-has_item_by
+returns-then-not-has_item_by g c = λ to past.
     let number = g.S.IndexStorage.number in
-    not_carried number c.args.grm.now.grammar c.args.from.now (sym_of number c.args.symbol) c.args.past.now to c.items.index c.past_at.result past c.past_at.ensures (λ h. (rw c.if-not-has_item.true at c.has_item.ensures) h.0)
+    not_carried number c.args.grm.now.grammar c.args.from.now (sym_of number c.args.symbol) c.args.past.now to c.items.index c.past_at.result past c.past_at.ensures (λ h. (rw c.if-not-has_item_by.true at c.has_item_by.ensures) h.0)
 
 pub returns-then-not-is_next : goal.returns-then-not-is_next
 returns-then-not-is_next g c = λ to past.

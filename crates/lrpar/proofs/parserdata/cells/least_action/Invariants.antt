@@ -1,7 +1,11 @@
 use Rattle.lrtable.specs.CellViews.{cells_of}
 use Rattle.lrtable.specs.GraphViews.{edges_seen}
+use Rattle.lrpar.specs.Fitting.{ReducesWell}
 use Rattle.lrpar.proofs.FittingRows.{ActionsTo}
 use Rattle.lrpar.proofs.parserdata.cells.least_action.Given as goal
 
 abbrev pub invariant-cells : goal.invariant-cells
-invariant-cells g l = ActionsTo l.grm.grammar l.items (edges_seen g.S.IndexStorage.number l.edges) l.stable (g.S.IndexStorage.number l.fn.state.0) (cells_of g.S.IndexStorage.number l.row) l.at l.index
+invariant-cells g l = record {
+  actions : ActionsTo l.grm.grammar l.items (edges_seen g.S.IndexStorage.number l.edges) l.stable (g.S.IndexStorage.number l.fn.state.0) (cells_of g.S.IndexStorage.number l.row) l.at l.index;
+  seen : ReducesWell g.S.IndexStorage.number l.grm.grammar l.items l.seen;
+}

@@ -1,0 +1,15 @@
+use Rattle.std.proofs.Common.{◌+◌, ℕ}
+use Rattle.lr_theory.specs.Chains.{Reductions}
+use Rattle.lrtable.specs.CellViews.{state_of}
+use Rattle.lrtable.specs.Graphs.{GraphValue}
+use Rattle.lrtable.specs.Tables.{automaton_of}
+use Rattle.lrpar.specs.Branching.{AllHoldStates}
+use Rattle.lrpar.specs.Reducing.{chain_stack}
+use Rattle.lrpar.proofs.StacksAhead.{SomeGoesOn}
+use Rattle.lrpar.proofs.branches.ends_soon.Given as goal
+
+abbrev pub invariant-stacks : goal.invariant-stacks
+invariant-stacks g l = record {
+  stacks : AllHoldStates g.S.IndexStorage.number l.stable l.stacks.items;
+  on : (x : GraphValue) (t k : ℕ) → Reductions l.grm.grammar (automaton_of x l.stable) t (l.counter + k) (chain_stack (g.S.IndexStorage.number l.fn.state.0) (state_of g.S.IndexStorage.number l.fn.above)) → SomeGoesOn g.S.IndexStorage.number l.grm.grammar (automaton_of x l.stable) t l.stacks.items k;
+}

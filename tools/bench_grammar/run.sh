@@ -24,7 +24,7 @@ for family in near far; do
 done
 size=${1:-500}
 for pair in mixed:firsts mixed:follows tokens:firsts tokens:follows turned:path units:costs cycles:costs beside:costs \
-    chain:costs chain:sentence chain:ended turned:costs turned:sentence ties:sentence falls:costs falls:sentence \
+    chain:costs chain:sentence chain:ended chain:free turned:costs turned:sentence ties:sentence ties:ended ties:free falls:costs falls:sentence \
     rises:costs; do
     family=${pair%%:*}
     what=${pair##*:}

@@ -1,27 +1,24 @@
 -- How productions fill the table of one list a rule, and what it says at the end.
 use Rattle.std.proofs.Common.{◌≡◌, ℕ, zero, suc, ◌+◌, ◌<◌, ◌≤◌, ◌⊎◌, inl, inr, ◌↔◌, Bool, true, false, List, [], ◌∷◌, ◌++◌, length, get_or, set, drop, replicate, Option, Some, None, refl, sym, ap, ◌∙◌, subst, append_assoc, append-nil, arith}
 use Rattle.std.specs.Prelude.{IsTrue, Contains, MatchOption}
-use Rattle.std.proofs.Math.Nat.{mul_comm}
-use Rattle.std.proofs.lemmas.Nat.{mul-add-lt}
 use Rattle.std.proofs.lemmas.List.{get_or-set_same, get_or-set_other, length-set, length-replicate}
-use Rattle.std.proofs.lemmas.List.Sums.{sum_by-set}
-use Rattle.std.proofs.lemmas.Bool.{cases_eq, cases_lt}
+use Rattle.std.proofs.lemmas.Bool.{cases_eq}
 use Rattle.cfg_theory.specs.Grammar.{Sym, rule, token, Grammar, WellFormed, head_of, body_of}
 use Rattle.cfg_theory.specs.Productive.{RulesIn}
 use Rattle.cfg_theory.specs.Cost.{cost, Has, IsCheapest, IsBefore}
 use Rattle.cfg_theory.specs.CostTables.{Concatenates}
-use Rattle.cfg_theory.specs.CheapestLists.{HaveCosts, ListsOfWantedRules, ListsAreShort}
-use Rattle.cfg_theory.specs.FirstLists.{HasUpTo, IsClosedUpTo, FirstsOfWantedRules}
+use Rattle.cfg_theory.specs.CheapestLists.{IsTight, HaveCosts, ListsOfWantedRules}
 use Rattle.cfg_theory.proofs.Lists.{get_from_drop}
-use Rattle.cfg_theory.proofs.FirstLists.{before_on}
 use Rattle.cfg_base.specs.declared.symbol.Symbol.{Symbol}
 use Rattle.cfg_numbered.specs.Symbols.{sym_of, syms_of}
 use Rattle.cfg_numbered.specs.Sets.{is_set}
 use Rattle.cfg_numbered.specs.WorkLists.{TakesIn}
 use Rattle.cfg_numbered.specs.CostTable.{bound, cost_in, AreCosts, IsClosedBy}
 use Rattle.cfg_numbered.specs.CheapestTable.{GivesLeast, IsHandedOn, IsFirstCheapest}
-use Rattle.cfg_numbered.specs.EarliestTable.{as_lists, found_in, GivesNone, GivesOne, ComesFirst, AreFound, IsTakenIn, lists_up_to, lists_ahead, room_of, room_in}
+use Rattle.cfg_numbered.specs.SharedLists.{Leads}
+use Rattle.cfg_numbered.specs.EarliestTable.{HasLead, as_lists, found_in, GivesNone, GivesOne, ComesFirst, AreFound, Firsts, IsTakenIn, room_in}
 use Rattle.cfg_numbered.proofs.ProdSteps.{IsAt, idle, concatenates_same, takes_in}
+use Rattle.cfg_numbered.proofs.ForkedLists.{forks_on, lead_is_first, all_led}
 use Rattle.cfg_numbered.proofs.CostSteps.{is_least}
 use Rattle.cfg_numbered.proofs.CheapestSteps.{none_cheaper, gives, wanted_head, named_wanted}
 
@@ -43,61 +40,6 @@ is_only (Some v) w (suc k, lt, e) = absurd (omega (arith, lt))
 
 has_only : (o : Option (List ℕ)) (w : List ℕ) → o ≡ Some w → Contains (as_lists o) w
 has_only o w e = subst (λ r. Contains (as_lists r) w) (sym e) (0, omega arith, refl)
-
--- ---- how many lists are before one
-
-abbrev AllBelow : ℕ → List ℕ → Type 0
-AllBelow b w = (t : ℕ) → Contains w t → t < b
-
-first_below : (b t : ℕ) (w : List ℕ) → AllBelow b (t ∷ w) → t < b
-first_below b t w h = h t (0, omega arith, refl)
-
-rest_below : (b t : ℕ) (w : List ℕ) → AllBelow b (t ∷ w) → AllBelow b w
-rest_below b t w h u (k, lt, e) = h u (suc k, omega (arith, lt), e)
-
-ahead_all : (b n : ℕ) (w : List ℕ) → AllBelow b w → length w ≤ n → lists_ahead b n w < lists_up_to b n
-unfolding lists_up_to lists_ahead
-ahead_all b zero w below le = omega arith
-ahead_all b (suc n) [] below le = omega arith
-ahead_all b (suc n) (t ∷ w) below le =
-    let h = ahead_all b n w (rest_below b t w below) (omega (arith, le)) in
-    let lt = mul-add-lt t (lists_up_to b n) (lists_ahead b n w) b (first_below b t w below) h in
-    let c = mul_comm (lists_up_to b n) b in
-    omega (arith, lt, c)
-
-ahead_less : (b n : ℕ) (v w : List ℕ) → AllBelow b v → length v ≤ n → length w ≤ n → IsBefore v w → lists_ahead b n v < lists_ahead b n w
-unfolding lists_ahead
-ahead_less b zero v [] below le ge h = elim h [ ]
-ahead_less b zero v (t ∷ w) below le ge h = absurd (omega (arith, ge))
-ahead_less b (suc n) [] [] below le ge h = elim h [ ]
-ahead_less b (suc n) (t ∷ v) [] below le ge h = elim h [ ]
-ahead_less b (suc n) [] (t ∷ w) below le ge h = omega arith
-ahead_less b (suc n) (t ∷ v) (u ∷ w) below le ge (IsBefore.smaller lt) =
-    let h = ahead_all b n v (rest_below b t v below) (omega (arith, le)) in
-    let less = mul-add-lt t (lists_up_to b n) (lists_ahead b n v) u lt h in
-    let c = mul_comm (lists_up_to b n) u in
-    omega (arith, less, c)
-ahead_less b (suc n) (t ∷ v) (u ∷ w) below le ge (IsBefore.later h) =
-    let less = ahead_less b n v w (rest_below b t v below) (omega (arith, le)) (omega (arith, ge)) h in
-    omega (arith, less)
-
-room_less : (b : ℕ) (w : List ℕ) (o : Option (List ℕ)) → AllBelow b w → length w ≤ bound → ((v : List ℕ) → o ≡ Some v → length v ≤ bound) → ComesFirst w o → room_of b (Some w) < room_of b o
-room_less b w None below le kept h = ahead_all b bound w below le
-room_less b w (Some v) below le kept h = ahead_less b bound w v below le (kept v refl) h
-
--- a list is before another, or not behind it
-up_to : (u w : List ℕ) → (IsBefore w u → ⊥) → (w ≡ u) ⊎ IsBefore u w
-up_to [] [] not = inl refl
-up_to [] (t ∷ w) not = inr IsBefore.shorter
-up_to (s ∷ u) [] not = absurd (not IsBefore.shorter)
-up_to (s ∷ u) (t ∷ w) not = elim (cases_lt t s) [
-  | inl lt ↦ absurd (not (IsBefore.smaller lt))
-  | inr le ↦ elim (cases_eq s t) [
-    | inl e ↦ subst (λ k. (t ∷ w ≡ k ∷ u) ⊎ IsBefore (k ∷ u) (t ∷ w)) (sym e)
-        (elim (up_to u w (λ h. not (subst (λ k. IsBefore (t ∷ w) (k ∷ u)) (sym e) (IsBefore.later h)))) [ inl q ↦ inl (ap (λ l. t ∷ l) q) | inr h ↦ inr (IsBefore.later h) ])
-    | inr ne ↦ inr (IsBefore.smaller (omega (arith, ne, le)))
-  ]
-]
 
 -- ---- what symbols put together
 
@@ -195,94 +137,108 @@ body_below G n p good count = from (body_of G p) 0 refl
     from (rule A ∷ a) d e = let r = get_from_drop (body_of G p) d (rule A) a e in (subst (λ m. A < m) (sym count) (good.symbols p d (rule A) (record { at = r.0 })), from a (suc d) r.1)
     from (token t ∷ a) d e = let r = get_from_drop (body_of G p) d (token t) a e in from a (suc d) r.1
 
-module _ (G : Grammar) (f : ℕ → ℕ) (least : List (Option ℕ)) (wanted : List Bool) (p : ℕ) (K : List (Option (List ℕ))) where
-  abbrev pub Finds : List (Option (List ℕ)) → Option ℕ → Type 0
-  Finds new told = TakesIn G (room_in G.tokens) (λ t q. IsTakenIn G f least wanted q t) p K new told
+module _ (G : Grammar) (f : ℕ → ℕ) (least : List (Option ℕ)) (wanted : List Bool) (p : ℕ) (K : List (Option (List ℕ))) (told : Bool) (left : ℕ) where
+  abbrev pub was : Firsts
+  was = record { table = K; is_told = told; left = left }
 
-  still_all : IsTakenIn G f least wanted p K → Finds K None
-  still_all h = idle G (room_in G.tokens) (λ t q. IsTakenIn G f least wanted q t) p K h
+  abbrev pub Finds : Firsts → Option ℕ → Type 0
+  Finds new o = TakesIn G room_in (λ t q. IsTakenIn G f least wanted q t) p was new o
 
-  pub not_wanted : is_set wanted (head_of G p) ≡ false → Finds K None
-  not_wanted free = still_all (λ h _ _ _. absurd (false_true (sym free ∙ h)))
+  still_all : IsTakenIn G f least wanted p was → Finds was None
+  still_all h = idle G room_in (λ t q. IsTakenIn G f least wanted q t) p was h
 
-  pub not_given : (answer : Bool) → answer ≡ false → (IsTrue answer ↔ GivesLeast G f least p) → Finds K None
-  not_given answer e told = still_all (λ _ h _ _. absurd (false_true (sym e ∙ told.1 h)))
+  pub not_told : told ≡ false → Finds was None
+  not_told e = still_all (λ t _ _ _ _. absurd (false_true (sym e ∙ t)))
 
-  pub not_found : GivesNone K (body_of G p) → Finds K None
-  not_found none = still_all (λ _ _ w c. absurd (none w c))
+  pub not_wanted : is_set wanted (head_of G p) ≡ false → Finds was None
+  not_wanted free = still_all (λ _ h _ _ _. absurd (false_true (sym free ∙ h)))
+
+  pub not_given : (answer : Bool) → answer ≡ false → (IsTrue answer ↔ GivesLeast G f least p) → Finds was None
+  not_given answer e said = still_all (λ _ _ h _ _. absurd (false_true (sym e ∙ said.1 h)))
+
+  pub not_found : GivesNone K (body_of G p) → Finds was None
+  not_found none = still_all (λ _ _ _ w c. absurd (none w c))
+
+  -- nothing is told any more
+  pub given_up : (new : Firsts) → new.is_told ≡ false → new.left ≡ left → Finds new None
+  given_up new e l = record { within = λ A q. absurd (nothing A q); kept = λ q c. inl (λ t. absurd (false_true (sym e ∙ t))); here = inl (λ t. absurd (false_true (sym e ∙ t))); less = omega (arith, l) }
+    where
+      nothing : (A : ℕ) → None ≡ Some A → ⊥
+      nothing A q = cc
 
   module _ (w : List ℕ) (o : Option (List ℕ)) (one : GivesOne K (body_of G p) w) (is : o ≡ get_or K (head_of G p) None) where
-    pub not_first : (ComesFirst w o → ⊥) → Finds K None
-    not_first not = still_all (λ _ _ v c. subst (λ r. HasUpTo (as_lists r) v) is (subst (HasUpTo (as_lists o)) (sym ((one v).0 c)) (by o not)))
+    pub not_first : ComesFirst w o false → Finds was None
+    not_first h = still_all (λ _ _ _ v c. subst (λ r. HasLead (as_lists r) v) is (subst (HasLead (as_lists o)) (sym ((one v).0 c)) (by o h)))
       where
-        by : (r : Option (List ℕ)) → (ComesFirst w r → ⊥) → HasUpTo (as_lists r) w
-        by None n = absurd (n tt)
-        by (Some u) n = (u, has_only (Some u) u refl, up_to u w n)
+        by : (r : Option (List ℕ)) → ComesFirst w r false → HasLead (as_lists r) w
+        by None e = absurd (false_true e)
+        by (Some u) k = (u, has_only (Some u) u refl, k)
 
-    module _ (good : WellFormed G) (costly : (t : ℕ) → t < G.tokens → 1 ≤ f t) (parts : ListsOfWantedRules) (laws : FirstsOfWantedRules) (short : ListsAreShort) (costs : AreCosts G f least) (found : AreFound G f least K) (given : GivesLeast G f least p) (lt : head_of G p < length K) where
-      has_list : Has G (head_of G p) w × (cost f w ≡ given.0)
-      has_list = parts.parts G f (cost_in least) (found_in K) p (head_of G p) given.0 w found.costs given.2 ((one w).1 refl)
-
-      not_long : (v : List ℕ) → o ≡ Some v → length v ≤ bound
-      not_long v e =
-          let (n, q, d, k) = found.costs (head_of G p) v (has_only (get_or K (head_of G p) None) v (sym is ∙ e)) in
-          let le = short.short G f good costly (head_of G p) v d in
-          let low = costs.within (head_of G p) n q in
-          omega (arith, le, low, k)
-
+    module _ (found : AreFound G f least K) (lt : head_of G p < length K) where
       after : (B : ℕ) → (B ≡ head_of G p → ⊥) → found_in (set K (head_of G p) (Some w)) B ≡ found_in K B
       after B ne = ap as_lists (get_or-set_other K (head_of G p) B (Some w) None ne)
 
       now : found_in (set K (head_of G p) (Some w)) (head_of G p) ≡ w ∷ []
       now = ap as_lists (get_or-set_same K (head_of G p) (Some w) None lt)
 
-      has_now : (v : List ℕ) → (v ≡ w) ⊎ IsBefore w v → HasUpTo (found_in (set K (head_of G p) (Some w)) (head_of G p)) v
-      has_now v h = subst (λ l. HasUpTo l v) (sym now) (w, (0, omega arith, refl), h)
+      has_now : (v : List ℕ) → Leads w v → HasLead (found_in (set K (head_of G p) (Some w)) (head_of G p)) v
+      has_now v h = subst (λ l. HasLead l v) (sym now) (w, (0, omega arith, refl), h)
 
-      before_kept : ComesFirst w o → (u v : List ℕ) → o ≡ Some u → (v ≡ u) ⊎ IsBefore u v → IsBefore w v
-      before_kept h u v e x =
-          let b : IsBefore w u = subst (ComesFirst w) e h in
-          elim x [ inl q ↦ subst (IsBefore w) (sym q) b | inr y ↦ before_on w u v b y ]
-
-      -- a list that was up to date is
-      up_still : ComesFirst w o → (B : ℕ) (v : List ℕ) → HasUpTo (found_in K B) v → HasUpTo (found_in (set K (head_of G p) (Some w)) B) v
-      up_still h B v x = elim (cases_eq B (head_of G p)) [
-        | inl q ↦ subst (λ C. HasUpTo (found_in (set K (head_of G p) (Some w)) C) v) (sym q) (has_now v (inr (let (u, c, up) = subst (λ C. HasUpTo (found_in K C) v) q x in before_kept h u v (is ∙ is_only (get_or K (head_of G p) None) u c) up)))
-        | inr ne ↦ subst (λ l. HasUpTo l v) (sym (after B ne)) x
+      -- a list that was led is
+      led_still : ComesFirst w o true → (B : ℕ) (v : List ℕ) → HasLead (found_in K B) v → HasLead (found_in (set K (head_of G p) (Some w)) B) v
+      led_still h B v x = elim (cases_eq B (head_of G p)) [
+        | inl q ↦ subst (λ C. HasLead (found_in (set K (head_of G p) (Some w)) C) v) (sym q) (has_now v (inr (let (u, c, up) = subst (λ C. HasLead (found_in K C) v) q x in forks_on w u v (subst (λ r. ComesFirst w r true) (is ∙ is_only (get_or K (head_of G p) None) u c) h) up)))
+        | inr ne ↦ subst (λ l. HasLead l v) (sym (after B ne)) x
       ]
 
-      pub put_first : ComesFirst w o → Finds (set K (head_of G p) (Some w)) (Some (head_of G p))
-      put_first h = takes_in G (room_in G.tokens) (λ t q. IsTakenIn G f least wanted q t) p K (set K (head_of G p) (Some w)) (head_of G p) (omega (arith, lt, found.count)) kept here fewer
+      put_first : ComesFirst w o true → (new : Firsts) → new.table ≡ set K (head_of G p) (Some w) → new.is_told ≡ told → new.left < left → Finds new (Some (head_of G p))
+      put_first h new is_set_now same fewer = takes_in G room_in (λ t q. IsTakenIn G f least wanted q t) p was new (head_of G p) (let n = found.count in omega (arith, lt, n)) kept here fewer
         where
-          kept : (q : ℕ) → ((d : ℕ) → IsAt (body_of G q) (head_of G p) d → ⊥) → IsTakenIn G f least wanted q K → IsTakenIn G f least wanted q (set K (head_of G p) (Some w))
-          kept q not c want gives v x = up_still h (head_of G q) v (c want gives v (concatenates_same (found_in (set K (head_of G p) (Some w))) (found_in K) (head_of G p) after (body_of G q) not v x))
+          old_parts : (a : List Sym) (v : List ℕ) → ((d : ℕ) → IsAt a (head_of G p) d → ⊥) → Concatenates (found_in new.table) a v → Concatenates (found_in K) a v
+          old_parts a v not x = concatenates_same (found_in (set K (head_of G p) (Some w))) (found_in K) (head_of G p) after a not v (subst (λ k. Concatenates (found_in k) a v) is_set_now x)
 
-          here : ((d : ℕ) → IsAt (body_of G p) (head_of G p) d → ⊥) → IsTakenIn G f least wanted p (set K (head_of G p) (Some w))
-          here not want gives v x = has_now v (inl ((one v).0 (concatenates_same (found_in (set K (head_of G p) (Some w))) (found_in K) (head_of G p) after (body_of G p) not v x)))
+          kept : (q : ℕ) → ((d : ℕ) → IsAt (body_of G q) (head_of G p) d → ⊥) → IsTakenIn G f least wanted q was → IsTakenIn G f least wanted q new
+          kept q not c t want gives v x = subst (λ k. HasLead (found_in k (head_of G q)) v) (sym is_set_now) (led_still h (head_of G q) v (c (subst IsTrue same t) want gives v (old_parts (body_of G q) v not x)))
 
-          fewer : room_in G.tokens (set K (head_of G p) (Some w)) < room_in G.tokens K
-          fewer =
-              let d = has_list.0 in
-              let k = has_list.1 in
-              let low = given.1 in
-              let le = short.short G f good costly (head_of G p) w d in
-              let less = room_less G.tokens w o (laws.in_range G good (head_of G p) w d) (omega (arith, le, low, k)) not_long h in
-              let s = sum_by-set (room_of G.tokens) K (head_of G p) (Some w) None lt in
-              let q = ap (room_of G.tokens) is in
-              omega (arith, s, less, q)
+          here : ((d : ℕ) → IsAt (body_of G p) (head_of G p) d → ⊥) → IsTakenIn G f least wanted p new
+          here not t want gives v x = subst (λ k. HasLead (found_in k (head_of G p)) v) (sym is_set_now) (has_now v (inl ((one v).0 (old_parts (body_of G p) v not x))))
 
-      pub found_with : AreFound G f least (set K (head_of G p) (Some w))
-      found_with = record { count = length-set K (head_of G p) (Some w) ∙ found.count; costs = all_cost }
-        where
-          all_cost : HaveCosts G f (cost_in least) (found_in (set K (head_of G p) (Some w)))
-          all_cost B v c = elim (cases_eq B (head_of G p)) [
-            | inl e ↦ (let at : get_or (set K (head_of G p) (Some w)) B None ≡ Some w = ap (λ i. get_or (set K (head_of G p) (Some w)) i None) e ∙ get_or-set_same K (head_of G p) (Some w) None lt in
-                let same : Some w ≡ Some v = sym at ∙ is_only (get_or (set K (head_of G p) (Some w)) B None) v c in
-                let vs : w ≡ v = (let s : Some w ≡ Some v → w ≡ v = (λ k. cc) in s same) in
-                let t = given.2 in
-                subst (λ l. (n : ℕ) × (cost_in least B ≡ Some n) × Has G B l × (cost f l ≡ n)) vs (subst (λ C. (n : ℕ) × (cost_in least C ≡ Some n) × Has G C w × (cost f w ≡ n)) (sym e) (given.0, t.has_cost, has_list.0, has_list.1)))
-            | inr ne ↦ found.costs B v (subst (λ r. Contains (as_lists r) v) (get_or-set_other K (head_of G p) B (Some w) None ne) c)
-          ]
+      -- by what a put answers
+      module _ (A : ℕ) (T : List (Option (List ℕ))) (new : Firsts) (answer : Option ℕ) (at : A ≡ head_of G p) (table : T ≡ K)
+          (put : MatchOption answer ((new.table ≡ T) × (new.is_told ≡ false) × (new.left ≡ left)) (λ B. (B ≡ A) × (new.table ≡ set T A (Some w)) × (new.is_told ≡ told) × (new.left < left))) where
+        set_here : set T A (Some w) ≡ set K (head_of G p) (Some w)
+        set_here = ap (λ t. set t A (Some w)) table ∙ ap (λ k. set K k (Some w)) at
+
+        pub put_takes : ComesFirst w o true → Finds new answer
+        put_takes h = by answer put
+          where
+            by : (a : Option ℕ) → MatchOption a ((new.table ≡ T) × (new.is_told ≡ false) × (new.left ≡ left)) (λ B. (B ≡ A) × (new.table ≡ set T A (Some w)) × (new.is_told ≡ told) × (new.left < left)) → Finds new a
+            by None (t, e, l) = given_up new e l
+            by (Some B) (b, t, e, l) = subst (λ (k : ℕ). Finds new (Some k)) (sym (b ∙ at)) (put_first h new (t ∙ set_here) e l)
+
+        pub put_found : AreFound G f least (set K (head_of G p) (Some w)) → AreFound G f least new.table
+        put_found more = by answer put
+          where
+            by : (a : Option ℕ) → MatchOption a ((new.table ≡ T) × (new.is_told ≡ false) × (new.left ≡ left)) (λ B. (B ≡ A) × (new.table ≡ set T A (Some w)) × (new.is_told ≡ told) × (new.left < left)) → AreFound G f least new.table
+            by None (t, e, l) = subst (AreFound G f least) (sym (t ∙ table)) found
+            by (Some B) (b, t, e, l) = subst (AreFound G f least) (sym (t ∙ set_here)) more
+
+      module _ (parts : ListsOfWantedRules) (given : GivesLeast G f least p) where
+        has_list : Has G (head_of G p) w × (cost f w ≡ given.0)
+        has_list = parts.parts G f (cost_in least) (found_in K) p (head_of G p) given.0 w found.costs given.2 ((one w).1 refl)
+
+        pub found_with : AreFound G f least (set K (head_of G p) (Some w))
+        found_with = record { count = length-set K (head_of G p) (Some w) ∙ found.count; costs = all_cost }
+          where
+            all_cost : HaveCosts G f (cost_in least) (found_in (set K (head_of G p) (Some w)))
+            all_cost B v c = elim (cases_eq B (head_of G p)) [
+              | inl e ↦ (let at : get_or (set K (head_of G p) (Some w)) B None ≡ Some w = ap (λ i. get_or (set K (head_of G p) (Some w)) i None) e ∙ get_or-set_same K (head_of G p) (Some w) None lt in
+                  let same : Some w ≡ Some v = sym at ∙ is_only (get_or (set K (head_of G p) (Some w)) B None) v c in
+                  let vs : w ≡ v = (let s : Some w ≡ Some v → w ≡ v = (λ k. cc) in s same) in
+                  let t = given.2 in
+                  subst (λ l. (n : ℕ) × (cost_in least B ≡ Some n) × Has G B l × (cost f l ≡ n)) vs (subst (λ C. (n : ℕ) × (cost_in least C ≡ Some n) × Has G C w × (cost f w ≡ n)) (sym e) (given.0, t.has_cost, has_list.0, has_list.1)))
+              | inr ne ↦ found.costs B v (subst (λ r. Contains (as_lists r) v) (get_or-set_other K (head_of G p) B (Some w) None ne) c)
+            ]
 
 none_at : (k A : ℕ) → get_or (replicate {A = Option (List ℕ)} k None) A None ≡ None
 none_at zero A = refl
@@ -297,29 +253,26 @@ none_found G f least n K count e = record { count = ap length e ∙ length-repli
 
 -- ---- at the end
 
-module _ (G : Grammar) (f : ℕ → ℕ) (least : List (Option ℕ)) (wanted : List Bool) (K : List (Option (List ℕ))) (good : WellFormed G) (costly : (t : ℕ) → t < G.tokens → 1 ≤ f t) (costs : AreCosts G f least) (closed : (p : ℕ) → p < length G.productions → IsClosedBy G f p least)
-    (laws : FirstsOfWantedRules) (handed : (p : ℕ) → p < length G.productions → IsHandedOn G f least p wanted) (found : AreFound G f least K) (taken : (p : ℕ) → p < length G.productions → IsTakenIn G f least wanted p K) where
-  closed_up_to : IsClosedUpTo G f (cost_in least) bound (is_set wanted) (found_in K)
-  closed_up_to = record {
-    handed_on = named_wanted G f least wanted handed;
-    closed = λ p A n v low w t c. let o = t.is_of in subst (λ B. HasUpTo (found_in K B) v) o.head (taken p o.in_range (wanted_head G f least wanted p A n t w) (gives G f least p A n low t) v c);
-  }
+module _ (G : Grammar) (f : ℕ → ℕ) (least : List (Option ℕ)) (wanted : List Bool) (K : List (Option (List ℕ))) (left : ℕ) (costs : AreCosts G f least) (closed : (p : ℕ) → p < length G.productions → IsClosedBy G f p least)
+    (handed : (p : ℕ) → p < length G.productions → IsHandedOn G f least p wanted) (found : AreFound G f least K) (taken : (p : ℕ) → p < length G.productions → IsTakenIn G f least wanted p (record { table = K; is_told = true; left = left })) where
+  leads : (p A n : ℕ) (v : List ℕ) → n < bound → IsTrue (is_set wanted A) → IsTight G f (cost_in least) p A n → Concatenates (found_in K) (body_of G p) v → HasLead (found_in K A) v
+  leads p A n v low w t c = let o = t.is_of in subst (λ B. HasLead (found_in K B) v) o.head (taken p o.in_range refl (wanted_head G f least wanted p A n t w) (gives G f least p A n low t) v c)
 
   module _ (A n : ℕ) (e : cost_in least A ≡ Some n) (low : n < bound) (want : IsTrue (is_set wanted A)) (o : Option (List ℕ)) (is : o ≡ get_or K A None) where
-    all_up_to : (v : List ℕ) → IsCheapest G f A v → HasUpTo (as_lists o) v
-    all_up_to v c = subst (λ r. HasUpTo (as_lists r) v) (sym is) (laws.up_to G f (cost_in least) bound (is_set wanted) (found_in K) good costly (none_cheaper G f least closed) found.costs closed_up_to A n v low want e (is_least G f least costs closed A n e low) c)
+    is_led : (v : List ℕ) → IsCheapest G f A v → HasLead (as_lists o) v
+    is_led v c = subst (λ r. HasLead (as_lists r) v) (sym is) (all_led G f (cost_in least) bound (is_set wanted) (found_in K) (none_cheaper G f least closed) (named_wanted G f least wanted handed) leads A n v low want e (is_least G f least costs closed A n e low) c)
 
     pub some_list : o ≡ None → ⊥
     some_list q =
         let (v, c, k) = is_least G f least costs closed A n e low in
-        let (u, i, up) = all_up_to v c in
+        let (u, i, up) = is_led v c in
         nothing u (sym q ∙ is_only o u i)
       where
         nothing : (u : List ℕ) → None ≡ Some u → ⊥
         nothing u r = cc
 
     pub is_first : (w : List ℕ) → o ≡ Some w → IsFirstCheapest G f A w
-    is_first w q = record { cheapest = record { has = x.2; least = λ u y. (let le = i.least u y in let k = x.3 in let s = some_same x.0 n (sym x.1 ∙ e) in omega (arith, le, k, s, j)) }; before = λ v c. by v (all_up_to v c) }
+    is_first w q = record { cheapest = record { has = x.2; least = λ u y. (let le = i.least u y in let k = x.3 in let s = some_same x.0 n (sym x.1 ∙ e) in omega (arith, le, k, s, j)) }; before = λ v c. by v (is_led v c) }
       where
         x : (m : ℕ) × (cost_in least A ≡ Some m) × Has G A w × (cost f w ≡ m)
         x = found.costs A w (has_only (get_or K A None) w (sym is ∙ q))
@@ -333,8 +286,8 @@ module _ (G : Grammar) (f : ℕ → ℕ) (least : List (Option ℕ)) (wanted : L
         j : cost f l.0 ≡ n
         j = l.2
 
-        by : (v : List ℕ) → HasUpTo (as_lists o) v → (v ≡ w) ⊎ IsBefore w v
+        by : (v : List ℕ) → HasLead (as_lists o) v → (v ≡ w) ⊎ IsBefore w v
         by v (u, c, up) =
             let same : Some w ≡ Some u = sym q ∙ is_only o u c in
             let us : u ≡ w = (let s : Some w ≡ Some u → u ≡ w = (λ k. cc) in s same) in
-            subst (λ k. (v ≡ k) ⊎ IsBefore k v) us up
+            subst (λ k. (v ≡ k) ⊎ IsBefore k v) us (lead_is_first u v up)

@@ -24,6 +24,7 @@ pub mod SettleSteps
 pub mod Dictionary
 pub mod WantedSteps
 pub mod CheapestSteps
+pub mod ForkedLists
 pub mod EarliestSteps
 pub mod SharedSteps
 pub mod TurnSteps

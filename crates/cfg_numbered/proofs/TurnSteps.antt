@@ -1,68 +1,32 @@
 -- How two lists that share their parts are compared from their fronts.
-use Rattle.std.proofs.Common.{◌≡◌, ℕ, zero, suc, ◌+◌, ◌<◌, inl, inr, ◌↔◌, Bool, true, false, List, [], ◌∷◌, ◌++◌, length, get_or, Option, Some, None, refl, sym, ap, ◌∙◌, subst, append_assoc, arith}
+use Rattle.std.proofs.Common.{◌≡◌, ℕ, zero, suc, ◌+◌, ◌<◌, inl, inr, ◌↔◌, Bool, true, false, List, [], ◌∷◌, ◌++◌, length, get_or, Option, Some, None, refl, sym, ap, ◌∙◌, subst, append_assoc, append-nil, arith}
 use Rattle.std.specs.Prelude.{IsTrue, not, MatchOption}
 use Rattle.std.specs.List.{All}
 use Rattle.std.specs.Option.{option_map}
 use Rattle.std.proofs.lemmas.List.{length-append, get_or_append_left}
 use Rattle.std.proofs.lemmas.List.Sums.{sum_by_push}
 use Rattle.std.proofs.lemmas.List.Elements.{All-push, All-same}
-use Rattle.cfg_theory.specs.Cost.{IsBefore}
-use Rattle.cfg_numbered.specs.SharedLists.{HasTokens, AreRests, IsTold, stacked, turns, turns_of}
+use Rattle.cfg_numbered.specs.SharedLists.{HasTokens, AreRests, ForksBefore, IsTold, IsAhead, AreNested, stacked, turns, turns_of}
 use Rattle.cfg_numbered.proofs.SharedSteps.{stacked_push}
-use Rattle.cfg_numbered.proofs.Dictionary.{Before, as_before}
-
--- ---- the order of two lists
-
-asym : (u v : List ℕ) → Before u v → Before v u → ⊥
-asym [] [] h k = h
-asym [] (t ∷ v) h k = k
-asym (t ∷ u) [] h k = h
-asym (t ∷ u) (s ∷ v) (inl lt) (inl gt) = absurd (omega (arith, lt, gt))
-asym (t ∷ u) (s ∷ v) (inl lt) (inr (e, k)) = absurd (omega (arith, lt, e))
-asym (t ∷ u) (s ∷ v) (inr (e, h)) (inl gt) = absurd (omega (arith, gt, e))
-asym (t ∷ u) (s ∷ v) (inr (e, h)) (inr (q, k)) = asym u v h k
-
-not_both : (u v : List ℕ) → IsBefore u v → IsBefore v u → ⊥
-not_both u v h k = asym u v ((as_before u v).1 h) ((as_before v u).1 k)
-
-behind : (s u v : List ℕ) → IsBefore u v → IsBefore (s ++ u) (s ++ v)
-behind [] u v h = h
-behind (t ∷ s) u v h = IsBefore.later (behind s u v h)
-
-without : (s u v : List ℕ) → Before (s ++ u) (s ++ v) → Before u v
-without [] u v h = h
-without (t ∷ s) u v (inl lt) = absurd (omega (arith, lt))
-without (t ∷ s) u v (inr (e, h)) = without s u v h
-
-front_gone : (s u v : List ℕ) → IsBefore (s ++ u) (s ++ v) → IsBefore u v
-front_gone s u v h = (as_before u v).0 (without s u v ((as_before (s ++ u) (s ++ v)).1 h))
+use Rattle.cfg_numbered.proofs.ForkedLists.{forks_behind, forks_both}
 
 -- ---- what was told
 
-pub told_if : (u v : List ℕ) (b : Bool) → IsTold u v b → IsTrue b ↔ IsBefore u v
-told_if u v true h = ((λ e. h), (λ k. refl))
-told_if u v false h = ((λ e. absurd (wrong e)), (λ k. absurd (not_both u v k h)))
-  where
-    wrong : ◌≡◌ {A = Bool} false true → ⊥
-    wrong e = cc
-
 pub told_behind : (u v a z : List ℕ) (b : Bool) → AreRests u v a z → IsTold a z b → IsTold u v b
-told_behind u v a z true r h = subst (λ l. IsBefore l v) (sym r.left) (subst (λ l. IsBefore (r.front ++ a) l) (sym r.right) (behind r.front a z h))
-told_behind u v a z false r h = subst (λ l. IsBefore l u) (sym r.right) (subst (λ l. IsBefore (r.front ++ z) l) (sym r.left) (behind r.front z a h))
+told_behind u v a z true r h = subst (λ l. ForksBefore l v) (sym r.left) (subst (λ l. ForksBefore (r.front ++ a) l) (sym r.right) (forks_behind r.front a z h))
+told_behind u v a z false r h = subst (λ l. ForksBefore l u) (sym r.right) (subst (λ l. ForksBefore (r.front ++ z) l) (sym r.left) (forks_behind r.front z a h))
 
-one_token : (t s : ℕ) (a z : List ℕ) → IsBefore (t ∷ []) (s ∷ []) → IsBefore (t ∷ a) (s ∷ z)
-one_token t s a z h = (as_before (t ∷ a) (s ∷ z)).0 (more ((as_before (t ∷ []) (s ∷ [])).1 h))
-  where
-    more : Before (t ∷ []) (s ∷ []) → Before (t ∷ a) (s ∷ z)
-    more (inl lt) = inl lt
-    more (inr (e, k)) = absurd k
+-- what was told is which one forks before the other
+pub told_ahead : (u v : List ℕ) (b : Bool) → IsTold u v b → IsAhead u v b
+told_ahead u v true h = h
+told_ahead u v false h = inr h
 
 pub token_told : (u v a z : List ℕ) (t s : ℕ) (b : Bool) → u ≡ t ∷ [] → v ≡ s ∷ [] → IsTold (t ∷ []) (s ∷ []) b → IsTold (u ++ a) (v ++ z) b
-token_told u v a z t s true e q h = subst (λ l. IsBefore (l ++ a) (v ++ z)) (sym e) (subst (λ l. IsBefore (t ∷ a) (l ++ z)) (sym q) (one_token t s a z h))
-token_told u v a z t s false e q h = subst (λ l. IsBefore (l ++ z) (u ++ a)) (sym q) (subst (λ l. IsBefore (s ∷ z) (l ++ a)) (sym e) (one_token s t z a h))
+token_told u v a z t s true e q h = subst (λ l. ForksBefore (l ++ a) (v ++ z)) (sym e) (subst (λ l. ForksBefore (t ∷ a) (l ++ z)) (sym q) (forks_both (t ∷ []) a (s ∷ []) z h))
+token_told u v a z t s false e q h = subst (λ l. ForksBefore (l ++ z) (u ++ a)) (sym q) (subst (λ l. ForksBefore (s ∷ z) (l ++ a)) (sym e) (forks_both (s ∷ []) z (t ∷ []) a h))
 
-pub less_told : (t s : ℕ) → t < s → IsBefore (t ∷ []) (s ∷ [])
-less_told t s lt = IsBefore.smaller lt
+pub less_told : (t s : ℕ) → t < s → ForksBefore (t ∷ []) (s ∷ [])
+less_told t s lt = ForksBefore.smaller lt
 
 other_way : (u v : List ℕ) (b : Bool) → IsTold v u b → IsTold u v (not b)
 other_way u v true h = h
@@ -108,31 +72,20 @@ module _ (lists : List (List ℕ)) where
   some_tokens [] h lt = absurd (omega (arith, lt))
   some_tokens (k ∷ ks) h lt = let t = h 0 k (omega arith) in let n = length-append (stacked lists ks) (get_or lists k []) in omega (arith, n, t)
 
-  -- the first list ends
-  pub left_ends : (u v : List ℕ) (ls rs : List ℕ) → AreRests u v (stacked lists ls) (stacked lists rs) → ls ≡ [] → All (HasTokens lists) rs → (0 < length rs) ↔ IsBefore u v
-  left_ends u v ls rs r e h = ((λ lt. shown (some_tokens rs h lt)), λ k. many rs (front_gone r.front [] (stacked lists rs) (subst (λ l. IsBefore l (r.front ++ stacked lists rs)) ends (subst (λ l. IsBefore u l) r.right k))))
-    where
-      ends : u ≡ r.front ++ []
-      ends = r.left ∙ ap (λ l. r.front ++ stacked lists l) e
+  -- where one list has ended, the other one is that and what is left
+  module _ (u v : List ℕ) (ls rs : List ℕ) (r : AreRests u v (stacked lists ls) (stacked lists rs)) where
+    left_ends : ls ≡ [] → v ≡ u ++ stacked lists rs
+    left_ends e = r.right ∙ ap (λ l. l ++ stacked lists rs) (sym (r.left ∙ ap (λ l. r.front ++ stacked lists l) e ∙ append-nil r.front))
 
-      shown : 0 < length (stacked lists rs) → IsBefore u v
-      shown lt = subst (λ l. IsBefore l v) (sym ends) (subst (λ l. IsBefore (r.front ++ []) l) (sym r.right) (behind r.front [] (stacked lists rs) (begun (stacked lists rs) lt)))
-        where
-          begun : (w : List ℕ) → 0 < length w → IsBefore [] w
-          begun [] less = absurd (omega (arith, less))
-          begun (t ∷ w) less = IsBefore.shorter
+    right_ends : rs ≡ [] → u ≡ v ++ stacked lists ls
+    right_ends e = r.left ∙ ap (λ l. l ++ stacked lists ls) (sym (r.right ∙ ap (λ l. r.front ++ stacked lists l) e ∙ append-nil r.front))
 
-      many : (ks : List ℕ) → IsBefore [] (stacked lists ks) → 0 < length ks
-      many [] k = absurd ((as_before [] []).1 k)
-      many (j ∷ ks) k = omega arith
+    -- so one begins the other
+    pub left_begins : ls ≡ [] → 0 < length rs → All (HasTokens lists) rs → AreNested u v
+    left_begins e lt h = inl (record { rest = stacked lists rs; some = some_tokens rs h lt; whole = left_ends e })
 
-  -- the second one does
-  pub right_ends : (u v : List ℕ) (ls rs : List ℕ) → AreRests u v (stacked lists ls) (stacked lists rs) → rs ≡ [] → IsBefore u v → ⊥
-  right_ends u v ls rs r e k = nothing (stacked lists ls) ((as_before (stacked lists ls) []).1 (front_gone r.front (stacked lists ls) [] (subst (λ l. IsBefore l (r.front ++ [])) r.left (subst (λ l. IsBefore u l) (r.right ∙ ap (λ l. r.front ++ stacked lists l) e) k))))
-    where
-      nothing : (w : List ℕ) → Before w [] → ⊥
-      nothing [] h = h
-      nothing (t ∷ w) h = h
+    pub right_begins : rs ≡ [] → 0 < length ls → All (HasTokens lists) ls → AreNested u v
+    right_begins e lt h = inr (record { rest = stacked lists ls; some = some_tokens ls h lt; whole = right_ends e })
 
 -- both are tokens
 pub both_tokens : (u v a z b y : List ℕ) (t s : ℕ) (o : Option Bool) → u ≡ t ∷ [] → v ≡ s ∷ [] → b ≡ a → y ≡ z → MatchOption o (t ≡ s) (λ r. IsTold (t ∷ []) (s ∷ []) r) → MatchOption o (AreRests (u ++ a) (v ++ z) b y) (λ r. IsTold (u ++ a) (v ++ z) r)
@@ -155,18 +108,5 @@ match_some {X} P Q o x h e = subst (λ (r : Option X). MatchOption r P Q) e h
 pub rests_by : (u v a z b y : List ℕ) → AreRests u v a z → a ≡ b → z ≡ y → AreRests u v b y
 rests_by u v a z b y h e q = record { front = h.front; left = h.left ∙ ap (λ l. h.front ++ l) e; right = h.right ∙ ap (λ l. h.front ++ l) q }
 
-pub empty_first : (u v : List ℕ) → u ≡ [] → 0 < length v → IsTrue true ↔ IsBefore u v
-empty_first u v e lt = ((λ q. subst (λ l. IsBefore l v) (sym e) (begun v lt)), (λ h. refl))
-  where
-    begun : (w : List ℕ) → 0 < length w → IsBefore [] w
-    begun [] less = absurd (omega (arith, less))
-    begun (t ∷ w) less = IsBefore.shorter
-
 pub popped_all : (P : ℕ → Type 0) (old new : List ℕ) (k : ℕ) → old ≡ new ++ k ∷ [] → All P old → All P new
 popped_all P old new k e h = λ i d lt. subst P (get_or_append_left new (k ∷ []) d i lt) (All-same P (new ++ k ∷ []) old (sym e) h i d (let n = length-append new (k ∷ []) in omega (arith, n, lt)))
-
-pub told_false : (u v : List ℕ) → (IsBefore u v → ⊥) → IsTrue false ↔ IsBefore u v
-told_false u v n = ((λ e. absurd (wrong e)), (λ h. absurd (n h)))
-  where
-    wrong : ◌≡◌ {A = Bool} false true → ⊥
-    wrong e = cc

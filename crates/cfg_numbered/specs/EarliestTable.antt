@@ -1,14 +1,16 @@
--- A table of one token list a rule, the first that was found, as passes fill it.
-use Rattle.std.specs.Prelude.{◌≡◌, ℕ, ◌+◌, ◌*◌, zero, suc, ◌↔◌, List, [], ◌∷◌, Bool, IsTrue, length, get_or, Option, Some, None}
-use Rattle.std.specs.List.{sum_by}
+-- A table of one token list a rule, the first that was found, as productions fill it.
+use Rattle.std.specs.Prelude.{◌≡◌, ℕ, ◌↔◌, List, [], ◌∷◌, Bool, true, IsTrue, length, get_or, Contains, Option, Some, None}
 use Rattle.cfg_theory.specs.Grammar.{Sym, Grammar, head_of, body_of}
-use Rattle.cfg_theory.specs.Cost.{IsBefore}
 use Rattle.cfg_theory.specs.CostTables.{Concatenates}
 use Rattle.cfg_theory.specs.CheapestLists.{HaveCosts}
-use Rattle.cfg_theory.specs.FirstLists.{HasUpTo}
-use Rattle.cfg_numbered.specs.CostTable.{bound, cost_in}
+use Rattle.cfg_numbered.specs.CostTable.{cost_in}
 use Rattle.cfg_numbered.specs.Sets.{is_set}
+use Rattle.cfg_numbered.specs.SharedLists.{Leads, IsAhead, AreNested}
 use Rattle.cfg_numbered.specs.CheapestTable.{GivesLeast}
+
+-- some list leads w
+abbrev pub HasLead : List (List ℕ) → List ℕ → Type 0
+HasLead lists w = (v : List ℕ) × Contains lists v × Leads v w
 
 -- the one list, or none
 abbrev pub as_lists : Option (List ℕ) → List (List ℕ)
@@ -27,35 +29,31 @@ GivesNone table a = (w : List ℕ) → Concatenates (found_in table) a w → ⊥
 abbrev pub GivesOne : List (Option (List ℕ)) → List Sym → List ℕ → Type 0
 GivesOne table a w = (v : List ℕ) → Concatenates (found_in table) a v ↔ (v ≡ w)
 
--- whether a list is before the one that is kept, where none is behind any
-abbrev pub ComesFirst : List ℕ → Option (List ℕ) → Type 0
-ComesFirst w None = Unit {0}
-ComesFirst w (Some v) = IsBefore w v
+-- whether a list forks before the one that is kept, where none is behind any, or that one leads it
+abbrev pub ComesFirst : List ℕ → Option (List ℕ) → Bool → Type 0
+ComesFirst w None b = b ≡ true
+ComesFirst w (Some v) b = IsAhead w v b
+
+-- one of the two begins the other
+abbrev pub IsUntold : List ℕ → Option (List ℕ) → Type 0
+IsUntold w None = ⊥
+IsUntold w (Some v) = AreNested w v
 
 -- the lists are of the rules, and cost what the table of costs says
 pub record AreFound (G : Grammar) (f : ℕ → ℕ) (least : List (Option ℕ)) (table : List (Option (List ℕ))) : Type 0 where
   pub count : length table ≡ G.rules
   pub costs : HaveCosts G f (cost_in least) (found_in table)
 
--- where p gives a wanted rule the least cost, the rule's list is what p puts together, or before it
-abbrev pub IsTakenIn : Grammar → (ℕ → ℕ) → List (Option ℕ) → List Bool → ℕ → List (Option (List ℕ)) → Type 0
-IsTakenIn G f least wanted p table = IsTrue (is_set wanted (head_of G p)) → GivesLeast G f least p → (w : List ℕ) → Concatenates (found_in table) (body_of G p) w → HasUpTo (found_in table (head_of G p)) w
+-- the table; whether it is told which list comes first wherever two were compared; and how many more changes are counted
+pub record Firsts : Type 0 where
+  pub table : List (Option (List ℕ))
+  pub is_told : Bool
+  pub left : ℕ
 
--- how many lists of at most n numbers below b there are
-unfoldable pub lists_up_to : ℕ → ℕ → ℕ
-lists_up_to b zero = 1
-lists_up_to b (suc n) = 1 + b * lists_up_to b n
+-- where p gives a wanted rule the least cost, the rule's list leads what p puts together, as long as all is told
+abbrev pub IsTakenIn : Grammar → (ℕ → ℕ) → List (Option ℕ) → List Bool → ℕ → Firsts → Type 0
+IsTakenIn G f least wanted p firsts = IsTrue firsts.is_told → IsTrue (is_set wanted (head_of G p)) → GivesLeast G f least p → (w : List ℕ) → Concatenates (found_in firsts.table) (body_of G p) w → HasLead (found_in firsts.table (head_of G p)) w
 
--- how many of them are before w
-unfoldable pub lists_ahead : ℕ → ℕ → List ℕ → ℕ
-lists_ahead b zero w = 0
-lists_ahead b (suc n) [] = 0
-lists_ahead b (suc n) (t ∷ w) = 1 + (t * lists_up_to b n + lists_ahead b n w)
-
--- how often a rule's list can still be replaced by one before it
-abbrev pub room_of : ℕ → Option (List ℕ) → ℕ
-room_of b None = lists_up_to b bound
-room_of b (Some w) = lists_ahead b bound w
-
-abbrev pub room_in : ℕ → List (Option (List ℕ)) → ℕ
-room_in b table = sum_by (room_of b) table
+-- how often a list can still take the place of another
+abbrev pub room_in : Firsts → ℕ
+room_in firsts = firsts.left

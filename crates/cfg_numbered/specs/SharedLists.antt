@@ -1,8 +1,7 @@
 -- Token lists that share their parts.
-use Rattle.std.specs.Prelude.{◌≡◌, ℕ, ◌+◌, ◌-◌, ◌*◌, ◌<◌, Bool, true, false, List, [], ◌∷◌, ◌++◌, length, get_or, Option, Some, slice_get}
+use Rattle.std.specs.Prelude.{◌≡◌, ℕ, ◌+◌, ◌-◌, ◌*◌, ◌<◌, ◌⊎◌, Bool, true, false, List, [], ◌∷◌, ◌++◌, length, get_or, Option, Some, slice_get}
 use Rattle.std.specs.List.{sum_by}
 use Rattle.std.specs.Option.{option_map}
-use Rattle.cfg_theory.specs.Cost.{IsBefore}
 use Rattle.cfg_numbered.specs.declared.yacc.sentences.shared_lists.Part.{Part}
 use Rattle.cfg_numbered.specs.declared.yacc.sentences.shared_lists.Part.TheVariants.{Empty, Token, Pair}
 
@@ -59,10 +58,34 @@ pub record AreRests (u v rest_of_u rest_of_v : List ℕ) : Type 0 where
   pub left : u ≡ front ++ rest_of_u
   pub right : v ≡ front ++ rest_of_v
 
--- whether the first of two lists is before the second one, or the second before the first
+-- the lists fork: behind what both begin with u has the smaller token, so that it is before v, whatever stands behind both
+pub data ForksBefore : List ℕ → List ℕ → Type 0 where
+  smaller : {t s : ℕ} {u v : List ℕ} → t < s → ForksBefore (t ∷ u) (s ∷ v)
+  later : {t : ℕ} {u v : List ℕ} → ForksBefore u v → ForksBefore (t ∷ u) (t ∷ v)
+
+-- v is u and more behind it
+pub record BeginsList (u v : List ℕ) : Type 0 where
+  pub rest : List ℕ
+  pub some : 0 < length rest
+  pub whole : v ≡ u ++ rest
+
+-- whether the first of two lists forks before the second one, or the second before the first
 abbrev pub IsTold : List ℕ → List ℕ → Bool → Type 0
-IsTold u v true = IsBefore u v
-IsTold u v false = IsBefore v u
+IsTold u v true = ForksBefore u v
+IsTold u v false = ForksBefore v u
+
+-- u is v, or u forks before it
+abbrev pub Leads : List ℕ → List ℕ → Type 0
+Leads u v = (v ≡ u) ⊎ ForksBefore u v
+
+-- whether the first of two lists forks before the second one, or the second one leads the first
+abbrev pub IsAhead : List ℕ → List ℕ → Bool → Type 0
+IsAhead u v true = ForksBefore u v
+IsAhead u v false = Leads v u
+
+-- one of the lists begins the other
+abbrev pub AreNested : List ℕ → List ℕ → Type 0
+AreNested u v = BeginsList u v ⊎ BeginsList v u
 
 -- how many turns the walk through a list takes at most
 abbrev pub turns_of : List (List ℕ) → ℕ → ℕ

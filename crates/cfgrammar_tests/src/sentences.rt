@@ -44,10 +44,18 @@ fn costs_of_three(rt: HostRuntime) -> Result<(), Fail> {
 const CHOICES: &str =
     "%token a b %% R10: R9 R9; R9: R8 R8; R8: R7 R7; R7: R6 R6; R6: R5 R5; R5: R4 R4; R4: R3 R3; R3: R2 R2; R2: R1 R1; R1: R0 R0; R0: 'b' | 'a';";
 
-/// How many tokens the first cheapest list has, and how many of them are the first token.
-fn first_tokens<S: IndexStorage>(alloc: Global) -> Result<(usize, usize), Fail> {
+/// How many tokens the first cheapest list has, and how many of them are the first token, by the cost of the end token
+/// and that of each other one.
+fn first_tokens<S: IndexStorage>(alloc: Global, end: u8, cost: u8) -> Result<(usize, usize), Fail> {
     let grm = made::<S>(alloc, TREE, CHOICES)?;
-    let sentences = grm.sentence_generator(alloc, |_token| 1)?;
+    let last = grm.eof_token_idx().0.to_usize();
+    let sentences = grm.sentence_generator(alloc, |token| {
+        if token.0.to_usize() == last {
+            end
+        } else {
+            cost
+        }
+    })?;
     let Some(ridx) = grm.rule_idx("R10") else {
         return Err("no rule".into());
     };
@@ -64,10 +72,22 @@ fn first_tokens<S: IndexStorage>(alloc: Global) -> Result<(usize, usize), Fail> 
 /// There are 2 to the power of 1,024 cheapest lists.
 #[test]
 fn first_of_very_many_lists(rt: HostRuntime) -> Result<(), Fail> {
-    let (tokens, firsts) = first_tokens::<u8>(rt.alloc())?;
+    let (tokens, firsts) = first_tokens::<u8>(rt.alloc(), 1, 1)?;
     assert_eq!(rt; tokens, 1024);
     assert_eq!(rt; firsts, 1024);
-    let (tokens, firsts) = first_tokens::<u32>(rt.alloc())?;
+    let (tokens, firsts) = first_tokens::<u32>(rt.alloc(), 1, 1)?;
+    assert_eq!(rt; tokens, 1024);
+    assert_eq!(rt; firsts, 1024);
+    Ok(())
+}
+
+/// As many, where the end token costs nothing, and where no token does.
+#[test]
+fn first_of_very_many_lists_of_free_tokens(rt: HostRuntime) -> Result<(), Fail> {
+    let (tokens, firsts) = first_tokens::<u8>(rt.alloc(), 0, 1)?;
+    assert_eq!(rt; tokens, 1024);
+    assert_eq!(rt; firsts, 1024);
+    let (tokens, firsts) = first_tokens::<u8>(rt.alloc(), 0, 0)?;
     assert_eq!(rt; tokens, 1024);
     assert_eq!(rt; firsts, 1024);
     Ok(())

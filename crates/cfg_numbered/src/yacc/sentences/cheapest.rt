@@ -55,7 +55,7 @@ impl<'a, S: IndexStorage> SentenceGenerator<'a, S> {
 }
 
 /// The cheapest lists of a rule whose least cost is below the bound.
-fn lists_of_rule<S: IndexStorage>(
+pub(super) fn lists_of_rule<S: IndexStorage>(
     alloc: Global,
     least: &LeastCosts<S>,
     ridx: RIdx<S>,

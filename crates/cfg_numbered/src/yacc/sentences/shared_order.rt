@@ -1,12 +1,11 @@
-//! Which of two lists that share their parts comes first. Both are taken apart from their fronts, the part with the
-//! larger number first; a part that both have at one place is passed over, so that lists with much in common are
-//! compared by what differs.
+//! Which of two lists that share their parts comes first, whatever stands behind both. Both are taken apart from their
+//! fronts, the part with the larger number first; a part that both have at one place is passed over, so that lists with
+//! much in common are compared by what differs.
 
-ghost use Rattle.std.specs.Prelude.{◌≡◌, ◌+◌, ◌<◌, ◌∷◌, ◌++◌, ◌↔◌, IsTrue, IfOk, MatchOption, [], length, get_or, not};
+ghost use Rattle.std.specs.Prelude.{◌≡◌, ◌+◌, ◌<◌, ◌∷◌, ◌++◌, IfOk, MatchOption, [], length, get_or, not};
 ghost use Rattle.std.specs.List.{All};
 ghost use Rattle.std.specs.Option.{option_map};
-ghost use Rattle.cfg_theory.specs.Cost.{IsBefore};
-ghost use Rattle.cfg_numbered.specs.SharedLists.{HasTokens, AreRests, IsTold, stacked, turns, turns_of};
+ghost use Rattle.cfg_numbered.specs.SharedLists.{HasTokens, AreRests, IsTold, IsAhead, AreNested, stacked, turns, turns_of};
 
 use super::shared_lists::SharedLists;
 use cfg_base::index::IndexStorage;
@@ -93,16 +92,16 @@ fn turn<S: IndexStorage>(
     Ok(turned(told))
 }
 
-/// Whether a list is before another one.
-fn goes_before<S: IndexStorage>(
+/// Whether a list forks before another one, or the other one leads it; none where one begins the other.
+fn goes_ahead<S: IndexStorage>(
     alloc: Global,
     shared: &SharedLists<S>,
     left: usize,
     right: usize,
-) -> Result<bool, AllocError>
+) -> Result<Option<bool>, AllocError>
     requires left { HasTokens shared.now.lists left }
     requires right { HasTokens shared.now.lists right }
-    ensures { IfOk result (λ b. IsTrue b ↔ IsBefore (get_or shared.now.lists left []) (get_or shared.now.lists right [])) }
+    ensures { IfOk result (λ o. MatchOption o (AreNested (get_or shared.now.lists left []) (get_or shared.now.lists right [])) (λ b. IsAhead (get_or shared.now.lists left []) (get_or shared.now.lists right []) b)) }
 {
     let mut lefts = Vec::new(alloc);
     let mut rights = Vec::new(alloc);
@@ -110,33 +109,39 @@ fn goes_before<S: IndexStorage>(
     rights.push(right)?;
     'turns: loop {
         let Some(first) = lefts.pop() else {
-            return Ok(rights.len() > 0);
+            if rights.len() > 0 {
+                return Ok(None);
+            }
+            return Ok(Some(false));
         };
         let Some(second) = rights.pop() else {
-            return Ok(false);
+            return Ok(None);
         };
         if let Some(told) = turn(shared, first, second, &mut lefts, &mut rights)? {
-            return Ok(told);
+            return Ok(Some(told));
         }
     }
 }
 
-/// Whether a list is before another one.
-pub(super) fn is_list_before<S: IndexStorage>(
+/// Whether a list forks before another one, or the other one leads it; none where one begins the other.
+pub(super) fn is_list_ahead<S: IndexStorage>(
     alloc: Global,
     shared: &SharedLists<S>,
     left: usize,
     right: usize,
-) -> Result<bool, AllocError>
+) -> Result<Option<bool>, AllocError>
     requires left { left < length shared.now.lists }
     requires right { right < length shared.now.lists }
-    ensures { IfOk result (λ b. IsTrue b ↔ IsBefore (get_or shared.now.lists left []) (get_or shared.now.lists right [])) }
+    ensures { IfOk result (λ o. MatchOption o (AreNested (get_or shared.now.lists left []) (get_or shared.now.lists right [])) (λ b. IsAhead (get_or shared.now.lists left []) (get_or shared.now.lists right []) b)) }
 {
-    if shared.is_empty(right) {
-        return Ok(false);
-    }
     if shared.is_empty(left) {
-        return Ok(true);
+        if shared.is_empty(right) {
+            return Ok(Some(false));
+        }
+        return Ok(None);
     }
-    goes_before(alloc, shared, left, right)
+    if shared.is_empty(right) {
+        return Ok(None);
+    }
+    goes_ahead(alloc, shared, left, right)
 }

@@ -1,23 +1,12 @@
-use Rattle.std.proofs.Common.{◌<◌, length, refl, subst, arith}
+use Rattle.std.proofs.Common.{subst, arith}
 use Rattle.cfg_theory.specs.Grammar.{WellFormed}
 use Rattle.cfg_numbered.specs.CostTable.{cost_of}
 use Rattle.cfg_numbered.specs.Sentences.{Costed}
-use Rattle.cfg_numbered.specs.TokenLists.{tokens_of, lists_of}
+use Rattle.cfg_numbered.specs.TokenLists.{tokens_of}
 use Rattle.cfg_numbered.specs.CheapestTable.{IsFirstCheapest}
 use Rattle.cfg_numbered.proofs.CostSteps.{answers_none, answers_large}
-use Rattle.cfg_numbered.proofs.Dictionary.{tokens_count, lists_count, list_at}
-use Rattle.cfg_numbered.proofs.CheapestSteps.{is_first}
+use Rattle.cfg_numbered.proofs.Dictionary.{tokens_count}
 use Rattle.cfg_numbered.proofs.yacc.sentences.SentenceGenerator.min_sentence.Goals as goal
-
-pub returns-then-not-all_cost-clause-ok : goal.returns-then-not-all_cost-clause-ok
-returns-then-not-all_cost-clause-ok g c =
-    let number = g.S.IndexStorage.number in
-    let xs = c.in_ok-lists.lists.items in
-    let some : 0 < length xs = c.in_ok-lists.ensures.some in
-    let count = lists_count number xs in
-    let w = c.swap_remove.result in
-    is_first c.args.self.now.grammar (cost_of c.args.self.now.costs) (number c.args.ridx.0) (lists_of number xs) c.in_ok-lists.ensures.ok (omega (arith, some, count)) (tokens_of number w.items)
-    (list_at number xs 0 w w.items some c.swap_remove.ensures.value refl)
 
 pub returns-in-None-clause-err : goal.returns-in-None-clause-err
 returns-in-None-clause-err g c =

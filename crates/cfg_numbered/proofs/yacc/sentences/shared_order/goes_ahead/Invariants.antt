@@ -1,7 +1,7 @@
 use Rattle.std.proofs.Common.{◌+◌, [], get_or}
 use Rattle.std.specs.List.{All}
 use Rattle.cfg_numbered.specs.SharedLists.{HasTokens, AreRests, stacked, turns}
-use Rattle.cfg_numbered.proofs.yacc.sentences.shared_order.goes_before.Given as goal
+use Rattle.cfg_numbered.proofs.yacc.sentences.shared_order.goes_ahead.Given as goal
 
 abbrev pub invariant-turns : goal.invariant-turns
 invariant-turns g l = record {

@@ -1,22 +1,24 @@
-use Rattle.std.proofs.Common.{rules, ◌≡◌, ◌<◌, [], ◌++◌, length, get_or, sym, arith}
-use Rattle.std.proofs.lemmas.Bool.{lt-ltb, ltb-true}
+use Rattle.std.proofs.Common.{rules, ◌≡◌, ◌<◌, [], ◌∷◌, ◌++◌, length, get_or, sym, ap, subst, arith}
+use Rattle.std.proofs.lemmas.List.{length-append}
 use Rattle.cfg_numbered.specs.SharedLists.{HasTokens, stacked}
-use Rattle.cfg_numbered.proofs.TurnSteps.{match_none, match_some, pushed_on, popped_all, rests_by, rests_on, told_behind, told_if, told_false, left_ends, right_ends}
-use Rattle.cfg_numbered.proofs.yacc.sentences.shared_order.goes_before.Goals as goal
+use Rattle.cfg_numbered.proofs.TurnSteps.{match_none, match_some, pushed_on, popped_all, rests_by, rests_on, told_behind, told_ahead, left_begins, right_begins}
+use Rattle.cfg_numbered.proofs.yacc.sentences.shared_order.goes_ahead.Goals as goal
 
-pub returns-in_default : goal.returns-in_default
-returns-in_default g c =
+pub returns-then-len-gt0 : goal.returns-then-len-gt0
+returns-then-len-gt0 g c =
     let lists = c.args.shared.now.lists in
     let ends : c.turns.lefts.items ≡ [] = search rules in
     let n = c.len.ensures in
-    let r = left_ends lists (get_or lists c.args.left []) (get_or lists c.args.right []) c.turns.lefts.items c.turns.rights.items c.turns.invariant.rests ends c.turns.invariant.rights in
-    ((λ e. r.0 (let lt = ltb-true 0 c.len.result e in omega (arith, lt, n))), (λ h. lt-ltb 0 c.len.result (let lt = r.1 h in omega (arith, lt, n))))
+    let lt = c.if-len-gt0.true in
+    left_begins lists (get_or lists c.args.left []) (get_or lists c.args.right []) c.turns.lefts.items c.turns.rights.items c.turns.invariant.rests ends (omega (arith, n, lt)) c.turns.invariant.rights
 
 pub returns-in_default-pop : goal.returns-in_default-pop
 returns-in_default-pop g c =
     let lists = c.args.shared.now.lists in
     let ends : c.turns.rights.items ≡ [] = search rules in
-    told_false (get_or lists c.args.left []) (get_or lists c.args.right []) (right_ends lists (get_or lists c.args.left []) (get_or lists c.args.right []) c.turns.lefts.items c.turns.rights.items c.turns.invariant.rests ends)
+    let n = ap length c.in-Some.ensures.items in
+    let m = length-append c.pop.new.self.items (c.in-Some.first ∷ []) in
+    right_begins lists (get_or lists c.args.left []) (get_or lists c.args.right []) c.turns.lefts.items c.turns.rights.items c.turns.invariant.rests ends (omega (arith, n, m)) c.turns.invariant.lefts
 
 pub turn-requires-clause-lefts : goal.turn-requires-clause-lefts
 turn-requires-clause-lefts g c = popped_all (HasTokens c.args.shared.now.lists) c.turns.lefts.items c.pop.new.self.items c.in-Some.first c.in-Some.ensures.items c.turns.invariant.lefts
@@ -34,7 +36,7 @@ returns-in-Some-2 g c =
     let rests = rests_by u v (stacked lists c.turns.lefts.items) (stacked lists c.turns.rights.items) a z c.turns.invariant.rests
     (pushed_on lists c.pop.new.self.items c.turns.lefts.items c.in-Some.first c.in-Some.ensures.items)
     (pushed_on lists c.pop-in-turns.new.self.items c.turns.rights.items c.in-Some-pop.second c.in-Some-pop.ensures.items) in
-    told_if u v c.in-Some-2.told (told_behind u v a z c.in-Some-2.told rests (match_some _ _ c.in_ok-told.field-0 c.in-Some-2.told c.in_ok-told.ensures.told c.in-Some-2.is))
+    told_ahead u v c.in-Some-2.told (told_behind u v a z c.in-Some-2.told rests (match_some _ _ c.in_ok-told.field-0 c.in-Some-2.told c.in_ok-told.ensures.told c.in-Some-2.is))
 
 pub turns-preserved : goal.turns-preserved
 turns-preserved g c =

@@ -15,8 +15,8 @@ use Rattle.cfg_numbered.specs.Sets.{is_set}
 use Rattle.cfg_numbered.specs.WorkLists.{TakesIn}
 use Rattle.cfg_numbered.specs.CostTable.{bound, cost_in, AreCosts, IsClosedBy}
 use Rattle.cfg_numbered.specs.CheapestTable.{GivesLeast, IsHandedOn, IsFirstCheapest}
-use Rattle.cfg_numbered.specs.SharedLists.{Leads}
-use Rattle.cfg_numbered.specs.EarliestTable.{HasLead, as_lists, found_in, GivesNone, GivesOne, ComesFirst, AreFound, Firsts, IsTakenIn, room_in}
+use Rattle.cfg_numbered.specs.SharedLists.{IsLead}
+use Rattle.cfg_numbered.specs.EarliestTable.{HasLead, as_lists, found_in, GivesNone, GivesOne, ComesFirst, AreFound, FoundLists, IsTakenIn, room_in}
 use Rattle.cfg_numbered.proofs.ProdSteps.{IsAt, idle, concatenates_same, takes_in}
 use Rattle.cfg_numbered.proofs.ForkedLists.{forks_on, lead_is_first, all_led}
 use Rattle.cfg_numbered.proofs.CostSteps.{is_least}
@@ -138,10 +138,10 @@ body_below G n p good count = from (body_of G p) 0 refl
     from (token t ∷ a) d e = let r = get_from_drop (body_of G p) d (token t) a e in from a (suc d) r.1
 
 module _ (G : Grammar) (f : ℕ → ℕ) (least : List (Option ℕ)) (wanted : List Bool) (p : ℕ) (K : List (Option (List ℕ))) (told : Bool) (left : ℕ) where
-  abbrev pub was : Firsts
+  abbrev pub was : FoundLists
   was = record { table = K; is_told = told; left = left }
 
-  abbrev pub Finds : Firsts → Option ℕ → Type 0
+  abbrev pub Finds : FoundLists → Option ℕ → Type 0
   Finds new o = TakesIn G room_in (λ t q. IsTakenIn G f least wanted q t) p was new o
 
   still_all : IsTakenIn G f least wanted p was → Finds was None
@@ -160,7 +160,7 @@ module _ (G : Grammar) (f : ℕ → ℕ) (least : List (Option ℕ)) (wanted : L
   not_found none = still_all (λ _ _ _ w c. absurd (none w c))
 
   -- nothing is told any more
-  pub given_up : (new : Firsts) → new.is_told ≡ false → new.left ≡ left → Finds new None
+  pub given_up : (new : FoundLists) → new.is_told ≡ false → new.left ≡ left → Finds new None
   given_up new e l = record { within = λ A q. absurd (nothing A q); kept = λ q c. inl (λ t. absurd (false_true (sym e ∙ t))); here = inl (λ t. absurd (false_true (sym e ∙ t))); less = omega (arith, l) }
     where
       nothing : (A : ℕ) → None ≡ Some A → ⊥
@@ -181,7 +181,7 @@ module _ (G : Grammar) (f : ℕ → ℕ) (least : List (Option ℕ)) (wanted : L
       now : found_in (set K (head_of G p) (Some w)) (head_of G p) ≡ w ∷ []
       now = ap as_lists (get_or-set_same K (head_of G p) (Some w) None lt)
 
-      has_now : (v : List ℕ) → Leads w v → HasLead (found_in (set K (head_of G p) (Some w)) (head_of G p)) v
+      has_now : (v : List ℕ) → IsLead w v → HasLead (found_in (set K (head_of G p) (Some w)) (head_of G p)) v
       has_now v h = subst (λ l. HasLead l v) (sym now) (w, (0, omega arith, refl), h)
 
       -- a list that was led is
@@ -191,7 +191,7 @@ module _ (G : Grammar) (f : ℕ → ℕ) (least : List (Option ℕ)) (wanted : L
         | inr ne ↦ subst (λ l. HasLead l v) (sym (after B ne)) x
       ]
 
-      put_first : ComesFirst w o true → (new : Firsts) → new.table ≡ set K (head_of G p) (Some w) → new.is_told ≡ told → new.left < left → Finds new (Some (head_of G p))
+      put_first : ComesFirst w o true → (new : FoundLists) → new.table ≡ set K (head_of G p) (Some w) → new.is_told ≡ told → new.left < left → Finds new (Some (head_of G p))
       put_first h new is_set_now same fewer = takes_in G room_in (λ t q. IsTakenIn G f least wanted q t) p was new (head_of G p) (let n = found.count in omega (arith, lt, n)) kept here fewer
         where
           old_parts : (a : List Sym) (v : List ℕ) → ((d : ℕ) → IsAt a (head_of G p) d → ⊥) → Concatenates (found_in new.table) a v → Concatenates (found_in K) a v
@@ -204,7 +204,7 @@ module _ (G : Grammar) (f : ℕ → ℕ) (least : List (Option ℕ)) (wanted : L
           here not t want gives v x = subst (λ k. HasLead (found_in k (head_of G p)) v) (sym is_set_now) (has_now v (inl ((one v).0 (old_parts (body_of G p) v not x))))
 
       -- by what a put answers
-      module _ (A : ℕ) (T : List (Option (List ℕ))) (new : Firsts) (answer : Option ℕ) (at : A ≡ head_of G p) (table : T ≡ K)
+      module _ (A : ℕ) (T : List (Option (List ℕ))) (new : FoundLists) (answer : Option ℕ) (at : A ≡ head_of G p) (table : T ≡ K)
           (put : MatchOption answer ((new.table ≡ T) × (new.is_told ≡ false) × (new.left ≡ left)) (λ B. (B ≡ A) × (new.table ≡ set T A (Some w)) × (new.is_told ≡ told) × (new.left < left))) where
         set_here : set T A (Some w) ≡ set K (head_of G p) (Some w)
         set_here = ap (λ t. set t A (Some w)) table ∙ ap (λ k. set K k (Some w)) at

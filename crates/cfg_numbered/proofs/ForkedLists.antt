@@ -10,7 +10,7 @@ use Rattle.cfg_theory.specs.CostTables.{Sums, Concatenates}
 use Rattle.cfg_theory.specs.CheapestLists.{NoneIsCheaper, IsTight}
 use Rattle.cfg_theory.proofs.Trees.{derivation_of}
 use Rattle.cfg_theory.proofs.CostTables.{cost-append, as_is, sums_split, one_sum, of_sum, to_sum, tree_least, forest_least, concatenates_cons}
-use Rattle.cfg_numbered.specs.SharedLists.{ForksBefore, Leads}
+use Rattle.cfg_numbered.specs.SharedLists.{ForksBefore, IsLead}
 use Rattle.cfg_numbered.specs.EarliestTable.{HasLead}
 
 some_same : (m n : ℕ) → Some m ≡ Some n → m ≡ n
@@ -22,7 +22,7 @@ before_of : {u v : List ℕ} → ForksBefore u v → IsBefore u v
 before_of (ForksBefore.smaller lt) = IsBefore.smaller lt
 before_of (ForksBefore.later h) = IsBefore.later (before_of h)
 
-pub lead_is_first : (u v : List ℕ) → Leads u v → (v ≡ u) ⊎ IsBefore u v
+pub lead_is_first : (u v : List ℕ) → IsLead u v → (v ≡ u) ⊎ IsBefore u v
 lead_is_first u v (inl e) = inl e
 lead_is_first u v (inr h) = inr (before_of h)
 
@@ -33,12 +33,12 @@ forks_next (ForksBefore.later h) (ForksBefore.smaller lt) = ForksBefore.smaller 
 forks_next (ForksBefore.later h) (ForksBefore.later k) = ForksBefore.later (forks_next h k)
 
 -- one after another
-pub forks_on : (u v w : List ℕ) → ForksBefore u v → Leads v w → ForksBefore u w
+pub forks_on : (u v w : List ℕ) → ForksBefore u v → IsLead v w → ForksBefore u w
 forks_on u v w h (inl e) = subst (ForksBefore u) (sym e) h
 forks_on u v w h (inr k) = forks_next h k
 
-leads_on : (u v w : List ℕ) → Leads u v → Leads v w → Leads u w
-leads_on u v w (inl e) k = subst (λ l. Leads l w) e k
+leads_on : (u v w : List ℕ) → IsLead u v → IsLead v w → IsLead u w
+leads_on u v w (inl e) k = subst (λ l. IsLead l w) e k
 leads_on u v w (inr h) k = inr (forks_on u v w h k)
 
 -- behind one list
@@ -51,7 +51,7 @@ pub forks_both : (a b u v : List ℕ) → ForksBefore a u → ForksBefore (a ++ 
 forks_both a b u v (ForksBefore.smaller lt) = ForksBefore.smaller lt
 forks_both (t ∷ a) b (s ∷ u) v (ForksBefore.later h) = ForksBefore.later (forks_both a b u v h)
 
-leads_both : (a b u v : List ℕ) → Leads a u → Leads b v → Leads (a ++ b) (u ++ v)
+leads_both : (a b u v : List ℕ) → IsLead a u → IsLead b v → IsLead (a ++ b) (u ++ v)
 leads_both a b u v (inr h) k = inr (forks_both a b u v h)
 leads_both a b u v (inl e) (inl q) = inl (ap (λ l. l ++ v) e ∙ ap (λ l. a ++ l) q)
 leads_both a b u v (inl e) (inr k) = inr (subst (λ l. ForksBefore (a ++ b) (l ++ v)) (sym e) (forks_behind a b v k))
@@ -63,7 +63,7 @@ module _ (G : Grammar) (f : ℕ → ℕ) (least : ℕ → Option ℕ) (top : ℕ
     (closed : (p A n : ℕ) (w : List ℕ) → n < top → IsTrue (wanted A) → IsTight G f least p A n → Concatenates lists (body_of G p) w → HasLead (lists A) w) where
   -- what the symbols put together leads w
   abbrev Found : List Sym → List ℕ → Type 0
-  Found a w = (v : List ℕ) × Concatenates lists a v × Leads v w
+  Found a w = (v : List ℕ) × Concatenates lists a v × IsLead v w
 
   head_in : (x : Sym) (a : List Sym) → RulesIn (λ B. IsTrue (wanted B)) (x ∷ a) → RulesIn (λ B. IsTrue (wanted B)) (x ∷ [])
   head_in (rule A) a r = (r.0, tt)
@@ -106,7 +106,7 @@ module _ (G : Grammar) (f : ℕ → ℕ) (least : ℕ → Option ℕ) (top : ℕ
         (a ++ b, concatenates_cons lists (root G as_is t) (roots G as_is ts) a b ca cb, leads_both a b (yield t) (yields ts) ua ub)
 
   one_of : (A : ℕ) (w : List ℕ) → Found (rule A ∷ []) w → HasLead (lists A) w
-  one_of A w (x, (u, v, c, e, q), up) = (u, c, subst (λ l. Leads l w) (q ∙ ap (λ l. u ++ l) e ∙ append-nil u) up)
+  one_of A w (x, (u, v, c, e, q), up) = (u, c, subst (λ l. IsLead l w) (q ∙ ap (λ l. u ++ l) e ∙ append-nil u) up)
 
   -- each cheapest list of a wanted rule is led by one that is there
   pub all_led : (A n : ℕ) (w : List ℕ) → n < top → IsTrue (wanted A) → least A ≡ Some n → IsLeastCost G f A n → IsCheapest G f A w → HasLead (lists A) w

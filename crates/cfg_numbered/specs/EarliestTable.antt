@@ -5,12 +5,12 @@ use Rattle.cfg_theory.specs.CostTables.{Concatenates}
 use Rattle.cfg_theory.specs.CheapestLists.{HaveCosts}
 use Rattle.cfg_numbered.specs.CostTable.{cost_in}
 use Rattle.cfg_numbered.specs.Sets.{is_set}
-use Rattle.cfg_numbered.specs.SharedLists.{Leads, IsAhead, AreNested}
+use Rattle.cfg_numbered.specs.SharedLists.{IsLead, IsAhead, AreNested}
 use Rattle.cfg_numbered.specs.CheapestTable.{GivesLeast}
 
 -- some list leads w
 abbrev pub HasLead : List (List ℕ) → List ℕ → Type 0
-HasLead lists w = (v : List ℕ) × Contains lists v × Leads v w
+HasLead lists w = (v : List ℕ) × Contains lists v × IsLead v w
 
 -- the one list, or none
 abbrev pub as_lists : Option (List ℕ) → List (List ℕ)
@@ -35,9 +35,9 @@ ComesFirst w None b = b ≡ true
 ComesFirst w (Some v) b = IsAhead w v b
 
 -- one of the two begins the other
-abbrev pub IsUntold : List ℕ → Option (List ℕ) → Type 0
-IsUntold w None = ⊥
-IsUntold w (Some v) = AreNested w v
+abbrev pub IsNestedIn : List ℕ → Option (List ℕ) → Type 0
+IsNestedIn w None = ⊥
+IsNestedIn w (Some v) = AreNested w v
 
 -- the lists are of the rules, and cost what the table of costs says
 pub record AreFound (G : Grammar) (f : ℕ → ℕ) (least : List (Option ℕ)) (table : List (Option (List ℕ))) : Type 0 where
@@ -45,15 +45,15 @@ pub record AreFound (G : Grammar) (f : ℕ → ℕ) (least : List (Option ℕ)) 
   pub costs : HaveCosts G f (cost_in least) (found_in table)
 
 -- the table; whether it is told which list comes first wherever two were compared; and how many more changes are counted
-pub record Firsts : Type 0 where
+pub record FoundLists : Type 0 where
   pub table : List (Option (List ℕ))
   pub is_told : Bool
   pub left : ℕ
 
 -- where p gives a wanted rule the least cost, the rule's list leads what p puts together, as long as all is told
-abbrev pub IsTakenIn : Grammar → (ℕ → ℕ) → List (Option ℕ) → List Bool → ℕ → Firsts → Type 0
+abbrev pub IsTakenIn : Grammar → (ℕ → ℕ) → List (Option ℕ) → List Bool → ℕ → FoundLists → Type 0
 IsTakenIn G f least wanted p firsts = IsTrue firsts.is_told → IsTrue (is_set wanted (head_of G p)) → GivesLeast G f least p → (w : List ℕ) → Concatenates (found_in firsts.table) (body_of G p) w → HasLead (found_in firsts.table (head_of G p)) w
 
 -- how often a list can still take the place of another
-abbrev pub room_in : Firsts → ℕ
+abbrev pub room_in : FoundLists → ℕ
 room_in firsts = firsts.left

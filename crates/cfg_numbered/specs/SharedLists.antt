@@ -75,13 +75,13 @@ IsTold u v true = ForksBefore u v
 IsTold u v false = ForksBefore v u
 
 -- u is v, or u forks before it
-abbrev pub Leads : List ℕ → List ℕ → Type 0
-Leads u v = (v ≡ u) ⊎ ForksBefore u v
+abbrev pub IsLead : List ℕ → List ℕ → Type 0
+IsLead u v = (v ≡ u) ⊎ ForksBefore u v
 
 -- whether the first of two lists forks before the second one, or the second one leads the first
 abbrev pub IsAhead : List ℕ → List ℕ → Bool → Type 0
 IsAhead u v true = ForksBefore u v
-IsAhead u v false = Leads v u
+IsAhead u v false = IsLead v u
 
 -- one of the lists begins the other
 abbrev pub AreNested : List ℕ → List ℕ → Type 0

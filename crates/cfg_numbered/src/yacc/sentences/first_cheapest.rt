@@ -14,7 +14,7 @@ ghost use Rattle.cfg_numbered.specs.WorkLists.{TakesIn};
 ghost use Rattle.cfg_numbered.specs.CostTable.{bound, cost_of, cost_in};
 ghost use Rattle.cfg_numbered.specs.TokenLists.{tokens_of};
 ghost use Rattle.cfg_numbered.specs.CheapestTable.{ListsAreRefused, IsFirstCheapest};
-ghost use Rattle.cfg_numbered.specs.EarliestTable.{GivesNone, GivesOne, ComesFirst, IsUntold, AreFound, IsTakenIn, room_in};
+ghost use Rattle.cfg_numbered.specs.EarliestTable.{GivesNone, GivesOne, ComesFirst, IsNestedIn, AreFound, IsTakenIn, room_in};
 
 use super::cheapest::lists_of_rule;
 use super::least::LeastCosts;
@@ -145,7 +145,7 @@ fn comes_first<S: IndexStorage>(
 ) -> Result<Option<bool>, AllocError>
     requires list { list < length shared.now.lists }
     requires rule { rule < length shared.now.table }
-    ensures { IfOk result (λ o. MatchOption o (IsUntold (get_or shared.now.lists list []) (get_or shared.now.table rule None)) (λ b. ComesFirst (get_or shared.now.lists list []) (get_or shared.now.table rule None) b)) }
+    ensures { IfOk result (λ o. MatchOption o (IsNestedIn (get_or shared.now.lists list []) (get_or shared.now.table rule None)) (λ b. ComesFirst (get_or shared.now.lists list []) (get_or shared.now.table rule None) b)) }
 {
     match shared.of_rule(rule) {
         None => Ok(Some(true)),

@@ -72,3 +72,4 @@ pub mod BlankCells
 pub mod MarkedSets
 pub mod SpreadSteps
 pub mod Waiting
+pub mod OwnSets

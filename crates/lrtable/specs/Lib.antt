@@ -35,3 +35,4 @@ pub mod ItemWalks
 pub mod Marks
 pub mod SpreadRows
 pub mod Waits
+pub mod OwnSets

@@ -10,11 +10,12 @@ ghost use Rattle.lrtable.specs.GraphViews.{edges_seen};
 ghost use Rattle.lrtable.specs.Handling.{TooManyStand};
 ghost use Rattle.lrtable.specs.ItemRows.{IsCoreOf, map_of};
 ghost use Rattle.lrtable.specs.States.{state_at};
-ghost use Rattle.lrtable.specs.StateViews.{edges_of, value_of};
+ghost use Rattle.lrtable.specs.StateViews.{core_of_set, edges_of, value_of};
 ghost use Rattle.lrtable.specs.Stepping.{FitsCore};
 ghost use Rattle.lrtable.specs.declared.states.BuildError.TheVariants as faults;
 
 use crate::closures::closed_by;
+use crate::cores::CoreSet;
 use crate::itemset::{Itemset, of_shared};
 use crate::openers::Openers;
 use crate::opening::Closer;
@@ -27,6 +28,7 @@ use cfg_base::index::IndexStorage;
 use cfg_base::symbol::Symbol;
 use cfg_numbered::yacc::{NumberedGrammar, YaccFirsts};
 use std::alloc::{AllocError, Global};
+use std::mem;
 
 /// The edges of a state with the indices of their targets.
 fn edge_list<S: IndexStorage>(
@@ -59,17 +61,39 @@ fn edge_lists<S: IndexStorage>(
     Ok(lists)
 }
 
-/// The cores of the states as item sets.
+/// Takes the core of a state out.
+fn take_core<S: IndexStorage>(
+    alloc: Global,
+    states: &mut Vec<State<S>>,
+    number: usize,
+) -> CoreSet<S>
+    requires { number < length states.old.items }
+    ensures core { core_of_set S.number result ≡ (state_at (map (value_of S.number) states.old.items) number).core }
+    ensures left { (r : ℕ) → (r ≡ number → ⊥) → state_at (map (value_of S.number) states.new.items) r ≡ state_at (map (value_of S.number) states.old.items) r }
+    ensures count { length states.new.items ≡ length states.old.items }
+{
+    let state = mem::replace(&mut states[number], State::empty(alloc));
+    let State {
+        core,
+        edges: _,
+        todo: _,
+    } = state;
+    core
+}
+
+/// The cores of the states, taken out, as item sets.
 fn core_sets<S: IndexStorage>(
     alloc: Global,
-    states: &[State<S>],
+    states: &mut Vec<State<S>>,
 ) -> Result<Vec<Itemset<S>>, AllocError>
-    requires { (tokens : ℕ) × ((s : ℕ) → s < length states.now → IsCoreOf tokens (state_at (map (value_of S.number) states.now) s).core) }
-    ensures { IfOk result (λ v. v.items ≡ map (λ s. map_of s.core) (map (value_of S.number) states.now)) }
+    requires { (tokens : ℕ) × ((s : ℕ) → s < length states.old.items → IsCoreOf tokens (state_at (map (value_of S.number) states.old.items) s).core) }
+    ensures { IfOk result (λ v. v.items ≡ map (λ s. map_of s.core) (map (value_of S.number) states.old.items)) }
 {
     let mut sets = Vec::with_capacity(alloc, states.len())?;
     'states: for number in 0..states.len() {
-        sets.push(of_shared(SharedSets::of_core(alloc, &states[number].core, 0)?))?;
+        let core = take_core(alloc, states, number);
+        let set = SharedSets::from_core(alloc, core)?;
+        sets.push(of_shared(set))?;
     }
     Ok(sets)
 }
@@ -96,24 +120,24 @@ fn closed_sets<S: IndexStorage>(
     Ok(sets)
 }
 
-/// The graph of the states of a finished building.
+/// The graph of the states of a finished building, whose cores are taken out.
 fn from_states<S: IndexStorage>(
     alloc: Global,
     grm: &NumberedGrammar<S>,
     firsts: &YaccFirsts<S>,
-    states: &[State<S>],
+    states: &mut Vec<State<S>>,
 ) -> Result<StateGraph<S>, AllocError>
     requires firsts { AreFirsts grm.now.grammar firsts.now }
-    requires few { length states.now ≤ S.MAX }
-    requires ready { AreFinal grm.now.grammar (map (value_of S.number) states.now) }
+    requires few { length states.old.items ≤ S.MAX }
+    requires ready { AreFinal grm.now.grammar (map (value_of S.number) states.old.items) }
     ensures graph { IfOk result (λ g. IsGraphOf grm.now.grammar g) }
-    ensures cores { IfOk result (λ g. g.cores ≡ map (λ s. map_of s.core) (map (value_of S.number) states.now)) }
-    ensures edges { IfOk result (λ g. g.edges ≡ map edge_pairs_of (map (value_of S.number) states.now)) }
+    ensures cores { IfOk result (λ g. g.cores ≡ map (λ s. map_of s.core) (map (value_of S.number) states.old.items)) }
+    ensures edges { IfOk result (λ g. g.edges ≡ map edge_pairs_of (map (value_of S.number) states.old.items)) }
 {
     grm.start_prod();
+    let closed = closed_sets(alloc, grm, firsts, states.as_slice())?;
+    let edges = edge_lists(alloc, states.as_slice())?;
     let cores = core_sets(alloc, states)?;
-    let closed = closed_sets(alloc, grm, firsts, states)?;
-    let edges = edge_lists(alloc, states)?;
     Ok(of_lists(cores, closed, edges))
 }
 
@@ -128,7 +152,7 @@ pub(crate) fn graph_of_grammar<S: IndexStorage>(
     ensures within { OnOk result (StaysWithin grm.now.grammar S.MAX) }
     ensures many { IsErrOf result faults.TooManyStates → TooManyStand grm.now.grammar S.MAX }
 {
-    let states = pager::states(alloc, grm, firsts)?;
-    let graph = from_states(alloc, grm, firsts, states.as_slice())?;
+    let mut states = pager::states(alloc, grm, firsts)?;
+    let graph = from_states(alloc, grm, firsts, &mut states)?;
     Ok(graph)
 }

@@ -8,8 +8,9 @@ ghost use Rattle.lrtable.specs.Gaining.{no_core};
 ghost use Rattle.lrtable.specs.ItemRows.{Item, IsAt, ItemBefore, Ascends, IsCoreOf, map_of};
 ghost use Rattle.lrtable.specs.Itemsets.{IsNewTo};
 ghost use Rattle.lrtable.specs.Meeting.{rows_in, row};
+ghost use Rattle.lrtable.specs.OwnSets.{HaveOwn};
 ghost use Rattle.lrtable.specs.Sharing.{keys_of, shared_core, shared_map, PointIn, IsShared, BelongsAt, KeepsSets, TakesIn, StaysAs, GrowsBy};
-ghost use Rattle.lrtable.specs.StateViews.{item_of, core_of_set};
+ghost use Rattle.lrtable.specs.StateViews.{item_of, items_of, core_of_set};
 ghost use Rattle.lrtable.specs.Stepping.{IsSized, OfRule, OfRuleLooks, OpenBelow, OpenLooksBelow};
 
 use crate::cores::{CoreItem, CoreSet, comes_before, same_item};
@@ -59,6 +60,21 @@ fn is_at<S: IndexStorage>(entries: &[SharedItem<S>], index: usize, item: &CoreIt
         return false;
     }
     same_item(&entries[index].item, item)
+}
+
+/// Items, each with the index of a set of its own.
+fn each_own<S: IndexStorage>(
+    alloc: Global,
+    items: &[CoreItem<S>],
+) -> Result<Vec<SharedItem<S>>, AllocError>
+    ensures { IfOk result (λ v. HaveOwn S.number (items_of S.number items.now) (length items.now) v.items) }
+{
+    let mut entries = Vec::with_capacity(alloc, items.len())?;
+    'items: for set in 0..items.len() {
+        let item = items[set];
+        entries.push(SharedItem { item, set })?;
+    }
+    Ok(entries)
 }
 
 impl<S: IndexStorage> SharedSets<S> {
@@ -233,6 +249,20 @@ impl<S: IndexStorage> SharedSets<S> {
             })?;
         }
         Ok(SharedSets { entries, sets })
+    }
+
+    /// The items of a core, each with its own set.
+    pub(crate) fn from_core(alloc: Global, core: CoreSet<S>) -> Result<SharedSets<S>, AllocError>
+        requires { length core.looks.items ≡ length core.items.items }
+        ensures core { IfOk result (λ s. shared_core S.number s ≡ core_of_set S.number core) }
+        ensures within { IfOk result (λ s. PointIn (rows_in s.sets.items) s.entries.items) }
+    {
+        let CoreSet { items, looks } = core;
+        let entries = each_own(alloc, items.as_slice())?;
+        Ok(SharedSets {
+            entries,
+            sets: looks,
+        })
     }
 
     /// The items, each with a copy of its lookaheads.

@@ -1,6 +1,5 @@
-use Rattle.std.proofs.Common.{length, map, sym, subst, arith}
+use Rattle.std.proofs.Common.{arith}
 use Rattle.std.proofs.lemmas.List.{length-map}
-use Rattle.lrtable.specs.FinalStates.{AreFinal}
 use Rattle.lrtable.specs.StateViews.{value_of}
 use Rattle.lrtable.proofs.finishing.graph_of_grammar.Goals as goal
 
@@ -10,9 +9,9 @@ from_states-requires-clause-ready g c =
     let states = c.in_ok-states.states.items in
     let n = length-map states (value_of number) in
     let some = c.in_ok-states.ensures.some in
-    subst (λ l. AreFinal c.args.grm.now.grammar (map (value_of number) l)) (sym c.as_slice.ensures.value) (record {
+    record {
       graph = c.in_ok-states.ensures.graph;
       linked = c.in_ok-states.ensures.linked;
       cores = λ s lt. c.in_ok-states.ensures.cores s (omega (arith, lt, n));
       some = omega (arith, n, some);
-    })
+    }

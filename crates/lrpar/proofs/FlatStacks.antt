@@ -35,7 +35,7 @@ module _ {L : Type 0} (at : L → Span) where
   ends_length (t ∷ ts) = ap suc (ends_length ts)
 
   -- the topmost end is the number of all nodes
-  top_end : (ts : List (Tree L)) (d : ℕ) → 0 < length ts → get_or (stack_ends at ts) 0 d ≡ length (flat_stack at ts)
+  pub top_end : (ts : List (Tree L)) (d : ℕ) → 0 < length ts → get_or (stack_ends at ts) 0 d ≡ length (flat_stack at ts)
   top_end [] d some = absurd (omega arith)
   top_end (t ∷ ts) d some = refl
 

@@ -38,7 +38,7 @@ pushed_at (y ∷ xs) (suc k) (suc j) p x le e = ⊎_elim
     (λ h. inr (ap suc h.0, h.1))
     (pushed_at xs k j p x (omega arith) e)
 
-some_at : {X : Type 0} (xs : List X) (k : ℕ) → k < length xs → (x : X) × (slice_get xs k ≡ Some x) × ((d : X) → get_or xs k d ≡ x)
+pub some_at : {X : Type 0} (xs : List X) (k : ℕ) → k < length xs → (x : X) × (slice_get xs k ≡ Some x) × ((d : X) → get_or xs k d ≡ x)
 some_at [] k lt = absurd (omega arith)
 some_at (x ∷ xs) zero lt = (x, refl, λ d. refl)
 some_at (x ∷ xs) (suc k) lt = some_at xs k (omega arith)
@@ -73,7 +73,7 @@ pub ascend_reduced : (spans : List SpanModel) (count : ℕ) (place : SpanModel) 
 ascend_reduced spans count place up le is = ascend_pushed spans (length spans - count) place up (omega arith) (λ j x lt e. starts_before spans count place j x up le is lt e)
 
 -- the place of a reduction starts no later than the stack does
-place_by : (spans : List SpanModel) (count : ℕ) (place : SpanModel) (m : ℕ) → StartBy spans m → count ≤ length spans → span_of_places place ≡ reduction_span count (reverse (spans_of spans)) → place.start ≤ m
+pub place_by : (spans : List SpanModel) (count : ℕ) (place : SpanModel) (m : ℕ) → StartBy spans m → count ≤ length spans → span_of_places place ≡ reduction_span count (reverse (spans_of spans)) → place.start ≤ m
 place_by [] zero place m up le is = let same : place.start ≡ 0 = ap (λ s. s.from) is in omega (arith, same)
 place_by (x ∷ spans) zero place m up le is =
     let y = some_at (x ∷ spans) (length (x ∷ spans) - 1 - 0) (omega arith) in

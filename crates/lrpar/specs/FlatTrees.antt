@@ -17,6 +17,10 @@ abbrev pub piece_of : {S L : Type 0} → (S → ℕ) → FlatNode S L → Piece 
 piece_of number (Term x) = term x
 piece_of number (Nonterm p span below) = nonterm (number p.0) (span_of_places span) below
 
+abbrev pub piece_span : {L : Type 0} → (L → Span) → Piece L → Span
+piece_span at (term x) = at x
+piece_span at (nonterm p span n) = span
+
 abbrev pub nodes_below : {L : Type 0} → Piece L → ℕ
 nodes_below (term x) = 0
 nodes_below (nonterm p span n) = n

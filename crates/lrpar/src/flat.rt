@@ -10,10 +10,11 @@ ghost use Rattle.lr_theory.specs.Machine.{pop};
 ghost use Rattle.lr_theory.specs.StackValues.{top_span};
 ghost use Rattle.lrpar.specs.Run.{span_by};
 ghost use Rattle.lrpar.specs.Stacks.{span_of_places};
-ghost use Rattle.lrpar.specs.FlatTrees.{IsFlatStack, IsFlat, IsSomeTree, FlatValue, StandsAt, pieces_of, nodes_below, size, below, preorder, root_visits};
+ghost use Rattle.lrpar.specs.FlatTrees.{term, nonterm, IsFlatStack, IsFlat, IsSomeTree, FlatValue, StandsAt, pieces_of, piece_span, nodes_below, size, below, preorder, root_visits};
 
 use crate::lex_api::Lexeme;
 use crate::node::{push_lexeme_line, push_rule_line};
+use crate::tops::put_above;
 use cfg_base::index::IndexStorage;
 use cfg_base::span::Span;
 use cfg_base::symbol::PIdx;
@@ -78,6 +79,21 @@ fn below_at<S: IndexStorage, L: Lexeme<S>>(nodes: &[FlatNode<S, L>], index: usiz
             span: _,
             below,
         } => below,
+    }
+}
+
+/// Answers the span of the node of an index.
+pub(crate) fn span_at<S: IndexStorage, L: Lexeme<S>>(nodes: &[FlatNode<S, L>], index: usize) -> Span
+    requires { index < length nodes.now }
+    ensures { option_map (piece_span (span_by L.lex)) (slice_get (pieces_of S.number nodes.now) index) ≡ Some (span_of_places result) }
+{
+    match node_at(nodes, index) {
+        FlatNode::Term { lexeme } => lexeme.span(),
+        FlatNode::Nonterm {
+            pidx: _,
+            span,
+            below: _,
+        } => span,
     }
 }
 
@@ -244,23 +260,36 @@ pub(crate) struct FlatBuilder<S: IndexStorage, L: Lexeme<S>> {
     pub ends: Vec<usize>,
 }
 
+/// Puts a node behind all.
+#[inline(always)]
+fn put_node<S: IndexStorage, L: Lexeme<S>>(
+    nodes: &mut Vec<FlatNode<S, L>>,
+    entry: FlatNode<S, L>,
+) -> Result<(), AllocError>
+    ensures { OnOk result (nodes.new.items ≡ nodes.old.items ++ entry ∷ []) }
+{
+    nodes.push(entry)?;
+    Ok(())
+}
+
 impl<S: IndexStorage, L: Lexeme<S>> FlatBuilder<S, L> {
-    /// Makes the stack of no trees.
-    pub(crate) fn new(alloc: Global) -> Self
-        ensures { IsFlatStack (span_by L.lex) [] (pieces_of S.number result.nodes.items) result.ends.items }
+    /// Makes the stack of no trees, with room for as many nodes.
+    pub(crate) fn with_room(alloc: Global, count: usize) -> Result<Self, AllocError>
+        ensures stack { IfOk result (λ s. IsFlatStack (span_by L.lex) [] (pieces_of S.number s.nodes.items) s.ends.items) }
+        ensures empty { IfOk result (λ s. s.nodes.items ≡ []) }
     {
-        FlatBuilder {
-            nodes: Vec::new(alloc),
-            ends: Vec::new(alloc),
-        }
+        let nodes = Vec::with_capacity(alloc, count)?;
+        let ends = Vec::with_capacity(alloc, 64)?;
+        Ok(FlatBuilder { nodes, ends })
     }
 
     /// Puts a lexeme on top.
     pub(crate) fn shift(&mut self, lexeme: L) -> Result<(), AllocError>
-        ensures { (ts : List (Tree L)) → IsFlatStack (span_by L.lex) ts (pieces_of S.number self.old.nodes.items) self.old.ends.items →
+        ensures put { OnOk result (pieces_of S.number self.new.nodes.items ≡ pieces_of S.number self.old.nodes.items ++ term lexeme ∷ []) }
+        ensures stack { (ts : List (Tree L)) → IsFlatStack (span_by L.lex) ts (pieces_of S.number self.old.nodes.items) self.old.ends.items →
             OnOk result (IsFlatStack (span_by L.lex) (leaf lexeme ∷ ts) (pieces_of S.number self.new.nodes.items) self.new.ends.items) }
     {
-        self.nodes.push(FlatNode::Term { lexeme })?;
+        put_node(&mut self.nodes, FlatNode::Term { lexeme })?;
         self.ends.push(self.nodes.len())?;
         Ok(())
     }
@@ -273,16 +302,16 @@ impl<S: IndexStorage, L: Lexeme<S>> FlatBuilder<S, L> {
         count: usize,
     ) -> Result<(), AllocError>
         requires { (ts below : List (Tree L)) × (f : Forest L) × IsFlatStack (span_by L.lex) ts (pieces_of S.number self.old.nodes.items) self.old.ends.items × (pop count ts none ≡ Some (f, below)) }
-        ensures { (ts below : List (Tree L)) (f : Forest L) → IsFlatStack (span_by L.lex) ts (pieces_of S.number self.old.nodes.items) self.old.ends.items →
+        ensures put { OnOk result ((n : ℕ) × (pieces_of S.number self.new.nodes.items ≡ pieces_of S.number self.old.nodes.items ++ nonterm (S.number pidx.0) (span_of_places span) n ∷ [])) }
+        ensures stack { (ts below : List (Tree L)) (f : Forest L) → IsFlatStack (span_by L.lex) ts (pieces_of S.number self.old.nodes.items) self.old.ends.items →
             pop count ts none ≡ Some (f, below) → span_of_places span ≡ span_over (span_by L.lex) (top_span (span_by L.lex) below) f →
             OnOk result (IsFlatStack (span_by L.lex) (node (S.number pidx.0) f ∷ below) (pieces_of S.number self.new.nodes.items) self.new.ends.items) }
     {
         let left = self.ends.len() - count;
         let start = if left == 0 { 0 } else { self.ends[left - 1] };
         let below = self.nodes.len() - start;
-        self.nodes.push(FlatNode::Nonterm { pidx, span, below })?;
-        self.ends.truncate(left);
-        self.ends.push(self.nodes.len())?;
+        put_node(&mut self.nodes, FlatNode::Nonterm { pidx, span, below })?;
+        put_above(&mut self.ends, left, self.nodes.len())?;
         Ok(())
     }
 

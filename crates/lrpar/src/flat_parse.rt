@@ -34,8 +34,8 @@ fn tree_left<S: IndexStorage, L: Lexeme<S>>(
     values: FlatValues<S, L>,
     accepted: bool,
 ) -> Option<FlatTree<S, L>>
-    requires { (tree : Option (Tree L)) × HoldsValue (λ ts. FlatStand (span_by L.lex) ts (pieces_of S.number values.builder.nodes.items) values.builder.ends.items values.spans.items) accepted tree }
-    ensures { (tree : Option (Tree L)) → HoldsValue (λ ts. FlatStand (span_by L.lex) ts (pieces_of S.number values.builder.nodes.items) values.builder.ends.items values.spans.items) accepted tree → HasFlat (span_by L.lex) result tree }
+    requires { (tree : Option (Tree L)) × HoldsValue (λ ts. FlatStand (span_by L.lex) ts (pieces_of S.number values.builder.nodes.items) values.builder.ends.items) accepted tree }
+    ensures { (tree : Option (Tree L)) → HoldsValue (λ ts. FlatStand (span_by L.lex) ts (pieces_of S.number values.builder.nodes.items) values.builder.ends.items) accepted tree → HasFlat (span_by L.lex) result tree }
 {
     if accepted {
         Some(values.finish())
@@ -61,15 +61,11 @@ pub(crate) fn parse_flat<S: IndexStorage, L: Lexeme<S>, E: Copy, R: Recoverer<S,
         IsFlatParse S.number L.lex L.faulty_of grm.now.grammar g stable.now (R.answers recoverer.now) items.now p.0 p.1.items)) }
     ensures refused { IfErr result (IsParseRefusal grm.now.grammar L.lex items.now) }
 {
-    match parse_items(
-        alloc,
-        grm,
-        stable,
-        limit,
-        items,
-        recoverer,
-        FlatValues::new(alloc),
-    )? {
+    let values = match FlatValues::with_room(alloc, items.len()) {
+        Ok(values) => values,
+        Err(e) => return Err(ParseRefusal::Memory(e)),
+    };
+    match parse_items(alloc, grm, stable, limit, items, recoverer, values)? {
         Outcome::Fault(fault) => Ok(Err(fault)),
         Outcome::Parsed(lexemes, parsed) => {
             let Parsed {

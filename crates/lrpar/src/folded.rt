@@ -12,6 +12,7 @@ ghost use Rattle.std.proofs.Common.{refl, ◌∙◌};
 ghost use Rattle.std.proofs.Math.Nat.{le_trans};
 
 use crate::lex_api::Lexeme;
+use crate::tops::put_above;
 use crate::values::ValueStack;
 use cfg_base::index::IndexStorage;
 use cfg_base::span::Span;
@@ -63,8 +64,7 @@ where
     let args = values.split_off(left)?;
     let value = fnonterm(alloc, pidx, ridx, span, args)?;
     values.push(value)?;
-    spans.truncate(left);
-    spans.push(span)?;
+    put_above(spans, left, span)?;
     Ok(())
 }
 

@@ -40,7 +40,7 @@ pub(crate) fn gather<L: Copy, E: Copy>(
 ) -> Result<Result<Vec<L>, E>, AllocError>
     ensures { IfOk result (ReadsAs items.now) }
 {
-    let mut lexemes = Vec::new(alloc);
+    let mut lexemes = Vec::with_capacity(alloc, items.len())?;
     'items: for index in 0..items.len() {
         match items[index] {
             Ok(lexeme) => lexemes.push(lexeme)?,

@@ -64,6 +64,7 @@ mod rows;
 mod run;
 mod shorts;
 mod stacks;
+mod tops;
 mod values;
 
 pub use builder::RTParserBuilder;

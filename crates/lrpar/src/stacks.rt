@@ -11,6 +11,7 @@ ghost use Rattle.lrpar.specs.Reducing.{states_of, stack_of, IsTableFor, AreState
 ghost use Rattle.lrtable.specs.Graphs.{GraphValue};
 
 use crate::lex_api::Lexeme;
+use crate::tops::put_above;
 use crate::values::ValueStack;
 use cfg_base::index::IndexStorage;
 use cfg_base::symbol::PIdx;
@@ -31,7 +32,7 @@ impl<S: IndexStorage, V: Drop> Stacks<S, V> {
         ensures states { IfOk result (λ s. states_of S.number s.states.items ≡ S.number state.0 ∷ []) }
         ensures values { IfOk result (λ s. s.values ≡ values) }
     {
-        let mut states = Vec::new(alloc);
+        let mut states = Vec::with_capacity(alloc, 64)?;
         states.push(state)?;
         Ok(Stacks { states, values })
     }
@@ -83,8 +84,7 @@ pub(crate) fn reduce_onto<S: IndexStorage, L: Lexeme<S>, V: ValueStack<S, L>>(
     let below = stacks.states[left - 1];
     match stable.goto(below, ridx) {
         Some(target) => {
-            stacks.states.truncate(left);
-            stacks.states.push(target)?;
+            put_above(&mut stacks.states, left, target)?;
             Ok(())
         }
         None => unreachable!(),

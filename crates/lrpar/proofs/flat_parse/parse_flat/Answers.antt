@@ -14,8 +14,8 @@ tree_left-tree-requires g c =
     let o = rw c.in-Parsed.is at (c.in_ok-fault.ensures.parsed x.0 x.1 x.2) in
     (o.2.parsed.tree, o.2.parsed.gives_tree)
 
-pub returns-in-Ok-clause-parsed : goal.returns-in-Ok-clause-parsed
-returns-in-Ok-clause-parsed g c = λ x safe start.
+pub returns-in-Ok-tell_errors-clause-parsed : goal.returns-in-Ok-tell_errors-clause-parsed
+returns-in-Ok-tell_errors-clause-parsed g c = λ x safe start.
     let number = g.S.IndexStorage.number in
     let lex = g.L.Lexeme.lex in
     let G = c.args.grm.now.grammar in
@@ -23,7 +23,7 @@ returns-in-Ok-clause-parsed g c = λ x safe start.
     let lexemes = c.in-Parsed.lexemes.items in
     let found = errors_of number p.errors.items in
     let o = rw c.in-Parsed.is at (c.in_ok-fault.ensures.parsed x safe start) in
-    let told = c.in-Ok.ensures ∙ ap (λ xs. map (as_told xs) (errors_of number c.as_slice-in-Parsed.result.now)) c.as_slice.ensures.value ∙ ap (λ es. map (as_told lexemes) (errors_of number es)) c.as_slice-in-Parsed.ensures.value in
+    let told = c.in-Ok-tell_errors.ensures ∙ ap (λ xs. map (as_told xs) (errors_of number c.as_slice-in-Parsed.result.now)) c.as_slice.ensures.value ∙ ap (λ es. map (as_told lexemes) (errors_of number es)) c.as_slice-in-Parsed.ensures.value in
     record {
       lexemes = lexemes;
       are_items = o.0;

@@ -16,7 +16,7 @@ returns-clause-folded g c =
       span_is = c.reduced_span-span.ensures ∙ ap (λ l. reduction_span c.args.count (reverse (spans_of l))) c.as_slice.ensures.value;
       says_so = (c.args.pidx, c.args.ridx, c.reduced_span-span.result, c.in_ok-args.args, refl, refl, refl, c.in_ok-args.ensures.tail ∙ ap (λ k. drop k values.items) left, c.in_ok-value.ensures);
       values_are = c.in_ok-push.ensures.items ∙ ap (λ l. l ++ c.in_ok-value.value ∷ []) (c.in_ok-args.ensures.items ∙ ap (λ k. take k values.items) left);
-      spans_are = c.in_ok-push-2.ensures.items ∙ ap (λ l. l ++ c.reduced_span-span.result ∷ []) (c.truncate.ensures.items ∙ ap (λ k. take k spans.items) under);
+      spans_are = c.in_ok-put_above.ensures ∙ ap (λ k. take k spans.items ++ c.reduced_span-span.result ∷ []) under;
     }
 
 pub returns-clause-ascend : goal.returns-clause-ascend
@@ -25,7 +25,7 @@ returns-clause-ascend g c =
     let spans = c.args.spans.now in
     let under : c.len.result - c.args.count ≡ length spans.items - c.args.count = omega (arith, values.ok.0) in
     let is = c.reduced_span-span.ensures ∙ ap (λ l. reduction_span c.args.count (reverse (spans_of l))) c.as_slice.ensures.value in
-    rw (c.in_ok-push-2.ensures.items, c.truncate.ensures.items, under) (ascend_reduced spans.items c.args.count c.reduced_span-span.result c.requires.ascend (omega arith) is)
+    rw (c.in_ok-put_above.ensures, under) (ascend_reduced spans.items c.args.count c.reduced_span-span.result c.requires.ascend (omega arith) is)
 
 pub returns-clause-start : goal.returns-clause-start
 returns-clause-start g c = λ m up.
@@ -33,4 +33,4 @@ returns-clause-start g c = λ m up.
     let spans = c.args.spans.now in
     let under : c.len.result - c.args.count ≡ length spans.items - c.args.count = omega (arith, values.ok.0) in
     let is = c.reduced_span-span.ensures ∙ ap (λ l. reduction_span c.args.count (reverse (spans_of l))) c.as_slice.ensures.value in
-    rw (c.in_ok-push-2.ensures.items, c.truncate.ensures.items, under) (start_reduced spans.items c.args.count c.reduced_span-span.result m up (omega arith) is)
+    rw (c.in_ok-put_above.ensures, under) (start_reduced spans.items c.args.count c.reduced_span-span.result m up (omega arith) is)

@@ -64,14 +64,14 @@ unreachable-requires g c =
 pub returns-clause-goes : goal.returns-clause-goes
 returns-clause-goes g c = λ x.
     let number = g.S.IndexStorage.number in
-    reduced g (goal.at.returns-clause-goes g c).After-goto x ∙ rw (c.in-Some.is, c.in_ok-push-in-Some.ensures.items, c.truncate.ensures.items, states_pushed number, reverse-append) refl
+    reduced g (goal.at.returns-clause-goes g c).After-goto x ∙ rw (c.in-Some.is, c.in_ok-put_above-in-Some.ensures, states_pushed number, reverse-append) refl
 
 pub returns-clause-states : goal.returns-clause-states
 returns-clause-states g c =
     let number = g.S.IndexStorage.number in
     let v = c.args.stable.now in
     let to : goto_at v (number c.index-below.result.now.0) (number c.prod_to_rule-ridx.result.0) ≡ Some (number c.in-Some.target.0) = sym c.goto.ensures ∙ ap (state_of number) c.in-Some.is in
-    rw (c.in_ok-push-in-Some.ensures.items, c.truncate.ensures.items) (are_pushed number v c.args.stacks.now.states.items (c.len.result - c.to_usize-count.result) c.in-Some.target c.requires.states (c.requires.table.is_table.targets _ _ _ to))
+    rw c.in_ok-put_above-in-Some.ensures (are_pushed number v c.args.stacks.now.states.items (c.len.result - c.to_usize-count.result) c.in-Some.target c.requires.states (c.requires.table.is_table.targets _ _ _ to))
 
 pub returns-clause-held : goal.returns-clause-held
 returns-clause-held g c = λ ts below f stands popped.

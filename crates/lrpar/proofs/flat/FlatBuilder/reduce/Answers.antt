@@ -30,8 +30,8 @@ overflow_sub-below g c =
     ] in
     omega (arith, start, c.len-2.ensures, s.nodes.ok.0, length-map s.nodes.items (piece_of g.S.IndexStorage.number), split_length at ts pieces s.ends.items c.args.count f below stands is)
 
-pub returns : goal.returns
-returns g c = λ ts below f stands is span.
+pub returns-clause-stack : goal.returns-clause-stack
+returns-clause-stack g c = λ ts below f stands is span.
     let at = span_by g.L.Lexeme.lex in
     let number = g.S.IndexStorage.number in
     let s = c.args.self.now in
@@ -45,7 +45,13 @@ returns g c = λ ts below f stands is span.
     let long = length-map s.nodes.items (piece_of number) in
     let counted : (c.len-2.result - c.if-left-eq0.start) + c.if-left-eq0.start ≡ length pieces =
     omega (arith, start, c.len-2.ensures, s.nodes.ok.0, long, split_length at ts pieces s.ends.items c.args.count f below stands is) in
-    let made : pieces_of number c.push.new.self.items ≡ pieces ++ _ = ap (pieces_of number) c.in_ok-push.ensures.items ∙ map-append (piece_of number) s.nodes.items _ in
-    reduced at ts pieces s.ends.items c.args.count f below stands is (pieces_of number c.push.new.self.items) c.push-2.new.self.items (number c.args.pidx.0) (c.len-2.result - c.if-left-eq0.start) c.if-left-eq0.start c.len-3.result _ span start counted made
-    (omega (arith, c.len-3.ensures, c.push.new.self.ok.0, length-map c.push.new.self.items (piece_of number)))
-    (c.in_ok-push-2.ensures.items ∙ ap (λ xs. xs ++ c.len-3.result ∷ []) (c.truncate.ensures.items ∙ ap (λ k. take k s.ends.items) (omega (arith, c.len.ensures, s.ends.ok.0))))
+    let made : pieces_of number c.put_node.new.nodes.items ≡ pieces ++ _ = ap (pieces_of number) c.in_ok-put_node.ensures ∙ map-append (piece_of number) s.nodes.items _ in
+    reduced at ts pieces s.ends.items c.args.count f below stands is (pieces_of number c.put_node.new.nodes.items) c.put_above.new.stack.items (number c.args.pidx.0) (c.len-2.result - c.if-left-eq0.start) c.if-left-eq0.start c.len-3.result _ span start counted made
+    (omega (arith, c.len-3.ensures, c.put_node.new.nodes.ok.0, length-map c.put_node.new.nodes.items (piece_of number)))
+    (c.in_ok-put_above.ensures ∙ ap (λ k. take k s.ends.items ++ c.len-3.result ∷ []) (omega (arith, c.len.ensures, s.ends.ok.0)))
+
+pub returns-clause-put : goal.returns-clause-put
+returns-clause-put g c =
+    let number = g.S.IndexStorage.number in
+    let s = c.args.self.now in
+    (c.len-2.result - c.if-left-eq0.start, ap (pieces_of number) c.in_ok-put_node.ensures ∙ map-append (piece_of number) s.nodes.items _)

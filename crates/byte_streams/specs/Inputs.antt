@@ -10,11 +10,15 @@ use Rattle.byte_streams.specs.declared.reading.InputFault.TheVariants.{Read, Too
 abbrev pub most_bytes : ℕ
 most_bytes = 67108864
 
+-- the bytes, where they are known, are no more than an input may have, and no text
+abbrev pub HasNoText : Option (List ℕ) → Type 0
+HasNoText known = IfSome known (λ bs. (length bs ≤ most_bytes) × ¬ (IsUtf8 bs))
+
 -- the count of failures went up; more bytes were there than an input may have; the bytes are no text
 abbrev pub IsInputFault : Option (List ℕ) → ℕ → ℕ → InputFault → Type 0
 IsInputFault known faults faults' Read = faults' ≡ one_more faults
 IsInputFault known faults faults' TooLong = HasMoreThan most_bytes known
-IsInputFault known faults faults' NotUtf8 = IfSome known (λ bs. ¬ (IsUtf8 bs))
+IsInputFault known faults faults' NotUtf8 = HasNoText known
 IsInputFault known faults faults' (Memory e) = ⊤
 
 -- one read fails only by the source or for want of memory

@@ -1,9 +1,9 @@
 -- What a run leaves, and why it stops.
-use Rattle.std.specs.Prelude.{◌≡◌, ◌≤◌, ◌⊎◌, ℕ, Bool, List, length, Option, IfSome}
+use Rattle.std.specs.Prelude.{◌≡◌, ◌≤◌, ◌⊎◌, ℕ, Bool, List, length, Option}
 use Rattle.std.specs.Io.KnownBytes.{Appends, Keeps}
 use Rattle.std.specs.Str.{IsUtf8}
 use Rattle.std.specs.Str.Lines.{lines}
-use Rattle.byte_streams.specs.Inputs.{most_bytes}
+use Rattle.byte_streams.specs.Inputs.{most_bytes, HasNoText}
 use Rattle.byte_streams.specs.Source.{one_more, IsWhole, HasMoreThan}
 use Rattle.lr_theory.specs.Repair.{Edit}
 use Rattle.parser_kit.specs.Kit.{KitValue}
@@ -60,12 +60,12 @@ IsOutAt grammar lines repairs known known' (NotUtf8 input) = Keeps known known'
 IsOutAt grammar lines repairs known known' (Read input) = Keeps known known'
 IsOutAt grammar lines repairs known known' (TooLong input) = Keeps known known'
 
--- a fault that names this input: its count of failures went up, it had more bytes than an input may have, or they are no text
+-- a fault that names this input: its count of failures went up, it had more bytes than an input may have, or no more, and they are no text
 abbrev pub IsCauseIn : Input → Option (List ℕ) → ℕ → ℕ → RunFault → Type 0
 IsCauseIn input known faults faults' (Kit e) = Unit {0}
 IsCauseIn input known faults faults' (Conflicts a b c d) = Unit {0}
 IsCauseIn input known faults faults' (NotARepair n) = Unit {0}
-IsCauseIn input known faults faults' (NotUtf8 i) = i ≡ input → IfSome known (λ bs. ¬ (IsUtf8 bs))
+IsCauseIn input known faults faults' (NotUtf8 i) = i ≡ input → HasNoText known
 IsCauseIn input known faults faults' (Read i) = i ≡ input → faults' ≡ one_more faults
 IsCauseIn input known faults faults' (TooLong i) = i ≡ input → HasMoreThan most_bytes known
 IsCauseIn input known faults faults' Write = Unit {0}

@@ -4,3 +4,5 @@ pub mod Lines
 pub mod ShownLines
 pub mod Outcomes
 pub mod OneOutput
+pub mod KitRefusals
+pub mod Stages

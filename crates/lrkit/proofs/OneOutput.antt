@@ -90,16 +90,19 @@ module _ (k : KitValue) (rs : List (List Edit)) (alike : ParseAlike ℕ ℕ Word
 -- ---- all lines
 
 module _ (kinds : (text : List ℕ) (k l : YaccKind) → IsKindOfText text k → IsKindOfText text l → k ≡ l)
-    (kits : (top top' cap : ℕ) (kind : YaccKind) (text : List ℕ) (k l : KitValue) → IsKitOf top kind text cap k → IsKitOf top' kind text cap l → k ≡ l)
-    (alike : (top top' cap : ℕ) (kind : YaccKind) (text : List ℕ) (k l : KitValue) → IsKitOf top kind text cap k → IsKitOf top' kind text cap l → ParseAlike ℕ ℕ Word WordLexError k.parser l.parser) where
-  one_run_kit : (grammar : List ℕ) (k l : KitValue) → IsRunKit grammar k → IsRunKit grammar l → k ≡ l
+    (kits : (top top' cap : ℕ) (kind : YaccKind) (text : List ℕ) (k l : KitValue) → IsKitOf top kind text cap k → IsKitOf top' kind text cap l → k ≡ l) where
+  -- a grammar has one kit
+  pub one_run_kit : (grammar : List ℕ) (k l : KitValue) → IsRunKit grammar k → IsRunKit grammar l → k ≡ l
   one_run_kit grammar k l x y =
       let P : YaccKind → Type 0 = λ kind. IsKitOf top kind grammar cap k in
       kits top top cap y.kind grammar k l (subst P (kinds grammar x.kind y.kind x.is_kind y.is_kind) x.is_kit) y.is_kit
 
+module _ (kinds : (text : List ℕ) (k l : YaccKind) → IsKindOfText text k → IsKindOfText text l → k ≡ l)
+    (kits : (top top' cap : ℕ) (kind : YaccKind) (text : List ℕ) (k l : KitValue) → IsKitOf top kind text cap k → IsKitOf top' kind text cap l → k ≡ l)
+    (alike : (top top' cap : ℕ) (kind : YaccKind) (text : List ℕ) (k l : KitValue) → IsKitOf top kind text cap k → IsKitOf top' kind text cap l → ParseAlike ℕ ℕ Word WordLexError k.parser l.parser) where
   pub one_output : (grammar line_text repair_text text other : List ℕ) (faulty wrong : Bool) → Output grammar line_text repair_text text faulty → Output grammar line_text repair_text other wrong → (text ≡ other) × (faulty ≡ wrong)
   one_output grammar line_text repair_text text other faulty wrong o p =
-      let kit = one_run_kit grammar o.kit p.kit o.ready.is_kit p.ready.is_kit in
+      let kit = one_run_kit kinds kits grammar o.kit p.kit o.ready.is_kit p.ready.is_kit in
       let read = sym o.ready.are_repairs ∙ ap (λ (k : KitValue). map (repair_line k.parser.grammar) (lines repair_text)) kit ∙ p.ready.are_repairs in
       let repairs = somes_same o.repairs p.repairs read in
       let P : KitValue → Type 0 = λ k. LineTexts k p.repairs (lines line_text) other wrong in

@@ -4,3 +4,4 @@ pub mod Output
 pub mod LineSteps
 pub mod Writing
 pub mod Run
+pub mod Answers

@@ -1,2 +1,3 @@
 pub mod Undeclared
 pub mod LeastSentences
+pub mod Answered

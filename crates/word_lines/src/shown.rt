@@ -1,13 +1,10 @@
-//! The texts of a line's errors, and of its tree.
+//! The texts of a line's errors.
 
-ghost use Rattle.std.specs.Prelude.{◌≡◌, ◌≤◌, ◌++◌, ◌∷◌, [], length, string_bytes, IfOk, OnOk, Option};
+ghost use Rattle.std.specs.Prelude.{◌≡◌, ◌≤◌, ◌++◌, ◌∷◌, [], length, string_bytes, IfOk, OnOk};
 ghost use Rattle.std.specs.List.{flat_map, AllByRecursion};
-ghost use Rattle.cfg_theory.specs.Tree.{Tree};
 ghost use Rattle.lrpar.specs.ErrorTexts.{ErrorFits, error_text, name_or_number};
-ghost use Rattle.lrpar.specs.FlatParses.{HasFlat};
-ghost use Rattle.lrpar.specs.Run.{span_by};
 ghost use Rattle.word_lines.specs.Lexing.{lex_of};
-ghost use Rattle.word_lines.specs.LineTexts.{ErrorCanBeShown, TreeCanBeShown, error_line, fault_line, shown_name, value_text};
+ghost use Rattle.word_lines.specs.LineTexts.{ErrorCanBeShown, error_line, fault_line, shown_name};
 ghost use Rattle.word_lines.specs.declared.lexeme.WordLexeme.{WordLexeme};
 
 use crate::lexeme::{WordLexError, WordLexeme, WordLexerTypes};
@@ -15,7 +12,7 @@ use crate::lexer::WordLexer;
 use cfg_base::index::IndexStorage;
 use cfg_base::symbol::TIdx;
 use cfg_numbered::yacc::grammar::NumberedGrammar;
-use lrpar::{FlatTree, LexParseError, ParseError};
+use lrpar::{LexParseError, ParseError};
 use std::alloc::{AllocError, Global};
 
 /// Adds the text of an error of lexing a line, and LF.
@@ -62,26 +59,6 @@ pub fn push_error<'a, S: IndexStorage>(
     ensures { OnOk result (text.new.items ≡ text.old.items ++ error_line S.number grm.now lexer.now.text error) }
 {
     push_told(alloc, grm, lexer, LexParseError::ParseError(error), text)
-}
-
-/// Adds the text of a tree over a line, if there is one.
-pub fn push_tree<S: IndexStorage>(
-    alloc: Global,
-    grm: &NumberedGrammar<S>,
-    line: &str,
-    tree: &Option<FlatTree<S, WordLexeme<S>>>,
-    text: &mut Vec<u8>,
-) -> Result<(), AllocError>
-    requires { TreeCanBeShown S.number grm.now line.now tree.now }
-    ensures { (t : Option (Tree (WordLexeme S))) → HasFlat (span_by (lex_of S.number)) tree.now t → OnOk result (text.new.items ≡ text.old.items ++ value_text S.number grm.now line.now t) }
-{
-    match tree {
-        Some(tree) => {
-            let shown = tree.pp(alloc, grm, line)?;
-            push_shown(shown, text)
-        }
-        None => Ok(()),
-    }
 }
 
 // Adds the text of an error, and LF.

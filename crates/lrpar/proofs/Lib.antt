@@ -53,3 +53,4 @@ pub mod SentenceTokens
 pub mod NextFacts
 pub mod NextTold
 pub mod StacksAhead
+pub mod Prefixes

@@ -33,3 +33,4 @@ pub mod Acting
 pub mod NextTokens
 pub mod NextStates
 pub mod Branching
+pub mod Prefixes

@@ -93,7 +93,7 @@ fn may_follow<S: IndexStorage>(
 }
 
 /// A bit for each token: whether it may come next on the base.
-fn tokens_behind<S: IndexStorage>(
+pub(crate) fn tokens_behind<S: IndexStorage>(
     alloc: Global,
     grm: &NumberedGrammar<S>,
     stable: &StateTable<S>,

@@ -8,4 +8,6 @@ mod make;
 #[cfg(test)]
 mod next;
 #[cfg(test)]
+mod prefix;
+#[cfg(test)]
 mod refusals;

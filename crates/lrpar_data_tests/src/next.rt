@@ -27,7 +27,7 @@ fn lexemes_of<S: IndexStorage>(
 }
 
 /// The names of the tokens whose bits are set.
-fn names_of<S: IndexStorage>(
+pub(crate) fn names_of<S: IndexStorage>(
     alloc: Global,
     grm: &NumberedGrammar<S>,
     bits: &Vob,

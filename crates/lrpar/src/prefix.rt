@@ -1,0 +1,173 @@
+//! Tokens that a run shifts one after another, behind each of which it may be asked which tokens may come next.
+
+ghost use Rattle.std.specs.Prelude.{◌≡◌, ◌<◌, ◌≤◌, ◌↔◌, ℕ, false, true, [], ◌∷◌, ◌++◌, length, IfOk, OnErr, OnOk, IsTrue};
+ghost use Rattle.cfg_theory.specs.Derivation.{AllProductive, BeginsSentence, IsSentence};
+ghost use Rattle.cfg_theory.specs.Grammar.{end_token, start_symbol};
+ghost use Rattle.lr_theory.specs.Automaton.{Complete};
+ghost use Rattle.lr_theory.specs.Chains.{ChainsWithin};
+ghost use Rattle.lr_theory.specs.Machine.{Config};
+ghost use Rattle.lrtable.specs.Graphs.{GraphValue};
+ghost use Rattle.lrtable.specs.Tables.{automaton_of};
+ghost use Rattle.lrpar.specs.NextTokens.{Reaches, HasError, IsSet, AreNext};
+ghost use Rattle.lrpar.specs.Prefixes.{grammar_in, machine_in, IsTableIn, own, tokens_of};
+ghost use Rattle.lrpar.specs.Reducing.{IsTableFor, AreStates, stack_of};
+ghost use Rattle.lrpar.specs.Replay.{overlaid, TellsShift};
+
+use crate::next_tokens::tokens_behind;
+use crate::overlay::{Overlay, shift_on};
+use crate::parserdata::ParserData;
+use cfg_base::index::IndexStorage;
+use cfg_base::symbol::TIdx;
+use cfg_numbered::yacc::grammar::NumberedGrammar;
+use lrtable::{StIdx, StateTable};
+use std::alloc::{AllocError, Global};
+use std::marker::Model;
+use vob::Vob;
+
+/// Tokens of which none is an error, and the states of a run right after it shifted the last of them. Contracts see the data
+/// and the tokens.
+///
+/// Who asks at several places of a list of lexemes which tokens may come next goes through it once: the tokens between two
+/// places are pushed, each at the cost of the reductions that it asks for. A run's own stack at an error doesn't serve: it
+/// may have been reduced on the wrong lexeme already.
+#[derive(Drop)]
+pub struct Prefix<'a, S: IndexStorage> {
+    data: &'a ParserData<S>,
+    tokens: Vec<TIdx<S>>,
+    states: Vec<StIdx<S>>,
+    overlay: Overlay<S>,
+}
+
+impl<'a, S: IndexStorage> Model for Prefix<'a, S> {
+    ghost use Rattle.lrpar.specs.Prefixes.{PrefixValue, IsPrefix, tokens_of};
+    ghost use Rattle.lrpar.specs.Reducing.{stack_of};
+
+    ghost Value = { PrefixValue };
+
+    ghost view = { λ p. record { parser = p.data.now; tokens = tokens_of S.number p.tokens.items } };
+
+    ghost invariant = { λ p. IsPrefix p.data.now (tokens_of S.number p.tokens.items) (stack_of S.number p.states.items) };
+}
+
+/// Makes the stack that an overlay stands for that of its base. Where there is no memory, the base stays.
+fn settle<S: IndexStorage>(
+    states: &mut Vec<StIdx<S>>,
+    overlay: &Overlay<S>,
+) -> Result<(), AllocError>
+    requires { overlay.now.kept ≤ length states.old.items }
+    ensures stack { OnOk result (stack_of S.number states.new.items ≡ overlaid S.number states.old.items overlay.now) }
+    ensures same { OnErr result (states.new.items ≡ states.old.items) }
+{
+    states.reserve(overlay.over.len())?;
+    states.truncate(overlay.kept);
+    states.extend_from_slice(overlay.over.as_slice()).unwrap();
+    Ok(())
+}
+
+/// Shifts a token on a stack after the reductions that it asks for. Where it isn't shifted, or there is no memory, the stack
+/// stays. What the overlay held is let go.
+fn shift_whole<S: IndexStorage>(
+    grm: &NumberedGrammar<S>,
+    stable: &StateTable<S>,
+    limit: u16,
+    states: &mut Vec<StIdx<S>>,
+    overlay: &mut Overlay<S>,
+    tidx: TIdx<S>,
+) -> Result<bool, AllocError>
+    requires table { IsTableFor grm.now.grammar stable.now }
+    requires chains { (g : GraphValue) → ChainsWithin grm.now.grammar (automaton_of g stable.now) limit }
+    requires token { S.number tidx.0 < stable.now.tokens }
+    requires states { AreStates stable.now (stack_of S.number states.old.items) }
+    requires some { 0 < length states.old.items }
+    ensures shifts { IfOk result (λ told. (g : GraphValue) → TellsShift grm.now.grammar (automaton_of g stable.now) (S.number tidx.0) (stack_of S.number states.old.items) (stack_of S.number states.new.items) told) }
+    ensures states { IfOk result (λ told. AreStates stable.now (stack_of S.number states.new.items)) }
+    ensures stays { IfOk result (λ told. told ≡ false → states.new.items ≡ states.old.items) }
+    ensures same { OnErr result (states.new.items ≡ states.old.items) }
+{
+    overlay.kept = states.len();
+    overlay.over.clear();
+    if !shift_on(grm, stable, limit, states.as_slice(), overlay, tidx)? {
+        return Ok(false);
+    }
+    settle(states, overlay)?;
+    Ok(true)
+}
+
+impl<S: IndexStorage> ParserData<S> {
+    /// No tokens yet, to which some are pushed.
+    pub fn prefix(&self, alloc: Global) -> Result<Prefix<'_, S>, AllocError>
+        ensures { IfOk result (λ p. p ≡ record { parser = self.entry.now; tokens = [] }) }
+    {
+        self.facts();
+        let mut states = Vec::new(alloc);
+        states.push(self.stable().start_state())?;
+        let overlay = Overlay {
+            kept: 0,
+            over: Vec::new(alloc),
+        };
+        Ok(Prefix {
+            data: self,
+            tokens: Vec::new(alloc),
+            states,
+            overlay,
+        })
+    }
+}
+
+impl<'a, S: IndexStorage> Prefix<'a, S> {
+    /// Lends the tokens, the last one behind all others.
+    pub fn tokens(&self) -> &[TIdx<S>]
+        ensures { tokens_of S.number result.now ≡ self.now.tokens }
+    {
+        self.tokens.as_slice()
+    }
+
+    /// Puts a token behind the others, if a run on them and this one comes past it. It answers whether it does; where it
+    /// doesn't, or there is no memory, nothing is changed. It costs the reductions that the token asks for.
+    pub fn push(&mut self, tidx: TIdx<S>) -> Result<bool, AllocError>
+        ensures pushed { IfOk result (λ told. told ≡ true → self.new ≡ record { parser = self.old.parser; tokens = self.old.tokens ++ S.number tidx.0 ∷ [] }) }
+        ensures stays { IfOk result (λ told. told ≡ false → self.new ≡ self.old) }
+        ensures error { IfOk result (λ told. told ≡ false → HasError (grammar_in self.old.parser) (machine_in self.old.parser) own (self.old.tokens ++ S.number tidx.0 ∷ [])) }
+        ensures begins { IfOk result (λ told. IsTableIn self.old.parser → Complete (grammar_in self.old.parser) (machine_in self.old.parser) → AllProductive (grammar_in self.old.parser) →
+            IsTrue told ↔ BeginsSentence (grammar_in self.old.parser) (start_symbol (grammar_in self.old.parser)) (self.old.tokens ++ S.number tidx.0 ∷ [])) }
+        ensures same { OnErr result (self.new ≡ self.old) }
+    {
+        self.data.facts();
+        let grm = self.data.grm();
+        if tidx.0.to_usize() >= grm.eof_token_idx().0.to_usize() {
+            return Ok(false);
+        }
+        self.tokens.reserve(1)?;
+        let stable = self.data.stable();
+        let cap = self.data.cap();
+        if !shift_whole(grm, stable, cap, &mut self.states, &mut self.overlay, tidx)? {
+            return Ok(false);
+        }
+        self.tokens.push(tidx).unwrap();
+        Ok(true)
+    }
+
+    /// The tokens that may come next, a bit for each token by its number; that of the end token is set where the tokens are a
+    /// sentence as they stand. What is told is what `ParserData::next_tokens` tells of lexemes of these tokens, with no run
+    /// made anew: a token costs the reductions that it asks for, one chain at most.
+    pub fn next_tokens(&self, alloc: Global) -> Result<Vob, AllocError>
+        ensures told { IfOk result (λ v. (c : Config ℕ) × Reaches (grammar_in self.now.parser) (machine_in self.now.parser) own self.now.tokens [] c × AreNext (grammar_in self.now.parser) (machine_in self.now.parser) own c v.bits) }
+        ensures sound { IfOk result (λ v. IsTableIn self.now.parser → AllProductive (grammar_in self.now.parser) →
+            (t : ℕ) → t < end_token (grammar_in self.now.parser) → IsSet v.bits t → BeginsSentence (grammar_in self.now.parser) (start_symbol (grammar_in self.now.parser)) (self.now.tokens ++ t ∷ [])) }
+        ensures sound_end { IfOk result (λ v. IsSet v.bits (end_token (grammar_in self.now.parser)) → IsSentence (grammar_in self.now.parser) (start_symbol (grammar_in self.now.parser)) self.now.tokens) }
+        ensures exact { IfOk result (λ v. IsTableIn self.now.parser → Complete (grammar_in self.now.parser) (machine_in self.now.parser) → AllProductive (grammar_in self.now.parser) →
+            (t : ℕ) → t < end_token (grammar_in self.now.parser) → IsSet v.bits t ↔ BeginsSentence (grammar_in self.now.parser) (start_symbol (grammar_in self.now.parser)) (self.now.tokens ++ t ∷ [])) }
+        ensures exact_end { IfOk result (λ v. IsTableIn self.now.parser → Complete (grammar_in self.now.parser) (machine_in self.now.parser) → AllProductive (grammar_in self.now.parser) →
+            IsSet v.bits (end_token (grammar_in self.now.parser)) ↔ IsSentence (grammar_in self.now.parser) (start_symbol (grammar_in self.now.parser)) self.now.tokens) }
+    {
+        self.data.facts();
+        let grm = self.data.grm();
+        tokens_behind(
+            alloc,
+            grm,
+            self.data.stable(),
+            self.data.cap(),
+            self.states.as_slice(),
+        )
+    }
+}

@@ -68,6 +68,8 @@ pub data ShowsAct (G : Grammar) (w : List Sym) (t : ℕ) (x : Shown) : Act → T
   -- the innermost production is complete, and what stands behind it derives a list that begins with t
   reduces : (i : Item) (last : List Sym) → Stands G w x.spine i → i.production ≢ G.start → i.dot ≡ length (body_of G i.production) →
       AreForms G (around G x.spine) x.forms last → Begins G t last → ShowsAct G w t x (reduce i.production)
+  -- the innermost production is that of the start, complete, before the end token
+  accepts : (i : Item) → Stands G w x.spine i → i.production ≡ G.start → i.dot ≡ length (body_of G G.start) → IsEnd G t → x.forms ≡ [] → ShowsAct G w t x accept
 
 -- a string, a token, and what is shown of two actions
 pub record Example : Type 0 where
@@ -95,8 +97,8 @@ pub record SpinesAreItems : Type 0 where
   pub present : (G : Grammar) (w : List Sym) (p d : ℕ) → Present G w p d ↔ SomeSpine G w p d
   pub look : (G : Grammar) (w : List Sym) (p d t : ℕ) → Look G w p d t ↔ SomeSpineBefore G w p d t
 
--- An example is a contest of canonical LR(1) after its string, and each contest of shifts and reductions has an example.
+-- An example is a contest of canonical LR(1) after its string, and each contest has an example.
 pub record ExamplesAreContests : Type 0 where
   pub contest : (G : Grammar) (x : Example) (a b : Act) → IsExample G x a b → Contest G (Present G x.string) (Look G x.string) x.token a b
-  pub shown : (G : Grammar) (w : List Sym) (t : ℕ) (a b : Act) → a ≢ accept → b ≢ accept → Contest G (Present G w) (Look G w) t a b →
+  pub shown : (G : Grammar) (w : List Sym) (t : ℕ) (a b : Act) → Contest G (Present G w) (Look G w) t a b →
       (x : Example) × (x.string ≡ w) × (x.token ≡ t) × IsExample G x a b

@@ -10,7 +10,7 @@ pub fn spines_are_items()
 {}
 
 /// After the string of an example canonical LR(1) leaves its token both actions, and where it leaves a token two actions,
-/// shifts or reductions, there is an example.
+/// there is an example.
 #[tactic(auto, using(crate::proofs::Contests::examples_are_contests))]
 pub fn examples_are_contests()
     ensures { ExamplesAreContests }

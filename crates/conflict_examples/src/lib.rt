@@ -30,10 +30,12 @@
 //! with the one form `else s`.
 //!
 //! A search over the finished graph (`strings`, `along`, `steps`) comes to the open productions; what it comes to is checked
-//! against the grammar (`opened`, `forms`, `shown`), and only what passes is answered. The contracts that matter most are
-//! those of `finder::ExampleFinder`; the laws that tie examples to canonical LR(1) are in `laws`.
+//! against the grammar (`opened`, `forms`, `shown`), and only what passes is answered. Where no table is made, since a
+//! production may be reduced where a text has ended, `accept_reduce` searches over the productions. The contracts that matter
+//! most are those of `finder::ExampleFinder`; the laws that tie examples to canonical LR(1) are in `laws`.
 #![tactic(auto)]
 
+mod accepting;
 mod along;
 mod checked;
 pub mod examples;
@@ -50,5 +52,6 @@ mod strings;
 mod tables;
 mod traces;
 
+pub use accepting::accept_reduce;
 pub use examples::{ActionExample, ConflictExample};
 pub use finder::ExampleFinder;

@@ -1,8 +1,8 @@
 //! Puts together what is shown of an action, and of two.
 
 ghost use Rattle.std.specs.Prelude.{◌≡◌, ◌≢◌, ◌∷◌, ℕ, length, reverse, IsTrue, IfOk, IfSome};
-ghost use Rattle.cfg_theory.specs.Grammar.{token, Grammar, body_of, IsNext};
-ghost use Rattle.lr_theory.specs.Canonical.{Act, shift, reduce};
+ghost use Rattle.cfg_theory.specs.Grammar.{token, Grammar, body_of, end_token, IsNext};
+ghost use Rattle.lr_theory.specs.Canonical.{Act, shift, reduce, accept};
 ghost use Rattle.lr_theory.specs.Graph.{Leads};
 ghost use Rattle.cfg_numbered.specs.Symbols.{sym_of, syms_of};
 ghost use Rattle.lrtable.specs.Graphs.{graph_of};
@@ -65,6 +65,18 @@ fn reduces<S: IndexStorage>(grm: &NumberedGrammar<S>, opened: &Opened<S>, pidx: 
     opened.dot.0.to_usize() == grm.prod(pidx).len()
 }
 
+/// Whether the innermost production is that of the start, complete.
+fn accepts<S: IndexStorage>(grm: &NumberedGrammar<S>, opened: &Opened<S>) -> bool
+    ensures production { IsTrue result → S.number opened.now.pidx.0 ≡ grm.now.grammar.start }
+    ensures complete { IsTrue result → S.number opened.now.dot.0 ≡ length (body_of grm.now.grammar grm.now.grammar.start) }
+{
+    let start = grm.start_prod();
+    if opened.pidx.0.to_usize() != start.0.to_usize() {
+        return false;
+    }
+    opened.dot.0.to_usize() == grm.prod(start).len()
+}
+
 /// What is shown by these forms, with the innermost production put behind the others.
 fn closed<S: IndexStorage>(
     outer: Vec<(PIdx<S>, SIdx<S>)>,
@@ -97,6 +109,31 @@ pub(crate) fn shown_shift<S: IndexStorage>(
         return Ok(None);
     };
     if !shifts(grm, &opened, token) {
+        return Ok(None);
+    }
+    let Opened {
+        outer,
+        pidx,
+        dot,
+        symbols,
+        rest: _,
+    } = opened;
+    let part = closed(outer, (pidx, dot), symbols, Vec::new(alloc))?;
+    Ok(Some(part))
+}
+
+/// What is shown of the end of a text. None where the trace doesn't show it.
+pub(crate) fn shown_accept<S: IndexStorage>(
+    alloc: Global,
+    grm: &NumberedGrammar<S>,
+    trace: &Trace<S>,
+) -> Result<Option<Part<S>>, AllocError>
+    ensures { IfOk result (λ o. IfSome o (PartShows S.number grm.now.grammar (end_token grm.now.grammar) accept)) }
+{
+    let Some(opened) = open_all(alloc, grm, trace.items.as_slice())? else {
+        return Ok(None);
+    };
+    if !accepts(grm, &opened) {
         return Ok(None);
     }
     let Opened {
@@ -201,7 +238,28 @@ fn leads_to<S: IndexStorage>(graph: &StateGraph<S>, symbols: &[Symbol<S>], stidx
     }
 }
 
-/// The example of two actions. None where they are shown after different symbols, or the symbols don't lead to the state.
+/// The example of two actions. None where they are shown after different symbols.
+pub(crate) fn paired<S: IndexStorage>(
+    token: TIdx<S>,
+    first: Part<S>,
+    second: Part<S>,
+) -> Option<ConflictExample<S>>
+    ensures token { IfSome result (λ x. x.token ≡ token) }
+    ensures symbols { IfSome result (λ x. x.symbols ≡ first.symbols) }
+    ensures example { IfSome result (λ x. (G : Grammar) (a b : Act) → a ≢ b → PartShows S.number G (S.number token.0) a first → PartShows S.number G (S.number token.0) b second → IsExample G (example_of S.number x) a b) }
+{
+    if !same_symbols(first.symbols.as_slice(), second.symbols.as_slice()) {
+        return None;
+    }
+    Some(ConflictExample {
+        symbols: first.symbols,
+        token,
+        first: first.shown,
+        second: second.shown,
+    })
+}
+
+/// The example of two actions in a state. None where they are shown after different symbols, or the symbols don't lead there.
 pub(crate) fn joined<S: IndexStorage>(
     graph: &StateGraph<S>,
     token: TIdx<S>,
@@ -213,16 +271,8 @@ pub(crate) fn joined<S: IndexStorage>(
     ensures state { IfSome result (λ x. Leads (graph_of graph.now) (example_of S.number x).string (S.number stidx.0)) }
     ensures example { IfSome result (λ x. (G : Grammar) (a b : Act) → a ≢ b → PartShows S.number G (S.number token.0) a first → PartShows S.number G (S.number token.0) b second → IsExample G (example_of S.number x) a b) }
 {
-    if !same_symbols(first.symbols.as_slice(), second.symbols.as_slice()) {
-        return None;
-    }
     if !leads_to(graph, first.symbols.as_slice(), stidx) {
         return None;
     }
-    Some(ConflictExample {
-        symbols: first.symbols,
-        token,
-        first: first.shown,
-        second: second.shown,
-    })
+    paired(token, first, second)
 }

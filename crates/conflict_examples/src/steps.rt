@@ -4,6 +4,7 @@ use crate::reading::{has_production, symbol_after};
 use crate::source::Source;
 use cfg_base::index::IndexStorage;
 use cfg_base::symbol::{PIdx, RIdx, SIdx, Symbol};
+use cfg_numbered::yacc::NumberedGrammar;
 use std::alloc::{AllocError, Global};
 
 /// For each rule that begins with the token, a production by which it comes nearer to that, and how many are needed.
@@ -122,32 +123,32 @@ fn ways_of<'a, S: IndexStorage>(
 }
 
 /// What stands behind the innermost production of these.
-fn behind<'a, S: IndexStorage>(
+pub(crate) fn behind<S: IndexStorage>(
     alloc: Global,
-    source: &Source<'a, S>,
+    grm: &NumberedGrammar<S>,
     items: &[(PIdx<S>, SIdx<S>)],
 ) -> Result<Vec<Symbol<S>>, AllocError> {
     let mut rest = Vec::new(alloc);
     'items: for back in 1..items.len() {
         let (pidx, dot) = items[items.len() - 1 - back];
-        if symbol_after(source.grm, pidx, dot).is_some() {
-            push_rest(source, pidx, dot.0.to_usize(), &mut rest)?;
+        if symbol_after(grm, pidx, dot).is_some() {
+            push_rest(grm, pidx, dot.0.to_usize(), &mut rest)?;
         }
     }
     Ok(rest)
 }
 
 /// Puts the symbols behind the one after the dot to the end.
-fn push_rest<'a, S: IndexStorage>(
-    source: &Source<'a, S>,
+fn push_rest<S: IndexStorage>(
+    grm: &NumberedGrammar<S>,
     pidx: PIdx<S>,
     dot: usize,
     rest: &mut Vec<Symbol<S>>,
 ) -> Result<(), AllocError> {
-    if !has_production(source.grm, pidx) {
+    if !has_production(grm, pidx) {
         return Ok(());
     }
-    let body = source.grm.prod(pidx);
+    let body = grm.prod(pidx);
     if dot < body.len() {
         rest.extend_from_slice(&body[dot + 1..])?;
     }
@@ -177,15 +178,15 @@ fn next_step<'a, S: IndexStorage>(
 }
 
 /// The production, and the form behind its first symbol.
-fn after_step<'a, S: IndexStorage>(
+pub(crate) fn after_step<S: IndexStorage>(
     alloc: Global,
-    source: &Source<'a, S>,
+    grm: &NumberedGrammar<S>,
     pidx: PIdx<S>,
     form: &[Symbol<S>],
 ) -> Result<Vec<Symbol<S>>, AllocError> {
     let mut next = Vec::new(alloc);
-    if has_production(source.grm, pidx) {
-        next.extend_from_slice(source.grm.prod(pidx))?;
+    if has_production(grm, pidx) {
+        next.extend_from_slice(grm.prod(pidx))?;
     }
     if !form.is_empty() {
         next.extend_from_slice(&form[1..])?;
@@ -211,7 +212,7 @@ pub(crate) fn steps_behind<'a, S: IndexStorage>(
     items: &[(PIdx<S>, SIdx<S>)],
 ) -> Result<Vec<PIdx<S>>, AllocError> {
     let mut steps = Vec::new(alloc);
-    let mut form = behind(alloc, source, items)?;
+    let mut form = behind(alloc, source.grm, items)?;
     if !begins_with_rule(form.as_slice()) {
         return Ok(steps);
     }
@@ -221,7 +222,7 @@ pub(crate) fn steps_behind<'a, S: IndexStorage>(
             return Ok(steps);
         };
         steps.push(pidx)?;
-        form = after_step(alloc, source, pidx, form.as_slice())?;
+        form = after_step(alloc, source.grm, pidx, form.as_slice())?;
     }
     Ok(steps)
 }

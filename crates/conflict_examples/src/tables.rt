@@ -50,7 +50,7 @@ fn first_sets<S: IndexStorage>(
 }
 
 /// What stands in a list at an index, or None past the end.
-fn entry<T: Copy>(list: &[Option<T>], index: usize) -> Option<T> {
+pub(crate) fn entry<T: Copy>(list: &[Option<T>], index: usize) -> Option<T> {
     if index >= list.len() {
         return None;
     }
@@ -70,7 +70,10 @@ fn put_first<T: Copy>(list: &mut [Option<T>], index: usize, value: T) -> bool {
 }
 
 /// Whether all symbols are rules that vanish by what was found so far.
-fn all_vanish<S: IndexStorage>(vanishing: &[Option<PIdx<S>>], symbols: &[Symbol<S>]) -> bool {
+pub(crate) fn all_vanish<S: IndexStorage>(
+    vanishing: &[Option<PIdx<S>>],
+    symbols: &[Symbol<S>],
+) -> bool {
     'symbols: for k in 0..symbols.len() {
         let vanishes = match symbols[k] {
             Symbol::Rule(ridx) => entry(vanishing, ridx.0.to_usize()).is_some(),
@@ -100,7 +103,7 @@ fn vanish_more<S: IndexStorage>(
 }
 
 /// The productions by which rules vanish, by rules.
-fn vanishing_by<S: IndexStorage>(
+pub(crate) fn vanishing_by<S: IndexStorage>(
     alloc: Global,
     grm: &NumberedGrammar<S>,
 ) -> Result<Vec<Option<PIdx<S>>>, AllocError> {

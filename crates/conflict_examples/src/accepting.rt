@@ -1,0 +1,275 @@
+//! Examples of a production that may be reduced where a text has ended. No table is made of a grammar with one, so that the
+//! search goes over its productions alone: from that of the start in, and over the symbol that this one has. What it comes
+//! to may be wrong: an example is checked.
+
+ghost use Rattle.std.specs.Prelude.{◌≡◌, IfOk, IfSome};
+ghost use Rattle.cfg_theory.specs.Grammar.{end_token};
+ghost use Rattle.lr_theory.specs.Canonical.{accept, reduce};
+ghost use Rattle.conflict_examples.specs.ExampleViews.{example_of};
+ghost use Rattle.conflict_examples.specs.Spines.{IsExample};
+
+use crate::checked::checked_end;
+use crate::examples::ConflictExample;
+use crate::reading::{has_production, symbol_after, symbols_behind};
+use crate::shown::Trace;
+use crate::steps::{after_step, behind};
+use crate::tables::{all_vanish, entry, vanishing_by};
+use cfg_base::index::IndexStorage;
+use cfg_base::symbol::{PIdx, SIdx, Symbol};
+use cfg_numbered::yacc::NumberedGrammar;
+use std::alloc::{AllocError, Global};
+use std::collections::BTreeSet;
+
+/// An open production behind which nothing need stand: with its dot, whether the start's symbol stands before the dots, and
+/// the production around it.
+#[derive(Clone, Copy)]
+struct Frame<S> {
+    pidx: PIdx<S>,
+    dot: SIdx<S>,
+    past: bool,
+    around: usize,
+}
+
+/// The open productions so far, in their order, and their numbers with their dots.
+#[derive(Drop)]
+struct Frames<S> {
+    list: Vec<Frame<S>>,
+    seen: BTreeSet<(usize, usize, bool)>,
+}
+
+/// What the search reads: the grammar, the productions by which rules vanish, and the dots nought and one.
+#[derive(Drop)]
+struct Reading<'a, S: IndexStorage> {
+    grm: &'a NumberedGrammar<S>,
+    vanishing: Vec<Option<PIdx<S>>>,
+    nought: SIdx<S>,
+    one: SIdx<S>,
+}
+
+impl<'a, S: IndexStorage> Reading<'a, S> {
+    fn new(
+        alloc: Global,
+        grm: &'a NumberedGrammar<S>,
+    ) -> Result<Option<Reading<'a, S>>, AllocError> {
+        let (Some(nought), Some(one)) = (S::from_usize(0), S::from_usize(1)) else {
+            return Ok(None);
+        };
+        let vanishing = vanishing_by(alloc, grm)?;
+        Ok(Some(Reading {
+            grm,
+            vanishing,
+            nought: SIdx(nought),
+            one: SIdx(one),
+        }))
+    }
+
+    /// Whether all symbols behind the one after the dot vanish.
+    fn rest_vanishes(&self, pidx: PIdx<S>, dot: SIdx<S>) -> bool {
+        if !has_production(self.grm, pidx) {
+            return false;
+        }
+        let rest = symbols_behind(self.grm.prod(pidx), dot.0.to_usize());
+        all_vanish(self.vanishing.as_slice(), rest)
+    }
+
+    /// Whether the dot stands before a symbol, which is that of the start.
+    fn is_before_start(&self, frame: Frame<S>) -> bool {
+        let wanted = symbol_after(self.grm, self.grm.start_prod(), self.nought);
+        let found = symbol_after(self.grm, frame.pidx, frame.dot);
+        match (wanted, found) {
+            (Some(Symbol::Rule(a)), Some(Symbol::Rule(b))) => a.0.to_usize() == b.0.to_usize(),
+            _ => false,
+        }
+    }
+
+    /// Whether it is the production, complete behind the start's symbol.
+    fn is_done(&self, frame: Frame<S>, wanted: PIdx<S>) -> bool {
+        let Frame {
+            pidx,
+            dot,
+            past,
+            around: _,
+        } = frame;
+        if !past || pidx.0.to_usize() != wanted.0.to_usize() {
+            return false;
+        }
+        symbol_after(self.grm, pidx, dot).is_none()
+    }
+
+    /// The production by which the first symbol of a form vanishes.
+    fn next_step(&self, form: &[Symbol<S>]) -> Option<PIdx<S>> {
+        if form.is_empty() {
+            return None;
+        }
+        match form[0] {
+            Symbol::Rule(ridx) => entry(self.vanishing.as_slice(), ridx.0.to_usize()),
+            Symbol::Token(_) => None,
+        }
+    }
+}
+
+impl<S: IndexStorage> Frames<S> {
+    /// Puts a frame to the end, if there was none such.
+    fn put(&mut self, frame: Frame<S>) -> Result<(), AllocError> {
+        let Frame {
+            pidx,
+            dot,
+            past,
+            around: _,
+        } = frame;
+        let key = (pidx.0.to_usize(), dot.0.to_usize(), past);
+        if self.seen.contains(&key) {
+            return Ok(());
+        }
+        self.seen.insert(key)?;
+        self.list.push(frame)?;
+        Ok(())
+    }
+
+    /// Puts the productions of the rule after the dot of the frame at an index.
+    fn go_in<'a>(
+        &mut self,
+        reading: &Reading<'a, S>,
+        index: usize,
+        frame: Frame<S>,
+    ) -> Result<(), AllocError> {
+        let Some(Symbol::Rule(ridx)) = symbol_after(reading.grm, frame.pidx, frame.dot) else {
+            return Ok(());
+        };
+        if !reading.rest_vanishes(frame.pidx, frame.dot) || !reading.grm.has_rule(ridx) {
+            return Ok(());
+        }
+        let prods = reading.grm.rule_to_prods(ridx);
+        'prods: for k in 0..prods.len() {
+            self.put(Frame {
+                pidx: prods[k],
+                dot: reading.nought,
+                past: frame.past,
+                around: index,
+            })?;
+        }
+        Ok(())
+    }
+
+    /// Puts a frame with its dot behind the start's symbol, where it stands before it and none does yet.
+    fn go_over<'a>(&mut self, reading: &Reading<'a, S>, frame: Frame<S>) -> Result<(), AllocError> {
+        if frame.past || !reading.is_before_start(frame) {
+            return Ok(());
+        }
+        self.put(Frame {
+            pidx: frame.pidx,
+            dot: reading.one,
+            past: true,
+            around: frame.around,
+        })
+    }
+
+    /// The items from the start's production to the frame at an index.
+    fn items(&self, alloc: Global, index: usize) -> Result<Vec<(PIdx<S>, SIdx<S>)>, AllocError> {
+        let mut items = Vec::new(alloc);
+        let mut at = index;
+        'frames: for _ in 0..self.list.len() {
+            if at < self.list.len() {
+                let frame = self.list[at];
+                items.push((frame.pidx, frame.dot))?;
+                at = frame.around;
+            }
+        }
+        items.as_mut_slice().reverse();
+        Ok(items)
+    }
+}
+
+/// The productions that are open where this one is complete behind the start's symbol and nothing need stand behind it.
+fn items_to<'a, S: IndexStorage>(
+    alloc: Global,
+    reading: &Reading<'a, S>,
+    pidx: PIdx<S>,
+) -> Result<Option<Vec<(PIdx<S>, SIdx<S>)>>, AllocError> {
+    let mut frames = Frames {
+        list: Vec::new(alloc),
+        seen: BTreeSet::new(alloc),
+    };
+    frames.put(Frame {
+        pidx: reading.grm.start_prod(),
+        dot: reading.nought,
+        past: false,
+        around: usize::MAX,
+    })?;
+    'frames: for index in 0..usize::MAX {
+        if index >= frames.list.len() {
+            return Ok(None);
+        }
+        let frame = frames.list[index];
+        if reading.is_done(frame, pidx) {
+            let items = frames.items(alloc, index)?;
+            return Ok(Some(items));
+        }
+        frames.go_in(reading, index, frame)?;
+        frames.go_over(reading, frame)?;
+    }
+    Ok(None)
+}
+
+/// The productions by which what stands behind the innermost one of these vanishes.
+fn steps_to_nothing<'a, S: IndexStorage>(
+    alloc: Global,
+    reading: &Reading<'a, S>,
+    items: &[(PIdx<S>, SIdx<S>)],
+) -> Result<Vec<PIdx<S>>, AllocError> {
+    let mut steps = Vec::new(alloc);
+    let mut form = behind(alloc, reading.grm, items)?;
+    'steps: for _ in 0..usize::MAX {
+        let Some(pidx) = reading.next_step(form.as_slice()) else {
+            return Ok(steps);
+        };
+        steps.push(pidx)?;
+        form = after_step(alloc, reading.grm, pidx, form.as_slice())?;
+    }
+    Ok(steps)
+}
+
+/// Where the production is shown behind the start's symbol, before the end of the text.
+fn reduce_trace<'a, S: IndexStorage>(
+    alloc: Global,
+    reading: &Reading<'a, S>,
+    pidx: PIdx<S>,
+) -> Result<Option<Trace<S>>, AllocError> {
+    let Some(items) = items_to(alloc, reading, pidx)? else {
+        return Ok(None);
+    };
+    let steps = steps_to_nothing(alloc, reading, items.as_slice())?;
+    Ok(Some(Trace { items, steps }))
+}
+
+/// Where the end of the text is shown.
+fn end_trace<'a, S: IndexStorage>(
+    alloc: Global,
+    reading: &Reading<'a, S>,
+) -> Result<Trace<S>, AllocError> {
+    let mut items = Vec::new(alloc);
+    items.push((reading.grm.start_prod(), reading.one))?;
+    let steps = Vec::new(alloc);
+    Ok(Trace { items, steps })
+}
+
+/// An example of a production that may be reduced where a text has ended, as a `StateTableError` tells one: before the end
+/// token the text may be accepted, which is shown first, or the production reduced. None where the search finds none; that
+/// it finds one for each production that is told is not proved.
+pub fn accept_reduce<S: IndexStorage>(
+    alloc: Global,
+    grm: &NumberedGrammar<S>,
+    pidx: PIdx<S>,
+) -> Result<Option<ConflictExample<S>>, AllocError>
+    ensures example { IfOk result (λ o. IfSome o (λ x. IsExample grm.now.grammar (example_of S.number x) accept (reduce (S.number pidx.0)))) }
+    ensures token { IfOk result (λ o. IfSome o (λ x. S.number x.token.0 ≡ end_token grm.now.grammar)) }
+{
+    let Some(reading) = Reading::new(alloc, grm)? else {
+        return Ok(None);
+    };
+    let Some(second) = reduce_trace(alloc, &reading, pidx)? else {
+        return Ok(None);
+    };
+    let first = end_trace(alloc, &reading)?;
+    checked_end(alloc, grm, pidx, &first, &second)
+}

@@ -123,3 +123,20 @@ pub(crate) fn push_pair_example(
     push_reduction(text, grm, second, &example.second)?;
     text.push('\n')
 }
+
+/// Adds the example of a production that may be reduced where a text has ended.
+pub(crate) fn push_end_example(
+    text: &mut String,
+    grm: &Grammar,
+    example: &Option<ConflictExample<u32>>,
+    pidx: PIdx<u32>,
+) -> Result<(), AllocError> {
+    let Some(example) = example else {
+        return push_none(text);
+    };
+    push_string(text, grm, example)?;
+    text.push_str("  accept")?;
+    push_action(text, grm, &example.first)?;
+    push_reduction(text, grm, pidx, &example.second)?;
+    text.push('\n')
+}

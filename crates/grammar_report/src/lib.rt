@@ -26,6 +26,7 @@
 mod asked;
 mod conflicts;
 mod counts;
+mod endings;
 mod examples;
 mod faults;
 mod names;

@@ -5,28 +5,30 @@ use crate::faults::push_shown;
 use crate::names::push_token;
 use cfg_base::index::IndexStorage;
 use cfg_base::span::Span;
-use lrpar::{LexError, LexParseError, Lexer, ParseRefusal, RTParserBuilder};
+use cfg_base::symbol::TIdx;
+use lrpar::{LexError, LexParseError, Lexer, ParseRefusal, Prefix, RTParserBuilder};
 use lrpar_diagnostics::SpannedDiagnosticFormatter;
 use parser_kit::ParserKit;
 use std::alloc::{AllocError, Global};
 use vob::Vob;
-use word_lines::{WordLexeme, WordLexer, WordLexerTypes};
+use word_lines::{WordLexer, WordLexerTypes};
 
-/// The lexemes of a line that begin before an offset.
-fn lexemes_before(
+/// The tokens of a line's lexemes that begin before an offset.
+fn prefix_before<'a>(
     alloc: Global,
+    kit: &'a ParserKit<u32>,
     lexer: &WordLexer<'_, u32>,
     end: usize,
-) -> Result<Vec<WordLexeme<u32>>, AllocError> {
-    let mut lexemes = Vec::new(alloc);
+) -> Result<Prefix<'a, u32>, AllocError> {
+    let mut prefix = kit.parser_data().prefix(alloc)?;
     'items: for item in lexer.iter() {
         if let Ok(lexeme) = item {
             if lexeme.span.start() < end {
-                lexemes.push(*lexeme)?;
+                prefix.push(TIdx(lexeme.token))?;
             }
         }
     }
-    Ok(lexemes)
+    Ok(prefix)
 }
 
 /// Adds the tokens whose bits are set.
@@ -39,16 +41,17 @@ fn push_set(text: &mut String, kit: &ParserKit<u32>, bits: &Vob) -> Result<(), A
     Ok(())
 }
 
-/// Which tokens may come after lexemes.
+/// Which tokens may come in a line at an offset.
 fn next_text(
     alloc: Global,
     kit: &ParserKit<u32>,
-    lexemes: &[WordLexeme<u32>],
+    lexer: &WordLexer<'_, u32>,
+    end: usize,
 ) -> Result<String, AllocError> {
+    let prefix = prefix_before(alloc, kit, lexer, end)?;
+    let bits = prefix.next_tokens(alloc)?;
     let mut text = String::from_str(alloc, "May come here:")?;
-    if let Some(bits) = kit.parser_data().next_tokens(alloc, lexemes)? {
-        push_set(&mut text, kit, &bits)?;
-    }
+    push_set(&mut text, kit, &bits)?;
     Ok(text)
 }
 
@@ -96,8 +99,7 @@ fn push_error(
         }
         LexParseError::ParseError(e) => {
             let span = e.lexeme.span;
-            let lexemes = lexemes_before(alloc, lexer, span.start())?;
-            let message = next_text(alloc, kit, lexemes.as_slice())?;
+            let message = next_text(alloc, kit, lexer, span.start())?;
             push_told(
                 alloc,
                 text,

@@ -7,6 +7,7 @@ ghost use Rattle.grammar_report.specs.Outcomes.{IsOutcome};
 use crate::asked::Asked;
 use crate::conflicts::push_conflicts;
 use crate::counts::{outcome_of, push_counts};
+use crate::endings::push_ending;
 use crate::faults::{push_refusal, push_warnings};
 use crate::next::push_next;
 use crate::outcome::{Outcome, Report};
@@ -97,10 +98,27 @@ fn text_of_kit(
     Ok(text)
 }
 
+/// Adds why a text gives no parser.
+fn push_cause(
+    alloc: Global,
+    text: &mut String,
+    formatter: &SpannedDiagnosticFormatter<'_>,
+    source: &str,
+    refusal: &KitError<u32>,
+) -> Result<(), AllocError> {
+    match refusal {
+        KitError::AcceptReduce(pidx) => {
+            push_ending(alloc, text, formatter, source, refusal, *pidx)
+        }
+        _ => push_refusal(alloc, text, formatter, refusal),
+    }
+}
+
 /// The report on a text that gives no parser.
 fn text_of_refusal(
     alloc: Global,
     formatter: &SpannedDiagnosticFormatter<'_>,
+    source: &str,
     refusal: &KitError<u32>,
 ) -> Result<String, AllocError>
     ensures { OnOk result (IsMemory refusal.now → ⊥) }
@@ -109,7 +127,7 @@ fn text_of_refusal(
         return Err(*e);
     }
     let mut text = String::new(alloc);
-    push_refusal(alloc, &mut text, formatter, refusal)?;
+    push_cause(alloc, &mut text, formatter, source, refusal)?;
     Ok(text)
 }
 
@@ -130,7 +148,7 @@ fn report_of(
             Ok(Report { text, outcome })
         }
         Err(refusal) => {
-            let told = text_of_refusal(alloc, formatter, &refusal);
+            let told = text_of_refusal(alloc, formatter, text, &refusal);
             drop(refusal);
             let text = told?;
             let outcome = Outcome::Invalid;

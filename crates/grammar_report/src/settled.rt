@@ -1,11 +1,27 @@
-//! Where precedences choose between actions.
+//! Where precedences choose between a shift and a reduction.
 
 use crate::names::{Grammar, body_len, push_prod, push_token};
 use cfg_base::index::IndexStorage;
 use cfg_base::symbol::{PIdx, SIdx, Symbol, TIdx};
-use lrtable::{Action, Conflicts, Itemset, StIdx, StateTable};
+use lrtable::{Action, Itemset, StIdx, StateTable};
 use parser_kit::ParserKit;
 use std::alloc::{AllocError, Global};
+
+/// What is chosen, in the order in which it is told.
+#[derive(Clone, Copy, Debug, PartialEq, Eq, PartialOrd, Ord)]
+enum Choice {
+    Reduce,
+    Shift,
+    Error,
+}
+
+/// What is chosen where a production may be reduced before a token that may be shifted.
+#[derive(Clone, Copy, Debug, PartialEq, Eq, PartialOrd, Ord)]
+struct Pair {
+    pidx: PIdx<u32>,
+    choice: Choice,
+    tidx: TIdx<u32>,
+}
 
 /// Whether the dot stands behind all symbols of a production.
 fn is_ended(grm: &Grammar, item: (PIdx<u32>, SIdx<u32>)) -> bool {
@@ -28,51 +44,35 @@ fn ended_items(
     Ok(ended)
 }
 
-/// Whether an item has a token among its lookaheads.
-fn looks_for(items: &Itemset<u32>, index: usize, token: usize) -> bool {
+/// The production of an item that has a token among its lookaheads.
+fn looking(items: &Itemset<u32>, index: usize, token: usize) -> Option<PIdx<u32>> {
     if index >= items.len() {
+        return None;
+    }
+    if items.looks_at(index).get(token) != Some(true) {
+        return None;
+    }
+    let (pidx, _) = items.item_at(index);
+    Some(pidx)
+}
+
+/// The first production of these items that has a token among its lookaheads. Items ascend by production.
+fn first_looking(items: &Itemset<u32>, indexes: &[usize], token: usize) -> Option<PIdx<u32>> {
+    'indexes: for i in 0..indexes.len() {
+        let found = looking(items, indexes[i], token);
+        if found.is_some() {
+            return found;
+        }
+    }
+    None
+}
+
+/// Whether a token and a production have precedences. Where either has none, a conflict of the two is listed.
+fn have_precedences(grm: &Grammar, tidx: TIdx<u32>, pidx: PIdx<u32>) -> bool {
+    if !grm.has_token(tidx) || !grm.has_prod(pidx) {
         return false;
     }
-    items.looks_at(index).get(token) == Some(true)
-}
-
-/// How many of the items have a token among their lookaheads.
-fn count_looking(items: &Itemset<u32>, indexes: &[usize], token: usize) -> usize {
-    let mut count: usize = 0;
-    'indexes: for i in 0..indexes.len() {
-        if looks_for(items, indexes[i], token) {
-            count = count.saturating_add(1);
-        }
-    }
-    count
-}
-
-fn is_pair_listed(conflicts: &Conflicts<u32>, stidx: StIdx<u32>, tidx: TIdx<u32>) -> bool {
-    'entries: for entry in conflicts.rr_conflicts() {
-        if entry.0 == tidx && entry.3 == stidx {
-            return true;
-        }
-    }
-    false
-}
-
-fn is_shift_listed(conflicts: &Conflicts<u32>, stidx: StIdx<u32>, tidx: TIdx<u32>) -> bool {
-    'entries: for entry in conflicts.sr_conflicts() {
-        if entry.0 == tidx && entry.2 == stidx {
-            return true;
-        }
-    }
-    false
-}
-
-/// Whether a conflict is listed in a state on a token.
-fn is_listed(kit: &ParserKit<u32>, stidx: StIdx<u32>, tidx: TIdx<u32>) -> bool {
-    match kit.conflicts() {
-        Some(conflicts) => {
-            is_pair_listed(conflicts, stidx, tidx) || is_shift_listed(conflicts, stidx, tidx)
-        }
-        None => false,
-    }
+    grm.token_precedence(tidx).is_some() && grm.prod_precedence(pidx).is_some()
 }
 
 /// What a state does on a token.
@@ -86,97 +86,128 @@ fn action_on(table: &StateTable<u32>, stidx: StIdx<u32>, tidx: TIdx<u32>) -> Act
     table.action(stidx, tidx)
 }
 
-fn push_action(text: &mut String, grm: &Grammar, action: Action<u32>) -> Result<(), AllocError> {
+fn choice_of(action: Action<u32>) -> Choice {
     match action {
-        Action::Shift(_) => text.push_str("shift"),
-        Action::Reduce(pidx) => {
-            text.push_str("reduce ")?;
-            push_prod(text, grm, pidx)
-        }
-        Action::Accept => text.push_str("accept"),
-        Action::Error => text.push_str("error"),
+        Action::Reduce(_) => Choice::Reduce,
+        Action::Shift(_) => Choice::Shift,
+        Action::Accept => Choice::Error,
+        Action::Error => Choice::Error,
     }
 }
 
-/// Adds a line: a state, a token and what is done there.
-fn push_cell(
-    alloc: Global,
-    text: &mut String,
+/// What is chosen in a state on a token, if precedences choose there: a shift against the first reduction.
+fn pair_on(
     kit: &ParserKit<u32>,
     stidx: StIdx<u32>,
+    items: &Itemset<u32>,
+    ended: &[usize],
     tidx: TIdx<u32>,
-) -> Result<(), AllocError> {
-    let state = stidx.0.to_usize();
-    text.push_str(format!(in alloc; "  state {state}, token")?.as_str())?;
-    push_token(text, kit.grm(), tidx)?;
-    text.push_str(": ")?;
-    push_action(text, kit.grm(), action_on(kit.stable(), stidx, tidx))?;
-    text.push('\n')
+) -> Option<Pair> {
+    let Some(pidx) = first_looking(items, ended, tidx.0.to_usize()) else {
+        return None;
+    };
+    if kit.sgraph().edge(stidx, Symbol::Token(tidx)).is_none() {
+        return None;
+    }
+    if !have_precedences(kit.grm(), tidx, pidx) {
+        return None;
+    }
+    let choice = choice_of(action_on(kit.stable(), stidx, tidx));
+    Some(Pair { pidx, choice, tidx })
 }
 
-/// Adds a line for a token on which a state has several actions, where no conflict is listed.
-fn push_if_settled(
+/// Adds what is chosen in a state.
+fn add_pairs(
     alloc: Global,
-    text: &mut String,
-    kit: &ParserKit<u32>,
-    stidx: StIdx<u32>,
-    tidx: TIdx<u32>,
-    reductions: usize,
-) -> Result<(), AllocError> {
-    if reductions == 0 {
-        return Ok(());
-    }
-    let shifts = kit.sgraph().edge(stidx, Symbol::Token(tidx)).is_some();
-    if !shifts && reductions == 1 {
-        return Ok(());
-    }
-    if is_listed(kit, stidx, tidx) {
-        return Ok(());
-    }
-    push_cell(alloc, text, kit, stidx, tidx)
-}
-
-/// Adds the lines of a state.
-fn push_settled_of(
-    alloc: Global,
-    text: &mut String,
+    pairs: &mut Vec<Pair>,
     kit: &ParserKit<u32>,
     stidx: StIdx<u32>,
     items: &Itemset<u32>,
 ) -> Result<(), AllocError> {
     let ended = ended_items(alloc, kit.grm(), items)?;
+    if ended.is_empty() {
+        return Ok(());
+    }
     'tokens: for token in 0..kit.grm().tokens_len().0.to_usize() {
-        let reductions = count_looking(items, ended.as_slice(), token);
         let tidx = kit.grm().token_at(token);
-        push_if_settled(alloc, text, kit, stidx, tidx, reductions)?;
+        if let Some(pair) = pair_on(kit, stidx, items, ended.as_slice(), tidx) {
+            pairs.push(pair)?;
+        }
     }
     Ok(())
 }
 
-fn push_all_settled(
-    alloc: Global,
-    text: &mut String,
-    kit: &ParserKit<u32>,
-) -> Result<(), AllocError> {
+/// What is chosen in all states, ordered by production, choice and token.
+fn all_pairs(alloc: Global, kit: &ParserKit<u32>) -> Result<Vec<Pair>, AllocError> {
+    let mut pairs = Vec::new(alloc);
     'states: for state in 0..kit.sgraph().all_states_len().0.to_usize() {
         let stidx = kit.sgraph().state_at(state);
-        push_settled_of(alloc, text, kit, stidx, kit.sgraph().closed_state(stidx))?;
+        add_pairs(
+            alloc,
+            &mut pairs,
+            kit,
+            stidx,
+            kit.sgraph().closed_state(stidx),
+        )?;
     }
-    Ok(())
+    pairs.sort()?;
+    Ok(pairs)
 }
 
-/// Adds what precedences settle: each state and token with several actions of which no conflict is listed.
+fn word_of(choice: Choice) -> &'static str {
+    match choice {
+        Choice::Reduce => "reduce",
+        Choice::Shift => "shift",
+        Choice::Error => "error",
+    }
+}
+
+/// Adds a pair behind the one before it: what both share isn't told again.
+fn push_pair(
+    text: &mut String,
+    grm: &Grammar,
+    before: Option<Pair>,
+    pair: Pair,
+) -> Result<(), AllocError> {
+    if before == Some(pair) {
+        return Ok(());
+    }
+    let (same_prod, same_choice) = match before {
+        Some(other) => (other.pidx == pair.pidx, other.choice == pair.choice),
+        None => (false, false),
+    };
+    if !same_prod {
+        text.push_str("\n  ")?;
+        push_prod(text, grm, pair.pidx)?;
+    }
+    if !same_prod || !same_choice {
+        text.push_str("\n    ")?;
+        text.push_str(word_of(pair.choice))?;
+        text.push_str(" before")?;
+    }
+    push_token(text, grm, pair.tidx)
+}
+
+fn push_pairs(text: &mut String, grm: &Grammar, pairs: &[Pair]) -> Result<(), AllocError> {
+    let mut before = None;
+    'pairs: for index in 0..pairs.len() {
+        push_pair(text, grm, before, pairs[index])?;
+        before = Some(pairs[index]);
+    }
+    text.push_str("\n\n")
+}
+
+/// Adds what precedences settle: for each production that may be reduced before a token that may be shifted, which of the
+/// two is done on which tokens, or neither. It is the same in each state, since the two precedences alone decide.
 pub(crate) fn push_settled(
     alloc: Global,
     text: &mut String,
     kit: &ParserKit<u32>,
 ) -> Result<(), AllocError> {
-    let mut lines = String::new(alloc);
-    push_all_settled(alloc, &mut lines, kit)?;
-    if lines.is_empty() {
+    let pairs = all_pairs(alloc, kit)?;
+    if pairs.is_empty() {
         return Ok(());
     }
-    text.push_str("Settled by precedence:\n")?;
-    text.push_str(lines.as_str())?;
-    text.push('\n')
+    text.push_str("Settled by precedence:")?;
+    push_pairs(text, kit.grm(), pairs.as_slice())
 }

@@ -1,6 +1,6 @@
 #!/bin/sh
-# Instructions of ParserData::new, and of parses of each line of words without a value and with flat trees, of grammar
-# files beside files of lines, by differences: tools/bench_parse/run.sh FILE LINES ..
+# Instructions of ParserData::new, and of parses of each line of words without a value, with flat trees, and with trees of nodes
+# that are dropped, of grammar files beside files of lines, by differences: tools/bench_parse/run.sh FILE LINES ..
 set -eu
 here=$(dirname "$(readlink -f "$0")")
 . "$here/../count.sh"
@@ -12,6 +12,7 @@ while [ $# -gt 1 ]; do
     words=$(count "$1" words "$2")
     bare=$(count "$1" bare "$2")
     flat=$(count "$1" flat "$2")
-    echo "$(basename "$1"): $((data - table)) data, $((bare - words)) without a value, $((flat - words)) with flat trees; $("$program" "$1" bare "$2")"
+    tree=$(count "$1" tree "$2")
+    echo "$(basename "$1"): $((data - table)) data, $((bare - words)) without a value, $((flat - words)) with flat trees, $((tree - words)) with nodes; $("$program" "$1" bare "$2")"
     shift 2
 done

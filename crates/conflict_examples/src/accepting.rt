@@ -12,7 +12,7 @@ use crate::checked::checked_end;
 use crate::examples::ConflictExample;
 use crate::reading::{has_production, symbol_after, symbols_behind};
 use crate::shown::Trace;
-use crate::steps::{after_step, behind};
+use crate::steps::{MOST_SYMBOLS, after_step, behind};
 use crate::tables::{all_vanish, entry, vanishing_by};
 use cfg_base::index::IndexStorage;
 use cfg_base::symbol::{PIdx, SIdx, Symbol};
@@ -211,7 +211,8 @@ fn items_to<'a, S: IndexStorage>(
     Ok(None)
 }
 
-/// The productions by which what stands behind the innermost one of these vanishes.
+/// The productions by which what stands behind the innermost one of these vanishes. It doesn't where the forms would have more
+/// symbols than they may.
 fn steps_to_nothing<'a, S: IndexStorage>(
     alloc: Global,
     reading: &Reading<'a, S>,
@@ -219,10 +220,15 @@ fn steps_to_nothing<'a, S: IndexStorage>(
 ) -> Result<Vec<PIdx<S>>, AllocError> {
     let mut steps = Vec::new(alloc);
     let mut form = behind(alloc, reading.grm, items)?;
+    let mut left = MOST_SYMBOLS;
     'steps: for _ in 0..usize::MAX {
         let Some(pidx) = reading.next_step(form.as_slice()) else {
             return Ok(steps);
         };
+        let Some(rest) = left.checked_sub(form.len()) else {
+            return Ok(steps);
+        };
+        left = rest;
         steps.push(pidx)?;
         form = after_step(alloc, reading.grm, pidx, form.as_slice())?;
     }

@@ -29,10 +29,15 @@
 //! `s -> if e then s . else s`; for the reduction it is `^ -> . s`, `s -> if e then . s else s` and `s -> if e then s .`,
 //! with the one form `else s`.
 //!
+//! A graph may be asked itself, where one example is wanted: with `ConflictExamples` in scope
+//! `graph.shift_reduce_example(alloc, grm, entry)` makes a finder and asks it once.
+//!
 //! A search over the finished graph (`strings`, `along`, `steps`) comes to the open productions; what it comes to is checked
 //! against the grammar (`opened`, `forms`, `shown`), and only what passes is answered. Where no table is made, since a
-//! production may be reduced where a text has ended, `accept_reduce` searches over the productions. The contracts that matter
-//! most are those of `finder::ExampleFinder`; the laws that tie examples to canonical LR(1) are in `laws`.
+//! production may be reduced where a text has ended, `accept_reduce` searches over the productions. Where the forms would have
+//! more than 262,144 symbols all together none is found (`steps`). The contracts that matter most are those of
+//! `finder::ExampleFinder` and of `graph_examples::ConflictExamples`; the laws that tie examples to canonical LR(1) are in
+//! `laws`.
 #![tactic(auto)]
 
 mod accepting;
@@ -41,6 +46,7 @@ mod checked;
 pub mod examples;
 pub mod finder;
 mod forms;
+pub mod graph_examples;
 pub mod laws;
 mod opened;
 mod places;
@@ -55,3 +61,4 @@ mod traces;
 pub use accepting::accept_reduce;
 pub use examples::{ActionExample, ConflictExample};
 pub use finder::ExampleFinder;
+pub use graph_examples::ConflictExamples;

@@ -7,6 +7,10 @@ use cfg_base::symbol::{PIdx, RIdx, SIdx, Symbol};
 use cfg_numbered::yacc::NumberedGrammar;
 use std::alloc::{AllocError, Global};
 
+/// How many symbols the forms of an example may have, all together, but for the last one. Where a rule vanishes only by a
+/// chain in which each is twice the next, they would have as many as doublings make.
+pub(crate) const MOST_SYMBOLS: usize = 262_144;
+
 /// For each rule that begins with the token, a production by which it comes nearer to that, and how many are needed.
 #[derive(Drop)]
 struct Ways<S> {
@@ -205,7 +209,8 @@ fn begins_with_rule<S: IndexStorage>(form: &[Symbol<S>]) -> bool {
     }
 }
 
-/// The productions by which what stands behind the innermost production comes to begin with the token, or to be empty.
+/// The productions by which what stands behind the innermost production comes to begin with the token, or to be empty. They don't
+/// come there where the forms would have more symbols than they may.
 pub(crate) fn steps_behind<'a, S: IndexStorage>(
     alloc: Global,
     source: &Source<'a, S>,
@@ -217,10 +222,15 @@ pub(crate) fn steps_behind<'a, S: IndexStorage>(
         return Ok(steps);
     }
     let ways = ways_of(alloc, source)?;
+    let mut left = MOST_SYMBOLS;
     'steps: for _ in 0..usize::MAX {
         let Some(pidx) = next_step(source, &ways, form.as_slice()) else {
             return Ok(steps);
         };
+        let Some(rest) = left.checked_sub(form.len()) else {
+            return Ok(steps);
+        };
+        left = rest;
         steps.push(pidx)?;
         form = after_step(alloc, source.grm, pidx, form.as_slice())?;
     }

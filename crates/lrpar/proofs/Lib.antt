@@ -54,3 +54,4 @@ pub mod NextFacts
 pub mod NextTold
 pub mod StacksAhead
 pub mod Prefixes
+pub mod FullSteps

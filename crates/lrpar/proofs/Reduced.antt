@@ -1,5 +1,5 @@
 -- Reductions on a stack whose top is last.
-use Rattle.std.proofs.Common.{◌≡◌, ℕ, zero, suc, ◌+◌, ◌-◌, ◌<◌, ◌≤◌, List, [], ◌∷◌, ◌++◌, length, get_or, take, drop, reverse, Some, refl, sym, ap, ◌∙◌, arith, ⊎_elim}
+use Rattle.std.proofs.Common.{◌≡◌, ℕ, zero, suc, ◌+◌, ◌-◌, ◌<◌, ◌≤◌, List, [], ◌∷◌, ◌++◌, length, get_or, take, drop, reverse, Option, None, Some, refl, sym, ap, ◌∙◌, arith, ⊎_elim}
 use Rattle.std.specs.Prelude.{slice_get}
 use Rattle.std.proofs.lemmas.List.{reverse-append, length-reverse, length-take, length-map, take_more, take_all, drop_all}
 use Rattle.std.proofs.lemmas.Bool.{cases_lt}
@@ -8,7 +8,7 @@ use Rattle.lr_theory.specs.Automaton.{reduce, Automaton}
 use Rattle.lr_theory.specs.Chains.{push_goto, goto_from, reduce_by, reduction}
 use Rattle.lr_theory.proofs.Tops.{drop_reverse}
 use Rattle.lrtable.specs.Graphs.{GraphValue}
-use Rattle.lrtable.specs.TableValues.{TableValue}
+use Rattle.lrtable.specs.TableValues.{TableValue, goto_at}
 use Rattle.lrtable.specs.declared.stidx.StIdx.{StIdx}
 use Rattle.lrpar.specs.Reducing.{states_of, stack_of, AreStates}
 use Rattle.lrtable.specs.Tables.{automaton_of}
@@ -106,3 +106,26 @@ module _ (G : Grammar) (a : Automaton) (t : ℕ) where
       let whole : reverse ss ≡ top ∷ reverse (take m ss) = reverse_last ss m top len top_is in
       let first_step : reduction G a t (reverse ss) ≡ goto_from G a p (drop n (reverse ss)) = rw (whole, cell, ← count) refl in
       first_step ∙ goto_is G a p n below ss lt below_is
+
+-- what a reduction of n symbols comes to from the k states of a stack, and that it goes somewhere where it goes on
+module _ {S : Type 0} (number : S → ℕ) (G : Grammar) (v : TableValue) (p n k : ℕ) (states : List (StIdx S)) (count : n ≡ length (body_of G p)) (lt : n < length states) (len : k ≡ length states) where
+  pub reduces_to : (below r : ℕ) (x : GraphValue) → below ≡ get_or (states_of number states) (k - n - 1) below → r ≡ head_of G p →
+      goto_from G (automaton_of x v) p (drop (length (body_of G p)) (stack_of number states)) ≡ push_goto (goto_at v below r) (reverse (take (k - n) (states_of number states)))
+  reduces_to below r x at head =
+      let ss = states_of number states in
+      let same : length ss ≡ length states = length-map states (λ q. number q.0) in
+      let left : length ss - n ≡ k - n = omega (arith, same, len) in
+      let below_is : below ≡ get_or ss (length ss - n - 1) below = rw left at in
+      ap (λ m. goto_from G (automaton_of x v) p (drop m (stack_of number states))) (sym count) ∙ (goto_is G (automaton_of x v) p n below ss (omega (arith, lt, same)) below_is
+      ∙ (ap (λ m. push_goto (goto_at v below (head_of G p)) (reverse (take m ss))) left ∙ ap (λ A. push_goto (goto_at v below A) (reverse (take (k - n) ss))) (sym head)))
+
+  goes_by : (o : Option ℕ) (below next : List ℕ) → push_goto o below ≡ Some next → (q : ℕ) × (o ≡ Some q)
+  goes_by None below next e = cc
+  goes_by (Some q) below next e = (q, refl)
+
+  pub goes_to : (below r : ℕ) → below ≡ get_or (states_of number states) (k - n - 1) below → r ≡ head_of G p →
+      ((x : GraphValue) → (next : List ℕ) × (reduce_by G (automaton_of x v) (reduce p) (stack_of number states) ≡ Some next)) → (q : ℕ) × (goto_at v below r ≡ Some q)
+  goes_to below r at head goes =
+      let x : GraphValue = record { start = 0; cores = []; closed = []; edges = [] } in
+      let h = goes x in
+      goes_by (goto_at v below r) (reverse (take (k - n) (states_of number states))) h.0 (sym (reduces_to below r x at head) ∙ h.1)

@@ -81,7 +81,7 @@ module _ (v : TableValue) (s : ℕ) (row : List (ℕ × Action)) (whole : get_or
   pub cell_inside : (k t : ℕ) (a : Action) → slice_get row k ≡ Some (t, a) → t < v.tokens
   cell_inside k t a at = subst (λ (z : ℕ × Action). z.0 < v.tokens) (get_or_from_slice_get row k (t, a) (t, a) at) (is.below k (t, a) (slice_get_within row k (t, a) at))
 
-  cell_of_row : (t : ℕ) → t < v.tokens → action_at v s t ≡ or_error (at_of row t)
+  pub cell_of_row : (t : ℕ) → t < v.tokens → action_at v s t ≡ or_error (at_of row t)
   cell_of_row t lt = ap (λ (r : List Action). get_or r t error) whole ∙ get_or-map-range_with_len (λ (u : ℕ). or_error (at_of row u)) 0 v.tokens t t error lt (omega arith)
 
   pub cell_there : (k t : ℕ) (a : Action) → slice_get row k ≡ Some (t, a) → action_at v s t ≡ a
@@ -117,7 +117,7 @@ module _ (v : TableValue) (s : ℕ) (row : List (ℕ × ℕ)) (whole : get_or v.
   pub goto_there : (k A q : ℕ) → slice_get row k ≡ Some (A, q) → goto_at v s A ≡ Some q
   goto_there k A q at = goto_of_row A (goto_inside k A q at) ∙ at_there row k A q is.rises at
 
-  past_gotos : (A : ℕ) → v.rules ≤ A → goto_at v s A ≡ None
+  pub past_gotos : (A : ℕ) → v.rules ≤ A → goto_at v s A ≡ None
   past_gotos A le =
       let n = length-map-range_with_len (λ (B : ℕ). at_of row B) 0 v.rules in
       ap (λ (r : List (Option ℕ)). get_or r A None) whole ∙ get_or_past (full_targets v.rules row) A None (omega (arith, n, le))

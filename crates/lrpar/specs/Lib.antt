@@ -34,3 +34,4 @@ pub mod NextTokens
 pub mod NextStates
 pub mod Branching
 pub mod Prefixes
+pub mod FullTables

@@ -15,6 +15,7 @@ ghost use Rattle.lrpar.specs.Run.{AreLexemes, AreStacks, StandFor, GoesOn, Start
 ghost use Rattle.lrpar.specs.Taking.{edit_of, edits_of};
 ghost use Rattle.lrpar.specs.Applied.{FailsPast, OnWay, GoesOnWay, IsApplied};
 
+use crate::full_table::FullTable;
 use crate::lex_api::Lexeme;
 use crate::recoverer::RepairStep;
 use crate::run::{Advance, advance_to};
@@ -23,7 +24,6 @@ use crate::values::ValueStack;
 use cfg_base::index::IndexStorage;
 use cfg_base::symbol::TIdx;
 use cfg_numbered::yacc::grammar::NumberedGrammar;
-use lrtable::StateTable;
 use std::alloc::{AllocError, Global};
 
 /// Where a lexeme begins that is made up before the one at the index, `end` being the end of all.
@@ -56,7 +56,7 @@ fn made_before<S: IndexStorage, L: Lexeme<S>>(
 fn put_on<S: IndexStorage, L: Lexeme<S>, V: ValueStack<S, L>>(
     alloc: Global,
     grm: &NumberedGrammar<S>,
-    stable: &StateTable<S>,
+    stable: &FullTable<S>,
     limit: u16,
     stacks: &mut Stacks<S, V>,
     lexeme: L,
@@ -85,7 +85,7 @@ fn put_on<S: IndexStorage, L: Lexeme<S>, V: ValueStack<S, L>>(
 fn apply_step<S: IndexStorage, L: Lexeme<S>, V: ValueStack<S, L>>(
     alloc: Global,
     grm: &NumberedGrammar<S>,
-    stable: &StateTable<S>,
+    stable: &FullTable<S>,
     limit: u16,
     stacks: &mut Stacks<S, V>,
     lexemes: &[L],
@@ -138,7 +138,7 @@ fn step_at<S: IndexStorage>(steps: &[RepairStep<S>], number: usize) -> RepairSte
 pub(crate) fn apply_steps<S: IndexStorage, L: Lexeme<S>, V: ValueStack<S, L>>(
     alloc: Global,
     grm: &NumberedGrammar<S>,
-    stable: &StateTable<S>,
+    stable: &FullTable<S>,
     limit: u16,
     stacks: &mut Stacks<S, V>,
     lexemes: &[L],

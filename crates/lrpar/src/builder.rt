@@ -101,7 +101,7 @@ impl<'a, T: LexerTypes, R: Recoverer<T::StorageT, T::LexemeT>> RTParserBuilder<'
         parse_folded(
             alloc,
             self.checked.grm(),
-            self.checked.stable(),
+            self.checked.full(),
             self.checked.cap(),
             items,
             self.recoverer,
@@ -135,7 +135,7 @@ impl<'a, T: LexerTypes, R: Recoverer<T::StorageT, T::LexemeT>> RTParserBuilder<'
         flat_parse::parse_flat(
             alloc,
             self.checked.grm(),
-            self.checked.stable(),
+            self.checked.full(),
             self.checked.cap(),
             items,
             self.recoverer,
@@ -165,7 +165,7 @@ impl<'a, T: LexerTypes, R: Recoverer<T::StorageT, T::LexemeT>> RTParserBuilder<'
         let outcome = parse_mapped(
             alloc,
             self.checked.grm(),
-            self.checked.stable(),
+            self.checked.full(),
             self.checked.cap(),
             items,
             self.recoverer,
@@ -193,7 +193,7 @@ impl<'a, T: LexerTypes, R: Recoverer<T::StorageT, T::LexemeT>> RTParserBuilder<'
         let outcome = parse_nodes(
             alloc,
             self.checked.grm(),
-            self.checked.stable(),
+            self.checked.full(),
             self.checked.cap(),
             items,
             self.recoverer,
@@ -220,7 +220,7 @@ impl<'a, T: LexerTypes, R: Recoverer<T::StorageT, T::LexemeT>> RTParserBuilder<'
         let outcome = parse_acted::<T, X, A, R>(
             alloc,
             self.checked.grm(),
-            self.checked.stable(),
+            self.checked.full(),
             self.checked.cap(),
             items,
             self.recoverer,
@@ -247,7 +247,7 @@ impl<'a, T: LexerTypes, R: Recoverer<T::StorageT, T::LexemeT>> RTParserBuilder<'
         let outcome = parse_unvalued(
             alloc,
             self.checked.grm(),
-            self.checked.stable(),
+            self.checked.full(),
             self.checked.cap(),
             items,
             self.recoverer,

@@ -18,6 +18,7 @@ ghost use Rattle.lrpar.specs.Run.{span_by};
 use crate::flat::FlatTree;
 use crate::flat_values::FlatValues;
 use crate::folded_parse::tell_errors;
+use crate::full_table::FullTable;
 use crate::lex_api::Lexeme;
 use crate::lexemes::ParseRefusal;
 use crate::parse::Parsed;
@@ -26,7 +27,6 @@ use crate::parser::{Outcome, parse_items};
 use crate::recoverer::Recoverer;
 use cfg_base::index::IndexStorage;
 use cfg_numbered::yacc::grammar::NumberedGrammar;
-use lrtable::StateTable;
 use std::alloc::Global;
 
 /// The flat tree that a parse leaves, where it accepts.
@@ -48,7 +48,7 @@ fn tree_left<S: IndexStorage, L: Lexeme<S>>(
 pub(crate) fn parse_flat<S: IndexStorage, L: Lexeme<S>, E: Copy, R: Recoverer<S, L>>(
     alloc: Global,
     grm: &NumberedGrammar<S>,
-    stable: &StateTable<S>,
+    stable: &FullTable<S>,
     limit: u16,
     items: &[Result<L, E>],
     recoverer: &R,
@@ -61,7 +61,8 @@ pub(crate) fn parse_flat<S: IndexStorage, L: Lexeme<S>, E: Copy, R: Recoverer<S,
         IsFlatParse S.number L.lex L.faulty_of grm.now.grammar g stable.now (R.answers recoverer.now) items.now p.0 p.1.items)) }
     ensures refused { IfErr result (IsParseRefusal grm.now.grammar L.lex items.now) }
 {
-    let values = match FlatValues::with_room(alloc, items.len()) {
+    // Room for three nodes a lexeme; where there are more, the list grows.
+    let values = match FlatValues::with_room(alloc, items.len().saturating_mul(3)) {
         Ok(values) => values,
         Err(e) => return Err(ParseRefusal::Memory(e)),
     };

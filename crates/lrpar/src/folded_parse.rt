@@ -16,6 +16,7 @@ ghost use Rattle.lrpar.specs.Stacks.{FoldedStand, values_by};
 ghost use Rattle.lrpar.specs.Told.{told_of, as_told, IsFoldedOutcome};
 
 use crate::folded::{FoldedValues, folded_value, no_folds};
+use crate::full_table::FullTable;
 use crate::lex_api::Lexeme;
 use crate::lexemes::ParseRefusal;
 use crate::parse::{ErrorFound, Parsed};
@@ -27,7 +28,6 @@ use cfg_base::index::IndexStorage;
 use cfg_base::span::Span;
 use cfg_base::symbol::{PIdx, RIdx};
 use cfg_numbered::yacc::grammar::NumberedGrammar;
-use lrtable::StateTable;
 use std::alloc::{AllocError, Global};
 
 /// What the list of a lexer comes to: its first fault, or the value of its parse, if it has one, and the errors.
@@ -89,7 +89,7 @@ pub(crate) fn parse_folded<
 >(
     alloc: Global,
     grm: &NumberedGrammar<S>,
-    stable: &StateTable<S>,
+    stable: &FullTable<S>,
     limit: u16,
     items: &[Result<L, E>],
     recoverer: &R,

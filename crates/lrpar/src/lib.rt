@@ -39,6 +39,7 @@ mod flat_parse;
 mod flat_values;
 mod folded;
 pub mod folded_parse;
+mod full_table;
 mod handed_out;
 pub mod laws;
 pub mod lex_api;

@@ -13,13 +13,14 @@ ghost use Rattle.lrpar.specs.NextTokens.{Reaches, HasError, IsSet, AreNext};
 ghost use Rattle.lrpar.specs.Reducing.{IsTableFor, AreStates, stack_of};
 ghost use Rattle.lrpar.specs.Run.{token_by};
 
+use crate::full_table::FullTable;
 use crate::lex_api::Lexeme;
 use crate::overlay::{Overlay, accepts_on, shift_on};
 use crate::parserdata::ParserData;
 use cfg_base::index::IndexStorage;
 use cfg_base::symbol::TIdx;
 use cfg_numbered::yacc::grammar::NumberedGrammar;
-use lrtable::{StIdx, StateTable};
+use lrtable::StIdx;
 use std::alloc::{AllocError, Global};
 use vob::Vob;
 
@@ -40,7 +41,7 @@ fn are_inside<S: IndexStorage, L: Lexeme<S>>(grm: &NumberedGrammar<S>, lexemes: 
 fn states_behind<S: IndexStorage, L: Lexeme<S>>(
     alloc: Global,
     grm: &NumberedGrammar<S>,
-    stable: &StateTable<S>,
+    stable: &FullTable<S>,
     limit: u16,
     lexemes: &[L],
 ) -> Result<Option<Vec<StIdx<S>>>, AllocError>
@@ -69,7 +70,7 @@ fn states_behind<S: IndexStorage, L: Lexeme<S>>(
 /// the run accepts. What the overlay held is let go.
 fn may_follow<S: IndexStorage>(
     grm: &NumberedGrammar<S>,
-    stable: &StateTable<S>,
+    stable: &FullTable<S>,
     limit: u16,
     base: &[StIdx<S>],
     overlay: &mut Overlay<S>,
@@ -96,7 +97,7 @@ fn may_follow<S: IndexStorage>(
 pub(crate) fn tokens_behind<S: IndexStorage>(
     alloc: Global,
     grm: &NumberedGrammar<S>,
-    stable: &StateTable<S>,
+    stable: &FullTable<S>,
     limit: u16,
     base: &[StIdx<S>],
 ) -> Result<Vob, AllocError>
@@ -124,7 +125,7 @@ pub(crate) fn tokens_behind<S: IndexStorage>(
 fn told_behind<S: IndexStorage, L: Lexeme<S>>(
     alloc: Global,
     grm: &NumberedGrammar<S>,
-    stable: &StateTable<S>,
+    stable: &FullTable<S>,
     limit: u16,
     lexemes: &[L],
 ) -> Result<Option<Vob>, AllocError>
@@ -172,6 +173,6 @@ impl<S: IndexStorage> ParserData<S> {
         self.facts();
         // Read, so that the proof may use that each token's number is one.
         let _end = self.grm().eof_token_idx().0.to_usize();
-        told_behind(alloc, self.grm(), self.stable(), self.cap(), lexemes)
+        told_behind(alloc, self.grm(), self.full(), self.cap(), lexemes)
     }
 }

@@ -10,10 +10,11 @@ ghost use Rattle.lrpar.specs.Taking.{EditsAreTaken};
 ghost use Rattle.lrtable.specs.Graphs.{GraphValue};
 ghost use Rattle.lrtable.specs.CellViews.{state_of};
 
+use crate::full_table::FullTable;
 use cfg_base::index::IndexStorage;
 use cfg_base::symbol::TIdx;
 use cfg_numbered::yacc::grammar::NumberedGrammar;
-use lrtable::{Action, StIdx, StateTable};
+use lrtable::{Action, StIdx};
 use std::alloc::AllocError;
 
 /// The lowest `kept` states of a base, and those over them. The top is last.
@@ -79,7 +80,7 @@ pub(crate) fn replace<S: IndexStorage>(
 /// One reduction on the token, where one can be made that leaves a state.
 pub(crate) fn reduce_on<S: IndexStorage>(
     grm: &NumberedGrammar<S>,
-    stable: &StateTable<S>,
+    stable: &FullTable<S>,
     base: &[StIdx<S>],
     overlay: &mut Overlay<S>,
     tidx: TIdx<S>,
@@ -111,7 +112,7 @@ pub(crate) fn reduce_on<S: IndexStorage>(
 /// Reductions on the token until no more comes. As chains of them are within `limit`, this ends.
 pub(crate) fn reduce_all<S: IndexStorage>(
     grm: &NumberedGrammar<S>,
-    stable: &StateTable<S>,
+    stable: &FullTable<S>,
     limit: u16,
     base: &[StIdx<S>],
     overlay: &mut Overlay<S>,
@@ -135,7 +136,7 @@ pub(crate) fn reduce_all<S: IndexStorage>(
 /// Whether the token is shifted after reductions on it; where it is, that is done.
 pub(crate) fn shift_on<S: IndexStorage>(
     grm: &NumberedGrammar<S>,
-    stable: &StateTable<S>,
+    stable: &FullTable<S>,
     limit: u16,
     base: &[StIdx<S>],
     overlay: &mut Overlay<S>,
@@ -163,7 +164,7 @@ pub(crate) fn shift_on<S: IndexStorage>(
 /// Whether the run accepts after reductions on the end token.
 pub(crate) fn accepts_on<S: IndexStorage>(
     grm: &NumberedGrammar<S>,
-    stable: &StateTable<S>,
+    stable: &FullTable<S>,
     limit: u16,
     base: &[StIdx<S>],
     overlay: &mut Overlay<S>,

@@ -15,6 +15,7 @@ ghost use Rattle.lrpar.specs.Reducing.{IsTableFor, stack_of, AreStates};
 ghost use Rattle.lrpar.specs.Run.{AreLexemes, StartsByNext, StandFor, AreStacks, token_by};
 
 use crate::apply::apply_steps;
+use crate::full_table::FullTable;
 use crate::lex_api::Lexeme;
 use crate::recoverer::{Recoverer, RepairStep};
 use crate::repair::taken_of;
@@ -23,7 +24,7 @@ use crate::stacks::Stacks;
 use crate::values::ValueStack;
 use cfg_base::index::IndexStorage;
 use cfg_numbered::yacc::grammar::NumberedGrammar;
-use lrtable::{StIdx, StateTable};
+use lrtable::StIdx;
 use std::alloc::{AllocError, Global};
 
 /// An error of a run: the state on top, the next lexeme or the one made up past the last, its index, and the sequences
@@ -80,7 +81,7 @@ fn lexeme_or_end<S: IndexStorage, L: Lexeme<S>>(
 fn find_error<S: IndexStorage, L: Lexeme<S>, R: Recoverer<S, L>>(
     alloc: Global,
     grm: &NumberedGrammar<S>,
-    stable: &StateTable<S>,
+    stable: &FullTable<S>,
     limit: u16,
     states: &[StIdx<S>],
     lexemes: &[L],
@@ -114,7 +115,7 @@ fn find_error<S: IndexStorage, L: Lexeme<S>, R: Recoverer<S, L>>(
 fn mend<S: IndexStorage, L: Lexeme<S>, V: ValueStack<S, L>, R: Recoverer<S, L>>(
     alloc: Global,
     grm: &NumberedGrammar<S>,
-    stable: &StateTable<S>,
+    stable: &FullTable<S>,
     limit: u16,
     stacks: &mut Stacks<S, V>,
     lexemes: &[L],
@@ -179,7 +180,7 @@ pub(crate) fn parse_lexemes<
 >(
     alloc: Global,
     grm: &NumberedGrammar<S>,
-    stable: &StateTable<S>,
+    stable: &FullTable<S>,
     limit: u16,
     lexemes: &[L],
     recoverer: &R,

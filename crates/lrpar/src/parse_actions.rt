@@ -15,6 +15,7 @@ ghost use Rattle.lrpar.specs.Told.{IsToldOutcome};
 ghost use Rattle.lrpar.specs.declared.parse_actions.AStackType.TheVariants as variants;
 
 use crate::folded_parse::{FoldedOutcome, parse_folded};
+use crate::full_table::FullTable;
 use crate::lex_api::{Lexeme, Lexer, LexerTypes};
 use crate::lexemes::ParseRefusal;
 use crate::node::Node;
@@ -23,7 +24,6 @@ use cfg_base::index::IndexStorage;
 use cfg_base::span::Span;
 use cfg_base::symbol::{PIdx, RIdx};
 use cfg_numbered::yacc::grammar::NumberedGrammar;
-use lrtable::StateTable;
 use std::alloc::{AllocError, Global};
 
 /// An argument of an action: what an action answered, or a lexeme.
@@ -120,7 +120,7 @@ pub(crate) fn parse_acted<
 >(
     alloc: Global,
     grm: &NumberedGrammar<T::StorageT>,
-    stable: &StateTable<T::StorageT>,
+    stable: &FullTable<T::StorageT>,
     limit: u16,
     items: &[Result<T::LexemeT, T::LexErrorT>],
     recoverer: &R,

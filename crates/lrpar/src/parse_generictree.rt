@@ -12,6 +12,7 @@ ghost use Rattle.lrpar.specs.Told.{IsToldOutcome};
 ghost use Rattle.lrpar.specs.declared.node.Node.TheVariants as variants;
 
 use crate::folded_parse::FoldedOutcome;
+use crate::full_table::FullTable;
 use crate::lex_api::Lexeme;
 use crate::lexemes::ParseRefusal;
 use crate::node::Node;
@@ -20,7 +21,6 @@ use crate::recoverer::Recoverer;
 use cfg_base::index::IndexStorage;
 use cfg_base::symbol::RIdx;
 use cfg_numbered::yacc::grammar::NumberedGrammar;
-use lrtable::StateTable;
 use std::alloc::{AllocError, Global};
 
 type MadeNode<L, S> = Result<Node<L, S>, AllocError>;
@@ -29,7 +29,7 @@ type MadeNode<L, S> = Result<Node<L, S>, AllocError>;
 pub(crate) fn parse_nodes<S: IndexStorage, L: Lexeme<S>, E: Copy, R: Recoverer<S, L>>(
     alloc: Global,
     grm: &NumberedGrammar<S>,
-    stable: &StateTable<S>,
+    stable: &FullTable<S>,
     limit: u16,
     items: &[Result<L, E>],
     recoverer: &R,

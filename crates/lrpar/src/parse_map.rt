@@ -11,6 +11,7 @@ ghost use Rattle.lrpar.specs.Stacks.{mapped_by};
 ghost use Rattle.lrpar.specs.Told.{IsFoldedOutcome};
 
 use crate::folded_parse::{FoldedOutcome, parse_folded};
+use crate::full_table::FullTable;
 use crate::lex_api::Lexeme;
 use crate::lexemes::ParseRefusal;
 use crate::recoverer::Recoverer;
@@ -18,7 +19,6 @@ use cfg_base::index::IndexStorage;
 use cfg_base::span::Span;
 use cfg_base::symbol::{PIdx, RIdx};
 use cfg_numbered::yacc::grammar::NumberedGrammar;
-use lrtable::StateTable;
 use std::alloc::{AllocError, Global};
 
 /// What the list of a lexer comes to, with the value that functions of lexemes, and of rules and values, give.
@@ -33,7 +33,7 @@ pub(crate) fn parse_mapped<
 >(
     alloc: Global,
     grm: &NumberedGrammar<S>,
-    stable: &StateTable<S>,
+    stable: &FullTable<S>,
     limit: u16,
     items: &[Result<L, E>],
     recoverer: &R,

@@ -11,20 +11,20 @@ ghost use Rattle.lrpar.specs.Told.{IsToldOutcome};
 
 use crate::folded::NoValues;
 use crate::folded_parse::{FoldedOutcome, tell_errors};
+use crate::full_table::FullTable;
 use crate::lex_api::Lexeme;
 use crate::lexemes::ParseRefusal;
 use crate::parser::{Outcome, parse_items};
 use crate::recoverer::Recoverer;
 use cfg_base::index::IndexStorage;
 use cfg_numbered::yacc::grammar::NumberedGrammar;
-use lrtable::StateTable;
 use std::alloc::Global;
 
 /// What the list of a lexer comes to, of which no value is made.
 pub(crate) fn parse_unvalued<S: IndexStorage, L: Lexeme<S>, E: Copy, R: Recoverer<S, L>>(
     alloc: Global,
     grm: &NumberedGrammar<S>,
-    stable: &StateTable<S>,
+    stable: &FullTable<S>,
     limit: u16,
     items: &[Result<L, E>],
     recoverer: &R,

@@ -9,6 +9,7 @@ ghost use Rattle.lrpar.specs.Reducing.{IsTableFor};
 ghost use Rattle.lrpar.specs.Refusals.{IsParseRefusal};
 ghost use Rattle.lrpar.specs.Outcomes.{IsOutcome, OutcomeKeeps};
 
+use crate::full_table::FullTable;
 use crate::lex_api::Lexeme;
 use crate::lexemes::{ParseRefusal, admit};
 use crate::parse::{Parsed, parse_lexemes};
@@ -16,7 +17,6 @@ use crate::recoverer::Recoverer;
 use crate::values::ValueStack;
 use cfg_base::index::IndexStorage;
 use cfg_numbered::yacc::grammar::NumberedGrammar;
-use lrtable::StateTable;
 use std::alloc::Global;
 
 /// What the list of a lexer comes to: its first fault, or its lexemes with their parse.
@@ -36,7 +36,7 @@ pub(crate) fn parse_items<
 >(
     alloc: Global,
     grm: &NumberedGrammar<S>,
-    stable: &StateTable<S>,
+    stable: &FullTable<S>,
     limit: u16,
     items: &[Result<L, E>],
     recoverer: &R,

@@ -22,6 +22,7 @@ mod items;
 mod safety;
 
 use crate::chains::{LongChain, long_chain};
+use crate::full_table::FullTable;
 use crate::parserdata::complete::is_complete;
 pub use crate::parserdata::fitting::Cell;
 use crate::parserdata::fitting::Misfit;
@@ -38,7 +39,7 @@ use std::marker::Model;
 pub struct ParserData<S: IndexStorage> {
     grm: NumberedGrammar<S>,
     sgraph: StateGraph<S>,
-    stable: StateTable<S>,
+    stable: FullTable<S>,
     cap: u16,
     complete: bool,
 }
@@ -106,7 +107,7 @@ fn judge<S: IndexStorage>(
     alloc: Global,
     grm: &NumberedGrammar<S>,
     sgraph: &StateGraph<S>,
-    stable: &StateTable<S>,
+    stable: &FullTable<S>,
     cap: u16,
 ) -> Result<Verdict<S>, AllocError>
     ensures { IfOk result (TellsVerdict S.number grm.now.grammar sgraph.now stable.now cap) }
@@ -114,11 +115,12 @@ fn judge<S: IndexStorage>(
     // Read, so that the proof may use what is so of each grammar, graph and table.
     grm.start_prod();
     sgraph.all_states_len();
-    stable.states_len();
-    if let Some(misfit) = least_misfit(alloc, grm, sgraph, stable)? {
+    let rows = stable.stable();
+    rows.states_len();
+    if let Some(misfit) = least_misfit(alloc, grm, sgraph, rows)? {
         return Ok(Verdict::Unsafe(misfit));
     }
-    if let Some(chain) = long_chain(alloc, grm, stable, cap)? {
+    if let Some(chain) = long_chain(alloc, grm, rows, cap)? {
         return Ok(Verdict::Long(chain));
     }
     let complete = is_complete(grm, sgraph, stable);
@@ -142,7 +144,7 @@ impl<S: IndexStorage> ParserData<S> {
         ensures of_builder { IfErr result (λ e. IsTableOf grm sgraph stable → IsUnsafeTable e → ⊥) }
     {
         // Cells and gotos are read at once from here on.
-        let full = stable.with_full_rows(alloc)?;
+        let full = FullTable::new(alloc, stable)?;
         ParserData::of_parts(alloc, grm, sgraph, full, cap)
     }
 
@@ -151,7 +153,7 @@ impl<S: IndexStorage> ParserData<S> {
         alloc: Global,
         grm: NumberedGrammar<S>,
         sgraph: StateGraph<S>,
-        stable: StateTable<S>,
+        stable: FullTable<S>,
         cap: u16,
     ) -> Result<ParserData<S>, ParserDataError<S>>
         ensures holds { IfOk result (λ d. d ≡ record { grammar = grm; graph = sgraph; table = stable; cap = cap }) }
@@ -176,7 +178,7 @@ impl<S: IndexStorage> ParserData<S> {
                 parts: Parts {
                     grm,
                     sgraph,
-                    stable,
+                    stable: stable.into_stable(),
                 },
             }),
             Verdict::Long(chain) => Err(ParserDataError::TooManyReductions {
@@ -187,7 +189,7 @@ impl<S: IndexStorage> ParserData<S> {
                 parts: Parts {
                     grm,
                     sgraph,
-                    stable,
+                    stable: stable.into_stable(),
                 },
             }),
         }
@@ -209,6 +211,13 @@ impl<S: IndexStorage> ParserData<S> {
 
     /// Lends the table.
     pub fn stable(&self) -> &StateTable<S>
+        ensures { result.now ≡ self.now.table }
+    {
+        self.stable.stable()
+    }
+
+    /// Lends the table with its full rows.
+    pub(crate) fn full(&self) -> &FullTable<S>
         ensures { result.now ≡ self.now.table }
     {
         &self.stable

@@ -13,13 +13,14 @@ ghost use Rattle.lrpar.specs.Prefixes.{grammar_in, machine_in, IsTableIn, own, t
 ghost use Rattle.lrpar.specs.Reducing.{IsTableFor, AreStates, stack_of};
 ghost use Rattle.lrpar.specs.Replay.{overlaid, TellsShift};
 
+use crate::full_table::FullTable;
 use crate::next_tokens::tokens_behind;
 use crate::overlay::{Overlay, shift_on};
 use crate::parserdata::ParserData;
 use cfg_base::index::IndexStorage;
 use cfg_base::symbol::TIdx;
 use cfg_numbered::yacc::grammar::NumberedGrammar;
-use lrtable::{StIdx, StateTable};
+use lrtable::StIdx;
 use std::alloc::{AllocError, Global};
 use std::marker::Model;
 use vob::Vob;
@@ -68,7 +69,7 @@ fn settle<S: IndexStorage>(
 /// stays. What the overlay held is let go.
 fn shift_whole<S: IndexStorage>(
     grm: &NumberedGrammar<S>,
-    stable: &StateTable<S>,
+    stable: &FullTable<S>,
     limit: u16,
     states: &mut Vec<StIdx<S>>,
     overlay: &mut Overlay<S>,
@@ -138,7 +139,7 @@ impl<'a, S: IndexStorage> Prefix<'a, S> {
             return Ok(false);
         }
         self.tokens.reserve(1)?;
-        let stable = self.data.stable();
+        let stable = self.data.full();
         let cap = self.data.cap();
         if !shift_whole(grm, stable, cap, &mut self.states, &mut self.overlay, tidx)? {
             return Ok(false);
@@ -165,7 +166,7 @@ impl<'a, S: IndexStorage> Prefix<'a, S> {
         tokens_behind(
             alloc,
             grm,
-            self.data.stable(),
+            self.data.full(),
             self.data.cap(),
             self.states.as_slice(),
         )

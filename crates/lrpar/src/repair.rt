@@ -10,19 +10,20 @@ ghost use Rattle.lrpar.specs.Run.{AreLexemes, token_by};
 ghost use Rattle.lrpar.specs.Taking.{edit_of, edits_of, sequences_of, StepTells, SequenceTells, ListTells};
 ghost use Rattle.lr_theory.specs.Repair.{insert, keep};
 
+use crate::full_table::FullTable;
 use crate::lex_api::Lexeme;
 use crate::overlay::{Overlay, accepts_on, shift_on};
 use crate::recoverer::RepairStep;
 use cfg_base::index::IndexStorage;
 use cfg_base::symbol::TIdx;
 use cfg_numbered::yacc::grammar::NumberedGrammar;
-use lrtable::{StIdx, StateTable};
+use lrtable::StIdx;
 use std::alloc::{AllocError, Global};
 
 /// The index of the next lexeme after an insertion, where it can be made.
 fn take_insert<S: IndexStorage, L: Lexeme<S>>(
     grm: &NumberedGrammar<S>,
-    stable: &StateTable<S>,
+    stable: &FullTable<S>,
     limit: u16,
     base: &[StIdx<S>],
     overlay: &mut Overlay<S>,
@@ -52,7 +53,7 @@ fn take_insert<S: IndexStorage, L: Lexeme<S>>(
 /// The index of the next lexeme after the one at an index is kept, where it can be.
 fn take_shift<S: IndexStorage, L: Lexeme<S>>(
     grm: &NumberedGrammar<S>,
-    stable: &StateTable<S>,
+    stable: &FullTable<S>,
     limit: u16,
     base: &[StIdx<S>],
     overlay: &mut Overlay<S>,
@@ -83,7 +84,7 @@ fn take_shift<S: IndexStorage, L: Lexeme<S>>(
 /// The index of the next lexeme after a step, where it can be made.
 fn take_step<S: IndexStorage, L: Lexeme<S>>(
     grm: &NumberedGrammar<S>,
-    stable: &StateTable<S>,
+    stable: &FullTable<S>,
     limit: u16,
     base: &[StIdx<S>],
     overlay: &mut Overlay<S>,
@@ -120,7 +121,7 @@ fn take_step<S: IndexStorage, L: Lexeme<S>>(
 /// Whether the next lexeme is shifted, or past the last one the run accepts.
 fn gets_past<S: IndexStorage, L: Lexeme<S>>(
     grm: &NumberedGrammar<S>,
-    stable: &StateTable<S>,
+    stable: &FullTable<S>,
     limit: u16,
     base: &[StIdx<S>],
     overlay: &mut Overlay<S>,
@@ -156,7 +157,7 @@ pub(crate) fn step_at<S: IndexStorage>(steps: &[RepairStep<S>], number: usize) -
 /// them is shifted, or the run accepts where none is left.
 fn is_taken<S: IndexStorage, L: Lexeme<S>>(
     grm: &NumberedGrammar<S>,
-    stable: &StateTable<S>,
+    stable: &FullTable<S>,
     limit: u16,
     base: &[StIdx<S>],
     overlay: &mut Overlay<S>,
@@ -190,7 +191,7 @@ fn is_taken<S: IndexStorage, L: Lexeme<S>>(
 pub(crate) fn taken_of<S: IndexStorage, L: Lexeme<S>>(
     alloc: Global,
     grm: &NumberedGrammar<S>,
-    stable: &StateTable<S>,
+    stable: &FullTable<S>,
     limit: u16,
     base: &[StIdx<S>],
     lexemes: &[L],

@@ -10,13 +10,14 @@ ghost use Rattle.lrpar.specs.Run.{AreLexemes, StartsByNext, StandFor, AreStacks,
 ghost use Rattle.lr_theory.specs.Chains.{ChainsWithin};
 ghost use Rattle.cfg_theory.specs.Grammar.{end_token};
 
+use crate::full_table::FullTable;
 use crate::lex_api::Lexeme;
 use crate::stacks::{Stacks, reduce_onto, shift_onto};
 use crate::values::ValueStack;
 use cfg_base::index::IndexStorage;
 use cfg_base::symbol::TIdx;
 use cfg_numbered::yacc::grammar::NumberedGrammar;
-use lrtable::{Action, StateTable};
+use lrtable::Action;
 use std::alloc::{AllocError, Global};
 
 /// How a turn of a run ends.
@@ -57,16 +58,19 @@ fn next_token<S: IndexStorage, L: Lexeme<S>>(grm: &NumberedGrammar<S>, next: Opt
     }
 }
 
-/// One step of the machine, on the stacks.
-pub(crate) fn take_turn<S: IndexStorage, L: Lexeme<S>, V: ValueStack<S, L>>(
+/// One step of the machine, on the stacks. `tidx` is the token of the next lexeme, or the end token where there is none.
+#[inline(always)]
+fn take_turn<S: IndexStorage, L: Lexeme<S>, V: ValueStack<S, L>>(
     alloc: Global,
     grm: &NumberedGrammar<S>,
-    stable: &StateTable<S>,
+    stable: &FullTable<S>,
     stacks: &mut Stacks<S, V>,
     next: Option<L>,
+    tidx: TIdx<S>,
 ) -> Result<Turn, AllocError>
     requires table { IsTableFor grm.now.grammar stable.now }
     requires inside { NextInside grm.now.grammar L.lex next }
+    requires token { S.number tidx.0 ≡ token_of (token_by L.lex) (end_token grm.now.grammar) next }
     requires stacks { AreStacks S.number stable.now stacks.old }
     requires starts { StartsBefore L.lex (V.starts_by stacks.old.values) next }
     requires stand { (g : GraphValue) × (input : List L) × (d : Config L) × Safe grm.now.grammar (automaton_of g stable.now) × StandFor S.number L.lex grm.now.grammar g stable.now (V.stands grm.now.grammar) input stacks.old d × NextOf next d.rest }
@@ -79,7 +83,6 @@ pub(crate) fn take_turn<S: IndexStorage, L: Lexeme<S>, V: ValueStack<S, L>>(
     ensures reduces { IfOk result (λ t. (g : GraphValue) → TurnReduces grm.now.grammar (automaton_of g stable.now) (token_of (token_by L.lex) (end_token grm.now.grammar) next) (stack_of S.number stacks.old.states.items) (stack_of S.number stacks.new.states.items) t) }
 {
     let top = stacks.states[stacks.states.len() - 1];
-    let tidx = next_token(grm, next);
     match stable.action(top, tidx) {
         Action::Shift(target) => match next {
             Some(lexeme) => {
@@ -101,7 +104,7 @@ pub(crate) fn take_turn<S: IndexStorage, L: Lexeme<S>, V: ValueStack<S, L>>(
 pub(crate) fn advance_to<S: IndexStorage, L: Lexeme<S>, V: ValueStack<S, L>>(
     alloc: Global,
     grm: &NumberedGrammar<S>,
-    stable: &StateTable<S>,
+    stable: &FullTable<S>,
     limit: u16,
     stacks: &mut Stacks<S, V>,
     next: Option<L>,
@@ -118,8 +121,9 @@ pub(crate) fn advance_to<S: IndexStorage, L: Lexeme<S>, V: ValueStack<S, L>>(
     ensures stacks { IfOk result (StacksAdvanced S.number L.lex stable.now (V.starts_by stacks.old.values) (V.starts_by stacks.new.values) stacks.new next) }
     ensures keeps { OnOk result (V.keeps stacks.old.values stacks.new.values) }
 {
+    let tidx = next_token(grm, next);
     'turns: loop {
-        match take_turn(alloc, grm, stable, stacks, next)? {
+        match take_turn(alloc, grm, stable, stacks, next, tidx)? {
             Turn::Reduced => {}
             Turn::Shifted => return Ok(Advance::Shifted),
             Turn::Accepted => return Ok(Advance::Accepted),
@@ -132,7 +136,7 @@ pub(crate) fn advance_to<S: IndexStorage, L: Lexeme<S>, V: ValueStack<S, L>>(
 pub(crate) fn run_from<S: IndexStorage, L: Lexeme<S>, V: ValueStack<S, L>>(
     alloc: Global,
     grm: &NumberedGrammar<S>,
-    stable: &StateTable<S>,
+    stable: &FullTable<S>,
     limit: u16,
     stacks: &mut Stacks<S, V>,
     lexemes: &[L],

@@ -10,13 +10,14 @@ ghost use Rattle.lrtable.specs.Tables.{automaton_of};
 ghost use Rattle.lrpar.specs.Reducing.{states_of, stack_of, IsTableFor, AreStates};
 ghost use Rattle.lrtable.specs.Graphs.{GraphValue};
 
+use crate::full_table::FullTable;
 use crate::lex_api::Lexeme;
 use crate::tops::put_above;
 use crate::values::ValueStack;
 use cfg_base::index::IndexStorage;
 use cfg_base::symbol::PIdx;
 use cfg_numbered::yacc::grammar::NumberedGrammar;
-use lrtable::{StIdx, StateTable};
+use lrtable::StIdx;
 use std::alloc::{AllocError, Global};
 
 /// The states of a run, the last one on top, and what is made of the symbols between them.
@@ -61,7 +62,7 @@ pub(crate) fn shift_onto<S: IndexStorage, L: Lexeme<S>, V: ValueStack<S, L>>(
 pub(crate) fn reduce_onto<S: IndexStorage, L: Lexeme<S>, V: ValueStack<S, L>>(
     alloc: Global,
     grm: &NumberedGrammar<S>,
-    stable: &StateTable<S>,
+    stable: &FullTable<S>,
     stacks: &mut Stacks<S, V>,
     pidx: PIdx<S>,
 ) -> Result<(), AllocError>
@@ -82,11 +83,7 @@ pub(crate) fn reduce_onto<S: IndexStorage, L: Lexeme<S>, V: ValueStack<S, L>>(
     stacks.values.reduce(alloc, pidx, ridx, count)?;
     let left = stacks.states.len() - count;
     let below = stacks.states[left - 1];
-    match stable.goto(below, ridx) {
-        Some(target) => {
-            put_above(&mut stacks.states, left, target)?;
-            Ok(())
-        }
-        None => unreachable!(),
-    }
+    let next = stable.target(below, ridx);
+    put_above(&mut stacks.states, left, next)?;
+    Ok(())
 }

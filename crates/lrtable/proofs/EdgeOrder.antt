@@ -34,7 +34,7 @@ before_differs (rule A) (token t) h = refl
 before_differs (token t) (rule A) h = absurd h
 before_differs (token t) (token u) h = number_differs t u (λ e. omega (arith, e, h))
 
-after_differs : (X Y : Sym) → SymBefore X Y → same_symbol Y X ≡ false
+pub after_differs : (X Y : Sym) → SymBefore X Y → same_symbol Y X ≡ false
 after_differs (rule A) (rule B) h = number_differs B A (λ e. omega (arith, e, h))
 after_differs (rule A) (token t) h = refl
 after_differs (token t) (rule A) h = absurd h

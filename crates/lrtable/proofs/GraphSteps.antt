@@ -1,9 +1,9 @@
 -- What a state has for its row, item by item and edge by edge.
-use Rattle.std.proofs.Common.{◌≡◌, ℕ, ◌+◌, ◌<◌, ◌≤◌, ◌↔◌, inl, inr, Bool, true, false, ◌||◌, cond, List, [], ◌∷◌, ◌++◌, length, get_or, map, take, drop, refl, sym, ap, ap₂, ◌∙◌, subst, arith, append-nil}
-use Rattle.std.specs.Prelude.{All, IsTrue}
-use Rattle.std.proofs.lemmas.Bool.{cases_lt, false≢true}
-use Rattle.std.proofs.lemmas.List.{map_more, at_drop_more, get_or-map, length-map}
-use Rattle.cfg_theory.specs.Grammar.{Sym, rule, token, Grammar}
+use Rattle.std.proofs.Common.{◌≡◌, ℕ, ◌+◌, ◌<◌, ◌≤◌, ◌↔◌, inl, inr, Bool, true, false, ◌||◌, ◌&&◌, nat_eq, cond, List, [], ◌∷◌, ◌++◌, length, get_or, map, take, drop, refl, sym, ap, ap₂, ◌∙◌, subst, arith, append-nil, ne_eqb}
+use Rattle.std.specs.Prelude.{All, IsTrue, not}
+use Rattle.std.proofs.lemmas.Bool.{cases_eq, cases_lt, eqb-true, false≢true}
+use Rattle.std.proofs.lemmas.List.{map_more, at_drop_more, at_drop_all, get_or-map, length-map}
+use Rattle.cfg_theory.specs.Grammar.{Sym, rule, token, Grammar, body_of}
 use Rattle.lr_theory.specs.Itemset.{Entry, ItemSet, FitsGrammar}
 use Rattle.table_theory.specs.Cells.{accepts_in, is_start_complete}
 use Rattle.vob.specs.Packed.{Contents}
@@ -60,7 +60,48 @@ kept G e old new h now = now ∙ ap (λ (b : Bool). old ++ cond b (record { prod
 pub left_out : (G : Grammar) (e : Entry) (old : List ReductionValue) → is_complete G e ≡ false → old ≡ old ++ complete_items G (e ∷ [])
 left_out G e old h = sym (ap (λ (b : Bool). old ++ cond b (record { production = e.production; looks = e.lookaheads } ∷ []) []) h ∙ append-nil old)
 
--- ---- whether one of those that are left is the complete start production
+and_false : (b : Bool) → (b && false) ≡ false
+and_false true = refl
+and_false false = refl
+
+abbrev is_whole : Grammar → Entry → Bool
+is_whole G e = nat_eq e.dot (length (body_of G e.production))
+
+module _ (G : Grammar) (e : Entry) where
+  pub partial : is_whole G e ≡ false → (is_complete G e ≡ false) × (is_start_complete G e ≡ false)
+  partial h = (
+    ap (λ (b : Bool). not (nat_eq e.production G.start) && b) h ∙ and_false (not (nat_eq e.production G.start)),
+    elim (cases_eq e.production G.start) [
+      | inl q ↦ ap (λ (b : Bool). nat_eq e.production G.start && b) (ap (λ k. nat_eq e.dot (length (body_of G k))) (sym q) ∙ h) ∙ and_false (nat_eq e.production G.start)
+      | inr ne ↦ ap (λ (b : Bool). b && nat_eq e.dot (length (body_of G G.start))) (ne_eqb e.production G.start ne)
+    ],
+  )
+
+  pub whole_start : is_whole G e ≡ true → nat_eq e.production G.start ≡ true → (is_complete G e ≡ false) × (is_start_complete G e ≡ true)
+  whole_start h q = (
+    ap (λ (b : Bool). not b && is_whole G e) q,
+    ap₂ (λ (a b : Bool). a && b) q (ap (λ k. nat_eq e.dot (length (body_of G k))) (sym (eqb-true e.production G.start q)) ∙ h),
+  )
+
+  pub whole_other : is_whole G e ≡ true → nat_eq e.production G.start ≡ false → (is_complete G e ≡ true) × (is_start_complete G e ≡ false)
+  whole_other h ne = (
+    ap₂ (λ (a b : Bool). not a && b) ne h,
+    ap (λ (b : Bool). b && nat_eq e.dot (length (body_of G G.start))) ne,
+  )
+
+-- ---- whether the complete start production was among those so far or is among those that are left
+
+or_assoc : (a b c : Bool) → ((a || b) || c) ≡ (a || (b || c))
+or_assoc true b c = refl
+or_assoc false b c = refl
+
+pub or_off : (a b : Bool) → b ≡ false → a ≡ (a || b)
+or_off true b e = refl
+or_off false b e = sym e
+
+pub or_on : (a b : Bool) → b ≡ true → true ≡ (a || b)
+or_on true b e = refl
+or_on false b e = sym e
 
 module _ {S : Type 0} (number : S → ℕ) (G : Grammar) (rows : List (List Bool)) (es : List (SharedItem S)) (i : ℕ) (x : SharedItem S) (lt : i < length es) (at : x ≡ get_or es i x) where
   abbrev among : List (SharedItem S) → Bool
@@ -69,11 +110,15 @@ module _ {S : Type 0} (number : S → ℕ) (G : Grammar) (rows : List (List Bool
   at_hand : among (drop i es) ≡ (is_start_complete G (entry_in number rows x) || among (drop (i + 1) es))
   at_hand = at_drop_more among es i x lt ∙ ap (λ (y : SharedItem S). among (y ∷ drop (i + 1) es)) (sym at)
 
-  pub end_found : is_start_complete G (entry_in number rows x) ≡ true → among (drop i es) ≡ true
-  end_found e = at_hand ∙ ap (λ (b : Bool). b || among (drop (i + 1) es)) e
+  pub end_step : (so all : Bool) → (so || among (drop i es)) ≡ all → ((so || is_start_complete G (entry_in number rows x)) || among (drop (i + 1) es)) ≡ all
+  end_step so all h = or_assoc so (is_start_complete G (entry_in number rows x)) (among (drop (i + 1) es)) ∙ (ap (λ (b : Bool). so || b) (sym at_hand) ∙ h)
 
-  pub end_passed : is_start_complete G (entry_in number rows x) ≡ false → among (drop (i + 1) es) ≡ among (drop i es)
-  end_passed e = sym (at_hand ∙ ap (λ (b : Bool). b || among (drop (i + 1) es)) e)
+or_nought : (a : Bool) → a ≡ (a || false)
+or_nought true = refl
+or_nought false = refl
+
+pub ended : {S : Type 0} (number : S → ℕ) (G : Grammar) (rows : List (List Bool)) (es : List (SharedItem S)) (i : ℕ) → length es ≤ i → (so all : Bool) → (so || accepts_in G (entries_in number rows (drop i es))) ≡ all → so ≡ all
+ended number G rows es i le so all h = or_nought so ∙ (sym (ap (λ (b : Bool). so || b) (at_drop_all (λ l. accepts_in G (entries_in number rows l)) es i le)) ∙ h)
 
 -- ---- the items of a set that share their sets
 

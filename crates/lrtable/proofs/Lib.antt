@@ -18,6 +18,8 @@ pub mod Fronts
 pub mod Ranks
 pub mod Gaining
 pub mod CoreSteps
+pub mod FreshSets
+pub mod MovedRows
 pub mod Seeding
 pub mod Closing
 pub mod Moving
@@ -68,8 +70,11 @@ pub mod GraphSteps
 pub mod GraphTexts
 pub mod ItemWalks
 pub mod Marks
+pub mod LoneRows
 pub mod BlankCells
 pub mod MarkedSets
 pub mod SpreadSteps
 pub mod Waiting
 pub mod OwnSets
+pub mod TakenStates
+pub mod TakenAgain

@@ -79,6 +79,7 @@ all_marked marks left e = let m : min (length marks) (length marks) ≡ length m
 record IsNext (p : ℕ → Bool) (n len k : ℕ) (rest : List ℕ) : Type 0 where
   low : n ≤ k
   below : k < n + len
+  here : p k ≡ true
   none : (j : ℕ) → n ≤ j → j < k → p j ≡ false
   left : rest ≡ filter p (range_with_len (k + 1) (n + len - (k + 1)))
 
@@ -96,6 +97,7 @@ next_at p (suc len) n k left e = by_test (p n) refl e (next_at p len (n + 1) k l
         record {
           low = omega (arith, h);
           below = omega (arith, h);
+          here = ap p (sym h) ∙ t;
           none = λ j l u. absurd (omega (arith, h, l, u));
           left = sym rest ∙ (ap (λ m. filter p (range_with_len m len)) a ∙ ap (λ m. filter p (range_with_len (k + 1) m)) b);
         }
@@ -107,6 +109,7 @@ next_at p (suc len) n k left e = by_test (p n) refl e (next_at p len (n + 1) k l
         record {
           low = omega (arith, low);
           below = omega (arith, below);
+          here = r.here;
           none = λ j l u. elim (cases_eq j n) [ inl q ↦ ap p q ∙ t | inr ne ↦ r.none j (omega (arith, l, ne)) u ];
           left = r.left ∙ ap (λ m. filter p (range_with_len (k + 1) m)) b;
         }
@@ -124,6 +127,7 @@ none_at p (suc len) n e j l u = by_test (p n) refl e (none_at p len (n + 1))
 pub record IsNextMark (marks : List Bool) (n k : ℕ) (rest : List ℕ) : Type 0 where
   pub low : n ≤ k
   pub below : k < length marks
+  pub here : is_set marks k ≡ true
   pub none : (j : ℕ) → n ≤ j → j < k → is_set marks j ≡ false
   pub left : rest ≡ marked_from marks (k + 1)
 
@@ -135,6 +139,7 @@ next_mark marks n k old left le e f =
     record {
       low = r.low;
       below = omega (arith, below, le);
+      here = r.here;
       none = r.none;
       left = r.left ∙ ap (λ m. filter (has_item true marks) (range_with_len (k + 1) m)) b;
     }

@@ -1,5 +1,5 @@
 -- The items of a closed core move into the sets of symbols.
-use Rattle.std.proofs.Common.{◌≡◌, ℕ, zero, suc, ◌+◌, ◌<◌, ◌≤◌, ◌⊎◌, inl, inr, ◌↔◌, Bool, List, [], ◌∷◌, ◌++◌, length, get_or, map, set, take, replicate, refl, sym, ap, ◌∙◌, subst, subst₂, arith}
+use Rattle.std.proofs.Common.{◌≡◌, ℕ, suc, ◌+◌, ◌<◌, ◌≤◌, ◌⊎◌, inl, inr, Bool, List, [], ◌∷◌, ◌++◌, length, get_or, map, set, take, replicate, refl, sym, ap, ◌∙◌, subst, subst₂, arith}
 use Rattle.std.specs.Prelude.{IsTrue}
 use Rattle.std.specs.List.{Contains}
 use Rattle.std.proofs.lemmas.Bool.{cases_eq, cases_lt}
@@ -9,11 +9,9 @@ use Rattle.cfg_theory.specs.Grammar.{Sym, Grammar, InRange, IsOf, IsNext, WellFo
 use Rattle.cfg_numbered.specs.Sets.{is_set}
 use Rattle.cfg_numbered.specs.Value.{productions_of}
 use Rattle.cfg_numbered.proofs.RuleLists.{listed, alone}
-use Rattle.lr_theory.specs.Itemset.{Items, Lookaheads, ItemSet, HasItem, HasLook, SameItems, SameLooks, Closure, ClosureLook, Goto, GotoLook, Is, entry_at}
+use Rattle.lr_theory.specs.Itemset.{Items, Lookaheads, ItemSet, HasItem, HasLook, Closure, ClosureLook, entry_at}
 use Rattle.lrtable.specs.Adding.{Adds, One, OneLooks}
-use Rattle.lrtable.specs.StateViews.{core_of_set}
-use Rattle.lrtable.specs.declared.cores.CoreSet.{CoreSet}
-use Rattle.lrtable.specs.Closes.{AreFronts, InClosure, LookInClosure}
+use Rattle.lrtable.specs.Closes.{AreFronts}
 use Rattle.lrtable.specs.Gaining.{no_core, core_in, moved_by, AreSets, Gains}
 use Rattle.lrtable.specs.Handling.{rank}
 use Rattle.lrtable.specs.ItemRows.{IsAt, Core, IsCoreOf, map_of}
@@ -121,7 +119,7 @@ no_items p d h = let e = h.at in cc
 pub empty_sets_good : (tokens n : ℕ) → AreSets tokens (replicate n no_core)
 empty_sets_good tokens n k lt = subst (λ c. IsCoreOf tokens c) (sym (get_or-replicate n k no_core no_core (let l = length-replicate n no_core in omega (arith, lt, l)))) (record { ascends = λ i j d l w. absurd (omega (arith, w)); count = refl; width = λ i l. absurd (omega (arith, l)) })
 
-none_moved : (G : Grammar) (n : ℕ) (X : Sym) → moved_by G (replicate n no_core) X ≡ map_of no_core
+pub none_moved : (G : Grammar) (n : ℕ) (X : Sym) → moved_by G (replicate n no_core) X ≡ map_of no_core
 none_moved G n X = ap map_of (elim (cases_lt (rank G X) n) [ inl lt ↦ get_or-replicate n (rank G X) no_core no_core lt | inr ge ↦ get_or_past (replicate n no_core) (rank G X) no_core (let l = length-replicate n no_core in omega (arith, ge, l)) ])
 
 pub all_moved : (G : Grammar) (fronts : List (List Front)) (c : Core) (s : RuleSets) (n : ℕ) (a b e : List Core) → WellFormed G → AreFronts G fronts → IsClosureOf G fronts c s → n ≡ G.rules + G.tokens → a ≡ replicate n no_core →
@@ -173,24 +171,22 @@ items_end G c k a b good le h = gains_as G (ItemsBelow c k) (HasItem (map_of c))
 pub no_move : (G : Grammar) (p d : ℕ) (bits : List Bool) (sets : List Core) → AreSets G.tokens sets → ((X : Sym) → IsNext G p d X → ⊥) → Gains G (One p d) (OneLooks p d bits) sets sets
 no_move G p d bits sets good none = gains_none G (One p d) (OneLooks p d bits) sets good (λ q e X h n. none X (subst₂ (λ r s. IsNext G r s X) h.0 h.1 n)) (λ q e t X h n. none X (subst₂ (λ r s. IsNext G r s X) h.0 h.1 n))
 
-module _ {S : Type 0} (number : S → ℕ) (tokens : ℕ) (sets : List (CoreSet S)) (n : ℕ) (x : CoreSet S) (lt : n < length sets) (read : x ≡ get_or sets n x) (good : AreSets tokens (map (core_of_set number) sets)) where
-  pub set_at : core_in (map (core_of_set number) sets) n ≡ core_of_set number x
-  set_at = map_at (core_of_set number) sets n x no_core lt read
+module _ {V : Type 0} (f : V → Core) (tokens : ℕ) (sets : List V) (n : ℕ) (x : V) (lt : n < length sets) (read : x ≡ get_or sets n x) (good : AreSets tokens (map f sets)) where
+  pub set_at : core_in (map f sets) n ≡ f x
+  set_at = map_at f sets n x no_core lt read
 
-  pub good_at : IsCoreOf tokens (core_of_set number x)
-  good_at = subst (IsCoreOf tokens) set_at (good n (let m = length-map sets (core_of_set number) in omega (arith, m, lt)))
+  pub good_at : IsCoreOf tokens (f x)
+  good_at = subst (IsCoreOf tokens) set_at (good n (let m = length-map sets f in omega (arith, m, lt)))
 
-pub move_set : {S : Type 0} (G : Grammar) (number : S → ℕ) (sets : List (CoreSet S)) (n : ℕ) (x y : CoreSet S) (p d : ℕ) (X : Sym) (bits : List Bool) → InRange G X → IsNext G p d X → n ≡ rank G X → length sets ≡ G.rules + G.tokens → AreSets G.tokens (map (core_of_set number) sets) → length bits ≡ G.tokens → x ≡ get_or sets n x →
-    (e : ℕ) → e ≡ d + 1 → Adds (map_of (core_of_set number x)) p e bits (map_of (core_of_set number y)) → (IsCoreOf G.tokens (core_of_set number x) → length bits ≡ G.tokens → IsCoreOf G.tokens (core_of_set number y)) →
-    Gains G (One p d) (OneLooks p d bits) (map (core_of_set number) sets) (map (core_of_set number) (set sets n y))
-move_set G number sets n x y p d X bits range next r count good wide read e q adds fits =
+pub move_set : {V : Type 0} (G : Grammar) (f : V → Core) (sets : List V) (n : ℕ) (x y : V) (p d : ℕ) (X : Sym) (bits : List Bool) → InRange G X → IsNext G p d X → n ≡ rank G X → length sets ≡ G.rules + G.tokens → AreSets G.tokens (map f sets) → x ≡ get_or sets n x →
+    (e : ℕ) → e ≡ d + 1 → Adds (map_of (f x)) p e bits (map_of (f y)) → IsCoreOf G.tokens (f y) → Gains G (One p d) (OneLooks p d bits) (map f sets) (map f (set sets n y))
+move_set G f sets n x y p d X bits range next r count good read e q adds fits =
     let lt = rank_below G X range in
     let lt' : n < length sets = omega (arith, lt, r, count) in
-    let m = length-map sets (core_of_set number) in
-    let at = set_at number G.tokens sets n x lt' read good in
-    let fit = good_at number G.tokens sets n x lt' read good in
-    let f : e ≡ suc d = omega (arith, q) in
-    let adds' = subst (λ k. Adds (map_of (core_of_set number x)) p k bits (map_of (core_of_set number y))) f adds in
-    let there = subst (λ c. Adds (map_of c) p (suc d) bits (map_of (core_of_set number y))) (sym at ∙ ap (core_in (map (core_of_set number) sets)) r) adds' in
-    subst (λ l. Gains G (One p d) (OneLooks p d bits) (map (core_of_set number) sets) l) (ap (λ k. set (map (core_of_set number) sets) k (core_of_set number y)) (sym r) ∙ sym (map-set (core_of_set number) sets n y))
-    (gains_one G (map (core_of_set number) sets) (core_of_set number y) p d X bits range (omega (arith, m, count)) good next (fits fit wide) there)
+    let m = length-map sets f in
+    let at = set_at f G.tokens sets n x lt' read good in
+    let s : e ≡ suc d = omega (arith, q) in
+    let adds' = subst (λ k. Adds (map_of (f x)) p k bits (map_of (f y))) s adds in
+    let there = subst (λ c. Adds (map_of c) p (suc d) bits (map_of (f y))) (sym at ∙ ap (core_in (map f sets)) r) adds' in
+    subst (λ l. Gains G (One p d) (OneLooks p d bits) (map f sets) l) (ap (λ k. set (map f sets) k (f y)) (sym r) ∙ sym (map-set f sets n y))
+    (gains_one G (map f sets) (f y) p d X bits range (omega (arith, m, count)) good next fits there)

@@ -1,16 +1,18 @@
 -- What was placed, in each building that the states stand for.
-use Rattle.std.proofs.Common.{◌≡◌, ℕ, suc, ◌<◌, inl, inr, ◌||◌, true, List, [], ◌∷◌, ◌++◌, length, set, sym, ap, ◌∙◌, subst, arith, length-set, length-append, get_or-set_same, get_or-set_other}
+use Rattle.std.proofs.Common.{◌≡◌, ℕ, suc, ◌<◌, inl, inr, ◌||◌, Bool, true, false, cond, Some, List, [], ◌∷◌, ◌++◌, length, set, sym, ap, ◌∙◌, subst, arith, length-set, length-append, get_or-set_same, get_or-set_other}
 use Rattle.std.proofs.lemmas.Bool.{cases_eq, cases_lt}
 use Rattle.std.proofs.lemmas.List.{get_or_append_left}
 use Rattle.std.proofs.Math.Seq.{get_or-append_seam}
 use Rattle.cfg_theory.specs.Grammar.{Sym}
 use Rattle.lr_theory.specs.Itemset.{HasItem, HasLook, Is}
-use Rattle.lr_theory.specs.Building.{Building}
+use Rattle.lr_theory.specs.Building.{Building, same_symbol}
 use Rattle.lrtable.specs.ItemRows.{Core, IsCoreOf, map_of, set_of, join_rows, CoversRows, LacksRows}
 use Rattle.lrtable.specs.Meeting.{row}
-use Rattle.lrtable.specs.States.{Edge, StateValue, no_state, state_at, AscendEdges, Matches, AreStates, IsLinked, IsPlaced, JoinsAt, JoinsNone, grown_at}
+use Rattle.lrtable.specs.States.{Edge, StateValue, no_state, state_at, edge_in, edge_of, AscendEdges, Matches, AreStates, IsLinked, IsPlaced, JoinsAt, JoinsNone, grown_at}
 use Rattle.cfg_numbered.proofs.Bits.{length-bitwise}
 use Rattle.lrtable.proofs.CoreSets.{length_join, row_join}
+use Rattle.lrtable.proofs.Buckets.{keeps_kept, keeps_grown, adds_added}
+use Rattle.lrtable.proofs.EdgePlaces.{edges_grown}
 use Rattle.lrtable.proofs.Placing.{edged, edge_put, grown_matches, added_matches, kept_place, grown_place, added_place, count_is}
 
 own_map : (c : Core) → Is (map_of c) (HasItem (map_of c)) (HasLook (map_of c))
@@ -79,6 +81,12 @@ grown_states tokens states k given all good h = record { cores = λ r lr. core r
       | inr ne ↦ subst (λ (c : Core). IsCoreOf tokens c) (sym (ap (λ (x : StateValue). x.core) (get_or-set_other states k r new no_state ne))) (all.cores r lr)
     ]
 
+-- and the edges on other symbols
+linked_edge : (states new : List StateValue) (s : ℕ) (X : Sym) (k : ℕ) → s < length states → IsLinked states s X k new → (Y : Sym) → same_symbol Y X ≡ false → edge_of new s Y ≡ edge_of states s Y
+linked_edge states new s X k lt l Y ne =
+    ap (λ (u : List StateValue). edge_of u s Y) l.value ∙ (ap (λ (x : StateValue). edge_in x.edges Y) (get_or-set_same states s (record { core = (state_at states s).core; edges = l.edges; todo = (state_at states s).todo }) no_state lt) ∙
+    (l.put.at Y ∙ ap (λ (b : Bool). cond b (Some k) (edge_in (state_at states s).edges Y)) ne))
+
 module _ (tokens : ℕ) (states : List StateValue) (s : ℕ) (X : Sym) (given : Core) (lt : s < length states) (all : AreStates tokens states) (good : IsCoreOf tokens given) where
   -- the set joined a state that has its lookaheads
   pub placed_kept : (k : ℕ) (mid new : List StateValue) → JoinsAt states k given → CoversRows (state_at states k).core.rows given.rows → mid ≡ states → IsLinked mid s X k new → IsPlaced states s X given new
@@ -86,6 +94,8 @@ module _ (tokens : ℕ) (states : List StateValue) (s : ℕ) (X : Sym) (given : 
     placed = λ b m. (edged b s X k, kept_place tokens states b m all (HasItem (map_of given)) (HasLook (map_of given)) given good (own_map given) s X k h c, linked_matches states new b s X k lt m l);
     states_stay = λ n a g. linked_states n states new s X k lt a l;
     more = (let n = linked_length states new s X k l in omega (arith, n));
+    edges = linked_edge states new s X k lt l;
+    items = (keeps_kept states mid new s X k lt e linked).items;
   }
     where
       l : IsLinked states s X k new
@@ -102,6 +112,8 @@ module _ (tokens : ℕ) (states : List StateValue) (s : ℕ) (X : Sym) (given : 
     );
     states_stay = λ n a g. linked_states n (grown_at states k given.rows) new s X k in_grown (grown_states n states k given a g h) l;
     more = (let n = linked_length (grown_at states k given.rows) new s X k l in let z = size in omega (arith, n, z));
+    edges = λ Y ne. linked_edge (grown_at states k given.rows) new s X k in_grown l Y ne ∙ ap (λ (es : List Edge). edge_in es Y) (edges_grown states k s given.rows h.state);
+    items = (keeps_grown states mid new s X k k given.rows lt h.state e linked).items;
   }
     where
       size : length (grown_at states k given.rows) ≡ length states
@@ -124,6 +136,8 @@ module _ (tokens : ℕ) (states : List StateValue) (s : ℕ) (X : Sym) (given : 
     );
     states_stay = λ n a g. linked_states n more_states new s X k in_more (record { cores = λ r lr. core n a g r lr; edges = λ r lr. in_order n a r lr }) l;
     more = (let n = linked_length more_states new s X k l in let z = size in omega (arith, n, z));
+    edges = λ Y ne. linked_edge more_states new s X k in_more l Y ne ∙ ap (λ (x : StateValue). edge_in x.edges Y) (get_or_append_left states (last ∷ []) no_state s lt);
+    items = (adds_added states mid new s X k given lt e linked).old;
   }
     where
       last : StateValue

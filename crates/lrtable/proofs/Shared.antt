@@ -1,7 +1,7 @@
 -- Rows of lookaheads side by side.
 use Rattle.std.proofs.Common.{◌≡◌, ℕ, ◌<◌, ◌≤◌, inl, inr, Bool, true, false, List, [], length, get_or, sym, ap, ◌∙◌, subst₂, arith}
 use Rattle.std.specs.Prelude.{IsTrue}
-use Rattle.std.proofs.lemmas.List.{length-map, get_or-map, get_or_past}
+use Rattle.std.proofs.lemmas.List.{get_or-map, get_or_past}
 use Rattle.std.proofs.lemmas.Bool.{cases_lt}
 use Rattle.vob.specs.Bits.{LacksSome}
 use Rattle.vob.specs.Packed.{Contents}
@@ -13,28 +13,18 @@ pub row_of : (items : List Contents) (i : ℕ) (x : Contents) → i < length ite
 row_of items i x lt e = get_or-map (λ y. y.bits) items i x [] lt ∙ ap (λ y. y.bits) (sym e)
 
 -- the lookaheads of one item in one set and of another in the other are of one width
-pub alike_at : (xs ys : List Contents) → AreAlike (rows_in xs) (rows_in ys) → (i j : ℕ) (x y : Contents) → i < length xs → j < length ys → x ≡ get_or xs i x → y ≡ get_or ys j y → length x.bits ≡ length y.bits
-alike_at xs ys h i j x y li lj ex ey =
-    let n = length-map xs (λ v. v.bits) in
-    let m = length-map ys (λ v. v.bits) in
-    let k = h.count in
-    sym (ap length (row_of xs i x li ex)) ∙ (h.width.1 i (omega (arith, n, li))).0 ∙ sym (h.width.1 j (omega (arith, n, m, k, lj))).1 ∙ ap length (row_of ys j y lj ey)
+pub alike_at : (a b : List (List Bool)) → AreAlike a b → (i j : ℕ) (x y : List Bool) → i < length a → j < length b → row a i ≡ x → row b j ≡ y → length x ≡ length y
+alike_at a b h i j x y li lj ex ey = let k = h.count in sym (ap length ex) ∙ (h.width.1 i li).0 ∙ sym (h.width.1 j (omega (arith, k, lj))).1 ∙ ap length ey
 
-pub alike_left : (xs ys : List Contents) → AreAlike (rows_in xs) (rows_in ys) → (i j : ℕ) (x y : Contents) → i < length xs → j < length xs → x ≡ get_or xs i x → y ≡ get_or xs j y → length x.bits ≡ length y.bits
-alike_left xs ys h i j x y li lj ex ey =
-    let n = length-map xs (λ v. v.bits) in
-    sym (ap length (row_of xs i x li ex)) ∙ (h.width.1 i (omega (arith, n, li))).0 ∙ sym (h.width.1 j (omega (arith, n, lj))).0 ∙ ap length (row_of xs j y lj ey)
+pub alike_left : (a b : List (List Bool)) → AreAlike a b → (i j : ℕ) (x y : List Bool) → i < length a → j < length a → row a i ≡ x → row a j ≡ y → length x ≡ length y
+alike_left a b h i j x y li lj ex ey = sym (ap length ex) ∙ (h.width.1 i li).0 ∙ sym (h.width.1 j lj).0 ∙ ap length ey
 
-pub as_many : (xs ys : List Contents) → AreAlike (rows_in xs) (rows_in ys) → length ys ≡ length xs
-as_many xs ys h = sym (length-map ys (λ v. v.bits)) ∙ h.count ∙ length-map xs (λ v. v.bits)
+module _ (a b : List (List Bool)) (i j : ℕ) (ai aj bi bj : List Bool) (ei : row a i ≡ ai) (ej : row a j ≡ aj) (fi : row b i ≡ bi) (fj : row b j ≡ bj) where
+  pub fits_rows : PairFits ai aj bi bj → PairFits (row a i) (row a j) (row b i) (row b j)
+  fits_rows h = subst₂ (λ p q. PairFits p q (row b i) (row b j)) (sym ei) (sym ej) (subst₂ (λ p q. PairFits ai aj p q) (sym fi) (sym fj) h)
 
-module _ (xs ys : List Contents) (i j : ℕ) (ai aj bi bj : Contents) (li : i < length xs) (lj : j < length xs) (mi : i < length ys) (mj : j < length ys)
-    (ei : ai ≡ get_or xs i ai) (ej : aj ≡ get_or xs j aj) (fi : bi ≡ get_or ys i bi) (fj : bj ≡ get_or ys j bj) where
-  pub fits_rows : PairFits ai.bits aj.bits bi.bits bj.bits → PairFits (row (rows_in xs) i) (row (rows_in xs) j) (row (rows_in ys) i) (row (rows_in ys) j)
-  fits_rows h = subst₂ (λ p q. PairFits p q (row (rows_in ys) i) (row (rows_in ys) j)) (sym (row_of xs i ai li ei)) (sym (row_of xs j aj lj ej)) (subst₂ (λ p q. PairFits ai.bits aj.bits p q) (sym (row_of ys i bi mi fi)) (sym (row_of ys j bj mj fj)) h)
-
-  pub apart_rows : PairApart ai.bits aj.bits bi.bits bj.bits → PairApart (row (rows_in xs) i) (row (rows_in xs) j) (row (rows_in ys) i) (row (rows_in ys) j)
-  apart_rows h = subst₂ (λ p q. PairApart p q (row (rows_in ys) i) (row (rows_in ys) j)) (sym (row_of xs i ai li ei)) (sym (row_of xs j aj lj ej)) (subst₂ (λ p q. PairApart ai.bits aj.bits p q) (sym (row_of ys i bi mi fi)) (sym (row_of ys j bj mj fj)) h)
+  pub apart_rows : PairApart ai aj bi bj → PairApart (row a i) (row a j) (row b i) (row b j)
+  apart_rows h = subst₂ (λ p q. PairApart p q (row b i) (row b j)) (sym ei) (sym ej) (subst₂ (λ p q. PairApart ai aj p q) (sym fi) (sym fj) h)
 
 -- a row that lacks a token of the one beside it
 pub one_lacked : (ls ms : List (List Bool)) (k : ℕ) (a b : List Bool) → row ls k ≡ a → row ms k ≡ b → LacksSome a b → LacksRows ls ms
@@ -44,10 +34,10 @@ one_lacked ls ms k a b at beside (t, h, free) = (k, t, ap (λ l. is_set l t) bes
     never e = cc
 
 -- each row was compared
-pub all_covered : (xs ys : List Contents) (i : ℕ) → length ys ≡ length xs → length xs ≤ i → ((k : ℕ) → k < i → (t : ℕ) → IsTrue (is_set (row (rows_in ys) k) t) → IsTrue (is_set (row (rows_in xs) k) t)) → CoversRows (rows_in xs) (rows_in ys)
-all_covered xs ys i n done h = λ k t x. elim (cases_lt k i) [
+pub all_covered : (a b : List (List Bool)) (i : ℕ) → length b ≤ i → ((k : ℕ) → k < i → (t : ℕ) → IsTrue (is_set (row b k) t) → IsTrue (is_set (row a k) t)) → CoversRows a b
+all_covered a b i done h = λ k t x. elim (cases_lt k i) [
   | inl lt ↦ h k lt t x
-  | inr ge ↦ absurd (never (sym (ap (λ l. is_set l t) (get_or_past (rows_in ys) k [] (let m = length-map ys (λ v. v.bits) in omega (arith, m, n, done, ge)))) ∙ x))
+  | inr ge ↦ absurd (never (sym (ap (λ l. is_set l t) (get_or_past b k [] (omega (arith, done, ge)))) ∙ x))
 ]
   where
     never : false ≡ true → ⊥

@@ -17,13 +17,8 @@ never : false ≡ true → ⊥
 never e = cc
 
 -- mapped lists that differ at an index
-pub differ_at : {X Y : Type 0} (f : X → Y) (xs ys : List X) (i : ℕ) (x y : X) → i < length xs → i < length ys → x ≡ get_or xs i x → y ≡ get_or ys i y → (f x ≡ f y → ⊥) → map f xs ≡ map f ys → ⊥
-differ_at {X = X} f xs ys i x y li lj ex ey ne e = ne (ap f ex ∙ sym (get_or-map f xs i x (f x) li) ∙ ap (λ l. get_or l i (f x)) e ∙ get_or-map f ys i x (f x) lj ∙ ap f (same ys i x y lj) ∙ ap f (sym ey))
-  where
-    same : (l : List X) (i : ℕ) (x y : X) → i < length l → get_or l i x ≡ get_or l i y
-    same [] i x y lt = absurd (omega (arith, lt))
-    same (z ∷ l) zero x y lt = refl
-    same (z ∷ l) (suc i) x y lt = same l i x y (omega (arith, lt))
+pub differ_at : {X Y Z : Type 0} (f : X → Z) (h : Y → Z) (xs : List X) (ys : List Y) (i : ℕ) (x : X) (y : Y) → i < length xs → i < length ys → x ≡ get_or xs i x → y ≡ get_or ys i y → (f x ≡ h y → ⊥) → map f xs ≡ map h ys → ⊥
+differ_at f h xs ys i x y li lj ex ey ne e = ne (ap f ex ∙ sym (get_or-map f xs i x (f x) li) ∙ ap (λ l. get_or l i (f x)) e ∙ get_or-map h ys i y (f x) lj ∙ ap h (sym ey))
 
 -- ---- rows
 
@@ -53,6 +48,12 @@ all_joined (suc i) [] ms le e = refl
 all_joined (suc i) (l ∷ ls) [] le e = absurd (omega (arith, e))
 all_joined (suc i) (l ∷ ls) (m ∷ ms) le e = ap (λ r. join l m ∷ r) (all_joined i ls ms (omega (arith, le)) (omega (arith, e)))
 
+pub length_place : (i : ℕ) (ls ms : List (List Bool)) → length (joined_to_place i ls ms) ≡ length ls
+length_place zero ls ms = refl
+length_place (suc i) [] ms = refl
+length_place (suc i) (l ∷ ls) [] = refl
+length_place (suc i) (l ∷ ls) (m ∷ ms) = ap suc (length_place i ls ms)
+
 -- a list that a join changes lacked something
 pub lacked_one : (xs ys : List Bool) → length xs ≡ length ys → join xs ys ≢ xs → (t : ℕ) × IsTrue (is_set ys t) × (IsTrue (is_set xs t) → ⊥)
 lacked_one [] [] e h = absurd (h refl)
@@ -75,27 +76,15 @@ stays_same xs ys changed e tells q = elim (join_fills xs ys e) [ inl s ↦ s | i
 
 -- ---- one row joined
 
-module _ (items new : List Contents) (first : List (List Bool)) (i : ℕ) (rows : rows_in items ≡ joined_to_place i first (rows_in new)) (alike : AreAlike first (rows_in new)) (x y : Contents) (lt : i < length new) (at_x : x ≡ get_or items i x) (at_y : y ≡ get_or new i y) where
-  lt_new : i < length (rows_in new)
-  lt_new = let n = length-map new (λ v. v.bits) in omega (arith, n, lt)
-
-  length_place : (i : ℕ) (ls ms : List (List Bool)) → length (joined_to_place i ls ms) ≡ length ls
-  length_place zero ls ms = refl
-  length_place (suc i) [] ms = refl
-  length_place (suc i) (l ∷ ls) [] = refl
-  length_place (suc i) (l ∷ ls) (m ∷ ms) = ap suc (length_place i ls ms)
-
+module _ (items : List Contents) (new first : List (List Bool)) (i : ℕ) (rows : rows_in items ≡ joined_to_place i first new) (alike : AreAlike first new) (x y : Contents) (lt_new : i < length new) (at_x : x ≡ get_or items i x) (row_y : y.bits ≡ row new i) where
   lt_items : i < length items
-  lt_items = let n = length-map items (λ v. v.bits) in let m = ap length rows in let k = length_place i first (rows_in new) in let c = alike.count in let l = lt_new in omega (arith, n, m, k, c, l)
+  lt_items = let n = length-map items (λ v. v.bits) in let m = ap length rows in let k = length_place i first new in let c = alike.count in omega (arith, n, m, k, c, lt_new)
 
   row_x : x.bits ≡ row first i
-  row_x = ap (λ (v : Contents). v.bits) at_x ∙ sym (get_or-map (λ (v : Contents). v.bits) items i x [] lt_items) ∙ ap (λ l. row l i) rows ∙ row_not_yet i first (rows_in new) lt_new alike.count
-
-  row_y : y.bits ≡ row (rows_in new) i
-  row_y = ap (λ (v : Contents). v.bits) at_y ∙ sym (get_or-map (λ (v : Contents). v.bits) new i y [] lt)
+  row_x = ap (λ (v : Contents). v.bits) at_x ∙ sym (get_or-map (λ (v : Contents). v.bits) items i x [] lt_items) ∙ ap (λ l. row l i) rows ∙ row_not_yet i first new lt_new alike.count
 
   pub one_width : length x.bits ≡ length y.bits
-  one_width = let w = alike.width.1 i (let c = alike.count in let l = lt_new in omega (arith, c, l)) in ap length row_x ∙ w.0 ∙ sym w.1 ∙ sym (ap length row_y)
+  one_width = let w = alike.width.1 i (let c = alike.count in omega (arith, c, lt_new)) in ap length row_x ∙ w.0 ∙ sym w.1 ∙ sym (ap length row_y)
 
   module _ (z : Contents) (changed : Bool) (made : z.bits ≡ join x.bits y.bits) (tells : IsTrue changed ↔ (z.bits ≢ x.bits)) where
     told : IsTrue changed ↔ (join x.bits y.bits ≢ x.bits)
@@ -104,19 +93,19 @@ module _ (items new : List Contents) (first : List (List Bool)) (i : ℕ) (rows 
     rows_set_is : rows_in (set items i z) ≡ set (rows_in items) i z.bits
     rows_set_is = map-set (λ v. v.bits) items i z
 
-    pub rows_next : rows_in (set items i z) ≡ joined_to_place (i + 1) first (rows_in new)
+    pub rows_next : rows_in (set items i z) ≡ joined_to_place (i + 1) first new
     rows_next =
         rows_set_is ∙ ap₂ (λ (l : List (List Bool)) (r : List Bool). set l i r) rows (made ∙ ap₂ (λ p q. join p q) row_x row_y) ∙
-        sym (join_next i first (rows_in new) lt_new alike.count) ∙ ap (λ n. joined_to_place n first (rows_in new)) (sym (add-one i))
+        sym (join_next i first new lt_new alike.count) ∙ ap (λ n. joined_to_place n first new) (sym (add-one i))
 
-    pub covered_here : changed ≡ false → (t : ℕ) → IsTrue (is_set (row (rows_in new) i) t) → IsTrue (is_set (row first i) t)
+    pub covered_here : changed ≡ false → (t : ℕ) → IsTrue (is_set (row new i) t) → IsTrue (is_set (row first i) t)
     covered_here q t h = subst (λ l. IsTrue (is_set l t)) row_x (covered_one x.bits y.bits one_width (stays_same x.bits y.bits changed one_width told q) t (subst (λ l. IsTrue (is_set l t)) (sym row_y) h))
 
     pub still_here : changed ≡ false → rows_in (set items i z) ≡ rows_in items
     still_here q = rows_set_is ∙ set_same (rows_in items) i z.bits [] (let n = length-map items (λ v. v.bits) in let l = lt_items in omega (arith, n, l))
         (made ∙ stays_same x.bits y.bits changed one_width told q ∙ ap (λ (v : Contents). v.bits) at_x ∙ sym (get_or-map (λ (v : Contents). v.bits) items i x [] lt_items))
 
-    pub lacked_here : changed ≡ true → LacksRows first (rows_in new)
+    pub lacked_here : changed ≡ true → LacksRows first new
     lacked_here q =
         let r = lacked_one x.bits y.bits one_width (told.0 q) in
         (i, r.0, subst (λ l. IsTrue (is_set l r.0)) row_y r.1, λ h. r.2 (subst (λ l. IsTrue (is_set l r.0)) (sym row_x) h))

@@ -12,6 +12,7 @@ use Rattle.lr_theory.proofs.GraphLaws.{building_law}
 use Rattle.lrtable.specs.Gaining.{no_core, core_in}
 use Rattle.lrtable.specs.Handling.{rank, AreReached, AreHandled, TooManyStand, left_in}
 use Rattle.lrtable.specs.ItemRows.{Item, Core, IsCoreOf, map_of}
+use Rattle.lrtable.specs.MovedItems.{IsKernel}
 use Rattle.lrtable.specs.States.{StateValue, no_state, state_at, edge_in, edge_of, AscendEdges, Matches, AreStates, IsPlaced, JoinsNone, AreBuckets, first_production}
 use Rattle.lrtable.proofs.Buckets.{buckets_kept}
 use Rattle.lrtable.specs.Stepping.{FitsCore, AreGotos, AreGotosOf, IsGotoAt, IsNextTaken, set_off}
@@ -118,6 +119,13 @@ reached_fits G states good h s lt = record {
 
     fits : IsCoreOf G.tokens c
     fits = h.cores.cores s lt
+
+-- it has but the start production at dot nought
+pub reached_kernel : (G : Grammar) (states : List StateValue) → WellFormed G → AreReached G states → (s : ℕ) → s < length states → IsKernel G (HasItem (map_of (state_at states s).core))
+reached_kernel G states good h s lt = λ p x.
+    let y = subst (λ (i : ItemSet). HasItem i p 0) (sym (core_is states h.building s h.matches)) x in
+    let tied = (building_law.reached G h.building good h.reached).each s (let n = count_is states h.building h.matches in omega (arith, lt, n)) in
+    tied.reached.1.core p 0 y
 
 module _ (states : List StateValue) (b : Building) (s : ℕ) (m : Matches states b) (lt : s < length states) where
   abbrev off : StateValue

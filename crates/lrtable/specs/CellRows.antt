@@ -1,10 +1,11 @@
 -- The row of cells of a state: by its reductions, its edges on tokens, and whether it accepts.
-use Rattle.std.specs.Prelude.{◌≡◌, ◌⊎◌, ℕ, ◌<◌, Bool, true, false, ◌&&◌, cond, nat_eq, List, [], ◌∷◌, length, Option, Some, None}
+use Rattle.std.specs.Prelude.{◌≡◌, ◌⊎◌, ℕ, ◌<◌, ◌≤◌, Bool, true, false, ◌&&◌, cond, nat_eq, List, [], ◌∷◌, length, Option, Some, None}
 use Rattle.std.specs.List.{AllByRecursion}
 use Rattle.cfg_theory.specs.Grammar.{Grammar, end_token}
 use Rattle.cfg_numbered.specs.Sets.{is_set}
 use Rattle.lr_theory.specs.Automaton.{Action}
 use Rattle.table_theory.specs.Cells.{Precedence, Precedences, Candidates, ReduceReduce, ShiftReduce, shift_or_reduce, unsettled_entry, gathered, pairs_at, shifts_at, cell_of}
+use Rattle.lrtable.specs.Cursors.{IsCursor}
 use Rattle.lrtable.specs.Rows.{Rises, at_of}
 
 -- the precedence of a token, and those of the productions
@@ -105,3 +106,25 @@ pub record IsBlank (G : Grammar) (x : PartsValue) (t : ℕ) : Type 0 where
 -- one thing alone may stand in a cell: the shift of its edge, or one reduction
 abbrev pub IsPlain : List ℕ → Option ℕ → Action → Type 0
 IsPlain reductions edge a = ((k : ℕ) × (reductions ≡ []) × (edge ≡ Some k) × (a ≡ Action.shift k)) ⊎ ((p : ℕ) × (reductions ≡ p ∷ []) × (edge ≡ None) × (a ≡ Action.reduce p))
+
+-- the cell of an edge alone
+abbrev pub shift_to : Option ℕ → Action
+shift_to None = Action.error
+shift_to (Some k) = Action.shift k
+
+-- the cells of a state that reduces by p on the tokens of a set and shifts on others
+abbrev pub lone_cells : ℕ → List Bool → List (ℕ × ℕ) → ℕ → Action
+lone_cells p looks shifts t = cond (is_set looks t) (Action.reduce p) (shift_to (at_of shifts t))
+
+-- no edge stands on a token of the set
+abbrev pub AreApart : List Bool → List (ℕ × ℕ) → Type 0
+AreApart looks shifts = (t : ℕ) → is_set looks t ≡ true → at_of shifts t ≡ None
+
+-- from n up to before m there are shifts alone
+abbrev pub HasOnlyShifts : (ℕ → Action) → List (ℕ × ℕ) → ℕ → ℕ → Type 0
+HasOnlyShifts cells shifts n m = (t : ℕ) → n ≤ t → t < m → cells t ≡ shift_to (at_of shifts t)
+
+-- a row has the cells of the tokens before n, and an index in the edges stands at n
+pub record StandsAt (cells : ℕ → Action) (shifts : List (ℕ × ℕ)) (n index : ℕ) (row : List (ℕ × Action)) : Type 0 where
+  pub filled : row ≡ filled_row cells n
+  pub cursor : IsCursor shifts index n

@@ -5,6 +5,8 @@ pub mod Meeting
 pub mod ItemRows
 pub mod States
 pub mod StateViews
+pub mod LookRows
+pub mod MovedItems
 pub mod Handling
 pub mod Rows
 pub mod Adding
@@ -36,3 +38,4 @@ pub mod Marks
 pub mod SpreadRows
 pub mod Waits
 pub mod OwnSets
+pub mod TakenAgain

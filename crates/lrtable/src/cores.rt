@@ -64,35 +64,8 @@ pub(crate) fn comes_before<S: IndexStorage>(a: &CoreItem<S>, b: &CoreItem<S>) ->
     a.dot.0.to_usize() < b.dot.0.to_usize()
 }
 
-/// The index at which an item stands, or belongs.
-fn index_of<S: IndexStorage>(items: &[CoreItem<S>], item: &CoreItem<S>) -> usize
-    requires { Ascends (items_of S.number items.now) }
-    ensures within { result ≤ length items.now }
-    ensures below { (k : ℕ) (d : Item) → k < result → ItemBefore (get_or (items_of S.number items.now) k d) (item_of S.number item.now) }
-    ensures above { (k : ℕ) (d : Item) → result ≤ k → k < length items.now → ItemBefore (get_or (items_of S.number items.now) k d) (item_of S.number item.now) → ⊥ }
-{
-    'back: for n in 0..items.len() {
-        let last = items.len() - 1 - n;
-        if comes_before(&items[last], item) {
-            return last + 1;
-        }
-    }
-    0
-}
-
-/// Tells whether an item stands at an index.
-fn stands_at<S: IndexStorage>(items: &[CoreItem<S>], index: usize, item: &CoreItem<S>) -> bool
-    ensures here { result ≡ true → IsAt (items_of S.number items.now) index (S.number item.now.pidx.0) (S.number item.now.dot.0) }
-    ensures other { result ≡ false → (d : Item) → index < length items.now → get_or (items_of S.number items.now) index d ≡ item_of S.number item.now → ⊥ }
-{
-    if index >= items.len() {
-        return false;
-    }
-    same_item(&items[index], item)
-}
-
 /// A copy of a set of tokens, in the place of one that isn't used any more, if the last of these is of its size.
-fn copied(spare: &mut Vec<Vob>, looks: &Vob) -> Result<Vob, AllocError>
+pub(crate) fn copied(spare: &mut Vec<Vob>, looks: &Vob) -> Result<Vob, AllocError>
     ensures { IfOk result (λ v. v.bits ≡ looks.now.bits) }
 {
     match spare.pop() {
@@ -122,29 +95,13 @@ pub(crate) fn put_in<T: Drop>(list: &mut Vec<T>, index: usize, value: T) -> Resu
 }
 
 /// Puts sets of tokens that aren't used any more with others, and leaves none behind.
-fn lay_by(spare: &mut Vec<Vob>, looks: &mut Vec<Vob>) -> Result<(), AllocError>
+pub(crate) fn lay_by(spare: &mut Vec<Vob>, looks: &mut Vec<Vob>) -> Result<(), AllocError>
     ensures { OnOk result (looks.new.items ≡ []) }
 {
     'rows: while let Some(row) = looks.pop() {
         spare.push(row)?;
     }
     Ok(())
-}
-
-/// A set without its items, to be used again, as its sets of tokens are to be.
-pub(crate) fn emptied<S: IndexStorage>(
-    spare: &mut Vec<Vob>,
-    set: CoreSet<S>,
-) -> Result<CoreSet<S>, AllocError>
-    ensures { IfOk result (λ c. core_of_set S.number c ≡ no_core) }
-{
-    let CoreSet {
-        mut items,
-        mut looks,
-    } = set;
-    items.clear();
-    lay_by(spare, &mut looks)?;
-    Ok(CoreSet { items, looks })
 }
 
 impl<S: IndexStorage> CoreSet<S> {
@@ -156,45 +113,5 @@ impl<S: IndexStorage> CoreSet<S> {
             items: Vec::new(alloc),
             looks: Vec::new(alloc),
         }
-    }
-
-    /// Adds an item with its lookaheads, or lookaheads to those of the item that is there.
-    pub(crate) fn add(
-        &mut self,
-        spare: &mut Vec<Vob>,
-        item: CoreItem<S>,
-        looks: &Vob,
-    ) -> Result<(), AllocError>
-        requires { (tokens : ℕ) × IsCoreOf tokens (core_of_set S.number self.old) × (length looks.now.bits ≡ tokens) }
-        ensures adds { OnOk result (Adds (map_of (core_of_set S.number self.old)) (S.number item.pidx.0) (S.number item.dot.0) looks.now.bits (map_of (core_of_set S.number self.new))) }
-        ensures fits { OnOk result ((tokens : ℕ) → IsCoreOf tokens (core_of_set S.number self.old) → length looks.now.bits ≡ tokens → IsCoreOf tokens (core_of_set S.number self.new)) }
-    {
-        let index = index_of(self.items.as_slice(), &item);
-        if stands_at(self.items.as_slice(), index, &item) {
-            let row = &mut self.looks[index];
-            row.or(looks);
-            return Ok(());
-        }
-        self.insert(spare, index, item, looks)?;
-        Ok(())
-    }
-
-    /// Puts an item with its lookaheads at an index.
-    fn insert(
-        &mut self,
-        spare: &mut Vec<Vob>,
-        index: usize,
-        item: CoreItem<S>,
-        looks: &Vob,
-    ) -> Result<(), AllocError>
-        requires items { index ≤ length self.old.items.items }
-        requires looks { index ≤ length self.old.looks.items }
-        ensures items { OnOk result (items_of S.number self.new.items.items ≡ insert (items_of S.number self.old.items.items) index (item_of S.number item)) }
-        ensures looks { OnOk result (rows_in self.new.looks.items ≡ insert (rows_in self.old.looks.items) index looks.now.bits) }
-    {
-        let row = copied(spare, looks)?;
-        put_in(&mut self.items, index, item)?;
-        put_in(&mut self.looks, index, row)?;
-        Ok(())
     }
 }

@@ -1,12 +1,13 @@
 //! The rows of a table by a graph: what each state has for its row of cells and its gotos, state by state.
 
-ghost use Rattle.std.specs.Prelude.{◌≡◌, ◌<◌, ◌+◌, ◌^◌, ◌++◌, ◌∷◌, ◌↔◌, ℕ, List, [], Bool, IsTrue, length, All, IfOk, IfErr, OnOk};
+ghost use Rattle.std.specs.Prelude.{◌≡◌, ◌<◌, ◌+◌, ◌^◌, ◌++◌, ◌∷◌, ◌||◌, ◌↔◌, ℕ, List, [], Bool, IsTrue, nat_eq, length, All, IfOk, IfErr, OnOk};
+ghost use Rattle.cfg_theory.specs.Grammar.{body_of};
 ghost use Rattle.lr_theory.specs.Itemset.{FitsGrammar};
 ghost use Rattle.lr_theory.specs.Sizes.{cell_count};
 ghost use Rattle.table_theory.specs.Cells.{accepts_in, is_start_complete};
 ghost use Rattle.lrtable.specs.CellRows.{IsContested};
 ghost use Rattle.lrtable.specs.CellViews.{precedences_of, reductions_of, targets_of};
-ghost use Rattle.lrtable.specs.GraphParts.{complete_items, is_complete, parts_in, rule_edges, targets_in, token_edges};
+ghost use Rattle.lrtable.specs.GraphParts.{complete_items, parts_in, rule_edges, targets_in, token_edges};
 ghost use Rattle.lrtable.specs.GraphViews.{edge_seen, edges_seen};
 ghost use Rattle.lrtable.specs.Graphs.{IsGraphOf, graph_of};
 ghost use Rattle.lrtable.specs.Meeting.{rows_in};
@@ -27,40 +28,38 @@ use cfg_base::symbol::Symbol;
 use cfg_numbered::yacc::NumberedGrammar;
 use std::alloc::{AllocError, Global};
 
-/// Tells whether an item is complete, and of another production than the start's.
-fn is_reduction<S: IndexStorage>(grm: &NumberedGrammar<S>, entry: SharedItem<S>) -> bool
+/// Tells whether an item is complete.
+fn is_whole<S: IndexStorage>(grm: &NumberedGrammar<S>, entry: SharedItem<S>) -> bool
     requires { S.number entry.item.pidx.0 < length grm.now.grammar.productions }
-    ensures { (rows : List (List Bool)) → result ≡ is_complete grm.now.grammar (entry_in S.number rows entry) }
+    ensures { result ≡ nat_eq (S.number entry.item.dot.0) (length (body_of grm.now.grammar (S.number entry.item.pidx.0))) }
 {
     let CoreItem { pidx, dot } = entry.item;
-    if pidx.0.to_usize() == grm.start_prod().0.to_usize() {
-        return false;
-    }
     dot.0.to_usize() == grm.prod_len(pidx).0.to_usize()
 }
 
-/// Tells whether an item is complete, and of the start production.
-fn is_end<S: IndexStorage>(grm: &NumberedGrammar<S>, entry: SharedItem<S>) -> bool
-    requires { S.number entry.item.pidx.0 < length grm.now.grammar.productions }
-    ensures { (rows : List (List Bool)) → result ≡ is_start_complete grm.now.grammar (entry_in S.number rows entry) }
+/// Tells whether an item is of the start production.
+fn is_of_start<S: IndexStorage>(grm: &NumberedGrammar<S>, entry: SharedItem<S>) -> bool
+    ensures { result ≡ nat_eq (S.number entry.item.pidx.0) grm.now.grammar.start }
 {
-    let CoreItem { pidx, dot } = entry.item;
-    if pidx.0.to_usize() == grm.start_prod().0.to_usize() {
-        return dot.0.to_usize() == grm.prod_len(pidx).0.to_usize();
-    }
-    false
+    entry.item.pidx.0.to_usize() == grm.start_prod().0.to_usize()
 }
 
-/// Puts an item behind the reductions so far, if it is one.
-fn keep_reduction<S: IndexStorage>(
+/// Puts an item behind the reductions so far, if it is complete, or notes it, if it is the complete start production.
+fn keep_complete<S: IndexStorage>(
     grm: &NumberedGrammar<S>,
     entry: SharedItem<S>,
     reductions: &mut Vec<Reduction<S>>,
+    accepts: &mut bool,
 ) -> Result<(), AllocError>
     requires { S.number entry.item.pidx.0 < length grm.now.grammar.productions }
-    ensures { OnOk result ((rows : List (List Bool)) → reductions_of S.number rows reductions.new.items ≡ reductions_of S.number rows reductions.old.items ++ complete_items grm.now.grammar (entry_in S.number rows entry ∷ [])) }
+    ensures reductions { OnOk result ((rows : List (List Bool)) → reductions_of S.number rows reductions.new.items ≡ reductions_of S.number rows reductions.old.items ++ complete_items grm.now.grammar (entry_in S.number rows entry ∷ [])) }
+    ensures accepts { OnOk result ((rows : List (List Bool)) → accepts.new ≡ (accepts.old || is_start_complete grm.now.grammar (entry_in S.number rows entry))) }
 {
-    if !is_reduction(grm, entry) {
+    if !is_whole(grm, entry) {
+        return Ok(());
+    }
+    if is_of_start(grm, entry) {
+        *accepts = true;
         return Ok(());
     }
     reductions.push(Reduction {
@@ -70,33 +69,24 @@ fn keep_reduction<S: IndexStorage>(
     Ok(())
 }
 
-/// Takes the reductions of a closed state's items, in order, in place of those that are there.
-fn fill_reductions<S: IndexStorage>(
+/// Takes the reductions of a closed state's items, in order, in place of those that are there, and notes whether the items
+/// have the complete start production.
+fn fill_complete<S: IndexStorage>(
     grm: &NumberedGrammar<S>,
     entries: &[SharedItem<S>],
     reductions: &mut Vec<Reduction<S>>,
+    accepts: &mut bool,
 ) -> Result<(), AllocError>
     requires { All (λ e. S.number e.item.pidx.0 < length grm.now.grammar.productions) entries.now }
-    ensures { OnOk result ((rows : List (List Bool)) → reductions_of S.number rows reductions.new.items ≡ complete_items grm.now.grammar (entries_in S.number rows entries.now)) }
+    ensures reductions { OnOk result ((rows : List (List Bool)) → reductions_of S.number rows reductions.new.items ≡ complete_items grm.now.grammar (entries_in S.number rows entries.now)) }
+    ensures accepts { OnOk result ((rows : List (List Bool)) → accepts.new ≡ accepts_in grm.now.grammar (entries_in S.number rows entries.now)) }
 {
     reductions.clear();
+    *accepts = false;
     'entries: for i in 0..entries.len() {
-        keep_reduction(grm, entries[i], reductions)?;
+        keep_complete(grm, entries[i], reductions, accepts)?;
     }
     Ok(())
-}
-
-/// Tells whether a closed state's items have the complete start production.
-fn has_end<S: IndexStorage>(grm: &NumberedGrammar<S>, entries: &[SharedItem<S>]) -> bool
-    requires { All (λ e. S.number e.item.pidx.0 < length grm.now.grammar.productions) entries.now }
-    ensures { (rows : List (List Bool)) → result ≡ accepts_in grm.now.grammar (entries_in S.number rows entries.now) }
-{
-    'entries: for i in 0..entries.len() {
-        if is_end(grm, entries[i]) {
-            return true;
-        }
-    }
-    false
 }
 
 /// Puts an edge behind the shifts so far, if it is on a token.
@@ -176,9 +166,8 @@ fn fill_parts<S: IndexStorage>(
     ensures accepts { OnOk result (parts.new.accepts ≡ accepts_in grm.now.grammar (shared_map S.number shared.now)) }
 {
     let entries = shared.entries.as_slice();
-    fill_reductions(grm, entries, &mut parts.reductions)?;
+    fill_complete(grm, entries, &mut parts.reductions, &mut parts.accepts)?;
     fill_shifts(edges, &mut parts.shifts)?;
-    parts.accepts = has_end(grm, entries);
     Ok(())
 }
 

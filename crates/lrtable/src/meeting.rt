@@ -4,7 +4,10 @@ ghost use Rattle.std.specs.Prelude.{◌≡◌, ◌<◌, ◌↔◌, ◌⊎◌, fa
 ghost use Rattle.vob.specs.Bits.{Meets};
 ghost use Rattle.lrtable.specs.ItemRows.{CoversRows, LacksRows};
 ghost use Rattle.lrtable.specs.Meeting.{PairFits, PairApart, RowsFit, RowsApart, AreAlike, row, rows_in};
+ghost use Rattle.lrtable.specs.MovedItems.{AreWide, rows_from};
 
+use crate::moved_items::{MovedItem, Rows};
+use cfg_base::index::IndexStorage;
 use vob::Vob;
 
 /// Tells whether one of two pairs of sets shares a token.
@@ -34,14 +37,17 @@ fn pair_fits(ai: &Vob, aj: &Vob, bi: &Vob, bj: &Vob) -> bool
     either_meet(ai, aj, bi, bj)
 }
 
-fn fits_below(a: &[Vob], b: &[Vob], j: usize) -> bool
-    requires alike { AreAlike (rows_in a.now) (rows_in b.now) }
+fn fits_below<S: IndexStorage>(a: &[Vob], b: &[MovedItem<S>], rows: &Rows<'_>, j: usize) -> bool
+    requires alike { AreAlike (rows_in a.now) (rows_from rows.now b.now) }
+    requires wide { AreWide (rows_from rows.now b.now) }
     requires within { j < length a.now }
-    ensures fits { result ≡ true → (i : ℕ) → i < j → PairFits (row (rows_in a.now) i) (row (rows_in a.now) j) (row (rows_in b.now) i) (row (rows_in b.now) j) }
-    ensures apart { result ≡ false → (i : ℕ) × (i < j) × PairApart (row (rows_in a.now) i) (row (rows_in a.now) j) (row (rows_in b.now) i) (row (rows_in b.now) j) }
+    ensures fits { result ≡ true → (i : ℕ) → i < j → PairFits (row (rows_in a.now) i) (row (rows_in a.now) j) (row (rows_from rows.now b.now) i) (row (rows_from rows.now b.now) j) }
+    ensures apart { result ≡ false → (i : ℕ) × (i < j) × PairApart (row (rows_in a.now) i) (row (rows_in a.now) j) (row (rows_from rows.now b.now) i) (row (rows_from rows.now b.now) j) }
 {
     'each: for i in 0..j {
-        if !pair_fits(&a[i], &a[j], &b[i], &b[j]) {
+        let bi = rows.row(b[i].source);
+        let bj = rows.row(b[j].source);
+        if !pair_fits(&a[i], &a[j], bi, bj) {
             return false;
         }
     }
@@ -50,13 +56,18 @@ fn fits_below(a: &[Vob], b: &[Vob], j: usize) -> bool
 
 /// Pager's test of two sets of one core, by their items' lookaheads: for each two items, those of one in one set
 /// don't meet those of the other in the other set, or the two meet in one of the sets.
-pub(crate) fn weakly_compatible(a: &[Vob], b: &[Vob]) -> bool
-    requires { AreAlike (rows_in a.now) (rows_in b.now) }
-    ensures fits { result ≡ true → RowsFit (rows_in a.now) (rows_in b.now) }
-    ensures apart { result ≡ false → RowsApart (rows_in a.now) (rows_in b.now) }
+pub(crate) fn weakly_compatible<S: IndexStorage>(
+    a: &[Vob],
+    b: &[MovedItem<S>],
+    rows: &Rows<'_>,
+) -> bool
+    requires alike { AreAlike (rows_in a.now) (rows_from rows.now b.now) }
+    requires wide { AreWide (rows_from rows.now b.now) }
+    ensures fits { result ≡ true → RowsFit (rows_in a.now) (rows_from rows.now b.now) }
+    ensures apart { result ≡ false → RowsApart (rows_in a.now) (rows_from rows.now b.now) }
 {
     'each: for j in 0..a.len() {
-        if !fits_below(a, b, j) {
+        if !fits_below(a, b, rows, j) {
             return false;
         }
     }
@@ -64,13 +75,14 @@ pub(crate) fn weakly_compatible(a: &[Vob], b: &[Vob]) -> bool
 }
 
 /// Tells whether each set of the first list holds that of the second beside it.
-pub(crate) fn hold_all(a: &[Vob], b: &[Vob]) -> bool
-    requires { AreAlike (rows_in a.now) (rows_in b.now) }
-    ensures covered { result ≡ true → CoversRows (rows_in a.now) (rows_in b.now) }
-    ensures lacked { result ≡ false → LacksRows (rows_in a.now) (rows_in b.now) }
+pub(crate) fn hold_all<S: IndexStorage>(a: &[Vob], b: &[MovedItem<S>], rows: &Rows<'_>) -> bool
+    requires alike { AreAlike (rows_in a.now) (rows_from rows.now b.now) }
+    requires wide { AreWide (rows_from rows.now b.now) }
+    ensures covered { result ≡ true → CoversRows (rows_in a.now) (rows_from rows.now b.now) }
+    ensures lacked { result ≡ false → LacksRows (rows_in a.now) (rows_from rows.now b.now) }
 {
     'each: for i in 0..a.len() {
-        if !a[i].holds(&b[i]) {
+        if !a[i].holds(rows.row(b[i].source)) {
             return false;
         }
     }

@@ -1,20 +1,23 @@
 //! The sets to which the items of a closed state move: one for each symbol, rules before tokens.
 
-ghost use Rattle.std.specs.Prelude.{◌≡◌, ◌<◌, ◌≤◌, ◌+◌, ℕ, List, length, map, replicate, IfOk, OnOk, IsTrue};
+ghost use Rattle.std.specs.Prelude.{◌≡◌, ◌<◌, ◌≤◌, ◌+◌, ℕ, List, length, map, IfOk, OnOk, IsTrue};
 ghost use Rattle.cfg_theory.specs.Grammar.{InRange, body_of};
 ghost use Rattle.cfg_numbered.specs.Sets.{is_set};
 ghost use Rattle.cfg_numbered.specs.Symbols.{sym_of};
 ghost use Rattle.lr_theory.specs.Itemset.{HasItem, HasLook, Closure, ClosureLook};
 ghost use Rattle.lrtable.specs.Adding.{One, OneLooks};
 ghost use Rattle.lrtable.specs.Closes.{AreFronts};
-ghost use Rattle.lrtable.specs.Gaining.{no_core, AreMarked, AreSets, Gains, KeepsMarks};
+ghost use Rattle.lrtable.specs.Gaining.{AreMarked, AreSets, Gains, KeepsMarks};
 ghost use Rattle.lrtable.specs.Handling.{rank};
 ghost use Rattle.lrtable.specs.ItemRows.{map_of};
 ghost use Rattle.lrtable.specs.Opening.{Front};
+ghost use Rattle.lrtable.specs.Meeting.{rows_in};
+ghost use Rattle.lrtable.specs.MovedItems.{AreEmpty, HaveNone, IsKernel, row_from, set_of_moved};
 ghost use Rattle.lrtable.specs.StateViews.{core_of_set};
 ghost use Rattle.lrtable.specs.Stepping.{FitsCore, IsSized, IsClosureOf, OfRule, OfRuleLooks, OpenAt, OpenLooksAt, OpenBelow, OpenLooksBelow, AreGotos};
 
 use crate::cores::{CoreItem, CoreSet};
+use crate::moved_items::{MovedItem, Rows, Source, put_moved};
 use crate::opening::Opening;
 use crate::rests::symbol_after;
 use cfg_base::index::IndexStorage;
@@ -60,23 +63,25 @@ pub(crate) fn dot_behind<S: IndexStorage>(
     SIdx(S::from_usize(dot + 1).unwrap())
 }
 
-/// Moves an item over the symbol behind its dot, if there is one, into the set of that symbol.
+/// Moves an item over the symbol behind its dot, if there is one, into the set of that symbol. Its lookaheads stand at the
+/// source among the rows, of which nothing is read here.
 fn move_over<S: IndexStorage>(
     grm: &NumberedGrammar<S>,
-    sets: &mut Vec<CoreSet<S>>,
+    sets: &mut Vec<Vec<MovedItem<S>>>,
     marks: &mut Vob,
-    spare: &mut Vec<Vob>,
+    rows: &Rows<'_>,
     pidx: PIdx<S>,
     dot: usize,
-    looks: &Vob,
+    source: Source,
 ) -> Result<(), AllocError>
     requires production { S.number pidx.0 < length grm.now.grammar.productions }
     requires count { length sets.old.items ≡ grm.now.grammar.rules + grm.now.grammar.tokens }
     requires wide { length marks.old.bits ≡ grm.now.grammar.rules + grm.now.grammar.tokens }
-    requires good { AreSets grm.now.grammar.tokens (map (core_of_set S.number) sets.old.items) }
-    requires width { length looks.now.bits ≡ grm.now.grammar.tokens }
-    ensures gains { OnOk result (Gains grm.now.grammar (One (S.number pidx.0) dot) (OneLooks (S.number pidx.0) dot looks.now.bits) (map (core_of_set S.number) sets.old.items) (map (core_of_set S.number) sets.new.items)) }
-    ensures marks { OnOk result (KeepsMarks marks.old.bits (map (core_of_set S.number) sets.old.items) marks.new.bits (map (core_of_set S.number) sets.new.items)) }
+    requires good { AreSets grm.now.grammar.tokens (map (set_of_moved S.number rows.now) sets.old.items) }
+    requires width { length (row_from rows.now source) ≡ grm.now.grammar.tokens }
+    requires fresh { HaveNone grm.now.grammar (One (S.number pidx.0) dot) (map (set_of_moved S.number rows.now) sets.old.items) }
+    ensures gains { OnOk result (Gains grm.now.grammar (One (S.number pidx.0) dot) (OneLooks (S.number pidx.0) dot (row_from rows.now source)) (map (set_of_moved S.number rows.now) sets.old.items) (map (set_of_moved S.number rows.now) sets.new.items)) }
+    ensures marks { OnOk result (KeepsMarks marks.old.bits (map (set_of_moved S.number rows.now) sets.old.items) marks.new.bits (map (set_of_moved S.number rows.now) sets.new.items)) }
 {
     grm.start_prod();
     match symbol_after(grm, pidx, dot) {
@@ -88,7 +93,7 @@ fn move_over<S: IndexStorage>(
             let number = rank_of(grm, symbol);
             marks.set(number, true);
             let set = &mut sets[number];
-            set.add(spare, item, looks)?;
+            put_moved(set, MovedItem { item, source })?;
             Ok(())
         }
         None => Ok(()),
@@ -98,29 +103,31 @@ fn move_over<S: IndexStorage>(
 /// Moves the items of a core.
 fn move_core<S: IndexStorage>(
     grm: &NumberedGrammar<S>,
-    sets: &mut Vec<CoreSet<S>>,
+    sets: &mut Vec<Vec<MovedItem<S>>>,
     marks: &mut Vob,
-    spare: &mut Vec<Vob>,
+    rows: &Rows<'_>,
     core: &CoreSet<S>,
 ) -> Result<(), AllocError>
     requires fits { FitsCore grm.now.grammar (core_of_set S.number core.now) }
     requires count { length sets.old.items ≡ grm.now.grammar.rules + grm.now.grammar.tokens }
     requires wide { length marks.old.bits ≡ grm.now.grammar.rules + grm.now.grammar.tokens }
-    requires good { AreSets grm.now.grammar.tokens (map (core_of_set S.number) sets.old.items) }
-    ensures gains { OnOk result (Gains grm.now.grammar (HasItem (map_of (core_of_set S.number core.now))) (HasLook (map_of (core_of_set S.number core.now))) (map (core_of_set S.number) sets.old.items) (map (core_of_set S.number) sets.new.items)) }
-    ensures marks { OnOk result (KeepsMarks marks.old.bits (map (core_of_set S.number) sets.old.items) marks.new.bits (map (core_of_set S.number) sets.new.items)) }
+    requires good { AreSets grm.now.grammar.tokens (map (set_of_moved S.number rows.now) sets.old.items) }
+    requires own { rows.now.own ≡ rows_in core.now.looks.items }
+    requires fresh { HaveNone grm.now.grammar (HasItem (map_of (core_of_set S.number core.now))) (map (set_of_moved S.number rows.now) sets.old.items) }
+    ensures gains { OnOk result (Gains grm.now.grammar (HasItem (map_of (core_of_set S.number core.now))) (HasLook (map_of (core_of_set S.number core.now))) (map (set_of_moved S.number rows.now) sets.old.items) (map (set_of_moved S.number rows.now) sets.new.items)) }
+    ensures marks { OnOk result (KeepsMarks marks.old.bits (map (set_of_moved S.number rows.now) sets.old.items) marks.new.bits (map (set_of_moved S.number rows.now) sets.new.items)) }
 {
     'items: for k in 0..core.items.len() {
         let item = &core.items[k];
-        let looks = &core.looks[k];
+        let source = Source::Own(k);
         move_over(
             grm,
             sets,
             marks,
-            spare,
+            rows,
             item.pidx,
             item.dot.0.to_usize(),
-            looks,
+            source,
         )?;
     }
     Ok(())
@@ -129,23 +136,24 @@ fn move_core<S: IndexStorage>(
 /// Moves the productions of a rule from dot nought.
 fn move_rule<S: IndexStorage>(
     grm: &NumberedGrammar<S>,
-    sets: &mut Vec<CoreSet<S>>,
+    sets: &mut Vec<Vec<MovedItem<S>>>,
     marks: &mut Vob,
-    spare: &mut Vec<Vob>,
+    rows: &Rows<'_>,
     ridx: RIdx<S>,
-    looks: &Vob,
+    source: Source,
 ) -> Result<(), AllocError>
     requires rule { S.number ridx.0 < grm.now.grammar.rules }
     requires count { length sets.old.items ≡ grm.now.grammar.rules + grm.now.grammar.tokens }
     requires wide { length marks.old.bits ≡ grm.now.grammar.rules + grm.now.grammar.tokens }
-    requires good { AreSets grm.now.grammar.tokens (map (core_of_set S.number) sets.old.items) }
-    requires width { length looks.now.bits ≡ grm.now.grammar.tokens }
-    ensures gains { OnOk result (Gains grm.now.grammar (OfRule grm.now.grammar (S.number ridx.0)) (OfRuleLooks grm.now.grammar (S.number ridx.0) (λ t. IsTrue (is_set looks.now.bits t))) (map (core_of_set S.number) sets.old.items) (map (core_of_set S.number) sets.new.items)) }
-    ensures marks { OnOk result (KeepsMarks marks.old.bits (map (core_of_set S.number) sets.old.items) marks.new.bits (map (core_of_set S.number) sets.new.items)) }
+    requires good { AreSets grm.now.grammar.tokens (map (set_of_moved S.number rows.now) sets.old.items) }
+    requires width { length (row_from rows.now source) ≡ grm.now.grammar.tokens }
+    requires fresh { HaveNone grm.now.grammar (OfRule grm.now.grammar (S.number ridx.0)) (map (set_of_moved S.number rows.now) sets.old.items) }
+    ensures gains { OnOk result (Gains grm.now.grammar (OfRule grm.now.grammar (S.number ridx.0)) (OfRuleLooks grm.now.grammar (S.number ridx.0) (λ t. IsTrue (is_set (row_from rows.now source) t))) (map (set_of_moved S.number rows.now) sets.old.items) (map (set_of_moved S.number rows.now) sets.new.items)) }
+    ensures marks { OnOk result (KeepsMarks marks.old.bits (map (set_of_moved S.number rows.now) sets.old.items) marks.new.bits (map (set_of_moved S.number rows.now) sets.new.items)) }
 {
     let prods = grm.rule_to_prods(ridx);
     'prods: for k in 0..prods.len() {
-        move_over(grm, sets, marks, spare, prods[k], 0, looks)?;
+        move_over(grm, sets, marks, rows, prods[k], 0, source)?;
     }
     Ok(())
 }
@@ -153,9 +161,9 @@ fn move_rule<S: IndexStorage>(
 /// Moves the productions of a rule from dot nought, if the rule is open.
 fn move_if_open<S: IndexStorage>(
     grm: &NumberedGrammar<S>,
-    sets: &mut Vec<CoreSet<S>>,
+    sets: &mut Vec<Vec<MovedItem<S>>>,
     marks: &mut Vob,
-    spare: &mut Vec<Vob>,
+    rows: &Rows<'_>,
     opening: &Opening,
     number: usize,
 ) -> Result<(), AllocError>
@@ -163,20 +171,23 @@ fn move_if_open<S: IndexStorage>(
     requires sizes { IsSized grm.now.grammar opening.now }
     requires count { length sets.old.items ≡ grm.now.grammar.rules + grm.now.grammar.tokens }
     requires wide { length marks.old.bits ≡ grm.now.grammar.rules + grm.now.grammar.tokens }
-    requires good { AreSets grm.now.grammar.tokens (map (core_of_set S.number) sets.old.items) }
-    ensures gains { OnOk result (Gains grm.now.grammar (OpenAt grm.now.grammar opening.now number) (OpenLooksAt grm.now.grammar opening.now number) (map (core_of_set S.number) sets.old.items) (map (core_of_set S.number) sets.new.items)) }
-    ensures marks { OnOk result (KeepsMarks marks.old.bits (map (core_of_set S.number) sets.old.items) marks.new.bits (map (core_of_set S.number) sets.new.items)) }
+    requires good { AreSets grm.now.grammar.tokens (map (set_of_moved S.number rows.now) sets.old.items) }
+    requires rules { rows.now.rules ≡ opening.now.rows }
+    requires fresh { HaveNone grm.now.grammar (OpenAt grm.now.grammar opening.now number) (map (set_of_moved S.number rows.now) sets.old.items) }
+    ensures gains { OnOk result (Gains grm.now.grammar (OpenAt grm.now.grammar opening.now number) (OpenLooksAt grm.now.grammar opening.now number) (map (set_of_moved S.number rows.now) sets.old.items) (map (set_of_moved S.number rows.now) sets.new.items)) }
+    ensures marks { OnOk result (KeepsMarks marks.old.bits (map (set_of_moved S.number rows.now) sets.old.items) marks.new.bits (map (set_of_moved S.number rows.now) sets.new.items)) }
 {
     if !opening.is_open(number) {
         return Ok(());
     }
+    let _looks = opening.row(number);
     move_rule(
         grm,
         sets,
         marks,
-        spare,
+        rows,
         grm.rule_at(number),
-        opening.row(number),
+        Source::Rule(number),
     )?;
     Ok(())
 }
@@ -184,20 +195,22 @@ fn move_if_open<S: IndexStorage>(
 /// Moves the productions of the open rules from dot nought.
 fn move_open<S: IndexStorage>(
     grm: &NumberedGrammar<S>,
-    sets: &mut Vec<CoreSet<S>>,
+    sets: &mut Vec<Vec<MovedItem<S>>>,
     marks: &mut Vob,
-    spare: &mut Vec<Vob>,
+    rows: &Rows<'_>,
     opening: &Opening,
 ) -> Result<(), AllocError>
     requires sizes { IsSized grm.now.grammar opening.now }
     requires count { length sets.old.items ≡ grm.now.grammar.rules + grm.now.grammar.tokens }
     requires wide { length marks.old.bits ≡ grm.now.grammar.rules + grm.now.grammar.tokens }
-    requires good { AreSets grm.now.grammar.tokens (map (core_of_set S.number) sets.old.items) }
-    ensures gains { OnOk result (Gains grm.now.grammar (OpenBelow grm.now.grammar opening.now grm.now.grammar.rules) (OpenLooksBelow grm.now.grammar opening.now grm.now.grammar.rules) (map (core_of_set S.number) sets.old.items) (map (core_of_set S.number) sets.new.items)) }
-    ensures marks { OnOk result (KeepsMarks marks.old.bits (map (core_of_set S.number) sets.old.items) marks.new.bits (map (core_of_set S.number) sets.new.items)) }
+    requires good { AreSets grm.now.grammar.tokens (map (set_of_moved S.number rows.now) sets.old.items) }
+    requires rules { rows.now.rules ≡ opening.now.rows }
+    requires fresh { HaveNone grm.now.grammar (OpenBelow grm.now.grammar opening.now grm.now.grammar.rules) (map (set_of_moved S.number rows.now) sets.old.items) }
+    ensures gains { OnOk result (Gains grm.now.grammar (OpenBelow grm.now.grammar opening.now grm.now.grammar.rules) (OpenLooksBelow grm.now.grammar opening.now grm.now.grammar.rules) (map (set_of_moved S.number rows.now) sets.old.items) (map (set_of_moved S.number rows.now) sets.new.items)) }
+    ensures marks { OnOk result (KeepsMarks marks.old.bits (map (set_of_moved S.number rows.now) sets.old.items) marks.new.bits (map (set_of_moved S.number rows.now) sets.new.items)) }
 {
     'rules: for number in opening.opened().iter_set_bits(..) {
-        move_if_open(grm, sets, marks, spare, opening, number)?;
+        move_if_open(grm, sets, marks, rows, opening, number)?;
     }
     Ok(())
 }
@@ -206,12 +219,12 @@ fn move_open<S: IndexStorage>(
 pub(crate) fn empty_sets<S: IndexStorage>(
     alloc: Global,
     count: usize,
-) -> Result<Vec<CoreSet<S>>, AllocError>
-    ensures { IfOk result (λ v. map (core_of_set S.number) v.items ≡ replicate count no_core) }
+) -> Result<Vec<Vec<MovedItem<S>>>, AllocError>
+    ensures { IfOk result (λ v. AreEmpty count v.items) }
 {
     let mut sets = Vec::new(alloc);
     'sets: for _ in 0..count {
-        sets.push(CoreSet::empty(alloc))?;
+        sets.push(Vec::new(alloc))?;
     }
     Ok(sets)
 }
@@ -221,21 +234,24 @@ pub(crate) fn goto_sets<S: IndexStorage>(
     grm: &NumberedGrammar<S>,
     core: &CoreSet<S>,
     opening: &Opening,
-    sets: &mut Vec<CoreSet<S>>,
+    sets: &mut Vec<Vec<MovedItem<S>>>,
     marks: &mut Vob,
-    spare: &mut Vec<Vob>,
+    rows: &Rows<'_>,
 ) -> Result<(), AllocError>
+    requires own { rows.now.own ≡ rows_in core.now.looks.items }
+    requires rules { rows.now.rules ≡ opening.now.rows }
+    requires kernel { IsKernel grm.now.grammar (HasItem (map_of (core_of_set S.number core.now))) }
     requires fits { FitsCore grm.now.grammar (core_of_set S.number core.now) }
     requires sizes { IsSized grm.now.grammar opening.now }
     requires closed { (fronts : List (List Front)) × AreFronts grm.now.grammar fronts × IsClosureOf grm.now.grammar fronts (core_of_set S.number core.now) opening.now }
     requires wide { length marks.old.bits ≡ grm.now.grammar.rules + grm.now.grammar.tokens }
-    requires empty { map (core_of_set S.number) sets.old.items ≡ replicate (grm.now.grammar.rules + grm.now.grammar.tokens) no_core }
-    ensures gotos { OnOk result (AreGotos grm.now.grammar (Closure grm.now.grammar (HasItem (map_of (core_of_set S.number core.now)))) (ClosureLook grm.now.grammar (HasItem (map_of (core_of_set S.number core.now))) (HasLook (map_of (core_of_set S.number core.now)))) (map (core_of_set S.number) sets.new.items)) }
-    ensures marked { OnOk result (AreMarked marks.new.bits (map (core_of_set S.number) sets.new.items)) }
+    requires empty { AreEmpty (grm.now.grammar.rules + grm.now.grammar.tokens) sets.old.items }
+    ensures gotos { OnOk result (AreGotos grm.now.grammar (Closure grm.now.grammar (HasItem (map_of (core_of_set S.number core.now)))) (ClosureLook grm.now.grammar (HasItem (map_of (core_of_set S.number core.now))) (HasLook (map_of (core_of_set S.number core.now)))) (map (set_of_moved S.number rows.now) sets.new.items)) }
+    ensures marked { OnOk result (AreMarked marks.new.bits (map (set_of_moved S.number rows.now) sets.new.items)) }
     ensures wide { OnOk result (length marks.new.bits ≡ grm.now.grammar.rules + grm.now.grammar.tokens) }
 {
     grm.start_prod();
-    move_core(grm, sets, marks, spare, core)?;
-    move_open(grm, sets, marks, spare, opening)?;
+    move_core(grm, sets, marks, rows, core)?;
+    move_open(grm, sets, marks, rows, opening)?;
     Ok(())
 }

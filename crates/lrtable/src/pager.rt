@@ -12,23 +12,26 @@ ghost use Rattle.lrtable.specs.Closes.{AreFronts};
 ghost use Rattle.lrtable.specs.Gaining.{no_core, core_in, AreMarked};
 ghost use Rattle.lrtable.specs.Handling.{AreReached, AreHandled, AreBuilt, TooManyStand, left_in};
 ghost use Rattle.lrtable.specs.ItemRows.{map_of};
+ghost use Rattle.lrtable.specs.Meeting.{rows_in};
+ghost use Rattle.lrtable.specs.MovedItems.{AreEmpty, IsKernel, set_of_moved};
 ghost use Rattle.lrtable.specs.Pruning.{AreLinked, graph_of_states};
 ghost use Rattle.lrtable.specs.States.{AreStates, AreBuckets, AreQuiet, state_at, first_production};
 ghost use Rattle.lrtable.specs.StateViews.{value_of, core_of_set};
 ghost use Rattle.lrtable.specs.Stepping.{FitsCore, AreGotos, AreGotosOf, IsGotoAt, IsNextTaken, set_off};
 ghost use Rattle.lrtable.specs.declared.states.BuildError.TheVariants as faults;
 
-use crate::cores::{CoreItem, CoreSet};
+use crate::cores::{CoreItem, CoreSet, copied, lay_by};
+use crate::moved_items::{MovedItem, Rows};
 use crate::moves::{empty_sets, goto_sets, symbol_at};
 use crate::openers::Openers;
 use crate::opening::Closer;
 use crate::pruning::prune;
+use crate::retaking::{Retaken, retake_all};
 use crate::states::{BuildError, EdgeTo, State, place};
 use cfg_base::index::IndexStorage;
 use cfg_base::symbol::SIdx;
 use cfg_numbered::yacc::{NumberedGrammar, YaccFirsts};
 use std::alloc::{AllocError, Global};
-use std::mem;
 use vob::Vob;
 
 /// Places the goto set of the symbol of a rank, if the set has items, and leaves an empty one behind. The state's edge on
@@ -41,16 +44,17 @@ fn place_rank<S: IndexStorage>(
     cursor: &mut usize,
     from: usize,
     near: &mut usize,
-    sets: &mut Vec<CoreSet<S>>,
-    spare: &mut Vec<Vob>,
+    sets: &mut Vec<Vec<MovedItem<S>>>,
+    rows: &Rows<'_>,
     number: usize,
 ) -> Result<(), BuildError>
     requires near { near.old ≤ number }
     requires number { number < grm.now.grammar.rules + grm.now.grammar.tokens }
     requires count { length sets.old.items ≡ grm.now.grammar.rules + grm.now.grammar.tokens }
+    requires tokens { 0 < grm.now.grammar.tokens }
     requires from { from < length states.old.items }
     requires states { AreStates grm.now.grammar.tokens (map (value_of S.number) states.old.items) }
-    requires set { FitsCore grm.now.grammar (core_in (map (core_of_set S.number) sets.old.items) number) }
+    requires set { FitsCore grm.now.grammar (core_in (map (set_of_moved S.number rows.now) sets.old.items) number) }
     requires buckets { AreBuckets (map (value_of S.number) states.old.items) (map (λ l. l.items) begins.old.items) }
     requires lists { length begins.old.items ≡ length grm.now.grammar.productions }
     requires few { length states.old.items ≤ S.MAX }
@@ -63,18 +67,20 @@ fn place_rank<S: IndexStorage>(
     ensures few { OnOk result (length states.new.items ≤ S.MAX) }
     ensures less { OnOk result (cursor.new ≤ cursor.old) }
     ensures quiet { OnOk result (AreQuiet (map (value_of S.number) states.old.items) cursor.old → AreQuiet (map (value_of S.number) states.new.items) cursor.new) }
-    ensures sets { OnOk result (map (core_of_set S.number) sets.new.items ≡ slice_set (map (core_of_set S.number) sets.old.items) number no_core) }
-    ensures handled { OnOk result ((before : Building) → IsGotoAt grm.now.grammar before from number (core_in (map (core_of_set S.number) sets.old.items) number) → AreHandled grm.now.grammar before from number (map (value_of S.number) states.old.items) → AreHandled grm.now.grammar before from (number + 1) (map (value_of S.number) states.new.items)) }
-    ensures many { IsErrOf result faults.TooManyStates → (before : Building) → IsNextTaken grm.now.grammar before from → IsGotoAt grm.now.grammar before from number (core_in (map (core_of_set S.number) sets.old.items) number) → AreHandled grm.now.grammar before from number (map (value_of S.number) states.old.items) → TooManyStand grm.now.grammar S.MAX }
+    ensures sets { OnOk result (map (set_of_moved S.number rows.now) sets.new.items ≡ slice_set (map (set_of_moved S.number rows.now) sets.old.items) number no_core) }
+    ensures handled { OnOk result ((before : Building) → IsGotoAt grm.now.grammar before from number (core_in (map (set_of_moved S.number rows.now) sets.old.items) number) → AreHandled grm.now.grammar before from number (map (value_of S.number) states.old.items) → AreHandled grm.now.grammar before from (number + 1) (map (value_of S.number) states.new.items)) }
+    ensures many { IsErrOf result faults.TooManyStates → (before : Building) → IsNextTaken grm.now.grammar before from → IsGotoAt grm.now.grammar before from number (core_in (map (set_of_moved S.number rows.now) sets.old.items) number) → AreHandled grm.now.grammar before from number (map (value_of S.number) states.old.items) → TooManyStand grm.now.grammar S.MAX }
 {
-    if sets[number].items.is_empty() {
+    let set = &mut sets[number];
+    if set.is_empty() {
         return Ok(());
     }
-    let set = mem::replace(&mut sets[number], CoreSet::empty(alloc));
     let symbol = symbol_at(grm, number);
-    sets[number] = place(
-        alloc, states, begins, spare, cursor, from, *near, symbol, set,
+    let items = set.as_slice();
+    place(
+        alloc, states, begins, cursor, from, *near, symbol, items, rows,
     )?;
+    set.clear();
     *near += 1;
     Ok(())
 }
@@ -87,33 +93,34 @@ fn place_all<S: IndexStorage>(
     begins: &mut Vec<Vec<usize>>,
     cursor: &mut usize,
     from: usize,
-    sets: &mut Vec<CoreSet<S>>,
+    sets: &mut Vec<Vec<MovedItem<S>>>,
     marks: &Vob,
-    spare: &mut Vec<Vob>,
+    rows: &Rows<'_>,
 ) -> Result<(), BuildError>
     requires count { length sets.old.items ≡ grm.now.grammar.rules + grm.now.grammar.tokens }
     requires wide { length marks.now.bits ≡ grm.now.grammar.rules + grm.now.grammar.tokens }
-    requires marked { AreMarked marks.now.bits (map (core_of_set S.number) sets.old.items) }
+    requires marked { AreMarked marks.now.bits (map (set_of_moved S.number rows.now) sets.old.items) }
+    requires tokens { 0 < grm.now.grammar.tokens }
     requires from { from < length states.old.items }
     requires states { AreStates grm.now.grammar.tokens (map (value_of S.number) states.old.items) }
-    requires sets { (n : ℕ) → n < grm.now.grammar.rules + grm.now.grammar.tokens → FitsCore grm.now.grammar (core_in (map (core_of_set S.number) sets.old.items) n) }
+    requires sets { (n : ℕ) → n < grm.now.grammar.rules + grm.now.grammar.tokens → FitsCore grm.now.grammar (core_in (map (set_of_moved S.number rows.now) sets.old.items) n) }
     requires buckets { AreBuckets (map (value_of S.number) states.old.items) (map (λ l. l.items) begins.old.items) }
     requires lists { length begins.old.items ≡ length grm.now.grammar.productions }
     requires few { length states.old.items ≤ S.MAX }
     requires cursor { cursor.old ≤ length states.old.items }
-    ensures emptied { OnOk result (map (core_of_set S.number) sets.new.items ≡ replicate (grm.now.grammar.rules + grm.now.grammar.tokens) no_core) }
+    ensures emptied { OnOk result (AreEmpty (grm.now.grammar.rules + grm.now.grammar.tokens) sets.new.items) }
     ensures buckets { OnOk result (AreBuckets (map (value_of S.number) states.new.items) (map (λ l. l.items) begins.new.items)) }
     ensures lists { OnOk result (length begins.new.items ≡ length begins.old.items) }
     ensures few { OnOk result (length states.new.items ≤ S.MAX) }
     ensures less { OnOk result (cursor.new ≤ cursor.old) }
     ensures quiet { OnOk result (AreQuiet (map (value_of S.number) states.old.items) cursor.old → AreQuiet (map (value_of S.number) states.new.items) cursor.new) }
-    ensures handled { OnOk result ((before : Building) → AreGotosOf grm.now.grammar before from (map (core_of_set S.number) sets.old.items) → AreHandled grm.now.grammar before from 0 (map (value_of S.number) states.old.items) → AreHandled grm.now.grammar before from (grm.now.grammar.rules + grm.now.grammar.tokens) (map (value_of S.number) states.new.items)) }
-    ensures many { IsErrOf result faults.TooManyStates → (before : Building) → IsNextTaken grm.now.grammar before from → AreGotosOf grm.now.grammar before from (map (core_of_set S.number) sets.old.items) → AreHandled grm.now.grammar before from 0 (map (value_of S.number) states.old.items) → TooManyStand grm.now.grammar S.MAX }
+    ensures handled { OnOk result ((before : Building) → AreGotosOf grm.now.grammar before from (map (set_of_moved S.number rows.now) sets.old.items) → AreHandled grm.now.grammar before from 0 (map (value_of S.number) states.old.items) → AreHandled grm.now.grammar before from (grm.now.grammar.rules + grm.now.grammar.tokens) (map (value_of S.number) states.new.items)) }
+    ensures many { IsErrOf result faults.TooManyStates → (before : Building) → IsNextTaken grm.now.grammar before from → AreGotosOf grm.now.grammar before from (map (set_of_moved S.number rows.now) sets.old.items) → AreHandled grm.now.grammar before from 0 (map (value_of S.number) states.old.items) → TooManyStand grm.now.grammar S.MAX }
 {
     let mut near = 0;
     'ranks: for number in marks.iter_set_bits(..) {
         place_rank(
-            alloc, grm, states, begins, cursor, from, &mut near, sets, spare, number,
+            alloc, grm, states, begins, cursor, from, &mut near, sets, rows, number,
         )?;
     }
     Ok(())
@@ -126,24 +133,25 @@ fn gotos<S: IndexStorage>(
     openers: &Openers,
     closer: &mut Closer,
     core: &CoreSet<S>,
-    sets: &mut Vec<CoreSet<S>>,
+    sets: &mut Vec<Vec<MovedItem<S>>>,
     marks: &mut Vob,
-    spare: &mut Vec<Vob>,
 ) -> Result<(), AllocError>
     requires ready { IsReady grm.now.grammar closer.old }
     requires fits { FitsCore grm.now.grammar (core_of_set S.number core.now) }
+    requires kernel { IsKernel grm.now.grammar (HasItem (map_of (core_of_set S.number core.now))) }
     requires firsts { AreFirsts grm.now.grammar firsts.now }
     requires openers { AreFronts grm.now.grammar openers.now }
     requires wide { length marks.old.bits ≡ grm.now.grammar.rules + grm.now.grammar.tokens }
-    requires empty { map (core_of_set S.number) sets.old.items ≡ replicate (grm.now.grammar.rules + grm.now.grammar.tokens) no_core }
+    requires empty { AreEmpty (grm.now.grammar.rules + grm.now.grammar.tokens) sets.old.items }
     ensures ready { OnOk result (IsReady grm.now.grammar closer.new) }
     ensures wide { OnOk result (length marks.new.bits ≡ grm.now.grammar.rules + grm.now.grammar.tokens) }
-    ensures marked { OnOk result (AreMarked marks.new.bits (map (core_of_set S.number) sets.new.items)) }
-    ensures gotos { OnOk result (AreGotos grm.now.grammar (Closure grm.now.grammar (HasItem (map_of (core_of_set S.number core.now)))) (ClosureLook grm.now.grammar (HasItem (map_of (core_of_set S.number core.now))) (HasLook (map_of (core_of_set S.number core.now)))) (map (core_of_set S.number) sets.new.items)) }
+    ensures marked { OnOk result (AreMarked marks.new.bits (map (set_of_moved S.number (record { own = rows_in core.now.looks.items; rules = closer.new.opening.rows })) sets.new.items)) }
+    ensures gotos { OnOk result (AreGotos grm.now.grammar (Closure grm.now.grammar (HasItem (map_of (core_of_set S.number core.now)))) (ClosureLook grm.now.grammar (HasItem (map_of (core_of_set S.number core.now))) (HasLook (map_of (core_of_set S.number core.now)))) (map (set_of_moved S.number (record { own = rows_in core.now.looks.items; rules = closer.new.opening.rows })) sets.new.items)) }
 {
     closer.close(grm, firsts, openers, core)?;
     marks.set_all(false);
-    goto_sets(grm, core, &closer.opening, sets, marks, spare)?;
+    let rows = Rows::new(core.looks.as_slice(), &closer.opening);
+    goto_sets(grm, core, &closer.opening, sets, marks, &rows)?;
     Ok(())
 }
 
@@ -171,14 +179,26 @@ fn take<S: IndexStorage>(
     Ok(())
 }
 
-/// A step: takes the first state that is to be taken, and gives a number below which none is then.
-fn step<S: IndexStorage>(
+/// Copies sets of tokens, each in the place of a spare one: the lookaheads of the state that is taken, which may grow while
+/// its goto sets are placed.
+fn copy_looks(alloc: Global, spare: &mut Vec<Vob>, looks: &[Vob]) -> Result<Vec<Vob>, AllocError>
+    ensures { IfOk result (λ v. rows_in v.items ≡ rows_in looks.now) }
+{
+    let mut copies = Vec::with_capacity(alloc, looks.len())?;
+    'each: for k in 0..looks.len() {
+        copies.push(copied(spare, &looks[k])?)?;
+    }
+    Ok(copies)
+}
+
+/// A step that takes a state without edges: its goto sets are put together and placed.
+fn step_anew<S: IndexStorage>(
     alloc: Global,
     grm: &NumberedGrammar<S>,
     firsts: &YaccFirsts<S>,
     openers: &Openers,
     closer: &mut Closer,
-    sets: &mut Vec<CoreSet<S>>,
+    sets: &mut Vec<Vec<MovedItem<S>>>,
     marks: &mut Vob,
     spare: &mut Vec<Vob>,
     states: &mut Vec<State<S>>,
@@ -189,7 +209,7 @@ fn step<S: IndexStorage>(
     requires openers { AreFronts grm.now.grammar openers.now }
     requires ready { IsReady grm.now.grammar closer.old }
     requires wide { length marks.old.bits ≡ grm.now.grammar.rules + grm.now.grammar.tokens }
-    requires empty { map (core_of_set S.number) sets.old.items ≡ replicate (grm.now.grammar.rules + grm.now.grammar.tokens) no_core }
+    requires empty { AreEmpty (grm.now.grammar.rules + grm.now.grammar.tokens) sets.old.items }
     requires reached { AreReached grm.now.grammar (map (value_of S.number) states.old.items) }
     requires number { number < length states.old.items }
     requires todo { (state_at (map (value_of S.number) states.old.items) number).todo ≡ true }
@@ -199,7 +219,7 @@ fn step<S: IndexStorage>(
     requires few { length states.old.items ≤ S.MAX }
     ensures ready { OnOk result (IsReady grm.now.grammar closer.new) }
     ensures wide { OnOk result (length marks.new.bits ≡ grm.now.grammar.rules + grm.now.grammar.tokens) }
-    ensures emptied { OnOk result (map (core_of_set S.number) sets.new.items ≡ replicate (grm.now.grammar.rules + grm.now.grammar.tokens) no_core) }
+    ensures emptied { OnOk result (AreEmpty (grm.now.grammar.rules + grm.now.grammar.tokens) sets.new.items) }
     ensures reached { OnOk result (AreReached grm.now.grammar (map (value_of S.number) states.new.items)) }
     ensures buckets { OnOk result (AreBuckets (map (value_of S.number) states.new.items) (map (λ l. l.items) begins.new.items)) }
     ensures lists { OnOk result (length begins.new.items ≡ length begins.old.items) }
@@ -210,8 +230,10 @@ fn step<S: IndexStorage>(
 {
     grm.start_prod();
     let core = &states[number].core;
-    gotos(grm, firsts, openers, closer, core, sets, marks, spare)?;
+    gotos(grm, firsts, openers, closer, core, sets, marks)?;
+    let mut own = copy_looks(alloc, spare, core.looks.as_slice())?;
     take(states, number, marks)?;
+    let rows = Rows::new(own.as_slice(), &closer.opening);
     let mut cursor = number;
     place_all(
         alloc,
@@ -222,9 +244,120 @@ fn step<S: IndexStorage>(
         number,
         sets,
         marks,
-        spare,
+        &rows,
     )?;
+    lay_by(spare, &mut own)?;
     Ok(cursor)
+}
+
+/// A step that takes a state with edges, as it has them since it was taken before: these lead to the states of its goto
+/// sets, or to such with their items.
+fn step_again<S: IndexStorage>(
+    alloc: Global,
+    grm: &NumberedGrammar<S>,
+    firsts: &YaccFirsts<S>,
+    openers: &Openers,
+    closer: &mut Closer,
+    was: &mut Retaken<S>,
+    marks: &Vob,
+    spare: &mut Vec<Vob>,
+    states: &mut Vec<State<S>>,
+    begins: &mut Vec<Vec<usize>>,
+    number: usize,
+) -> Result<usize, BuildError>
+    requires firsts { AreFirsts grm.now.grammar firsts.now }
+    requires openers { AreFronts grm.now.grammar openers.now }
+    requires ready { IsReady grm.now.grammar closer.old }
+    requires hints { length was.old.hints.items ≡ length grm.now.grammar.productions }
+    requires edges { 0 < length (state_at (map (value_of S.number) states.old.items) number).edges }
+    requires reached { AreReached grm.now.grammar (map (value_of S.number) states.old.items) }
+    requires number { number < length states.old.items }
+    requires todo { (state_at (map (value_of S.number) states.old.items) number).todo ≡ true }
+    requires lowest { (r : ℕ) → r < number → (state_at (map (value_of S.number) states.old.items) r).todo ≡ false }
+    requires buckets { AreBuckets (map (value_of S.number) states.old.items) (map (λ l. l.items) begins.old.items) }
+    requires lists { length begins.old.items ≡ length grm.now.grammar.productions }
+    requires few { length states.old.items ≤ S.MAX }
+    ensures ready { OnOk result (IsReady grm.now.grammar closer.new) }
+    ensures hints { OnOk result (length was.new.hints.items ≡ length was.old.hints.items) }
+    ensures reached { OnOk result (AreReached grm.now.grammar (map (value_of S.number) states.new.items)) }
+    ensures buckets { OnOk result (AreBuckets (map (value_of S.number) states.new.items) (map (λ l. l.items) begins.new.items)) }
+    ensures lists { OnOk result (length begins.new.items ≡ length begins.old.items) }
+    ensures few { OnOk result (length states.new.items ≤ S.MAX) }
+    ensures quiet { IfOk result (λ n. AreQuiet (map (value_of S.number) states.new.items) n) }
+    ensures less { OnOk result (left_in grm.now.grammar S.MAX (map (value_of S.number) states.new.items) < left_in grm.now.grammar S.MAX (map (value_of S.number) states.old.items)) }
+    ensures many { IsErrOf result faults.TooManyStates → TooManyStand grm.now.grammar S.MAX }
+{
+    grm.start_prod();
+    let state = &states[number];
+    closer.close(grm, firsts, openers, &state.core)?;
+    was.note(state)?;
+    let mut own = copy_looks(alloc, spare, state.core.looks.as_slice())?;
+    take(states, number, marks)?;
+    let rows = Rows::new(own.as_slice(), &closer.opening);
+    let mut cursor = number;
+    retake_all(
+        alloc,
+        grm,
+        states,
+        begins,
+        &mut cursor,
+        number,
+        was,
+        &rows,
+        &closer.opening,
+    )?;
+    lay_by(spare, &mut own)?;
+    Ok(cursor)
+}
+
+/// A step: takes the first state that is to be taken, and gives a number below which none is then.
+fn step<S: IndexStorage>(
+    alloc: Global,
+    grm: &NumberedGrammar<S>,
+    firsts: &YaccFirsts<S>,
+    openers: &Openers,
+    closer: &mut Closer,
+    was: &mut Retaken<S>,
+    sets: &mut Vec<Vec<MovedItem<S>>>,
+    marks: &mut Vob,
+    spare: &mut Vec<Vob>,
+    states: &mut Vec<State<S>>,
+    begins: &mut Vec<Vec<usize>>,
+    number: usize,
+) -> Result<usize, BuildError>
+    requires firsts { AreFirsts grm.now.grammar firsts.now }
+    requires openers { AreFronts grm.now.grammar openers.now }
+    requires ready { IsReady grm.now.grammar closer.old }
+    requires wide { length marks.old.bits ≡ grm.now.grammar.rules + grm.now.grammar.tokens }
+    requires empty { AreEmpty (grm.now.grammar.rules + grm.now.grammar.tokens) sets.old.items }
+    requires hints { length was.old.hints.items ≡ length grm.now.grammar.productions }
+    requires reached { AreReached grm.now.grammar (map (value_of S.number) states.old.items) }
+    requires number { number < length states.old.items }
+    requires todo { (state_at (map (value_of S.number) states.old.items) number).todo ≡ true }
+    requires lowest { (r : ℕ) → r < number → (state_at (map (value_of S.number) states.old.items) r).todo ≡ false }
+    requires buckets { AreBuckets (map (value_of S.number) states.old.items) (map (λ l. l.items) begins.old.items) }
+    requires lists { length begins.old.items ≡ length grm.now.grammar.productions }
+    requires few { length states.old.items ≤ S.MAX }
+    ensures ready { OnOk result (IsReady grm.now.grammar closer.new) }
+    ensures wide { OnOk result (length marks.new.bits ≡ grm.now.grammar.rules + grm.now.grammar.tokens) }
+    ensures emptied { OnOk result (AreEmpty (grm.now.grammar.rules + grm.now.grammar.tokens) sets.new.items) }
+    ensures hints { OnOk result (length was.new.hints.items ≡ length was.old.hints.items) }
+    ensures reached { OnOk result (AreReached grm.now.grammar (map (value_of S.number) states.new.items)) }
+    ensures buckets { OnOk result (AreBuckets (map (value_of S.number) states.new.items) (map (λ l. l.items) begins.new.items)) }
+    ensures lists { OnOk result (length begins.new.items ≡ length begins.old.items) }
+    ensures few { OnOk result (length states.new.items ≤ S.MAX) }
+    ensures quiet { IfOk result (λ n. AreQuiet (map (value_of S.number) states.new.items) n) }
+    ensures less { OnOk result (left_in grm.now.grammar S.MAX (map (value_of S.number) states.new.items) < left_in grm.now.grammar S.MAX (map (value_of S.number) states.old.items)) }
+    ensures many { IsErrOf result faults.TooManyStates → TooManyStand grm.now.grammar S.MAX }
+{
+    if states[number].edges.is_empty() {
+        return step_anew(
+            alloc, grm, firsts, openers, closer, sets, marks, spare, states, begins, number,
+        );
+    }
+    step_again(
+        alloc, grm, firsts, openers, closer, was, marks, spare, states, begins, number,
+    )
 }
 
 /// The first state that is to be taken, if there is one; below the cursor there is none.
@@ -306,7 +439,8 @@ pub(crate) fn finish<S: IndexStorage>(
     firsts: &YaccFirsts<S>,
     openers: &Openers,
     closer: &mut Closer,
-    sets: &mut Vec<CoreSet<S>>,
+    was: &mut Retaken<S>,
+    sets: &mut Vec<Vec<MovedItem<S>>>,
     marks: &mut Vob,
     spare: &mut Vec<Vob>,
     states: &mut Vec<State<S>>,
@@ -316,7 +450,8 @@ pub(crate) fn finish<S: IndexStorage>(
     requires openers { AreFronts grm.now.grammar openers.now }
     requires ready { IsReady grm.now.grammar closer.old }
     requires wide { length marks.old.bits ≡ grm.now.grammar.rules + grm.now.grammar.tokens }
-    requires empty { map (core_of_set S.number) sets.old.items ≡ replicate (grm.now.grammar.rules + grm.now.grammar.tokens) no_core }
+    requires hints { length was.old.hints.items ≡ length grm.now.grammar.productions }
+    requires empty { AreEmpty (grm.now.grammar.rules + grm.now.grammar.tokens) sets.old.items }
     requires reached { AreReached grm.now.grammar (map (value_of S.number) states.old.items) }
     requires buckets { AreBuckets (map (value_of S.number) states.old.items) (map (λ l. l.items) begins.old.items) }
     requires lists { length begins.old.items ≡ length grm.now.grammar.productions }
@@ -330,7 +465,8 @@ pub(crate) fn finish<S: IndexStorage>(
         match lowest(states.as_slice(), cursor) {
             Some(number) => {
                 cursor = step(
-                    alloc, grm, firsts, openers, closer, sets, marks, spare, states, begins, number,
+                    alloc, grm, firsts, openers, closer, was, sets, marks, spare, states, begins,
+                    number,
                 )?;
             }
             None => return Ok(()),
@@ -342,8 +478,8 @@ pub(crate) fn finish<S: IndexStorage>(
 fn symbol_sets<S: IndexStorage>(
     alloc: Global,
     grm: &NumberedGrammar<S>,
-) -> Result<Vec<CoreSet<S>>, AllocError>
-    ensures { IfOk result (λ v. map (core_of_set S.number) v.items ≡ replicate (grm.now.grammar.rules + grm.now.grammar.tokens) no_core) }
+) -> Result<Vec<Vec<MovedItem<S>>>, AllocError>
+    ensures { IfOk result (λ v. AreEmpty (grm.now.grammar.rules + grm.now.grammar.tokens) v.items) }
 {
     grm.start_prod();
     let rules = grm.rules_len().0.to_usize();
@@ -369,6 +505,7 @@ fn build<S: IndexStorage>(
     let mut begins = start_lists(alloc, grm.prods_len().0.to_usize(), first)?;
     let mut states = start_states(alloc, grm)?;
     let mut closer = Closer::new(alloc, grm)?;
+    let mut was = Retaken::empty(alloc, grm)?;
     let mut sets = symbol_sets(alloc, grm)?;
     let mut marks = Vob::from_elem(alloc, false, sets.len())?;
     let mut spare = Vec::new(alloc);
@@ -378,6 +515,7 @@ fn build<S: IndexStorage>(
         firsts,
         &openers,
         &mut closer,
+        &mut was,
         &mut sets,
         &mut marks,
         &mut spare,

@@ -1,11 +1,12 @@
 //! The row of cells of a state, and the conflicts that are listed of it.
 
-ghost use Rattle.std.specs.Prelude.{◌≡◌, ◌<◌, ◌+◌, ◌++◌, ◌∷◌, ◌&&◌, false, [], ℕ, length, nat_eq, get_or, None, Some, IfOk, IfSome, OnOk, MatchOption};
+ghost use Rattle.std.specs.Prelude.{◌≡◌, ◌<◌, ◌+◌, ◌++◌, ◌∷◌, ◌&&◌, false, [], ℕ, ◌≤◌, length, nat_eq, get_or, None, Some, IfOk, IfSome, OnOk, MatchOption};
 ghost use Rattle.std.specs.Option.{option_or};
 ghost use Rattle.table_theory.specs.Cells.{pairs_at};
 ghost use Rattle.cfg_theory.specs.Grammar.{end_token};
 ghost use Rattle.cfg_numbered.specs.Sets.{is_set};
-ghost use Rattle.lrtable.specs.CellRows.{FitsParts, IsBlank, IsContested, IsPlain, cells_by, filled, filled_row, first_of, pair_with, pairs_in, pairs_on, reductions_on, shifts_in, shifts_on};
+ghost use Rattle.lr_theory.specs.Automaton.{Action as CellAction};
+ghost use Rattle.lrtable.specs.CellRows.{AreApart, FitsParts, HasOnlyShifts, IsBlank, IsContested, IsPlain, StandsAt, cells_by, filled, filled_row, first_of, lone_cells, pair_with, pairs_in, pairs_on, reductions_on, shift_to, shifts_in, shifts_on};
 ghost use Rattle.lrtable.specs.CellViews.{action_of, cells_of, pairs_of, parts_of, precedences_of, production_of, reduction_of, reductions_of, shifts_of, state_of, targets_of};
 ghost use Rattle.lrtable.specs.Marks.{LeavesOut};
 ghost use Rattle.lrtable.specs.Meeting.{rows_in};
@@ -366,8 +367,8 @@ fn put_tokens<S: IndexStorage>(
     Ok(())
 }
 
-/// The row of a state; its conflicts are listed behind those of the states before.
-pub(crate) fn state_row<S: IndexStorage>(
+/// The row of a state in whose cells several things may stand; its conflicts are listed behind those of the states before.
+fn settled_row<S: IndexStorage>(
     alloc: Global,
     grm: &NumberedGrammar<S>,
     stidx: StIdx<S>,
@@ -385,6 +386,161 @@ pub(crate) fn state_row<S: IndexStorage>(
     let mut row = Vec::with_capacity(alloc, marks.iter_set_bits(..).count())?;
     put_tokens(grm, stidx, parts, sets, &marks, &mut row, pairs, shifts)?;
     Ok(row)
+}
+
+/// Puts the shifts of edges behind the cells so far, from the next edge on: of those on tokens before a number.
+fn put_shifts<S: IndexStorage>(
+    shifts: &[(usize, StIdx<S>)],
+    next: &mut usize,
+    end: usize,
+    row: &mut Vec<(usize, Action<S>)>,
+) -> Result<(), AllocError>
+    requires { Rises (targets_of S.number shifts.now) }
+    ensures { OnOk result ((cells : ℕ → CellAction) (n : ℕ) → n ≤ end → HasOnlyShifts cells (targets_of S.number shifts.now) n end → StandsAt cells (targets_of S.number shifts.now) n next.old (cells_of S.number row.old.items) →
+        StandsAt cells (targets_of S.number shifts.now) end next.new (cells_of S.number row.new.items)) }
+{
+    'edges: for i in *next..shifts.len() {
+        let edge = shifts[i];
+        if edge.0 >= end {
+            return Ok(());
+        }
+        row.push((edge.0, Action::Shift(edge.1)))?;
+        *next = i + 1;
+    }
+    Ok(())
+}
+
+/// The row of a state that shifts alone.
+fn shift_row<S: IndexStorage>(
+    alloc: Global,
+    shifts: &[(usize, StIdx<S>)],
+    width: usize,
+) -> Result<Vec<(usize, Action<S>)>, AllocError>
+    requires { Rises (targets_of S.number shifts.now) }
+    ensures { IfOk result (λ r. cells_of S.number r.items ≡ filled_row (λ t. shift_to (at_of (targets_of S.number shifts.now) t)) width) }
+{
+    let mut row = Vec::with_capacity(alloc, shifts.len())?;
+    let mut next = 0;
+    put_shifts(shifts, &mut next, width, &mut row)?;
+    Ok(row)
+}
+
+/// Tells whether an edge stands on a token of a set.
+fn crosses<S: IndexStorage>(shifts: &[(usize, StIdx<S>)], tokens: &Vob) -> bool
+    ensures { result ≡ false → AreApart tokens.now.bits (targets_of S.number shifts.now) }
+{
+    'each: for i in 0..shifts.len() {
+        if is_in(tokens, shifts[i].0) {
+            return true;
+        }
+    }
+    false
+}
+
+/// Puts the cells of a state that reduces by one production on the tokens of a set, on which no edge stands, and shifts on
+/// others.
+fn put_lone<S: IndexStorage>(
+    shifts: &[(usize, StIdx<S>)],
+    tokens: &Vob,
+    pidx: PIdx<S>,
+    row: &mut Vec<(usize, Action<S>)>,
+) -> Result<(), AllocError>
+    requires rises { Rises (targets_of S.number shifts.now) }
+    requires apart { AreApart tokens.now.bits (targets_of S.number shifts.now) }
+    requires none { row.old.items ≡ [] }
+    ensures { OnOk result (cells_of S.number row.new.items ≡ filled_row (lone_cells (S.number pidx.0) tokens.now.bits (targets_of S.number shifts.now)) (length tokens.now.bits)) }
+{
+    let mut next = 0;
+    'tokens: for number in tokens.iter_set_bits(..) {
+        put_shifts(shifts, &mut next, number, row)?;
+        row.push((number, Action::Reduce(pidx)))?;
+    }
+    put_shifts(shifts, &mut next, tokens.len(), row)?;
+    Ok(())
+}
+
+/// The row of a state that reduces by one production on the tokens of a set, on which no edge stands, and shifts on others.
+fn lone_row<S: IndexStorage>(
+    alloc: Global,
+    shifts: &[(usize, StIdx<S>)],
+    tokens: &Vob,
+    pidx: PIdx<S>,
+) -> Result<Vec<(usize, Action<S>)>, AllocError>
+    requires rises { Rises (targets_of S.number shifts.now) }
+    requires apart { AreApart tokens.now.bits (targets_of S.number shifts.now) }
+    ensures { IfOk result (λ r. cells_of S.number r.items ≡ filled_row (lone_cells (S.number pidx.0) tokens.now.bits (targets_of S.number shifts.now)) (length tokens.now.bits)) }
+{
+    let count = tokens.iter_set_bits(..).count();
+    let mut row = Vec::with_capacity(alloc, count.saturating_add(shifts.len()))?;
+    put_lone(shifts, tokens, pidx, &mut row)?;
+    Ok(row)
+}
+
+/// The row of a state that has one reduction and doesn't accept; its conflicts are listed behind those of the states before.
+fn reducing_row<S: IndexStorage>(
+    alloc: Global,
+    grm: &NumberedGrammar<S>,
+    stidx: StIdx<S>,
+    parts: &StateParts<S>,
+    sets: &[Vob],
+    pairs: &mut Vec<ReduceReduce<S>>,
+    shifts: &mut Vec<ShiftReduce<S>>,
+) -> Result<Vec<(usize, Action<S>)>, AllocError>
+    requires one { length parts.now.reductions.items ≡ 1 }
+    requires quiet { parts.now.accepts ≡ false }
+    requires fits { FitsParts grm.now.grammar (parts_of S.number (rows_in sets.now) parts.now) }
+    ensures row { IfOk result (λ r. cells_of S.number r.items ≡ filled_row (cells_by grm.now.grammar (precedences_of grm.now) (parts_of S.number (rows_in sets.now) parts.now)) grm.now.grammar.tokens) }
+    ensures pairs { OnOk result (pairs_of S.number pairs.new.items ≡ pairs_of S.number pairs.old.items ++ pairs_in (S.number stidx.0) (parts_of S.number (rows_in sets.now) parts.now) grm.now.grammar.tokens) }
+    ensures shifts { OnOk result (shifts_of S.number shifts.new.items ≡ shifts_of S.number shifts.old.items ++ shifts_in (precedences_of grm.now) (S.number stidx.0) (parts_of S.number (rows_in sets.now) parts.now) grm.now.grammar.tokens) }
+{
+    let reduction = parts.reductions[0];
+    let edges = parts.shifts.as_slice();
+    if reduction.set >= sets.len() {
+        return settled_row(alloc, grm, stidx, parts, sets, pairs, shifts);
+    }
+    let tokens = &sets[reduction.set];
+    if tokens.len() != grm.tokens_len().0.to_usize() {
+        return settled_row(alloc, grm, stidx, parts, sets, pairs, shifts);
+    }
+    if crosses(edges, tokens) {
+        return settled_row(alloc, grm, stidx, parts, sets, pairs, shifts);
+    }
+    let row = lone_row(alloc, edges, tokens, reduction.pidx)?;
+    Ok(row)
+}
+
+/// The row of a state; its conflicts are listed behind those of the states before.
+pub(crate) fn state_row<S: IndexStorage>(
+    alloc: Global,
+    grm: &NumberedGrammar<S>,
+    stidx: StIdx<S>,
+    parts: &StateParts<S>,
+    sets: &[Vob],
+    pairs: &mut Vec<ReduceReduce<S>>,
+    shifts: &mut Vec<ShiftReduce<S>>,
+) -> Result<Vec<(usize, Action<S>)>, AllocError>
+    requires { FitsParts grm.now.grammar (parts_of S.number (rows_in sets.now) parts.now) }
+    ensures row { IfOk result (λ r. cells_of S.number r.items ≡ filled_row (cells_by grm.now.grammar (precedences_of grm.now) (parts_of S.number (rows_in sets.now) parts.now)) grm.now.grammar.tokens) }
+    ensures pairs { OnOk result (pairs_of S.number pairs.new.items ≡ pairs_of S.number pairs.old.items ++ pairs_in (S.number stidx.0) (parts_of S.number (rows_in sets.now) parts.now) grm.now.grammar.tokens) }
+    ensures shifts { OnOk result (shifts_of S.number shifts.new.items ≡ shifts_of S.number shifts.old.items ++ shifts_in (precedences_of grm.now) (S.number stidx.0) (parts_of S.number (rows_in sets.now) parts.now) grm.now.grammar.tokens) }
+{
+    let accepts = parts.accepts;
+    if accepts {
+        return settled_row(alloc, grm, stidx, parts, sets, pairs, shifts);
+    }
+    let reductions = parts.reductions.len();
+    if reductions == 0 {
+        let row = shift_row(
+            alloc,
+            parts.shifts.as_slice(),
+            grm.tokens_len().0.to_usize(),
+        )?;
+        return Ok(row);
+    }
+    if reductions == 1 {
+        return reducing_row(alloc, grm, stidx, parts, sets, pairs, shifts);
+    }
+    settled_row(alloc, grm, stidx, parts, sets, pairs, shifts)
 }
 
 /// The production that contests accept, if the state accepts and reduces on the end token.

@@ -5,16 +5,17 @@ ghost use Rattle.std.specs.List.{Contains, AllPairs};
 ghost use Rattle.cfg_theory.specs.Grammar.{Sym};
 ghost use Rattle.cfg_numbered.specs.Symbols.{sym_of};
 ghost use Rattle.lr_theory.specs.Building.{same_symbol};
-ghost use Rattle.lrtable.specs.Gaining.{no_core};
 ghost use Rattle.lrtable.specs.Meeting.{AreAlike, RowsFit, rows_in};
+ghost use Rattle.lrtable.specs.MovedItems.{AreWide, core_of_moved, moved_items, rows_from};
 ghost use Rattle.lrtable.specs.ItemRows.{Item, Core, join_rows, CoversRows, LacksRows, IsCoreOf};
 ghost use Rattle.lrtable.specs.States.{IsPut, IsLinked, IsPlaced, JoinsAt, JoinsNone, AreStates, AscendEdges, ListsCore, IsApartFrom, AreBuckets, AreQuiet, KeepsItems, AddsItems, Edge, SymBefore, first_production, grown_at, state_at};
 ghost use Rattle.lrtable.specs.declared.states.BuildError.TheVariants as faults;
 ghost use Rattle.lrtable.specs.StateViews.{item_of, items_of, core_of_set, edge_of_pair, edges_of, value_of};
 
 use crate::closures::same_symbols;
-use crate::cores::{CoreSet, emptied, put_in, same_items};
+use crate::cores::{CoreSet, put_in};
 use crate::meeting::{hold_all, weakly_compatible};
+use crate::moved_items::{MovedItem, Rows, same_items, to_core};
 use cfg_base::index::IndexStorage;
 use cfg_base::symbol::Symbol;
 use std::alloc::{AllocError, AllocFailed, Global};
@@ -70,17 +71,18 @@ impl<T: Drop> From<AllocFailed<T>> for BuildError {
 }
 
 /// Adds lookaheads to those of the same items, and says whether some weren't there.
-fn join_looks(looks: &mut Vec<Vob>, new: &[Vob]) -> bool
-    requires { AreAlike (rows_in looks.old.items) (rows_in new.now) }
-    ensures rows { rows_in looks.new.items ≡ join_rows (rows_in looks.old.items) (rows_in new.now) }
-    ensures covered { result ≡ false → CoversRows (rows_in looks.old.items) (rows_in new.now) }
+fn join_looks<S: IndexStorage>(looks: &mut Vec<Vob>, new: &[MovedItem<S>], rows: &Rows<'_>) -> bool
+    requires alike { AreAlike (rows_in looks.old.items) (rows_from rows.now new.now) }
+    requires wide { AreWide (rows_from rows.now new.now) }
+    ensures rows { rows_in looks.new.items ≡ join_rows (rows_in looks.old.items) (rows_from rows.now new.now) }
+    ensures covered { result ≡ false → CoversRows (rows_in looks.old.items) (rows_from rows.now new.now) }
     ensures still { result ≡ false → rows_in looks.new.items ≡ rows_in looks.old.items }
-    ensures lacked { result ≡ true → LacksRows (rows_in looks.old.items) (rows_in new.now) }
+    ensures lacked { result ≡ true → LacksRows (rows_in looks.old.items) (rows_from rows.now new.now) }
 {
     let mut grew = false;
     'each: for i in 0..new.len() {
         let row = &mut looks[i];
-        grew |= row.or(&new[i]);
+        grew |= row.or(rows.row(new[i].source));
     }
     grew
 }
@@ -181,21 +183,20 @@ fn put_edge<S: IndexStorage>(
 
 /// Tells whether a set joins a state, and if so, whether the state holds all its lookaheads: then no pair of items is
 /// compared.
-fn joins<S: IndexStorage>(state: &State<S>, set: &CoreSet<S>) -> Option<bool>
-    requires state { (tokens : ℕ) × IsCoreOf tokens (core_of_set S.number state.now.core) × IsCoreOf tokens (core_of_set S.number set.now) }
-    ensures fits { IfSome result (λ held. (items_of S.number state.now.core.items.items ≡ items_of S.number set.now.items.items) × RowsFit (rows_in state.now.core.looks.items) (rows_in set.now.looks.items)) }
-    ensures held { result ≡ Some true → CoversRows (rows_in state.now.core.looks.items) (rows_in set.now.looks.items) }
-    ensures apart { result ≡ None → IsApartFrom (core_of_set S.number state.now.core) (core_of_set S.number set.now) }
+fn joins<S: IndexStorage>(state: &State<S>, set: &[MovedItem<S>], rows: &Rows<'_>) -> Option<bool>
+    requires state { (tokens : ℕ) × IsCoreOf tokens (core_of_set S.number state.now.core) × IsCoreOf tokens (core_of_moved S.number rows.now set.now) × (0 < tokens) }
+    ensures fits { IfSome result (λ held. (items_of S.number state.now.core.items.items ≡ moved_items S.number set.now) × RowsFit (rows_in state.now.core.looks.items) (rows_from rows.now set.now)) }
+    ensures held { result ≡ Some true → CoversRows (rows_in state.now.core.looks.items) (rows_from rows.now set.now) }
+    ensures apart { result ≡ None → IsApartFrom (core_of_set S.number state.now.core) (core_of_moved S.number rows.now set.now) }
 {
-    if !same_items(state.core.items.as_slice(), set.items.as_slice()) {
+    if !same_items(state.core.items.as_slice(), set) {
         return None;
     }
     let looks = state.core.looks.as_slice();
-    let new = set.looks.as_slice();
-    if hold_all(looks, new) {
+    if hold_all(looks, set, rows) {
         return Some(true);
     }
-    if weakly_compatible(looks, new) {
+    if weakly_compatible(looks, set, rows) {
         return Some(false);
     }
     None
@@ -206,15 +207,16 @@ fn joins<S: IndexStorage>(state: &State<S>, set: &CoreSet<S>) -> Option<bool>
 fn first_joined<S: IndexStorage>(
     states: &[State<S>],
     bucket: &[usize],
-    set: &CoreSet<S>,
+    set: &[MovedItem<S>],
+    rows: &Rows<'_>,
 ) -> Option<(usize, bool)>
-    requires states { (tokens : ℕ) × AreStates tokens (map (value_of S.number) states.now) × IsCoreOf tokens (core_of_set S.number set.now) }
-    requires bucket { ListsCore (map (value_of S.number) states.now) (items_of S.number set.now.items.items) bucket.now }
-    ensures { MatchOption result (JoinsNone (map (value_of S.number) states.now) (core_of_set S.number set.now)) (λ k. JoinsAt (map (value_of S.number) states.now) k.0 (core_of_set S.number set.now) × (k.1 ≡ true → CoversRows (state_at (map (value_of S.number) states.now) k.0).core.rows (rows_in set.now.looks.items))) }
+    requires states { (tokens : ℕ) × AreStates tokens (map (value_of S.number) states.now) × IsCoreOf tokens (core_of_moved S.number rows.now set.now) × (0 < tokens) }
+    requires bucket { ListsCore (map (value_of S.number) states.now) (moved_items S.number set.now) bucket.now }
+    ensures { MatchOption result (JoinsNone (map (value_of S.number) states.now) (core_of_moved S.number rows.now set.now)) (λ k. JoinsAt (map (value_of S.number) states.now) k.0 (core_of_moved S.number rows.now set.now) × (k.1 ≡ true → CoversRows (state_at (map (value_of S.number) states.now) k.0).core.rows (rows_from rows.now set.now))) }
 {
     'each: for i in 0..bucket.len() {
         let number = bucket[i];
-        if let Some(held) = joins(&states[number], set) {
+        if let Some(held) = joins(&states[number], set, rows) {
             return Some((number, held));
         }
     }
@@ -223,16 +225,22 @@ fn first_joined<S: IndexStorage>(
 
 /// Adds the lookaheads of a set to those of a state of its core, which is to be taken again if some weren't there, and
 /// says whether that was so.
-fn grow<S: IndexStorage>(states: &mut Vec<State<S>>, number: usize, set: &CoreSet<S>) -> bool
+fn grow<S: IndexStorage>(
+    states: &mut Vec<State<S>>,
+    number: usize,
+    set: &[MovedItem<S>],
+    rows: &Rows<'_>,
+) -> bool
     requires within { number < length states.old.items }
-    requires alike { AreAlike (state_at (map (value_of S.number) states.old.items) number).core.rows (rows_in set.now.looks.items) }
-    ensures covered { result ≡ false → CoversRows (state_at (map (value_of S.number) states.old.items) number).core.rows (rows_in set.now.looks.items) }
+    requires alike { AreAlike (state_at (map (value_of S.number) states.old.items) number).core.rows (rows_from rows.now set.now) }
+    requires wide { AreWide (rows_from rows.now set.now) }
+    ensures covered { result ≡ false → CoversRows (state_at (map (value_of S.number) states.old.items) number).core.rows (rows_from rows.now set.now) }
     ensures kept { result ≡ false → map (value_of S.number) states.new.items ≡ map (value_of S.number) states.old.items }
-    ensures lacked { result ≡ true → LacksRows (state_at (map (value_of S.number) states.old.items) number).core.rows (rows_in set.now.looks.items) }
-    ensures grown { result ≡ true → map (value_of S.number) states.new.items ≡ grown_at (map (value_of S.number) states.old.items) number (rows_in set.now.looks.items) }
+    ensures lacked { result ≡ true → LacksRows (state_at (map (value_of S.number) states.old.items) number).core.rows (rows_from rows.now set.now) }
+    ensures grown { result ≡ true → map (value_of S.number) states.new.items ≡ grown_at (map (value_of S.number) states.old.items) number (rows_from rows.now set.now) }
 {
     let state = &mut states[number];
-    if join_looks(&mut state.core.looks, set.looks.as_slice()) {
+    if join_looks(&mut state.core.looks, set, rows) {
         state.todo = true;
         return true;
     }
@@ -243,21 +251,23 @@ fn grow<S: IndexStorage>(states: &mut Vec<State<S>>, number: usize, set: &CoreSe
 fn grow_unless<S: IndexStorage>(
     states: &mut Vec<State<S>>,
     number: usize,
-    set: &CoreSet<S>,
+    set: &[MovedItem<S>],
+    rows: &Rows<'_>,
     held: bool,
 ) -> bool
     requires within { number < length states.old.items }
-    requires alike { AreAlike (state_at (map (value_of S.number) states.old.items) number).core.rows (rows_in set.now.looks.items) }
-    requires held { held ≡ true → CoversRows (state_at (map (value_of S.number) states.old.items) number).core.rows (rows_in set.now.looks.items) }
-    ensures covered { result ≡ false → CoversRows (state_at (map (value_of S.number) states.old.items) number).core.rows (rows_in set.now.looks.items) }
+    requires alike { AreAlike (state_at (map (value_of S.number) states.old.items) number).core.rows (rows_from rows.now set.now) }
+    requires wide { AreWide (rows_from rows.now set.now) }
+    requires held { held ≡ true → CoversRows (state_at (map (value_of S.number) states.old.items) number).core.rows (rows_from rows.now set.now) }
+    ensures covered { result ≡ false → CoversRows (state_at (map (value_of S.number) states.old.items) number).core.rows (rows_from rows.now set.now) }
     ensures kept { result ≡ false → map (value_of S.number) states.new.items ≡ map (value_of S.number) states.old.items }
-    ensures lacked { result ≡ true → LacksRows (state_at (map (value_of S.number) states.old.items) number).core.rows (rows_in set.now.looks.items) }
-    ensures grown { result ≡ true → map (value_of S.number) states.new.items ≡ grown_at (map (value_of S.number) states.old.items) number (rows_in set.now.looks.items) }
+    ensures lacked { result ≡ true → LacksRows (state_at (map (value_of S.number) states.old.items) number).core.rows (rows_from rows.now set.now) }
+    ensures grown { result ≡ true → map (value_of S.number) states.new.items ≡ grown_at (map (value_of S.number) states.old.items) number (rows_from rows.now set.now) }
 {
     if held {
         return false;
     }
-    grow(states, number, set)
+    grow(states, number, set, rows)
 }
 
 /// Puts an edge to the state `target` with those of the state `number`; one on its symbol may stand at `near`.
@@ -299,19 +309,20 @@ fn join<S: IndexStorage>(
     near: usize,
     symbol: Symbol<S>,
     number: usize,
-    set: &CoreSet<S>,
+    set: &[MovedItem<S>],
+    rows: &Rows<'_>,
     held: bool,
 ) -> Result<(), AllocError>
     requires from { from < length states.old.items }
-    requires states { (tokens : ℕ) × AreStates tokens (map (value_of S.number) states.old.items) × IsCoreOf tokens (core_of_set S.number set.now) }
-    requires joins { JoinsAt (map (value_of S.number) states.old.items) number (core_of_set S.number set.now) }
-    requires held { held ≡ true → CoversRows (state_at (map (value_of S.number) states.old.items) number).core.rows (rows_in set.now.looks.items) }
-    ensures placed { OnOk result (IsPlaced (map (value_of S.number) states.old.items) from (sym_of S.number symbol) (core_of_set S.number set.now) (map (value_of S.number) states.new.items)) }
+    requires states { (tokens : ℕ) × AreStates tokens (map (value_of S.number) states.old.items) × IsCoreOf tokens (core_of_moved S.number rows.now set.now) × (0 < tokens) }
+    requires joins { JoinsAt (map (value_of S.number) states.old.items) number (core_of_moved S.number rows.now set.now) }
+    requires held { held ≡ true → CoversRows (state_at (map (value_of S.number) states.old.items) number).core.rows (rows_from rows.now set.now) }
+    ensures placed { OnOk result (IsPlaced (map (value_of S.number) states.old.items) from (sym_of S.number symbol) (core_of_moved S.number rows.now set.now) (map (value_of S.number) states.new.items)) }
     ensures kept { OnOk result (KeepsItems (map (value_of S.number) states.old.items) (map (value_of S.number) states.new.items)) }
     ensures less { OnOk result (cursor.new ≤ cursor.old) }
     ensures quiet { OnOk result (AreQuiet (map (value_of S.number) states.old.items) cursor.old → AreQuiet (map (value_of S.number) states.new.items) cursor.new) }
 {
-    let grew = grow_unless(states, number, set, held);
+    let grew = grow_unless(states, number, set, rows, held);
     lower(cursor, grew, number);
     link(states, from, near, symbol, number)?;
     Ok(())
@@ -324,18 +335,20 @@ fn add<S: IndexStorage>(
     from: usize,
     near: usize,
     symbol: Symbol<S>,
-    set: CoreSet<S>,
+    set: &[MovedItem<S>],
+    rows: &Rows<'_>,
 ) -> Result<(), AllocError>
     requires from { from < length states.old.items }
-    requires states { (tokens : ℕ) × AreStates tokens (map (value_of S.number) states.old.items) × IsCoreOf tokens (core_of_set S.number set) }
-    requires joins { JoinsNone (map (value_of S.number) states.old.items) (core_of_set S.number set) }
-    ensures placed { OnOk result (IsPlaced (map (value_of S.number) states.old.items) from (sym_of S.number symbol) (core_of_set S.number set) (map (value_of S.number) states.new.items)) }
-    ensures added { OnOk result (AddsItems (map (value_of S.number) states.old.items) (items_of S.number set.items.items) (map (value_of S.number) states.new.items)) }
+    requires states { (tokens : ℕ) × AreStates tokens (map (value_of S.number) states.old.items) × IsCoreOf tokens (core_of_moved S.number rows.now set.now) × (0 < tokens) }
+    requires joins { JoinsNone (map (value_of S.number) states.old.items) (core_of_moved S.number rows.now set.now) }
+    ensures placed { OnOk result (IsPlaced (map (value_of S.number) states.old.items) from (sym_of S.number symbol) (core_of_moved S.number rows.now set.now) (map (value_of S.number) states.new.items)) }
+    ensures added { OnOk result (AddsItems (map (value_of S.number) states.old.items) (moved_items S.number set.now) (map (value_of S.number) states.new.items)) }
     ensures quiet { OnOk result ((n : ℕ) → n ≤ length states.old.items → AreQuiet (map (value_of S.number) states.old.items) n → AreQuiet (map (value_of S.number) states.new.items) n) }
 {
     let number = states.len();
+    let core = to_core(alloc, set, rows)?;
     states.push(State {
-        core: set,
+        core,
         edges: Vec::new(alloc),
         todo: true,
     })?;
@@ -352,15 +365,16 @@ fn add_listed<S: IndexStorage>(
     from: usize,
     near: usize,
     symbol: Symbol<S>,
-    set: CoreSet<S>,
+    set: &[MovedItem<S>],
+    rows: &Rows<'_>,
 ) -> Result<(), BuildError>
     requires from { from < length states.old.items }
-    requires states { (tokens : ℕ) × AreStates tokens (map (value_of S.number) states.old.items) × IsCoreOf tokens (core_of_set S.number set) }
-    requires joins { JoinsNone (map (value_of S.number) states.old.items) (core_of_set S.number set) }
+    requires states { (tokens : ℕ) × AreStates tokens (map (value_of S.number) states.old.items) × IsCoreOf tokens (core_of_moved S.number rows.now set.now) × (0 < tokens) }
+    requires joins { JoinsNone (map (value_of S.number) states.old.items) (core_of_moved S.number rows.now set.now) }
     requires buckets { AreBuckets (map (value_of S.number) states.old.items) (map (λ l. l.items) begins.old.items) }
-    requires first { first ≡ first_production (items_of S.number set.items.items) }
+    requires first { first ≡ first_production (moved_items S.number set.now) }
     requires listed { first < length begins.old.items }
-    ensures placed { OnOk result (IsPlaced (map (value_of S.number) states.old.items) from (sym_of S.number symbol) (core_of_set S.number set) (map (value_of S.number) states.new.items)) }
+    ensures placed { OnOk result (IsPlaced (map (value_of S.number) states.old.items) from (sym_of S.number symbol) (core_of_moved S.number rows.now set.now) (map (value_of S.number) states.new.items)) }
     ensures buckets { OnOk result (AreBuckets (map (value_of S.number) states.new.items) (map (λ l. l.items) begins.new.items)) }
     ensures lists { OnOk result (length begins.new.items ≡ length begins.old.items) }
     ensures few { OnOk result (length states.new.items ≤ S.MAX) }
@@ -371,52 +385,49 @@ fn add_listed<S: IndexStorage>(
     if number >= S::MAX {
         return Err(BuildError::TooManyStates);
     }
-    add(alloc, states, from, near, symbol, set)?;
+    add(alloc, states, from, near, symbol, set, rows)?;
     let list = &mut begins[first];
     list.push(number)?;
     Ok(())
 }
 
 /// Puts a set, made from the state `from` by a symbol, among the states: it joins the first that it may, or becomes one.
-/// No state below the cursor is to be taken. The state's edge on the symbol may stand at `near`. The
-/// answer is an empty set, to be used again, and the sets of tokens that it had are put with the spare ones.
+/// No state below the cursor is to be taken. The state's edge on the symbol may stand at `near`.
 pub(crate) fn place<S: IndexStorage>(
     alloc: Global,
     states: &mut Vec<State<S>>,
     begins: &mut Vec<Vec<usize>>,
-    spare: &mut Vec<Vob>,
     cursor: &mut usize,
     from: usize,
     near: usize,
     symbol: Symbol<S>,
-    set: CoreSet<S>,
-) -> Result<CoreSet<S>, BuildError>
+    set: &[MovedItem<S>],
+    rows: &Rows<'_>,
+) -> Result<(), BuildError>
     requires from { from < length states.old.items }
-    requires states { (tokens : ℕ) × AreStates tokens (map (value_of S.number) states.old.items) × IsCoreOf tokens (core_of_set S.number set) }
+    requires states { (tokens : ℕ) × AreStates tokens (map (value_of S.number) states.old.items) × IsCoreOf tokens (core_of_moved S.number rows.now set.now) × (0 < tokens) }
     requires buckets { AreBuckets (map (value_of S.number) states.old.items) (map (λ l. l.items) begins.old.items) }
     requires cursor { cursor.old ≤ length states.old.items }
-    requires some { 0 < length set.items.items }
+    requires some { 0 < length set.now }
     requires few { length states.old.items ≤ S.MAX }
-    requires listed { first_production (items_of S.number set.items.items) < length begins.old.items }
-    ensures placed { OnOk result (IsPlaced (map (value_of S.number) states.old.items) from (sym_of S.number symbol) (core_of_set S.number set) (map (value_of S.number) states.new.items)) }
-    ensures emptied { IfOk result (λ s. core_of_set S.number s ≡ no_core) }
+    requires listed { first_production (moved_items S.number set.now) < length begins.old.items }
+    ensures placed { OnOk result (IsPlaced (map (value_of S.number) states.old.items) from (sym_of S.number symbol) (core_of_moved S.number rows.now set.now) (map (value_of S.number) states.new.items)) }
     ensures buckets { OnOk result (AreBuckets (map (value_of S.number) states.new.items) (map (λ l. l.items) begins.new.items)) }
     ensures lists { OnOk result (length begins.new.items ≡ length begins.old.items) }
     ensures few { OnOk result (length states.new.items ≤ S.MAX) }
     ensures less { OnOk result (cursor.new ≤ cursor.old) }
     ensures quiet { OnOk result (AreQuiet (map (value_of S.number) states.old.items) cursor.old → AreQuiet (map (value_of S.number) states.new.items) cursor.new) }
-    ensures full { IsErrOf result faults.TooManyStates → JoinsNone (map (value_of S.number) states.old.items) (core_of_set S.number set) × (S.MAX ≤ length states.old.items) }
+    ensures full { IsErrOf result faults.TooManyStates → JoinsNone (map (value_of S.number) states.old.items) (core_of_moved S.number rows.now set.now) × (S.MAX ≤ length states.old.items) }
 {
-    let first = set.items[0].pidx.0.to_usize();
-    match first_joined(states.as_slice(), begins[first].as_slice(), &set) {
+    let first = set[0].item.pidx.0.to_usize();
+    match first_joined(states.as_slice(), begins[first].as_slice(), set, rows) {
         Some((number, held)) => {
-            join(states, cursor, from, near, symbol, number, &set, held)?;
-            let set = emptied(spare, set)?;
-            Ok(set)
+            join(states, cursor, from, near, symbol, number, set, rows, held)?;
+            Ok(())
         }
         None => {
-            add_listed(alloc, states, begins, first, from, near, symbol, set)?;
-            Ok(CoreSet::empty(alloc))
+            add_listed(alloc, states, begins, first, from, near, symbol, set, rows)?;
+            Ok(())
         }
     }
 }

@@ -7,6 +7,7 @@ ghost use Rattle.std.specs.Prelude.{IfSome};
 
 use crate::cells::{push_cells, push_counts};
 use crate::conflicts::push_conflicts;
+use crate::examples::push_examples;
 use crate::refusals::{push_no_grammar, push_no_table};
 use crate::states::push_sets;
 use cfgrammar::index::IndexStorage;
@@ -55,6 +56,7 @@ fn push_asked<S: IndexStorage>(
         Some("states") => out.push_str(graph.pp_core_states(alloc, grm)?.as_str()),
         Some("closures") => out.push_str(graph.pp_closed_states(alloc, grm)?.as_str()),
         Some("sets") => push_sets(alloc, out, graph),
+        Some("examples") => push_examples(alloc, out, grm, graph, table.conflicts()),
         Some("table") => push_all(alloc, out, grm, graph, table, ""),
         Some("all") => {
             let states = graph.pp_core_states(alloc, grm)?;

@@ -1,11 +1,12 @@
-//! Prints the files that its arguments name, with what `lrtable` answers to their texts in the place of the answers that
-//! stand there: a file of right answers is printed as it is. `row_files` tells the form of the files, and `tools/rows`
-//! makes `stdout` of those in `data/`. The second word of a heading tells what is asked.
+//! Prints the files that its arguments name, with what `lrtable` and `conflict_examples` answer to their texts in the place of
+//! the answers that stand there: a file of right answers is printed as it is. `row_files` tells the form of the files, and
+//! `tools/rows` makes `stdout` of those in `data/`. The second word of a heading tells what is asked.
 #![tactic(auto)]
 
 mod answer;
 mod cells;
 mod conflicts;
+mod examples;
 mod refusals;
 mod states;
 

@@ -14,11 +14,12 @@ ghost use Rattle.lrpar.specs.Reducing.{IsTableFor};
 ghost use Rattle.lrpar.specs.Fitting.{Tells, OfGrammar};
 ghost use Rattle.lrpar.specs.Completing.{ItemStands};
 
+use crate::full_table::FullTable;
 use crate::numbers::index_below;
 use cfg_base::index::IndexStorage;
 use cfg_base::symbol::{PIdx, SIdx, Symbol, TIdx};
 use cfg_numbered::yacc::grammar::NumberedGrammar;
-use lrtable::{Action, Itemset, StIdx, StateGraph, StateTable};
+use lrtable::{Action, Itemset, StIdx, StateGraph};
 use vob::Vob;
 
 /// Whether an action shifts.
@@ -71,7 +72,7 @@ fn next_of<S: IndexStorage>(
 /// Whether a token behind the dot of an item is shifted.
 fn next_is_shifted<S: IndexStorage>(
     grm: &NumberedGrammar<S>,
-    stable: &StateTable<S>,
+    stable: &FullTable<S>,
     state: StIdx<S>,
     pidx: PIdx<S>,
     dot: SIdx<S>,
@@ -90,7 +91,7 @@ fn next_is_shifted<S: IndexStorage>(
 
 /// Whether a state reduces by a production on each of these tokens.
 fn reduces_on<S: IndexStorage>(
-    stable: &StateTable<S>,
+    stable: &FullTable<S>,
     state: StIdx<S>,
     pidx: PIdx<S>,
     looks: &Vob,
@@ -116,7 +117,7 @@ fn reduces_on<S: IndexStorage>(
 fn item_stands<S: IndexStorage>(
     grm: &NumberedGrammar<S>,
     items: &Itemset<S>,
-    stable: &StateTable<S>,
+    stable: &FullTable<S>,
     state: StIdx<S>,
     pidx: PIdx<S>,
     dot: SIdx<S>,
@@ -145,7 +146,7 @@ fn item_stands<S: IndexStorage>(
 fn state_stands<S: IndexStorage>(
     grm: &NumberedGrammar<S>,
     items: &Itemset<S>,
-    stable: &StateTable<S>,
+    stable: &FullTable<S>,
     state: StIdx<S>,
 ) -> bool
     requires table { IsTableFor grm.now.grammar stable.now }
@@ -166,7 +167,7 @@ fn state_stands<S: IndexStorage>(
 pub(crate) fn is_complete<S: IndexStorage>(
     grm: &NumberedGrammar<S>,
     sgraph: &StateGraph<S>,
-    stable: &StateTable<S>,
+    stable: &FullTable<S>,
 ) -> bool
     requires table { IsTableFor grm.now.grammar stable.now }
     requires pair { IsSafePair grm.now.grammar sgraph.now stable.now }

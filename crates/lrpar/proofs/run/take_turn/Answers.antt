@@ -26,7 +26,7 @@ action-requires-clause-state g c =
 pub action-requires-clause-token : goal.action-requires-clause-token
 action-requires-clause-token g c =
     let within = token_within c.args.grm.now.grammar g.L.Lexeme.lex c.args.next c.requires.inside in
-    let is = c.next_token-tidx.ensures in
+    let is = c.requires.token in
     let tokens = c.requires.table.tokens in
     let some = c.requires.table.well_formed.end_token in
     omega (arith, within, is, tokens, some)
@@ -44,7 +44,7 @@ found g c x input d safe stand rest =
     let level = c.requires.stacks.some in
     let same : length (states_of number states.items) ≡ length states.items = length-map states.items (λ q. number q.0) in
     let len : suc (c.len.result - 1) ≡ length (states_of number states.items) = omega (arith, same, level, states.ok.0) in
-    let next : number c.next_token-tidx.result.0 ≡ next_or (token_by g.L.Lexeme.lex) (end_token G) d.rest = c.next_token-tidx.ensures ∙ sym (next_is (token_by g.L.Lexeme.lex) (end_token G) c.args.next d.rest rest) in
+    let next : number c.args.tidx.0 ≡ next_or (token_by g.L.Lexeme.lex) (end_token G) d.rest = c.requires.token ∙ sym (next_is (token_by g.L.Lexeme.lex) (end_token G) c.args.next d.rest rest) in
     let cell : action_at v top (next_or (token_by g.L.Lexeme.lex) (end_token G) d.rest) ≡ action_of number c.action.result = sym (c.action.ensures ∙ ap (action_at v top) next) in
     stepped number g.L.Lexeme.lex G x v _ input c.requires.table.well_formed safe c.args.stacks.now d (c.len.result - 1) top (action_of number c.action.result) stand len (number_at number states.items (c.len.result - 1) c.index-top.result.now c.index-top.ensures) cell
 
@@ -55,8 +55,8 @@ has_lexeme g c target e nothing =
     let G = c.args.grm.now.grammar in
     let v = c.args.stable.now in
     let safe = c.requires.stand.3 in
-    let cell : action_at v (number c.index-top.result.now.0) (number c.next_token-tidx.result.0) ≡ shift (number target.0) = sym c.action.ensures ∙ ap (action_of number) e in
-    (safe.shifts (number c.index-top.result.now.0) (number c.next_token-tidx.result.0) (number target.0) cell).1 (c.next_token-tidx.ensures ∙ ap (token_of (token_by g.L.Lexeme.lex) (end_token G)) nothing)
+    let cell : action_at v (number c.index-top.result.now.0) (number c.args.tidx.0) ≡ shift (number target.0) = sym c.action.ensures ∙ ap (action_of number) e in
+    (safe.shifts (number c.index-top.result.now.0) (number c.args.tidx.0) (number target.0) cell).1 (c.requires.token ∙ ap (token_of (token_by g.L.Lexeme.lex) (end_token G)) nothing)
 
 pub reduce_onto-requires-clause-goes : goal.reduce_onto-requires-clause-goes
 reduce_onto-requires-clause-goes g c = λ y.
@@ -78,13 +78,13 @@ returns-in_ok-reduce_onto-in-Reduce-clause-reduces g c = λ x.
     let level = c.requires.stacks.some in
     let same : length (states_of number states.items) ≡ length states.items = length-map states.items (λ q. number q.0) in
     let len : suc (c.len.result - 1) ≡ length (states_of number states.items) = omega (arith, same, level, states.ok.0) in
-    let cell : action_at v top (token_of (token_by g.L.Lexeme.lex) (end_token G) c.args.next) ≡ reduce (number c.in-Reduce.pidx.0) = sym (c.action.ensures ∙ ap (action_at v top) c.next_token-tidx.ensures) ∙ ap (action_of number) c.in-Reduce.is in
+    let cell : action_at v top (token_of (token_by g.L.Lexeme.lex) (end_token G) c.args.next) ≡ reduce (number c.in-Reduce.pidx.0) = sym (c.action.ensures ∙ ap (action_at v top) c.requires.token) ∙ ap (action_of number) c.in-Reduce.is in
     reduction_by {L = g.row.L.Denot} G (automaton_of x v) (token_by g.L.Lexeme.lex) (c.len.result - 1) top (number c.in-Reduce.pidx.0) (token_of (token_by g.L.Lexeme.lex) (end_token G) c.args.next) (states_of number states.items) len (number_at number states.items (c.len.result - 1) c.index-top.result.now c.index-top.ensures) cell ∙ c.in_ok-reduce_onto-in-Reduce.ensures.goes x
 
 pub returns-in_ok-shift_onto-in-Some-clause-stacks : goal.returns-in_ok-shift_onto-in-Some-clause-stacks
 returns-in_ok-shift_onto-in-Some-clause-stacks g c =
     let number = g.S.IndexStorage.number in
-    let cell : action_at c.args.stable.now (number c.index-top.result.now.0) (number c.next_token-tidx.result.0) ≡ shift (number c.in-Shift.target.0) = sym c.action.ensures ∙ ap (action_of number) c.in-Shift.is in
+    let cell : action_at c.args.stable.now (number c.index-top.result.now.0) (number c.args.tidx.0) ≡ shift (number c.in-Shift.target.0) = sym c.action.ensures ∙ ap (action_of number) c.in-Shift.is in
     record {
       are_states = are_shifted c.args.stable.now (states_of number c.args.stacks.now.states.items) _ (number c.in-Shift.target.0) c.requires.stacks.are_states (c.requires.table.is_table.shifts _ _ _ cell) c.in_ok-shift_onto-in-Some.ensures.states;
       some = stack_some number _ c.in_ok-shift_onto-in-Some.ensures.states;
@@ -116,9 +116,9 @@ reduce_onto-requires-clause-held g c =
 pub returns-in-Accept-clause-turned : goal.returns-in-Accept-clause-turned
 returns-in-Accept-clause-turned g c = λ x input d safe stand rest.
     let number = g.S.IndexStorage.number in
-    let cell : action_at c.args.stable.now (number c.index-top.result.now.0) (number c.next_token-tidx.result.0) ≡ accept = sym c.action.ensures ∙ ap (action_of number) c.in-Accept.is in
-    let is_end = (safe.accepts (number c.index-top.result.now.0) (number c.next_token-tidx.result.0) cell).1 in (
-      end_is_none c.args.grm.now.grammar g.L.Lexeme.lex c.args.next c.requires.inside (sym c.next_token-tidx.ensures ∙ is_end),
+    let cell : action_at c.args.stable.now (number c.index-top.result.now.0) (number c.args.tidx.0) ≡ accept = sym c.action.ensures ∙ ap (action_of number) c.in-Accept.is in
+    let is_end = (safe.accepts (number c.index-top.result.now.0) (number c.args.tidx.0) cell).1 in (
+      end_is_none c.args.grm.now.grammar g.L.Lexeme.lex c.args.next c.requires.inside (sym c.requires.token ∙ is_end),
       turned_accept number g.L.Lexeme.lex c.args.grm.now.grammar x c.args.stable.now _ input c.requires.table.well_formed safe c.args.stacks.now d stand
           (found g (goal.at.returns-in-Accept-clause-turned g c).After-action x input d safe stand rest ∙ rw c.in-Accept.is refl),
     )

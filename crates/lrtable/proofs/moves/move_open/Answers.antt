@@ -2,7 +2,8 @@ use Rattle.std.proofs.Common.{◌≡◌, ◌+◌, List, Bool, true, map, subst, 
 use Rattle.std.proofs.lemmas.List.{length-map}
 use Rattle.std.specs.declared.ops.Bound.TheVariants.{Unbounded}
 use Rattle.vob.specs.Walk.{walk}
-use Rattle.lrtable.specs.StateViews.{core_of_set}
+use Rattle.lrtable.specs.MovedItems.{set_of_moved}
+use Rattle.lrtable.proofs.FreshSets.{none_of_open}
 use Rattle.lrtable.proofs.Marks.{IsNextMark, all_marked, marked_from, next_mark, no_mark}
 use Rattle.lrtable.proofs.MarkedSets.{keeps_same, keeps_next, open_skip}
 use Rattle.lrtable.proofs.Moving.{open_begin, open_next}
@@ -11,7 +12,7 @@ use Rattle.lrtable.proofs.moves.move_open.Goals as goal
 pub rules-init : goal.rules-init
 rules-init g c =
     let number = g.S.IndexStorage.number in
-    let sets = map (core_of_set number) c.args.sets.now.items in
+    let sets = map (set_of_moved number c.args.rows.now) c.args.sets.now.items in
     let bits = c.opened.result.now.bits in
     let e : c.into_iter-number-iterator.result ≡ walk true bits Unbounded Unbounded = cc in (
       tt,
@@ -34,8 +35,8 @@ move_if_open-requires g c =
     let m : IsNextMark c.args.opening.now.opened v.0 c.in-Some.number c.next.new.self = next_mark c.args.opening.now.opened v.0 c.in-Some.number c.rules.number-iterator c.next.new.self v.1.within v.1.left c.in-Some.ensures.steps in
     let below = m.below in
     let width = c.requires.sizes.opened in
-    let a = length-map c.args.sets.now.items (core_of_set number) in
-    let b = length-map c.rules.sets.items (core_of_set number) in
+    let a = length-map c.args.sets.now.items (set_of_moved number c.args.rows.now) in
+    let b = length-map c.rules.sets.items (set_of_moved number c.args.rows.now) in
     let count = c.requires.count in
     let same = v.1.gains.count in
     record {
@@ -44,6 +45,8 @@ move_if_open-requires g c =
       count = omega (arith, a, b, count, same);
       wide = v.1.marks.width ∙ c.requires.wide;
       good = v.1.gains.good;
+      rules = c.requires.rules;
+      fresh = none_of_open c.args.grm.now.grammar c.args.opening.now v.0 c.in-Some.number (map (set_of_moved number c.args.rows.now) c.args.sets.now.items) (map (set_of_moved number c.args.rows.now) c.rules.sets.items) m.low (omega (arith, below, width)) c.requires.fresh v.1.gains;
     }
 
 pub rules-preserved : goal.rules-preserved
@@ -54,9 +57,9 @@ rules-preserved g c =
     let n = c.rules.invariant.2.0 in
     let v = c.rules.invariant.2.1 in
     let t = c.in-Some.number in
-    let first = map (core_of_set number) c.args.sets.now.items in
-    let old = map (core_of_set number) c.rules.sets.items in
-    let new = map (core_of_set number) c.move_if_open.new.sets.items in
+    let first = map (set_of_moved number c.args.rows.now) c.args.sets.now.items in
+    let old = map (set_of_moved number c.args.rows.now) c.rules.sets.items in
+    let new = map (set_of_moved number c.args.rows.now) c.move_if_open.new.sets.items in
     let m : IsNextMark s.opened n t c.next.new.self = next_mark s.opened n t c.rules.number-iterator c.next.new.self v.within v.left c.in-Some.ensures.steps in
     let below = m.below in (
       tt,
@@ -81,5 +84,5 @@ returns-clause-gains g c =
     let v = c.rules.invariant.2.1 in
     let width = c.requires.sizes.opened in
     let within = v.within in
-    open_skip G s n G.rules (map (core_of_set number) c.args.sets.now.items) (map (core_of_set number) c.rules.sets.items) (omega (arith, within, width))
+    open_skip G s n G.rules (map (set_of_moved number c.args.rows.now) c.args.sets.now.items) (map (set_of_moved number c.args.rows.now) c.rules.sets.items) (omega (arith, within, width))
     (λ k a b. no_mark s.opened n c.rules.number-iterator v.within v.left c.in-None.ensures.steps.0 k a (omega (arith, b, width))) v.gains

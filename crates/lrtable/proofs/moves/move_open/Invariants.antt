@@ -1,6 +1,6 @@
 use Rattle.std.proofs.Common.{◌≡◌, ℕ, ◌≤◌, length, map}
 use Rattle.lrtable.specs.Gaining.{Gains, KeepsMarks}
-use Rattle.lrtable.specs.StateViews.{core_of_set}
+use Rattle.lrtable.specs.MovedItems.{set_of_moved}
 use Rattle.lrtable.specs.Stepping.{OpenBelow, OpenLooksBelow}
 use Rattle.lrtable.proofs.Marks.{marked_from}
 use Rattle.lrtable.proofs.moves.move_open.Given as goal
@@ -14,6 +14,6 @@ invariant-rules g l =
     ((n : ℕ) × record {
       within : n ≤ length l.opening.opened;
       left : l.number-iterator ≡ marked_from l.opening.opened n;
-      gains : Gains l.grm.grammar (OpenBelow l.grm.grammar l.opening n) (OpenLooksBelow l.grm.grammar l.opening n) (map (core_of_set number) l.initial.sets.items) (map (core_of_set number) l.sets.items);
-      marks : KeepsMarks l.initial.marks.bits (map (core_of_set number) l.initial.sets.items) l.marks.bits (map (core_of_set number) l.sets.items);
+      gains : Gains l.grm.grammar (OpenBelow l.grm.grammar l.opening n) (OpenLooksBelow l.grm.grammar l.opening n) (map (set_of_moved number l.rows) l.initial.sets.items) (map (set_of_moved number l.rows) l.sets.items);
+      marks : KeepsMarks l.initial.marks.bits (map (set_of_moved number l.rows) l.initial.sets.items) l.marks.bits (map (set_of_moved number l.rows) l.sets.items);
     })

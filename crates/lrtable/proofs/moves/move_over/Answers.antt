@@ -1,10 +1,11 @@
-use Rattle.std.proofs.Common.{map, set, arith}
-use Rattle.cfg_numbered.specs.Symbols.{sym_of}
-use Rattle.lrtable.specs.StateViews.{core_of_set}
-use Rattle.lrtable.proofs.Exact.{dot_within}
+use Rattle.std.proofs.Common.{map, set, refl, arith}
 use Rattle.std.proofs.lemmas.List.{map-set}
+use Rattle.cfg_numbered.specs.Symbols.{sym_of}
+use Rattle.lrtable.specs.MovedItems.{set_of_moved}
+use Rattle.lrtable.proofs.Exact.{dot_within}
+use Rattle.lrtable.proofs.FreshSets.{fits_there, one_moved}
 use Rattle.lrtable.proofs.MarkedSets.{keeps_one}
-use Rattle.lrtable.proofs.Moving.{no_move, move_set, good_at}
+use Rattle.lrtable.proofs.Moving.{no_move}
 use Rattle.lrtable.proofs.Ranks.{rank_below}
 use Rattle.lrtable.proofs.moves.move_over.Goals as goal
 
@@ -35,10 +36,11 @@ set-requires g c =
     let r = c.rank_of-number.ensures in
     omega (arith, lt, wide, r)
 
-pub returns-in_ok-add-in-Some-clause-marks : goal.returns-in_ok-add-in-Some-clause-marks
-returns-in_ok-add-in-Some-clause-marks g c =
+pub returns-in_ok-put_moved-in-Some-clause-marks : goal.returns-in_ok-put_moved-in-Some-clause-marks
+returns-in_ok-put_moved-in-Some-clause-marks g c =
     let number = g.S.IndexStorage.number in
     let G = c.args.grm.now.grammar in
+    let seen = set_of_moved number c.args.rows.now in
     let n = c.in-Some.ensures in
     let range = c.start_prod.ensures.well_formed.symbols (number c.args.pidx.0) c.args.dot (sym_of number c.in-Some.symbol) n in
     let lt = rank_below G (sym_of number c.in-Some.symbol) range in
@@ -46,30 +48,29 @@ returns-in_ok-add-in-Some-clause-marks g c =
     let r = c.rank_of-number.ensures in
     let sets = c.args.sets.now.items in
     let k = c.rank_of-number.result in
-    keeps_one c.args.marks.now.bits c.set.new.self.bits (map (core_of_set number) sets) (map (core_of_set number) (set sets k c.add.new.self)) k (core_of_set number c.add.new.self) (omega (arith, lt, wide, r)) c.set.ensures.bits (map-set (core_of_set number) sets k c.add.new.self)
+    keeps_one c.args.marks.now.bits c.set.new.self.bits (map seen sets) (map seen (set sets k c.put_moved.new.items)) k (seen c.put_moved.new.items) (omega (arith, lt, wide, r)) c.set.ensures.bits (map-set seen sets k c.put_moved.new.items)
 
-pub add-requires : goal.add-requires
-add-requires g c =
-    let number = g.S.IndexStorage.number in
-    let G = c.args.grm.now.grammar in
-    let n = c.in-Some.ensures in
-    let range = c.start_prod.ensures.well_formed.symbols (number c.args.pidx.0) c.args.dot (sym_of number c.in-Some.symbol) n in
-    let lt = rank_below G (sym_of number c.in-Some.symbol) range in
-    let count = c.requires.count in
-    let r = c.rank_of-number.ensures in
-    (G.tokens, good_at number G.tokens c.args.sets.now.items c.rank_of-number.result c.index_mut-set.result.now (omega (arith, lt, count, r)) c.index_mut-set.ensures.value c.requires.good, c.requires.width)
-
-pub returns-in_ok-add-in-Some-clause-gains : goal.returns-in_ok-add-in-Some-clause-gains
-returns-in_ok-add-in-Some-clause-gains g c =
+pub put_moved-requires : goal.put_moved-requires
+put_moved-requires g c =
     let number = g.S.IndexStorage.number in
     let G = c.args.grm.now.grammar in
     let n = c.in-Some.ensures in
     let X = sym_of number c.in-Some.symbol in
     let range = c.start_prod.ensures.well_formed.symbols (number c.args.pidx.0) c.args.dot X n in
-    move_set G number c.args.sets.now.items c.rank_of-number.result c.index_mut-set.result.now c.add.new.self (number c.args.pidx.0) c.args.dot X c.args.looks.now.bits range n c.rank_of-number.ensures c.requires.count c.requires.good c.requires.width c.index_mut-set.ensures.value
-    (number c.dot_behind.result.0) c.dot_behind.ensures c.in_ok-add-in-Some.ensures.adds (c.in_ok-add-in-Some.ensures.fits G.tokens)
+    (fits_there number c.args.rows.now G c.args.sets.now.items c.rank_of-number.result c.index_mut-set.result.now (number c.args.pidx.0) c.args.dot X range n c.rank_of-number.ensures c.requires.count c.requires.good c.index_mut-set.ensures.value).ascends
+
+pub returns-in_ok-put_moved-in-Some-clause-gains : goal.returns-in_ok-put_moved-in-Some-clause-gains
+returns-in_ok-put_moved-in-Some-clause-gains g c =
+    let number = g.S.IndexStorage.number in
+    let G = c.args.grm.now.grammar in
+    let n = c.in-Some.ensures in
+    let X = sym_of number c.in-Some.symbol in
+    let range = c.start_prod.ensures.well_formed.symbols (number c.args.pidx.0) c.args.dot X n in
+    let put = c.in_ok-put_moved-in-Some.ensures in
+    one_moved number c.args.rows.now G c.args.sets.now.items c.rank_of-number.result c.index_mut-set.result.now (number c.args.pidx.0) c.args.dot X range n c.rank_of-number.ensures c.requires.count c.requires.good c.index_mut-set.ensures.value
+    c.put_moved.new.items _ put.0 refl c.dot_behind.ensures c.requires.width c.requires.fresh put.1 put.2
 
 pub returns-in-None-clause-gains : goal.returns-in-None-clause-gains
 returns-in-None-clause-gains g c =
     let number = g.S.IndexStorage.number in
-    no_move c.args.grm.now.grammar (number c.args.pidx.0) c.args.dot c.args.looks.now.bits (map (core_of_set number) c.args.sets.now.items) c.requires.good c.in-None.ensures
+    no_move c.args.grm.now.grammar (number c.args.pidx.0) c.args.dot _ (map (set_of_moved number c.args.rows.now) c.args.sets.now.items) c.requires.good c.in-None.ensures

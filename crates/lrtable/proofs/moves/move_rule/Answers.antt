@@ -4,7 +4,8 @@ use Rattle.std.proofs.lemmas.List.{length-map}
 use Rattle.cfg_numbered.specs.Sets.{is_set}
 use Rattle.cfg_numbered.specs.Value.{productions_of}
 use Rattle.cfg_numbered.proofs.RuleLists.{alone}
-use Rattle.lrtable.specs.StateViews.{core_of_set}
+use Rattle.lrtable.specs.MovedItems.{row_from, set_of_moved}
+use Rattle.lrtable.proofs.FreshSets.{none_of_rule}
 use Rattle.lrtable.proofs.Fronts.{listed_prod, listed_count}
 use Rattle.lrtable.proofs.MarkedSets.{keeps_same, keeps_next}
 use Rattle.lrtable.proofs.Moving.{listed_begin, listed_more, listed_end}
@@ -14,8 +15,8 @@ pub prods-init : goal.prods-init
 prods-init g c =
     let number = g.S.IndexStorage.number in
     record {
-      gains = listed_begin c.args.grm.now.grammar (number c.args.ridx.0) (λ t. IsTrue (is_set c.args.looks.now.bits t)) (map (core_of_set number) c.args.sets.now.items) c.requires.good;
-      marks = keeps_same c.args.marks.now.bits (map (core_of_set number) c.args.sets.now.items);
+      gains = listed_begin c.args.grm.now.grammar (number c.args.ridx.0) (λ t. IsTrue (is_set (row_from c.args.rows.now c.args.source) t)) (map (set_of_moved number c.args.rows.now) c.args.sets.now.items) c.requires.good;
+      marks = keeps_same c.args.marks.now.bits (map (set_of_moved number c.args.rows.now) c.args.sets.now.items);
     }
 
 pub move_over-requires : goal.move_over-requires
@@ -24,8 +25,8 @@ move_over-requires g c =
     let G = c.args.grm.now.grammar in
     let A = number c.args.ridx.0 in
     let n = listed_prod number c.rule_to_prods-prods.result.now (productions_of G A) c.prods.k c.index-prods-k.result c.rule_to_prods-prods.ensures c.prods-test.true c.index-prods-k.is in
-    let a = length-map c.args.sets.now.items (core_of_set number) in
-    let b = length-map c.prods.sets.items (core_of_set number) in
+    let a = length-map c.args.sets.now.items (set_of_moved number c.args.rows.now) in
+    let b = length-map c.prods.sets.items (set_of_moved number c.args.rows.now) in
     let count = c.requires.count in
     let same = c.prods.invariant.gains.count in
     record {
@@ -34,6 +35,8 @@ move_over-requires g c =
       wide = c.prods.invariant.marks.width ∙ c.requires.wide;
       good = c.prods.invariant.gains.good;
       width = c.requires.width;
+      fresh = none_of_rule G A c.prods.k (number c.index-prods-k.result.0) (λ t. IsTrue (is_set (row_from c.args.rows.now c.args.source) t)) (map (set_of_moved number c.args.rows.now) c.args.sets.now.items) (map (set_of_moved number c.args.rows.now) c.prods.sets.items) n.0
+          (let size = listed_count number c.rule_to_prods-prods.result.now (productions_of G A) c.rule_to_prods-prods.ensures in let test = c.prods-test.true in omega (arith, size, test)) n.1 c.requires.fresh c.prods.invariant.gains;
     }
 
 pub prods-preserved : goal.prods-preserved
@@ -43,8 +46,8 @@ prods-preserved g c =
     let A = number c.args.ridx.0 in
     let n = listed_prod number c.rule_to_prods-prods.result.now (productions_of G A) c.prods.k c.index-prods-k.result c.rule_to_prods-prods.ensures c.prods-test.true c.index-prods-k.is in
     record {
-      gains = listed_more G A c.prods.k (number c.index-prods-k.result.0) c.args.looks.now.bits (map (core_of_set number) c.args.sets.now.items) (map (core_of_set number) c.prods.sets.items) (map (core_of_set number) c.move_over.new.sets.items) n.0 c.prods.invariant.gains c.in_ok-move_over.ensures.gains;
-      marks = keeps_next c.args.marks.now.bits (map (core_of_set number) c.args.sets.now.items) c.prods.marks.bits (map (core_of_set number) c.prods.sets.items) c.move_over.new.marks.bits (map (core_of_set number) c.move_over.new.sets.items) c.prods.invariant.marks c.in_ok-move_over.ensures.marks;
+      gains = listed_more G A c.prods.k (number c.index-prods-k.result.0) (row_from c.args.rows.now c.args.source) (map (set_of_moved number c.args.rows.now) c.args.sets.now.items) (map (set_of_moved number c.args.rows.now) c.prods.sets.items) (map (set_of_moved number c.args.rows.now) c.move_over.new.sets.items) n.0 c.prods.invariant.gains c.in_ok-move_over.ensures.gains;
+      marks = keeps_next c.args.marks.now.bits (map (set_of_moved number c.args.rows.now) c.args.sets.now.items) c.prods.marks.bits (map (set_of_moved number c.args.rows.now) c.prods.sets.items) c.move_over.new.marks.bits (map (set_of_moved number c.args.rows.now) c.move_over.new.sets.items) c.prods.invariant.marks c.in_ok-move_over.ensures.marks;
     }
 
 pub returns-clause-gains : goal.returns-clause-gains
@@ -54,4 +57,4 @@ returns-clause-gains g c =
     let A = number c.args.ridx.0 in
     let n = listed_count number c.rule_to_prods-prods.result.now (productions_of G A) c.rule_to_prods-prods.ensures in
     let done = c.prods-test.false in
-    listed_end G A c.prods.k (λ t. IsTrue (is_set c.args.looks.now.bits t)) (map (core_of_set number) c.args.sets.now.items) (map (core_of_set number) c.prods.sets.items) (omega (arith, n, done)) c.prods.invariant.gains
+    listed_end G A c.prods.k (λ t. IsTrue (is_set (row_from c.args.rows.now c.args.source) t)) (map (set_of_moved number c.args.rows.now) c.args.sets.now.items) (map (set_of_moved number c.args.rows.now) c.prods.sets.items) (omega (arith, n, done)) c.prods.invariant.gains

@@ -1,9 +1,11 @@
-use Rattle.std.proofs.Common.{ℕ, ◌+◌, List, false, length, map, sym, ap, ◌∙◌, subst, arith}
+use Rattle.std.proofs.Common.{ℕ, ◌+◌, List, [], false, length, map, sym, ap, ◌∙◌, subst, arith}
 use Rattle.std.proofs.lemmas.List.{length-map, length-replicate}
 use Rattle.lr_theory.proofs.Sizes.{building_sizes}
-use Rattle.lrtable.specs.Gaining.{no_core}
+use Rattle.std.specs.declared.alloc.Global.{Global}
+use Rattle.std.specs.declared.vec.Vec.{Vec}
+use Rattle.lrtable.specs.declared.moved_items.MovedItem.{MovedItem}
 use Rattle.lrtable.specs.States.{AreBuckets}
-use Rattle.lrtable.specs.StateViews.{value_of, core_of_set}
+use Rattle.lrtable.specs.StateViews.{value_of}
 use Rattle.lrtable.proofs.Placing.{count_is}
 use Rattle.lrtable.proofs.Starting.{start_buckets}
 use Rattle.lrtable.proofs.pager.build.Goals as goal
@@ -31,13 +33,15 @@ finish-requires-clause-buckets g c =
 
 pub finish-requires-clause-wide : goal.finish-requires-clause-wide
 finish-requires-clause-wide g c =
+    let none : List (MovedItem g.row.S.Denot) = [] in
+    let items = λ (v : Vec (MovedItem g.row.S.Denot) Global). v.items in
     let G = c.args.grm.now.grammar in
     let made = ap length c.in_ok-marks.ensures.bits in
     let flags = length-replicate c.len.result false in
     let len = c.len.ensures in
     let sets = ap length c.in_ok-sets.ensures in
-    let count = length-replicate (G.rules + G.tokens) no_core in
-    let same = length-map c.in_ok-sets.sets.items (core_of_set g.S.IndexStorage.number) in
+    let count = length-replicate (G.rules + G.tokens) none in
+    let same = length-map c.in_ok-sets.sets.items items in
     omega (arith, made, flags, len, sets, count, same)
 
 pub finish-requires-clause-few : goal.finish-requires-clause-few

@@ -4,9 +4,11 @@ use Rattle.std.proofs.lemmas.Bool.{cases_lt}
 use Rattle.std.proofs.lemmas.List.{length-map}
 use Rattle.vob.specs.Walk.{walk}
 use Rattle.lrtable.specs.Gaining.{no_core, core_in}
-use Rattle.lrtable.specs.StateViews.{value_of, core_of_set}
+use Rattle.lrtable.specs.MovedItems.{set_of_moved}
+use Rattle.lrtable.specs.StateViews.{value_of}
 use Rattle.lrtable.specs.Stepping.{FitsCore, IsGotoAt}
 use Rattle.lrtable.proofs.Emptying.{emptied_next, all_empty}
+use Rattle.lrtable.proofs.FreshSets.{moved_empty}
 use Rattle.lrtable.proofs.Marks.{IsNextMark, all_marked, next_mark, no_mark}
 use Rattle.lrtable.proofs.MarkedSets.{skip_ranks}
 use Rattle.lrtable.proofs.Stepping.{rest_next, next_handled, goto_at}
@@ -62,6 +64,7 @@ place_rank-requires g c =
       near = omega (arith, near, low);
       number = lt;
       count = v.count ∙ count;
+      tokens = c.requires.tokens;
       from = omega (arith, from, more);
       states = v.states;
       set = subst (FitsCore G) (sym (v.rest t low)) (c.requires.sets t lt);
@@ -81,15 +84,15 @@ ranks-preserved g c =
     let t = c.in-Some.number in
     let m : IsNextMark bits n t c.next.new.self = next_mark bits n t c.ranks.number-iterator c.next.new.self v.within v.left c.in-Some.ensures.steps in
     let e = c.in_ok-place_rank.ensures in
-    let first = map (core_of_set number) c.args.sets.now.items in
-    let sets = map (core_of_set number) c.ranks.sets.items in
-    let new = map (core_of_set number) c.place_rank.new.sets.items in
+    let first = map (set_of_moved number c.args.rows.now) c.args.sets.now.items in
+    let sets = map (set_of_moved number c.args.rows.now) c.ranks.sets.items in
+    let new = map (set_of_moved number c.args.rows.now) c.place_rank.new.sets.items in
     let below = m.below in
     let low = m.low in
     let wide = c.requires.wide in
     let count = c.requires.count in
-    let long = length-map c.args.sets.now.items (core_of_set number) in
-    let k = length-map c.ranks.sets.items (core_of_set number) in
+    let long = length-map c.args.sets.now.items (set_of_moved number c.args.rows.now) in
+    let k = length-map c.ranks.sets.items (set_of_moved number c.args.rows.now) in
     let q = v.count in
     let old = v.more in
     let more = e.more in
@@ -105,7 +108,7 @@ ranks-preserved g c =
           left = m.left;
           near = e.near;
           emptied = emptied_next sets new t (omega (arith, below, wide, count, k, q)) e.sets empty;
-          count = (let l = length-map c.place_rank.new.sets.items (core_of_set number) in let s = ap length e.sets in let r = length-set sets t no_core in omega (arith, l, k, s, r, q));
+          count = (let l = length-map c.place_rank.new.sets.items (set_of_moved number c.args.rows.now) in let s = ap length e.sets in let r = length-set sets t no_core in omega (arith, l, k, s, r, q));
           states = e.states;
           more = omega (arith, old, more);
           buckets = e.buckets;
@@ -129,12 +132,12 @@ returns-in_err-place_rank-clause-many g c = λ e before next gotos h.
     let v = c.ranks.invariant.2.1 in
     let t = c.in-Some.number in
     let m : IsNextMark bits n t c.next.new.self = next_mark bits n t c.ranks.number-iterator c.next.new.self v.within v.left c.in-Some.ensures.steps in
-    let first = map (core_of_set number) c.args.sets.now.items in
+    let first = map (set_of_moved number c.args.rows.now) c.args.sets.now.items in
     let below = m.below in
     let low = m.low in
     let wide = c.requires.wide in
     let count = c.requires.count in
-    let long = length-map c.args.sets.now.items (core_of_set number) in
+    let long = length-map c.args.sets.now.items (set_of_moved number c.args.rows.now) in
     let none : (i : ℕ) → n ≤ i → i < t → core_in first i ≡ no_core = λ i a b. c.requires.marked i (omega (arith, b, below, wide, count, long)) (m.none i a b) in
     c.place_rank.ensures.many (search rules) before next (subst (IsGotoAt G before c.args.from t) (sym (v.rest t low)) (goto_at G before c.args.from first gotos t))
     (skip_ranks G before c.args.from n t first (map (value_of number) c.ranks.states.items) low (omega (arith, below, wide)) gotos none (v.handled before gotos h))
@@ -148,13 +151,14 @@ returns-clause-emptied g c =
     let v = c.ranks.invariant.2.1 in
     let wide = c.requires.wide in
     let count = c.requires.count in
-    let long = length-map c.args.sets.now.items (core_of_set number) in
-    let k = length-map c.ranks.sets.items (core_of_set number) in
+    let long = length-map c.args.sets.now.items (set_of_moved number c.args.rows.now) in
+    let k = length-map c.ranks.sets.items (set_of_moved number c.args.rows.now) in
     let q = v.count in
-    all_empty (map (core_of_set number) c.ranks.sets.items) (G.rules + G.tokens) (omega (arith, k, q, count)) (λ i lt. elim (cases_lt i n) [
+    moved_empty number c.args.rows.now (G.rules + G.tokens) c.ranks.sets.items
+    (all_empty (map (set_of_moved number c.args.rows.now) c.ranks.sets.items) (G.rules + G.tokens) (omega (arith, k, q, count)) (λ i lt. elim (cases_lt i n) [
       | inl l ↦ v.emptied i l
       | inr ge ↦ v.rest i ge ∙ c.requires.marked i (omega (arith, lt, count, long)) (no_mark bits n c.ranks.number-iterator v.within v.left c.in-None.ensures.steps.0 i ge (omega (arith, lt, wide)))
-    ])
+    ]))
 
 pub returns-clause-handled : goal.returns-clause-handled
 returns-clause-handled g c = λ before gotos h.
@@ -166,7 +170,7 @@ returns-clause-handled g c = λ before gotos h.
     let wide = c.requires.wide in
     let within = v.within in
     let count = c.requires.count in
-    let first = map (core_of_set number) c.args.sets.now.items in
-    let long = length-map c.args.sets.now.items (core_of_set number) in
+    let first = map (set_of_moved number c.args.rows.now) c.args.sets.now.items in
+    let long = length-map c.args.sets.now.items (set_of_moved number c.args.rows.now) in
     skip_ranks G before c.args.from n (G.rules + G.tokens) first (map (value_of number) c.ranks.states.items) (omega (arith, within, wide)) (omega arith) gotos
     (λ i a b. c.requires.marked i (omega (arith, b, count, long)) (no_mark bits n c.ranks.number-iterator v.within v.left c.in-None.ensures.steps.0 i a (omega (arith, b, wide)))) (v.handled before gotos h)

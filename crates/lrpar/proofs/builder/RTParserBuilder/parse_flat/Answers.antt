@@ -16,5 +16,5 @@ returns-clause-parsed g c =
     let checked = c.args.self.now.checked.now in
     let G = checked.grammar.grammar in
     let items = c.as_slice-items.ensures.value ∙ c.iter.ensures in
-    let told = rw (c.grm.ensures, c.stable.ensures, items) at c.parse_flat.ensures.parsed in
+    let told = rw (c.grm.ensures, c.full.ensures, items) at c.parse_flat.ensures.parsed in
     within_at {X = Option (FlatValue g.row.T-LexemeT.Denot) × Vec (ParseError g.row.T-LexemeT.Denot g.row.T-StorageT.Denot) Global} (λ (h : GraphValue). Safe G (automaton_of h checked.table)) (λ (h : GraphValue). checked.table.start ≡ h.start) (λ (h : GraphValue) p. IsFlatParse g.T.StorageT.IndexStorage.number g.T.LexemeT.Lexeme.lex g.T.LexemeT.Lexeme.faulty_of G h checked.table (g.R.Recoverer.answers c.args.self.now.recoverer.now) (g.X.Lexer.lexed c.args.lexer.now) p.0 p.1.items) checked.graph pair.safe pair.counts.start _ told

@@ -14,7 +14,7 @@ returns-clause-parsed g c =
     let G = checked.grammar.grammar in
     let number = g.T.StorageT.IndexStorage.number in
     let items = c.as_slice-items.ensures.value ∙ c.iter.ensures in
-    let told = rw (c.grm.ensures, c.stable.ensures, items) at c.parse_folded.ensures.parsed in
+    let told = rw (c.grm.ensures, c.full.ensures, items) at c.parse_folded.ensures.parsed in
     at_one (λ (h : GraphValue). Safe G (automaton_of h checked.table)) (λ (h : GraphValue). checked.table.start ≡ h.start)
     (λ (h : GraphValue) o. IsFoldedOutcome number g.T.LexemeT.Lexeme.lex g.T.LexemeT.Lexeme.faulty_of G h checked.table (values_by number (goal.F-post g c.args.fterm.now) (goal.H-post g c.args.fnonterm.now)) (g.R.Recoverer.answers c.args.self.now.recoverer.now) (g.X.Lexer.lexed c.args.lexer.now) o)
     checked.graph pair.safe pair.counts.start _ told

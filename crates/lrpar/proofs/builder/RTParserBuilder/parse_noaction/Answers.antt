@@ -5,7 +5,7 @@ pub returns-in-Ok-clause-parsed : goal.returns-in-Ok-clause-parsed
 returns-in-Ok-clause-parsed g c =
     let pair = c.facts.ensures.pair in
     let items = c.as_slice-items.ensures.value ∙ c.iter.ensures in
-    let told = rw (c.grm.ensures, c.stable.ensures, items) at c.in_ok-outcome.ensures.parsed in (
+    let told = rw (c.grm.ensures, c.full.ensures, items) at c.in_ok-outcome.ensures.parsed in (
       c.in-Ok.told.0,
       record {
         outcome = c.in_ok-outcome.outcome;

@@ -16,7 +16,7 @@ told : (g : _) (c : goal.After-told_behind g) → IfOk c.told_behind.result (Tel
 told g c =
     let d = c.args.self.now in
     let pair = c.facts.ensures.pair in
-    IfOk-weaker _ _ _ (λ (o : Option Contents) (h : (x : GraphValue) → Safe d.grammar.grammar (automaton_of x d.table) → d.table.start ≡ x.start → TellsAfter d.grammar.grammar (automaton_of x d.table) (token_by g.L.Lexeme.lex) c.args.lexemes.now o). h d.graph pair.safe pair.counts.start) (rw (c.grm-2.ensures, c.stable.ensures) at c.told_behind.ensures)
+    IfOk-weaker _ _ _ (λ (o : Option Contents) (h : (x : GraphValue) → Safe d.grammar.grammar (automaton_of x d.table) → d.table.start ≡ x.start → TellsAfter d.grammar.grammar (automaton_of x d.table) (token_by g.L.Lexeme.lex) c.args.lexemes.now o). h d.graph pair.safe pair.counts.start) (rw (c.grm-2.ensures, c.full.ensures) at c.told_behind.ensures)
 
 -- each token has a lexeme
 lexeme : (g : _) (c : goal.After-told_behind g) (k : ℕ) → k < end_token c.args.self.now.grammar.grammar → (y : g.row.L.Denot) × (token_by g.L.Lexeme.lex y ≡ k)

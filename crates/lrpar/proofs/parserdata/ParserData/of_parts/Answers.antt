@@ -12,3 +12,8 @@ returns-in-Unsafe-clause-of_builder g c = λ is unsafe. no_misfit c.args.grm c.a
 
 pub returns-in-Checked-clause-chains : goal.returns-in-Checked-clause-chains
 returns-in-Checked-clause-chains g c = let checked = rw c.in-Checked.is at c.in_ok-complete.ensures in checked.0.chains c.args.sgraph
+
+pub returns-in_err-complete-clause-refused : goal.returns-in_err-complete-clause-refused
+returns-in_err-complete-clause-refused g c =
+    let p = err_from_is_err_and c.from_residual.result c.from_residual.ensures.1 in
+    rw (p.1, p.2) tt

@@ -1,0 +1,234 @@
+//! A table beside full rows, in which its cells and its gotos are read at once.
+
+ghost use Rattle.std.specs.Prelude.{◌≡◌, ◌<◌, ◌⊎◌, ℕ, [], Some, length, replicate, slice_get, slice_set, IfOk};
+ghost use Rattle.lrtable.specs.CellViews.{action_of, state_of};
+ghost use Rattle.lrtable.specs.Rows.{Rises, Below};
+ghost use Rattle.lrtable.specs.TableValues.{action_at, goto_at};
+ghost use Rattle.lrpar.specs.FullTables.{IsFull, AreCells, AreTargets, AreRows};
+
+use cfg_base::index::IndexStorage;
+use cfg_base::symbol::{RIdx, TIdx};
+use lrtable::{Action, StIdx, StateTable};
+use std::alloc::{AllocError, Global};
+use std::marker::Model;
+
+/// A table, and of each state a full row of its cells and, where it has gotos, one of these. Contracts see the table.
+#[derive(Drop)]
+pub(crate) struct FullTable<S: IndexStorage> {
+    stable: StateTable<S>,
+    cells: Vec<Vec<Action<S>>>,
+    targets: Vec<Vec<StIdx<S>>>,
+}
+
+impl<S: IndexStorage> Model for FullTable<S> {
+    ghost use Rattle.lrtable.specs.TableValues.{TableValue};
+    ghost use Rattle.lrpar.specs.FullTables.{AreCells, AreTargets, AreRows};
+
+    ghost Value = { TableValue };
+
+    ghost view = { λ f. f.stable };
+
+    ghost invariant = { λ f. AreRows f.stable.states (AreCells S.number f.stable) f.cells.items × AreRows f.stable.states (AreTargets S.number f.stable) f.targets.items };
+}
+
+/// Puts a value at a place.
+fn put<V: Copy>(full: &mut Vec<V>, number: usize, value: V)
+    requires { number < length full.old.items }
+    ensures { full.new.items ≡ slice_set full.old.items number value }
+{
+    full[number] = value;
+}
+
+/// So many places with one value.
+fn repeated<V: Copy>(alloc: Global, value: V, count: usize) -> Result<Vec<V>, AllocError>
+    ensures { IfOk result (λ v. v.items ≡ replicate count value) }
+{
+    let mut values = Vec::with_capacity(alloc, count)?;
+    'places: for _place in 0..count {
+        values.push(value)?;
+    }
+    Ok(values)
+}
+
+/// A place for each number below the count, with what the row has beside it, or else with `empty`.
+fn full_row<V: Copy>(
+    alloc: Global,
+    row: &[(usize, V)],
+    empty: V,
+    count: usize,
+) -> Result<Vec<V>, AllocError>
+    requires rises { Rises row.now }
+    requires below { Below count row.now }
+    ensures { IfOk result (λ v. IsFull count row.now empty v.items) }
+{
+    let mut full = repeated(alloc, empty, count)?;
+    'entries: for i in 0..row.len() {
+        let entry = row[i];
+        put(&mut full, entry.0, entry.1);
+    }
+    Ok(full)
+}
+
+/// The row of a state.
+#[inline(always)]
+fn row_at<E>(rows: &[Vec<E>], s: usize) -> &Vec<E>
+    requires { s < length rows.now }
+    ensures { slice_get rows.now s ≡ Some result.now }
+{
+    &rows[s]
+}
+
+/// What stands at a place of a row.
+#[inline(always)]
+fn place_at<V: Copy>(row: &[V], number: usize) -> V
+    requires { number < length row.now }
+    ensures { slice_get row.now number ≡ Some result }
+{
+    row[number]
+}
+
+/// A state's full row of cells.
+fn cell_row<S: IndexStorage>(
+    alloc: Global,
+    stable: &StateTable<S>,
+    stidx: StIdx<S>,
+) -> Result<Vec<Action<S>>, AllocError>
+    requires { S.number stidx.0 < stable.now.states }
+    ensures { IfOk result (λ v. AreCells S.number stable.now (S.number stidx.0) v.items) }
+{
+    let count = stable.tokens_len().0.to_usize();
+    let row = full_row(alloc, stable.state_cells(stidx), Action::Error, count)?;
+    Ok(row)
+}
+
+/// How many places a row is given: none where it is empty.
+fn places_for<E>(row: &[E], count: usize) -> usize
+    ensures { (row.now ≡ []) ⊎ (result ≡ count) }
+{
+    if row.is_empty() {
+        return 0;
+    }
+    count
+}
+
+/// A state's row of gotos, empty where it has none.
+fn target_row<S: IndexStorage>(
+    alloc: Global,
+    stable: &StateTable<S>,
+    stidx: StIdx<S>,
+) -> Result<Vec<StIdx<S>>, AllocError>
+    requires { S.number stidx.0 < stable.now.states }
+    ensures { IfOk result (λ v. AreTargets S.number stable.now (S.number stidx.0) v.items) }
+{
+    let gotos = stable.state_gotos(stidx);
+    let count = places_for(gotos, stable.rules_len().0.to_usize());
+    let row = full_row(alloc, gotos, stidx, count)?;
+    Ok(row)
+}
+
+/// The rows of cells of all states.
+fn cell_rows<S: IndexStorage>(
+    alloc: Global,
+    stable: &StateTable<S>,
+) -> Result<Vec<Vec<Action<S>>>, AllocError>
+    ensures { IfOk result (λ v. AreRows stable.now.states (AreCells S.number stable.now) v.items) }
+{
+    let count = stable.states_len().0.to_usize();
+    let mut rows = Vec::with_capacity(alloc, count)?;
+    'states: for number in 0..count {
+        let row = cell_row(alloc, stable, stable.state_at(number))?;
+        rows.push(row)?;
+    }
+    Ok(rows)
+}
+
+/// The rows of gotos of all states.
+fn target_rows<S: IndexStorage>(
+    alloc: Global,
+    stable: &StateTable<S>,
+) -> Result<Vec<Vec<StIdx<S>>>, AllocError>
+    ensures { IfOk result (λ v. AreRows stable.now.states (AreTargets S.number stable.now) v.items) }
+{
+    let count = stable.states_len().0.to_usize();
+    let mut rows = Vec::with_capacity(alloc, count)?;
+    'states: for number in 0..count {
+        let row = target_row(alloc, stable, stable.state_at(number))?;
+        rows.push(row)?;
+    }
+    Ok(rows)
+}
+
+impl<S: IndexStorage> FullTable<S> {
+    /// The same table with its full rows.
+    pub(crate) fn new(alloc: Global, stable: StateTable<S>) -> Result<FullTable<S>, AllocError>
+        ensures { IfOk result (λ f. f ≡ stable) }
+    {
+        let cells = cell_rows(alloc, &stable)?;
+        let targets = target_rows(alloc, &stable)?;
+        Ok(FullTable {
+            stable,
+            cells,
+            targets,
+        })
+    }
+
+    /// Lends the table.
+    pub(crate) fn stable(&self) -> &StateTable<S>
+        ensures { result.now ≡ self.now }
+    {
+        &self.stable
+    }
+
+    /// The table alone.
+    pub(crate) fn into_stable(self) -> StateTable<S>
+        ensures { result ≡ self }
+    {
+        self.stable
+    }
+
+    /// The state that a run begins in.
+    pub(crate) fn start_state(&self) -> StIdx<S>
+        ensures value { S.number result.0 ≡ self.now.start }
+        ensures within { self.now.start < self.now.states }
+    {
+        self.stable.start_state()
+    }
+
+    /// Counts the tokens, the end token among them.
+    pub(crate) fn tokens_len(&self) -> TIdx<S>
+        ensures { S.number result.0 ≡ self.now.tokens }
+    {
+        self.stable.tokens_len()
+    }
+
+    /// What the state does on the token.
+    #[inline(always)]
+    pub(crate) fn action(&self, stidx: StIdx<S>, tidx: TIdx<S>) -> Action<S>
+        requires state { S.number stidx.0 < self.now.states }
+        requires token { S.number tidx.0 < self.now.tokens }
+        ensures { action_of S.number result ≡ action_at self.now (S.number stidx.0) (S.number tidx.0) }
+    {
+        let row = row_at(self.cells.as_slice(), stidx.0.to_usize());
+        place_at(row.as_slice(), tidx.0.to_usize())
+    }
+
+    /// The state after the rule, where there is one.
+    #[inline(always)]
+    pub(crate) fn target(&self, stidx: StIdx<S>, ridx: RIdx<S>) -> StIdx<S>
+        requires there { (q : ℕ) × (goto_at self.now (S.number stidx.0) (S.number ridx.0) ≡ Some q) }
+        requires state { S.number stidx.0 < self.now.states }
+        ensures { goto_at self.now (S.number stidx.0) (S.number ridx.0) ≡ Some (S.number result.0) }
+    {
+        let row = row_at(self.targets.as_slice(), stidx.0.to_usize());
+        place_at(row.as_slice(), ridx.0.to_usize())
+    }
+
+    /// The state after the rule.
+    pub(crate) fn goto(&self, stidx: StIdx<S>, ridx: RIdx<S>) -> Option<StIdx<S>>
+        requires state { S.number stidx.0 < self.now.states }
+        requires rule { S.number ridx.0 < self.now.rules }
+        ensures { state_of S.number result ≡ goto_at self.now (S.number stidx.0) (S.number ridx.0) }
+    {
+        self.stable.goto(stidx, ridx)
+    }
+}

@@ -1,7 +1,0 @@
-use Rattle.std.proofs.Common.{ℕ, ◌+◌, ◌<◌, ◌≤◌, length, get_or}
-use Rattle.lrtable.specs.ItemRows.{Item, ItemBefore}
-use Rattle.lrtable.specs.StateViews.{item_of, items_of}
-use Rattle.lrtable.proofs.cores.index_of.Given as goal
-
-abbrev pub invariant-back : goal.invariant-back
-invariant-back g l = (k : ℕ) (d : Item) → length l.items ≤ k + l.n → k < length l.items → ItemBefore (get_or (items_of g.S.IndexStorage.number l.items) k d) (item_of g.S.IndexStorage.number l.item) → ⊥

@@ -1,0 +1,7 @@
+use Rattle.std.proofs.Common.{◌≡◌, take}
+use Rattle.lrtable.specs.MovedItems.{moved_items}
+use Rattle.lrtable.specs.StateViews.{items_of}
+use Rattle.lrtable.proofs.moved_items.same_items.Given as goal
+
+abbrev pub invariant-each : goal.invariant-each
+invariant-each g l = items_of g.S.IndexStorage.number (take l.i l.core) ≡ moved_items g.S.IndexStorage.number (take l.i l.moved)

@@ -1,0 +1,125 @@
+//! Items that move over a symbol. None takes its lookaheads along: it names the place where they stand.
+
+ghost use Rattle.std.specs.Prelude.{◌≡◌, ◌<◌, ℕ, length, get_or, IfOk, IsTrue, OnOk, ◌↔◌};
+ghost use Rattle.std.specs.List.{insert};
+ghost use Rattle.lrtable.specs.ItemRows.{Ascends};
+ghost use Rattle.lrtable.specs.Meeting.{rows_in};
+ghost use Rattle.lrtable.specs.MovedItems.{AreWide, BelongsAt, core_of_moved, moved_item, moved_items, row_from, rows_from};
+ghost use Rattle.lrtable.specs.StateViews.{core_of_set, item_of, items_of};
+
+use crate::cores::{CoreItem, CoreSet, comes_before, put_in, same_item};
+use crate::opening::Opening;
+use cfg_base::index::IndexStorage;
+use std::alloc::{AllocError, Global};
+use std::marker::Model;
+use vob::Vob;
+
+/// Where lookaheads stand: with an item of the core that is moved, or with a rule that the core opens.
+#[derive(Clone, Copy)]
+pub(crate) enum Source {
+    Own(usize),
+    Rule(usize),
+}
+
+/// An item that moved, and where its lookaheads stand.
+#[derive(Clone, Copy)]
+pub(crate) struct MovedItem<S> {
+    pub item: CoreItem<S>,
+    pub source: Source,
+}
+
+/// The lookaheads of a core's items, and those of the rules that it opens.
+#[derive(Drop)]
+pub(crate) struct Rows<'a> {
+    own: &'a [Vob],
+    opening: &'a Opening,
+}
+
+impl<'a> Model for Rows<'a> {
+    ghost use Rattle.lrtable.specs.LookRows.{LookRows};
+    ghost use Rattle.lrtable.specs.Meeting.{rows_in};
+
+    ghost Value = { LookRows };
+
+    ghost view = { λ r. record { own = rows_in r.own.now; rules = r.opening.now.rows } };
+}
+
+impl<'a> Rows<'a> {
+    /// Those of items, and those of the rules of a closure.
+    pub(crate) fn new(own: &'a [Vob], opening: &'a Opening) -> Rows<'a>
+        ensures { result ≡ record { own = rows_in own.now; rules = opening.now.rows } }
+    {
+        Rows { own, opening }
+    }
+
+    /// The lookaheads that stand at a place, where there are some.
+    pub(crate) fn row(&self, source: Source) -> &Vob
+        requires { 0 < length (row_from self.now source) }
+        ensures { result.now.bits ≡ row_from self.now source }
+    {
+        match source {
+            Source::Own(k) => &self.own[k],
+            Source::Rule(rule) => self.opening.row(rule),
+        }
+    }
+}
+
+/// The index at which an item belongs.
+fn index_of<S: IndexStorage>(items: &[MovedItem<S>], item: &CoreItem<S>) -> usize
+    requires { Ascends (moved_items S.number items.now) }
+    ensures { BelongsAt (moved_items S.number items.now) (item_of S.number item.now) result }
+{
+    'back: for n in 0..items.len() {
+        let last = items.len() - 1 - n;
+        if comes_before(&items[last].item, item) {
+            return last + 1;
+        }
+    }
+    0
+}
+
+/// Puts an item where it belongs.
+pub(crate) fn put_moved<S: IndexStorage>(
+    items: &mut Vec<MovedItem<S>>,
+    moved: MovedItem<S>,
+) -> Result<(), AllocError>
+    requires { Ascends (moved_items S.number items.old.items) }
+    ensures { OnOk result ((k : ℕ) × BelongsAt (moved_items S.number items.old.items) (moved_item S.number moved) k × (items.new.items ≡ insert items.old.items k moved)) }
+{
+    let index = index_of(items.as_slice(), &moved.item);
+    put_in(items, index, moved)?;
+    Ok(())
+}
+
+/// Tells whether moved items are those of a core.
+pub(crate) fn same_items<S: IndexStorage>(core: &[CoreItem<S>], moved: &[MovedItem<S>]) -> bool
+    ensures { IsTrue result ↔ (items_of S.number core.now ≡ moved_items S.number moved.now) }
+{
+    if core.len() != moved.len() {
+        return false;
+    }
+    'each: for i in 0..core.len() {
+        if !same_item(&core[i], &moved[i].item) {
+            return false;
+        }
+    }
+    true
+}
+
+/// Moved items as a core, with copies of their lookaheads.
+pub(crate) fn to_core<S: IndexStorage>(
+    alloc: Global,
+    moved: &[MovedItem<S>],
+    rows: &Rows<'_>,
+) -> Result<CoreSet<S>, AllocError>
+    requires { AreWide (rows_from rows.now moved.now) }
+    ensures { IfOk result (λ c. core_of_set S.number c ≡ core_of_moved S.number rows.now moved.now) }
+{
+    let mut items = Vec::with_capacity(alloc, moved.len())?;
+    let mut looks = Vec::with_capacity(alloc, moved.len())?;
+    'each: for i in 0..moved.len() {
+        items.push(moved[i].item)?;
+        looks.push(rows.row(moved[i].source).clone()?)?;
+    }
+    Ok(CoreSet { items, looks })
+}

@@ -1,0 +1,358 @@
+//! The goto sets of a state that was taken before. Each has the items of the state that its edge leads to, and the rows of
+//! its lookaheads are read where they stand in the closed state: a set that is held there leaves the edge as it is.
+
+ghost use Rattle.std.specs.Prelude.{◌≡◌, ◌≢◌, ℕ, ◌<◌, ◌≤◌, ◌+◌, true, false, length, map, get_or, IfOk, OnOk, IsErrOf, None};
+ghost use Rattle.cfg_theory.specs.Grammar.{Sym, IsNext};
+ghost use Rattle.lr_theory.specs.Building.{Building, same_symbol};
+ghost use Rattle.lr_theory.specs.Graph.{core_of};
+ghost use Rattle.lr_theory.specs.Itemset.{HasItem, Closure};
+ghost use Rattle.lr_theory.specs.ItemLists.{Stands};
+ghost use Rattle.lrtable.specs.Handling.{rank, AreHandled, TooManyStand};
+ghost use Rattle.lrtable.specs.ItemRows.{Item, IsAt, IsCoreOf, map_of};
+ghost use Rattle.lrtable.specs.Meeting.{rows_in};
+ghost use Rattle.lrtable.specs.MovedItems.{moved_items, row_from, rows_from};
+ghost use Rattle.lrtable.specs.TakenAgain.{core_noted, IsMoved, AreMoved, IsRowBehind, AreRowsBehind, AreHeld, IsNoted, LeadsOn};
+ghost use Rattle.lrtable.specs.States.{Edge, AreStates, AreBuckets, AreQuiet, AscendEdges, ListsCore, edge_in, edge_of, state_at, first_production};
+ghost use Rattle.cfg_numbered.specs.Symbols.{sym_of};
+ghost use Rattle.lrtable.specs.StateViews.{item_of, items_of, core_of_set, edge_of_pair, edges_of, value_of};
+ghost use Rattle.lrtable.specs.Stepping.{IsNextTaken};
+ghost use Rattle.lrtable.specs.declared.states.BuildError.TheVariants as faults;
+
+use crate::cores::{CoreItem, CoreSet, same_item, same_items};
+use crate::moved_items::{MovedItem, Rows, Source};
+use crate::opening::Opening;
+use crate::states::{BuildError, EdgeTo, State, place};
+use cfg_base::index::IndexStorage;
+use cfg_base::symbol::SIdx;
+use cfg_numbered::yacc::NumberedGrammar;
+use std::alloc::{AllocError, Global};
+
+/// A state as it stood when it was taken: the items of its core, its edges, and for each production an index at which an item
+/// of it may stand in the core.
+#[derive(Drop)]
+pub(crate) struct Retaken<S> {
+    pub items: Vec<CoreItem<S>>,
+    pub edges: Vec<EdgeTo<S>>,
+    pub hints: Vec<usize>,
+}
+
+/// Tells whether an item stands at an index.
+fn stands_at<S: IndexStorage>(items: &[CoreItem<S>], index: usize, item: &CoreItem<S>) -> bool
+    ensures { result ≡ true → IsAt (items_of S.number items.now) index (S.number item.now.pidx.0) (S.number item.now.dot.0) }
+{
+    if index >= items.len() {
+        return false;
+    }
+    same_item(&items[index], item)
+}
+
+/// The index at which an item stands.
+fn index_among<S: IndexStorage>(items: &[CoreItem<S>], item: &CoreItem<S>) -> usize
+    requires { Stands (items_of S.number items.now) (S.number item.now.pidx.0) (S.number item.now.dot.0) }
+    ensures { IsAt (items_of S.number items.now) result (S.number item.now.pidx.0) (S.number item.now.dot.0) }
+{
+    'each: for k in 0..items.len() {
+        if same_item(&items[k], item) {
+            return k;
+        }
+    }
+    0
+}
+
+/// The index at which an item stands, which may be the hint.
+fn index_by_hint<S: IndexStorage>(items: &[CoreItem<S>], hint: usize, item: &CoreItem<S>) -> usize
+    requires { Stands (items_of S.number items.now) (S.number item.now.pidx.0) (S.number item.now.dot.0) }
+    ensures { IsAt (items_of S.number items.now) result (S.number item.now.pidx.0) (S.number item.now.dot.0) }
+{
+    if stands_at(items, hint, item) {
+        return hint;
+    }
+    index_among(items, item)
+}
+
+/// Tells whether an item stands behind the first symbol of a production that isn't the start production.
+fn was_opened<S: IndexStorage>(grm: &NumberedGrammar<S>, item: &CoreItem<S>) -> bool
+    ensures opened { result ≡ true → (S.number item.now.dot.0 ≡ 1) × (S.number item.now.pidx.0 ≢ grm.now.grammar.start) }
+    ensures own { result ≡ false → S.number item.now.dot.0 ≡ 1 → S.number item.now.pidx.0 ≡ grm.now.grammar.start }
+{
+    let start = grm.start_prod().0.to_usize();
+    if item.dot.0.to_usize() != 1 {
+        return false;
+    }
+    item.pidx.0.to_usize() != start
+}
+
+/// Where the lookaheads stand of an item of a closed core that moved over the symbol before its dot: with the item before it
+/// in the core, or with its rule, if that was opened.
+fn source_behind<S: IndexStorage>(
+    grm: &NumberedGrammar<S>,
+    was: &Retaken<S>,
+    rows: &Rows<'_>,
+    opening: &Opening,
+    item: &CoreItem<S>,
+) -> Source
+    requires noted { IsNoted S.number grm.now.grammar was.now rows.now opening.now }
+    requires moved { IsMoved grm.now.grammar (core_noted S.number was.now rows.now) (item_of S.number item.now) }
+    ensures { IsRowBehind grm.now.grammar (core_noted S.number was.now rows.now) (item_of S.number item.now) (row_from rows.now result) }
+{
+    grm.start_prod();
+    let pidx = item.pidx;
+    let dot = item.dot.0.to_usize() - 1;
+    if was_opened(grm, item) {
+        let rule = grm.prod_to_rule(pidx).0.to_usize();
+        let _looks = opening.row(rule);
+        return Source::Rule(rule);
+    }
+    let before = CoreItem {
+        pidx,
+        dot: SIdx(S::from_usize(dot).unwrap()),
+    };
+    let hint = was.hints[pidx.0.to_usize()];
+    Source::Own(index_by_hint(was.items.as_slice(), hint, &before))
+}
+
+/// Tells whether the lookaheads of a core hold those that its items have in the goto set.
+fn are_held<S: IndexStorage>(
+    grm: &NumberedGrammar<S>,
+    was: &Retaken<S>,
+    rows: &Rows<'_>,
+    opening: &Opening,
+    core: &CoreSet<S>,
+) -> bool
+    requires noted { IsNoted S.number grm.now.grammar was.now rows.now opening.now }
+    requires core { IsCoreOf grm.now.grammar.tokens (core_of_set S.number core.now) }
+    requires moved { AreMoved grm.now.grammar (core_noted S.number was.now rows.now) (items_of S.number core.now.items.items) }
+    ensures { result ≡ true → AreHeld grm.now.grammar (core_noted S.number was.now rows.now) (items_of S.number core.now.items.items) (length core.now.items.items) (rows_in core.now.looks.items) }
+{
+    grm.start_prod();
+    'items: for k in 0..core.items.len() {
+        let item = &core.items[k];
+        let looks = &core.looks[k];
+        let source = source_behind(grm, was, rows, opening, item);
+        if !looks.holds(rows.row(source)) {
+            return false;
+        }
+    }
+    true
+}
+
+/// The goto set of these items.
+fn gathered<S: IndexStorage>(
+    alloc: Global,
+    grm: &NumberedGrammar<S>,
+    was: &Retaken<S>,
+    rows: &Rows<'_>,
+    opening: &Opening,
+    from: &[CoreItem<S>],
+) -> Result<Vec<MovedItem<S>>, AllocError>
+    requires noted { IsNoted S.number grm.now.grammar was.now rows.now opening.now }
+    requires moved { AreMoved grm.now.grammar (core_noted S.number was.now rows.now) (items_of S.number from.now) }
+    ensures items { IfOk result (λ v. moved_items S.number v.items ≡ items_of S.number from.now) }
+    ensures rows { IfOk result (λ v. AreRowsBehind grm.now.grammar (core_noted S.number was.now rows.now) (items_of S.number from.now) (length from.now) (rows_from rows.now v.items)) }
+{
+    let mut set = Vec::with_capacity(alloc, from.len())?;
+    'items: for k in 0..from.len() {
+        let item = from[k];
+        let source = source_behind(grm, was, rows, opening, &item);
+        set.push(MovedItem { item, source })?;
+    }
+    Ok(set)
+}
+
+/// Tells whether a state is the first of its core; `bucket` lists, ascending, those that may have it.
+fn is_first<S: IndexStorage>(states: &[State<S>], bucket: &[usize], number: usize) -> bool
+    requires number { number < length states.now }
+    requires bucket { ListsCore (map (value_of S.number) states.now) (state_at (map (value_of S.number) states.now) number).core.items bucket.now }
+    ensures { result ≡ true → (j : ℕ) → j < number → (state_at (map (value_of S.number) states.now) j).core.items ≡ (state_at (map (value_of S.number) states.now) number).core.items → ⊥ }
+{
+    let own = &states[number];
+    'each: for i in 0..bucket.len() {
+        let other = bucket[i];
+        if other >= number {
+            return true;
+        }
+        let lower = &states[other];
+        if same_items(lower.core.items.as_slice(), own.core.items.as_slice()) {
+            return false;
+        }
+    }
+    true
+}
+
+/// Tells whether the goto set of a state's items joins this state, which holds all its lookaheads.
+fn stays<S: IndexStorage>(
+    grm: &NumberedGrammar<S>,
+    states: &[State<S>],
+    begins: &[Vec<usize>],
+    was: &Retaken<S>,
+    rows: &Rows<'_>,
+    opening: &Opening,
+    target: usize,
+) -> bool
+    requires noted { IsNoted S.number grm.now.grammar was.now rows.now opening.now }
+    requires states { AreStates grm.now.grammar.tokens (map (value_of S.number) states.now) }
+    requires buckets { AreBuckets (map (value_of S.number) states.now) (map (λ l. l.items) begins.now) }
+    requires target { target < length states.now }
+    requires moved { AreMoved grm.now.grammar (core_noted S.number was.now rows.now) (state_at (map (value_of S.number) states.now) target).core.items }
+    requires some { 0 < length (state_at (map (value_of S.number) states.now) target).core.items }
+    requires listed { first_production (state_at (map (value_of S.number) states.now) target).core.items < length begins.now }
+    ensures held { result ≡ true → AreHeld grm.now.grammar (core_noted S.number was.now rows.now) (state_at (map (value_of S.number) states.now) target).core.items (length (state_at (map (value_of S.number) states.now) target).core.items) (state_at (map (value_of S.number) states.now) target).core.rows }
+    ensures alone { result ≡ true → (j : ℕ) → j < target → (state_at (map (value_of S.number) states.now) j).core.items ≡ (state_at (map (value_of S.number) states.now) target).core.items → ⊥ }
+{
+    let core = &states[target].core;
+    if !are_held(grm, was, rows, opening, core) {
+        return false;
+    }
+    let first = core.items[0].pidx.0.to_usize();
+    is_first(states, begins[first].as_slice(), target)
+}
+
+/// Places the goto set of an edge's symbol: the edge stays where it is, or leads to the state that the set joins or becomes.
+fn retake_edge<S: IndexStorage>(
+    alloc: Global,
+    grm: &NumberedGrammar<S>,
+    states: &mut Vec<State<S>>,
+    begins: &mut Vec<Vec<usize>>,
+    cursor: &mut usize,
+    from: usize,
+    near: usize,
+    edge: EdgeTo<S>,
+    was: &Retaken<S>,
+    rows: &Rows<'_>,
+    opening: &Opening,
+) -> Result<(), BuildError>
+    requires noted { IsNoted S.number grm.now.grammar was.now rows.now opening.now }
+    requires from { from < length states.old.items }
+    requires states { AreStates grm.now.grammar.tokens (map (value_of S.number) states.old.items) }
+    requires leads { LeadsOn grm.now.grammar (core_noted S.number was.now rows.now) (map (value_of S.number) states.old.items) from (edge_of_pair S.number edge) }
+    requires buckets { AreBuckets (map (value_of S.number) states.old.items) (map (λ l. l.items) begins.old.items) }
+    requires lists { length begins.old.items ≡ length grm.now.grammar.productions }
+    requires few { length states.old.items ≤ S.MAX }
+    requires cursor { cursor.old ≤ length states.old.items }
+    ensures states { OnOk result (AreStates grm.now.grammar.tokens (map (value_of S.number) states.new.items)) }
+    ensures more { OnOk result (length states.old.items ≤ length states.new.items) }
+    ensures buckets { OnOk result (AreBuckets (map (value_of S.number) states.new.items) (map (λ l. l.items) begins.new.items)) }
+    ensures lists { OnOk result (length begins.new.items ≡ length begins.old.items) }
+    ensures few { OnOk result (length states.new.items ≤ S.MAX) }
+    ensures less { OnOk result (cursor.new ≤ cursor.old) }
+    ensures quiet { OnOk result (AreQuiet (map (value_of S.number) states.old.items) cursor.old → AreQuiet (map (value_of S.number) states.new.items) cursor.new) }
+    ensures items { OnOk result ((k : ℕ) → k < length states.old.items → (state_at (map (value_of S.number) states.new.items) k).core.items ≡ (state_at (map (value_of S.number) states.old.items) k).core.items) }
+    ensures edges { OnOk result ((Y : Sym) → same_symbol Y (sym_of S.number edge.symbol) ≡ false → edge_of (map (value_of S.number) states.new.items) from Y ≡ edge_of (map (value_of S.number) states.old.items) from Y) }
+    ensures handled { OnOk result ((before : Building) → core_of before.graph from ≡ map_of (core_noted S.number was.now rows.now) → AreHandled grm.now.grammar before from (rank grm.now.grammar (sym_of S.number edge.symbol)) (map (value_of S.number) states.old.items) → AreHandled grm.now.grammar before from (rank grm.now.grammar (sym_of S.number edge.symbol) + 1) (map (value_of S.number) states.new.items)) }
+    ensures many { IsErrOf result faults.TooManyStates → (before : Building) → IsNextTaken grm.now.grammar before from → core_of before.graph from ≡ map_of (core_noted S.number was.now rows.now) → AreHandled grm.now.grammar before from (rank grm.now.grammar (sym_of S.number edge.symbol)) (map (value_of S.number) states.old.items) → TooManyStand grm.now.grammar S.MAX }
+{
+    grm.start_prod();
+    let target = edge.target;
+    if stays(
+        grm,
+        states.as_slice(),
+        begins.as_slice(),
+        was,
+        rows,
+        opening,
+        target,
+    ) {
+        return Ok(());
+    }
+    let items = states[target].core.items.as_slice();
+    let set = gathered(alloc, grm, was, rows, opening, items)?;
+    place(
+        alloc,
+        states,
+        begins,
+        cursor,
+        from,
+        near,
+        edge.symbol,
+        set.as_slice(),
+        rows,
+    )?;
+    Ok(())
+}
+
+/// Places the goto sets of a state that was taken before, edge by edge.
+pub(crate) fn retake_all<S: IndexStorage>(
+    alloc: Global,
+    grm: &NumberedGrammar<S>,
+    states: &mut Vec<State<S>>,
+    begins: &mut Vec<Vec<usize>>,
+    cursor: &mut usize,
+    from: usize,
+    was: &Retaken<S>,
+    rows: &Rows<'_>,
+    opening: &Opening,
+) -> Result<(), BuildError>
+    requires noted { IsNoted S.number grm.now.grammar was.now rows.now opening.now }
+    requires from { from < length states.old.items }
+    requires states { AreStates grm.now.grammar.tokens (map (value_of S.number) states.old.items) }
+    requires leads { (k : ℕ) (e : Edge) → k < length was.now.edges.items → LeadsOn grm.now.grammar (core_noted S.number was.now rows.now) (map (value_of S.number) states.old.items) from (get_or (edges_of S.number was.now.edges.items) k e) }
+    requires ascends { AscendEdges (edges_of S.number was.now.edges.items) }
+    requires whole { (X : Sym) (p d : ℕ) → edge_in (edges_of S.number was.now.edges.items) X ≡ None → Closure grm.now.grammar (HasItem (map_of (core_noted S.number was.now rows.now))) p d → IsNext grm.now.grammar p d X → ⊥ }
+    requires buckets { AreBuckets (map (value_of S.number) states.old.items) (map (λ l. l.items) begins.old.items) }
+    requires lists { length begins.old.items ≡ length grm.now.grammar.productions }
+    requires few { length states.old.items ≤ S.MAX }
+    requires cursor { cursor.old ≤ length states.old.items }
+    ensures buckets { OnOk result (AreBuckets (map (value_of S.number) states.new.items) (map (λ l. l.items) begins.new.items)) }
+    ensures lists { OnOk result (length begins.new.items ≡ length begins.old.items) }
+    ensures few { OnOk result (length states.new.items ≤ S.MAX) }
+    ensures less { OnOk result (cursor.new ≤ cursor.old) }
+    ensures quiet { OnOk result (AreQuiet (map (value_of S.number) states.old.items) cursor.old → AreQuiet (map (value_of S.number) states.new.items) cursor.new) }
+    ensures handled { OnOk result ((before : Building) → core_of before.graph from ≡ map_of (core_noted S.number was.now rows.now) → AreHandled grm.now.grammar before from 0 (map (value_of S.number) states.old.items) → AreHandled grm.now.grammar before from (grm.now.grammar.rules + grm.now.grammar.tokens) (map (value_of S.number) states.new.items)) }
+    ensures many { IsErrOf result faults.TooManyStates → (before : Building) → IsNextTaken grm.now.grammar before from → core_of before.graph from ≡ map_of (core_noted S.number was.now rows.now) → AreHandled grm.now.grammar before from 0 (map (value_of S.number) states.old.items) → TooManyStand grm.now.grammar S.MAX }
+{
+    'edges: for near in 0..was.edges.len() {
+        let edge = was.edges[near];
+        retake_edge(
+            alloc, grm, states, begins, cursor, from, near, edge, was, rows, opening,
+        )?;
+    }
+    Ok(())
+}
+
+/// Writes hints for the items of a core.
+fn hint_all<S: IndexStorage>(hints: &mut Vec<usize>, items: &[CoreItem<S>])
+    requires { (k : ℕ) (d : Item) → k < length items.now → (get_or (items_of S.number items.now) k d).production < length hints.old.items }
+    ensures { length hints.new.items ≡ length hints.old.items }
+{
+    'items: for k in 0..items.len() {
+        let slot = &mut hints[items[k].pidx.0.to_usize()];
+        *slot = k;
+    }
+}
+
+/// Writes values over others.
+fn copy_all<T: Copy>(from: &[T], to: &mut Vec<T>) -> Result<(), AllocError>
+    ensures { OnOk result (to.new.items ≡ from.now) }
+{
+    to.clear();
+    'each: for k in 0..from.len() {
+        to.push(from[k])?;
+    }
+    Ok(())
+}
+
+impl<S: IndexStorage> Retaken<S> {
+    /// Without items and edges.
+    pub(crate) fn empty(alloc: Global, grm: &NumberedGrammar<S>) -> Result<Retaken<S>, AllocError>
+        ensures { IfOk result (λ w. length w.hints.items ≡ length grm.now.grammar.productions) }
+    {
+        Ok(Retaken {
+            items: Vec::new(alloc),
+            edges: Vec::new(alloc),
+            hints: vec![in alloc; 0; grm.prods_len().0.to_usize()]?,
+        })
+    }
+
+    /// Notes a state as it stands.
+    pub(crate) fn note(&mut self, state: &State<S>) -> Result<(), AllocError>
+        requires { (k : ℕ) (d : Item) → k < length (items_of S.number state.now.core.items.items) → (get_or (items_of S.number state.now.core.items.items) k d).production < length self.old.hints.items }
+        ensures items { OnOk result (items_of S.number self.new.items.items ≡ items_of S.number state.now.core.items.items) }
+        ensures edges { OnOk result (edges_of S.number self.new.edges.items ≡ edges_of S.number state.now.edges.items) }
+        ensures hints { OnOk result (length self.new.hints.items ≡ length self.old.hints.items) }
+    {
+        copy_all(state.core.items.as_slice(), &mut self.items)?;
+        copy_all(state.edges.as_slice(), &mut self.edges)?;
+        hint_all(&mut self.hints, state.core.items.as_slice());
+        Ok(())
+    }
+}

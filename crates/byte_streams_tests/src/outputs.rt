@@ -36,7 +36,7 @@ impl Write for Bounded {
 fn a_writer_may_take_few_bytes_a_call(rt: HostRuntime) -> Result<(), Fail> {
     for at_once in [1, 3, 100] {
         let mut out = Counted::new(Bounded {
-            taken: Vec::new(rt.alloc()),
+            taken: Vec::with_capacity(rt.alloc(), 65_536)?,
             room: 1000,
             at_once,
             fails: true,
@@ -54,7 +54,7 @@ fn a_failing_write_leaves_a_beginning(rt: HostRuntime) -> Result<(), Fail> {
     for fails in [false, true] {
         for room in 0..TEXT.len() {
             let mut out = Counted::new(Bounded {
-                taken: Vec::new(rt.alloc()),
+                taken: Vec::with_capacity(rt.alloc(), 65_536)?,
                 room,
                 at_once: 5,
                 fails,
@@ -70,7 +70,7 @@ fn a_failing_write_leaves_a_beginning(rt: HostRuntime) -> Result<(), Fail> {
 #[test]
 fn nothing_is_written_of_an_empty_text(rt: HostRuntime) -> Result<(), Fail> {
     let mut out = Counted::new(Bounded {
-        taken: Vec::new(rt.alloc()),
+        taken: Vec::with_capacity(rt.alloc(), 65_536)?,
         room: 0,
         at_once: 1,
         fails: true,
@@ -84,7 +84,7 @@ fn nothing_is_written_of_an_empty_text(rt: HostRuntime) -> Result<(), Fail> {
 #[test]
 fn a_long_text_goes_out_once_it_is_long(rt: HostRuntime) -> Result<(), Fail> {
     let mut out = Counted::new(Bounded {
-        taken: Vec::new(rt.alloc()),
+        taken: Vec::with_capacity(rt.alloc(), 65_536)?,
         room: 65_536,
         at_once: 1000,
         fails: true,

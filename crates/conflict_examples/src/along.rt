@@ -2,9 +2,9 @@
 //! it still needs the token behind it.
 
 use crate::reading::has_production;
-use crate::source::{Outer, Source};
+use crate::source::Source;
 use cfg_base::index::IndexStorage;
-use cfg_base::symbol::{PIdx, SIdx};
+use cfg_base::symbol::{PIdx, SIdx, Symbol};
 use lrtable::stidx::StIdx;
 use std::alloc::{AllocError, Global};
 use std::collections::BTreeSet;
@@ -20,83 +20,141 @@ struct Link<S> {
     within: usize,
 }
 
-/// The links so far, in their order, and their places with their rules.
+/// The links so far, in their order; at each place what tells the first one there, and what tells the others; and the one that
+/// is that of the start and needs nothing that it hasn't, if it is there.
 #[derive(Drop)]
 struct Links<S> {
     list: Vec<Link<S>>,
-    seen: BTreeSet<(usize, usize, bool)>,
+    firsts: Vec<Option<usize>>,
+    others: BTreeSet<(usize, usize)>,
+    done: Option<usize>,
+}
+
+/// Whether a link is that of the start, and needs nothing that it hasn't.
+fn is_done<'a, S: IndexStorage>(source: &Source<'a, S>, link: &Link<S>) -> bool {
+    if link.place != 0 || !source.is_start(link.pidx) {
+        return false;
+    }
+    !link.needs || source.is_end()
+}
+
+/// Whether the token is still needed around an item of the state, behind whose rule it is needed; None where it can't stand
+/// there.
+fn needs_more<'a, S: IndexStorage>(
+    source: &Source<'a, S>,
+    stidx: StIdx<S>,
+    pidx: PIdx<S>,
+    dot: SIdx<S>,
+) -> Option<bool> {
+    let rest = source.rest_start(pidx, dot);
+    if rest.has {
+        return Some(false);
+    }
+    if rest.vanishes && source.has_look(stidx, pidx, dot) {
+        return Some(true);
+    }
+    None
+}
+
+/// The link around another one that an item of the state before its rule gives.
+fn around<'a, S: IndexStorage>(
+    source: &Source<'a, S>,
+    link: &Link<S>,
+    within: usize,
+    stidx: StIdx<S>,
+    item: (PIdx<S>, SIdx<S>),
+) -> Option<Link<S>> {
+    let (pidx, dot) = item;
+    let place = link.place.checked_sub(dot.0.to_usize())?;
+    let needs = if link.needs {
+        needs_more(source, stidx, pidx, dot)?
+    } else {
+        false
+    };
+    Some(Link {
+        pidx,
+        dot,
+        place,
+        needs,
+        within,
+    })
 }
 
 impl<S: IndexStorage> Links<S> {
+    /// Whether there is no link of the number at the place yet, which there is from here on.
+    fn takes(&mut self, place: usize, number: usize) -> Result<bool, AllocError> {
+        if place >= self.firsts.len() {
+            return Ok(false);
+        }
+        let Some(first) = self.firsts[place] else {
+            self.firsts[place] = Some(number);
+            return Ok(true);
+        };
+        if first == number {
+            return Ok(false);
+        }
+        let added = self.others.insert((place, number))?;
+        Ok(added)
+    }
+
     /// Puts a link to the end, if there was none such.
     fn put<'a>(&mut self, source: &Source<'a, S>, link: Link<S>) -> Result<(), AllocError> {
         if !has_production(source.grm, link.pidx) {
             return Ok(());
         }
         let rule = source.grm.prod_to_rule(link.pidx).0.to_usize();
-        let key = (link.place, rule, link.needs);
-        if self.seen.contains(&key) {
+        let number = rule
+            .saturating_mul(2)
+            .saturating_add(usize::from(link.needs));
+        if !self.takes(link.place, number)? {
             return Ok(());
         }
-        self.seen.insert(key)?;
+        if self.done.is_none() && is_done(source, &link) {
+            self.done = Some(self.list.len());
+        }
         self.list.push(link)?;
         Ok(())
     }
 
-    /// Puts the items of the state before whose rule a link stands.
-    fn go_out<'a>(
+    /// Puts the links that items of the state before the rule of one give.
+    fn put_around<'a>(
         &mut self,
-        alloc: Global,
         source: &Source<'a, S>,
-        states: &[StIdx<S>],
-        index: usize,
+        within: usize,
+        stidx: StIdx<S>,
+        outer: &[(PIdx<S>, SIdx<S>)],
     ) -> Result<(), AllocError> {
-        if index >= self.list.len() {
+        if within >= self.list.len() {
             return Ok(());
         }
-        let Link {
-            pidx,
-            dot: _,
-            place,
-            needs,
-            within: _,
-        } = self.list[index];
-        if place >= states.len() {
-            return Ok(());
-        }
-        if !has_production(source.grm, pidx) {
-            return Ok(());
-        }
-        let rule = source.grm.prod_to_rule(pidx);
-        let outer = source.outer(alloc, states[place], rule)?;
+        let link = self.list[within];
         'outer: for k in 0..outer.len() {
-            let Outer { pidx, dot, rest } = outer[k];
-            let stands = !needs || rest.has || rest.vanishes;
-            let length = dot.0.to_usize();
-            if length <= place && stands {
-                let around = Link {
-                    pidx,
-                    dot,
-                    place: place - length,
-                    needs: needs && !rest.has,
-                    within: index,
-                };
-                self.put(source, around)?;
+            if let Some(next) = around(source, &link, within, stidx, outer[k]) {
+                self.put(source, next)?;
             }
         }
         Ok(())
     }
 
-    /// Whether a link is that of the start, and needs nothing that it hasn't.
-    fn is_done<'a>(&self, source: &Source<'a, S>, index: usize) -> bool {
+    /// Puts the items of the state before whose rule a link stands. The list serves for these.
+    fn go_out<'a>(
+        &mut self,
+        source: &Source<'a, S>,
+        states: &[StIdx<S>],
+        index: usize,
+        outer: &mut Vec<(PIdx<S>, SIdx<S>)>,
+    ) -> Result<(), AllocError> {
         if index >= self.list.len() {
-            return false;
+            return Ok(());
         }
         let link = self.list[index];
-        if link.place != 0 || !source.is_start(link.pidx) {
-            return false;
+        if link.place >= states.len() || !has_production(source.grm, link.pidx) {
+            return Ok(());
         }
-        !link.needs || source.is_end()
+        let stidx = states[link.place];
+        let rule = source.grm.prod_to_rule(link.pidx);
+        source.items_before(stidx, Symbol::Rule(rule), outer)?;
+        self.put_around(source, index, stidx, outer.as_slice())
     }
 
     /// The items from a link in.
@@ -104,11 +162,12 @@ impl<S: IndexStorage> Links<S> {
         let mut items = Vec::new(alloc);
         let mut at = index;
         'links: for _ in 0..self.list.len() {
-            if at < self.list.len() {
-                let link = self.list[at];
-                items.push((link.pidx, link.dot))?;
-                at = link.within;
+            if at >= self.list.len() {
+                return Ok(items);
             }
+            let link = self.list[at];
+            items.push((link.pidx, link.dot))?;
+            at = link.within;
         }
         Ok(items)
     }
@@ -128,28 +187,36 @@ pub(crate) fn items_along<'a, S: IndexStorage>(
     if length >= states.len() {
         return Ok(None);
     }
+    let mut firsts = Vec::new(alloc);
+    firsts.resize(states.len(), None)?;
     let mut links = Links {
         list: Vec::new(alloc),
-        seen: BTreeSet::new(alloc),
+        firsts,
+        others: BTreeSet::new(alloc),
+        done: None,
     };
+    let mut outer = Vec::new(alloc);
     let place = states.len() - 1 - length;
-    let innermost = Link {
-        pidx,
-        dot,
-        place,
-        needs,
-        within: usize::MAX,
-    };
-    links.put(source, innermost)?;
+    let within = usize::MAX;
+    links.put(
+        source,
+        Link {
+            pidx,
+            dot,
+            place,
+            needs,
+            within,
+        },
+    )?;
     'links: for index in 0..usize::MAX {
+        if let Some(found) = links.done {
+            let items = links.items(alloc, found)?;
+            return Ok(Some(items));
+        }
         if index >= links.list.len() {
             return Ok(None);
         }
-        if links.is_done(source, index) {
-            let items = links.items(alloc, index)?;
-            return Ok(Some(items));
-        }
-        links.go_out(alloc, source, states, index)?;
+        links.go_out(source, states, index, &mut outer)?;
     }
     Ok(None)
 }

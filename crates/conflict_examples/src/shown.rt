@@ -178,7 +178,7 @@ pub(crate) fn shown_reduce<S: IndexStorage>(
 }
 
 /// Whether two symbols are one.
-fn same_symbol<S: IndexStorage>(a: Symbol<S>, b: Symbol<S>) -> bool
+pub(crate) fn same_symbol<S: IndexStorage>(a: Symbol<S>, b: Symbol<S>) -> bool
     ensures { IsTrue result → sym_of S.number a ≡ sym_of S.number b }
 {
     match (a, b) {

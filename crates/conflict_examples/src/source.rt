@@ -1,12 +1,18 @@
 //! What a search for one token reads.
 
+ghost use Rattle.std.specs.Prelude.{◌<◌, length, IsTrue, IfSome};
+
+use crate::reading::{has_production, symbol_after, symbols_before};
+use crate::shown::same_symbol;
 use crate::tables::{Start, Tables};
 use cfg_base::index::IndexStorage;
-use cfg_base::symbol::{PIdx, RIdx, SIdx, Symbol, TIdx};
+use cfg_base::symbol::{PIdx, SIdx, Symbol, TIdx};
 use cfg_numbered::yacc::NumberedGrammar;
+use lrtable::Itemset;
 use lrtable::stategraph::StateGraph;
 use lrtable::stidx::StIdx;
-use std::alloc::{AllocError, Global};
+use std::alloc::AllocError;
+use std::cmp::Ordering;
 
 /// The grammar, its graph, and the token.
 #[derive(Drop)]
@@ -17,12 +23,56 @@ pub(crate) struct Source<'a, S: IndexStorage> {
     pub token: TIdx<S>,
 }
 
-/// An item before whose rule others stand, and how what follows the rule begins.
-#[derive(Clone, Copy)]
-pub(crate) struct Outer<S> {
-    pub pidx: PIdx<S>,
-    pub dot: SIdx<S>,
-    pub rest: Start,
+/// The index of an item in a set, if it is there, by halving.
+fn index_of<S: IndexStorage>(set: &Itemset<S>, pidx: PIdx<S>, dot: SIdx<S>) -> Option<usize>
+    ensures { IfSome result (λ n. n < length set.now) }
+{
+    let wanted = (pidx.0.to_usize(), dot.0.to_usize());
+    let mut low = 0;
+    let mut high = set.len();
+    'halves: while low < high {
+        let middle = low + (high - low) / 2;
+        let (pidx, dot) = set.item_at(middle);
+        match (pidx.0.to_usize(), dot.0.to_usize()).cmp(&wanted) {
+            Ordering::Equal => return Some(middle),
+            Ordering::Less => low = middle + 1,
+            Ordering::Greater => high = middle,
+        }
+    }
+    None
+}
+
+/// Lists which of the places are items of the set.
+fn list_places<S: IndexStorage>(
+    set: &Itemset<S>,
+    places: &[(PIdx<S>, SIdx<S>)],
+    found: &mut Vec<(PIdx<S>, SIdx<S>)>,
+) -> Result<(), AllocError> {
+    'places: for index in 0..places.len() {
+        let (pidx, dot) = places[index];
+        if index_of(set, pidx, dot).is_some() {
+            found.push((pidx, dot))?;
+        }
+    }
+    Ok(())
+}
+
+/// Lists the items of the set with the symbol after their dot.
+fn list_items<S: IndexStorage>(
+    grm: &NumberedGrammar<S>,
+    set: &Itemset<S>,
+    symbol: Symbol<S>,
+    found: &mut Vec<(PIdx<S>, SIdx<S>)>,
+) -> Result<(), AllocError> {
+    'items: for index in 0..set.len() {
+        let (pidx, dot) = set.item_at(index);
+        if let Some(after) = symbol_after(grm, pidx, dot) {
+            if same_symbol(after, symbol) {
+                found.push((pidx, dot))?;
+            }
+        }
+    }
+    Ok(())
 }
 
 impl<'a, S: IndexStorage> Source<'a, S> {
@@ -31,57 +81,56 @@ impl<'a, S: IndexStorage> Source<'a, S> {
         if !self.graph.has_state(stidx) {
             return false;
         }
-        match self.graph.closed_state(stidx).get(pidx, dot) {
-            Some(looks) => looks.get(self.token.0.to_usize()).unwrap_or(false),
-            None => false,
-        }
-    }
-
-    /// Whether the state, closed, has the item.
-    fn has_item(&self, stidx: StIdx<S>, pidx: PIdx<S>, dot: SIdx<S>) -> bool {
-        if !self.graph.has_state(stidx) {
+        let set = self.graph.closed_state(stidx);
+        let Some(index) = index_of(set, pidx, dot) else {
             return false;
-        }
-        self.graph.closed_state(stidx).get(pidx, dot).is_some()
+        };
+        let looks = set.looks_at(index);
+        looks.get(self.token.0.to_usize()).unwrap_or(false)
     }
 
-    /// The items of the state with the symbol after their dot.
+    /// The items of the state with the symbol after their dot, in place of what the list holds. Of the state's items and the
+    /// places of the symbol those are gone through that are fewer.
     pub(crate) fn items_before(
         &self,
-        alloc: Global,
         stidx: StIdx<S>,
         symbol: Symbol<S>,
-    ) -> Result<Vec<(PIdx<S>, SIdx<S>)>, AllocError> {
-        let mut found = Vec::new(alloc);
-        let Some(places) = self.tables.places.of(symbol) else {
-            return Ok(found);
-        };
-        'places: for index in 0..places.len() {
-            let (pidx, dot) = places[index];
-            if self.has_item(stidx, pidx, dot) {
-                found.push((pidx, dot))?;
-            }
+        found: &mut Vec<(PIdx<S>, SIdx<S>)>,
+    ) -> Result<(), AllocError> {
+        found.clear();
+        if !self.graph.has_state(stidx) {
+            return Ok(());
         }
-        Ok(found)
+        let set = self.graph.closed_state(stidx);
+        let Some(places) = self.tables.places.of(symbol) else {
+            return Ok(());
+        };
+        if places.len() <= set.len() / 4 {
+            list_places(set, places, found)
+        } else {
+            list_items(self.grm, set, symbol, found)
+        }
     }
 
-    /// The items of the state before whose rule those of the rule stand.
-    pub(crate) fn outer(
-        &self,
-        alloc: Global,
-        stidx: StIdx<S>,
-        ridx: RIdx<S>,
-    ) -> Result<Vec<Outer<S>>, AllocError> {
-        let mut outer = Vec::new(alloc);
-        let items = self.items_before(alloc, stidx, Symbol::Rule(ridx))?;
-        'items: for index in 0..items.len() {
-            let (pidx, dot) = items[index];
-            let rest = self
-                .tables
-                .rest_start(self.grm, pidx, dot.0.to_usize(), self.token);
-            outer.push(Outer { pidx, dot, rest })?;
+    /// How what stands behind the rule after the dot begins.
+    pub(crate) fn rest_start(&self, pidx: PIdx<S>, dot: SIdx<S>) -> Start {
+        self.tables
+            .rest_start(self.grm, pidx, dot.0.to_usize(), self.token)
+    }
+
+    /// Whether the production is there, and all symbols before the dot vanish.
+    pub(crate) fn may_begin_at(&self, pidx: PIdx<S>, dot: SIdx<S>) -> bool
+        ensures { IsTrue result → S.number pidx.0 < length self.now.grm.now.grammar.productions }
+    {
+        if !has_production(self.grm, pidx) {
+            return false;
         }
-        Ok(outer)
+        let body = self.grm.prod(pidx);
+        let index = dot.0.to_usize();
+        if index > body.len() {
+            return false;
+        }
+        self.tables.all_vanish(symbols_before(body, index))
     }
 
     /// Whether the token is the end token.

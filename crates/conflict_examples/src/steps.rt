@@ -11,10 +11,9 @@ use std::alloc::{AllocError, Global};
 /// chain in which each is twice the next, they would have as many as doublings make.
 pub(crate) const MOST_SYMBOLS: usize = 262_144;
 
-/// For each rule that begins with the token, a production by which it comes nearer to that, and how many are needed.
+/// How many productions each rule needs to begin with the token; `usize::MAX` where it doesn't, or needs more than was asked.
 #[derive(Drop)]
-struct Ways<S> {
-    by: Vec<Option<PIdx<S>>>,
+struct Ways {
     ranks: Vec<usize>,
 }
 
@@ -26,9 +25,9 @@ struct Origin {
     rank: usize,
 }
 
-impl<S: IndexStorage> Ways<S> {
+impl Ways {
     /// How many productions a symbol needs to begin with the token; `usize::MAX` where it doesn't.
-    fn rank<'a>(&self, source: &Source<'a, S>, symbol: Symbol<S>) -> usize {
+    fn rank<'a, S: IndexStorage>(&self, source: &Source<'a, S>, symbol: Symbol<S>) -> usize {
         match symbol {
             Symbol::Rule(ridx) => self.rank_of(ridx),
             Symbol::Token(tidx) => {
@@ -41,7 +40,7 @@ impl<S: IndexStorage> Ways<S> {
         }
     }
 
-    fn rank_of(&self, ridx: RIdx<S>) -> usize {
+    fn rank_of<S: IndexStorage>(&self, ridx: RIdx<S>) -> usize {
         let number = ridx.0.to_usize();
         if number >= self.ranks.len() {
             return usize::MAX;
@@ -49,16 +48,27 @@ impl<S: IndexStorage> Ways<S> {
         self.ranks[number]
     }
 
-    fn way(&self, ridx: RIdx<S>) -> Option<PIdx<S>> {
-        let number = ridx.0.to_usize();
-        if number >= self.by.len() {
+    /// The first production by which the rule comes nearer to the token.
+    fn way<'a, S: IndexStorage>(&self, source: &Source<'a, S>, ridx: RIdx<S>) -> Option<PIdx<S>> {
+        if !source.grm.has_rule(ridx) {
             return None;
         }
-        self.by[number]
+        let rank = self.rank_of(ridx);
+        let prods = source.grm.rule_to_prods(ridx);
+        'prods: for k in 0..prods.len() {
+            let pidx = prods[k];
+            if has_production(source.grm, pidx) {
+                let origin = self.origin(source, source.grm.prod(pidx));
+                if origin.rank < rank {
+                    return Some(pidx);
+                }
+            }
+        }
+        None
     }
 
     /// The origin of the least rank.
-    fn origin<'a>(&self, source: &Source<'a, S>, symbols: &[Symbol<S>]) -> Origin {
+    fn origin<'a, S: IndexStorage>(&self, source: &Source<'a, S>, symbols: &[Symbol<S>]) -> Origin {
         let mut best = Origin {
             index: 0,
             rank: usize::MAX,
@@ -79,49 +89,76 @@ impl<S: IndexStorage> Ways<S> {
         best
     }
 
-    /// Notes a production by which its rule comes to the token with so many productions.
-    fn note(&mut self, ridx: RIdx<S>, pidx: PIdx<S>, rank: usize) -> bool {
+    /// Notes that a rule needs so many productions, where it doesn't need fewer, and tells whether that is new.
+    fn note<S: IndexStorage>(&mut self, ridx: RIdx<S>, rank: usize) -> bool {
         let number = ridx.0.to_usize();
-        if number >= self.ranks.len() || number >= self.by.len() {
+        if number >= self.ranks.len() {
             return false;
         }
         if self.ranks[number] <= rank {
             return false;
         }
         self.ranks[number] = rank;
-        self.by[number] = Some(pidx);
         true
     }
 
-    /// Goes through the productions, and tells whether a rule was found to need so many.
-    fn more<'a>(&mut self, source: &Source<'a, S>, rank: usize) -> bool {
-        let mut changed = false;
-        'prods: for number in 0..source.grm.prods_len().0.to_usize() {
-            let pidx = source.grm.prod_at(number);
-            let origin = self.origin(source, source.grm.prod(pidx));
-            if origin.rank < rank {
-                changed |= self.note(source.grm.prod_to_rule(pidx), pidx, rank);
+    /// Notes the rules of the productions that may begin with a symbol, and adds the new ones to a list.
+    fn go_up<'a, S: IndexStorage>(
+        &mut self,
+        source: &Source<'a, S>,
+        symbol: Symbol<S>,
+        rank: usize,
+        found: &mut Vec<Symbol<S>>,
+    ) -> Result<(), AllocError> {
+        let Some(places) = source.tables.places.of(symbol) else {
+            return Ok(());
+        };
+        'places: for k in 0..places.len() {
+            let (pidx, dot) = places[k];
+            if source.may_begin_at(pidx, dot) {
+                let ridx = source.grm.prod_to_rule(pidx);
+                if self.note(ridx, rank) {
+                    found.push(Symbol::Rule(ridx))?;
+                }
             }
         }
-        changed
+        Ok(())
+    }
+
+    /// The rules that need one production more than these symbols, all of which need as many.
+    fn next<'a, S: IndexStorage>(
+        &mut self,
+        alloc: Global,
+        source: &Source<'a, S>,
+        symbols: &[Symbol<S>],
+        rank: usize,
+    ) -> Result<Vec<Symbol<S>>, AllocError> {
+        let mut found = Vec::new(alloc);
+        'symbols: for k in 0..symbols.len() {
+            self.go_up(source, symbols[k], rank, &mut found)?;
+        }
+        Ok(found)
     }
 }
 
-/// The ways of all rules.
-fn ways_of<'a, S: IndexStorage>(
+/// The ways of all rules that need no more productions than the form.
+fn ways_for<'a, S: IndexStorage>(
     alloc: Global,
     source: &Source<'a, S>,
-) -> Result<Ways<S>, AllocError> {
+    form: &[Symbol<S>],
+) -> Result<Ways, AllocError> {
     let rules = source.grm.rules_len().0.to_usize();
-    let mut by = Vec::new(alloc);
-    by.resize(rules, None)?;
     let mut ranks = Vec::new(alloc);
     ranks.resize(rules, usize::MAX)?;
-    let mut ways = Ways { by, ranks };
-    'passes: for rank in 0..rules {
-        if !ways.more(source, rank + 1) {
+    let mut ways = Ways { ranks };
+    let mut nearest = Vec::new(alloc);
+    nearest.push(Symbol::Token(source.token))?;
+    'ranks: for rank in 0..rules {
+        let origin = ways.origin(source, form);
+        if origin.rank <= rank || nearest.is_empty() {
             return Ok(ways);
         }
+        nearest = ways.next(alloc, source, nearest.as_slice(), rank + 1)?;
     }
     Ok(ways)
 }
@@ -162,7 +199,7 @@ fn push_rest<S: IndexStorage>(
 /// The production that is to be put in the place of the first symbol, if one is.
 fn next_step<'a, S: IndexStorage>(
     source: &Source<'a, S>,
-    ways: &Ways<S>,
+    ways: &Ways,
     form: &[Symbol<S>],
 ) -> Option<PIdx<S>> {
     if form.is_empty() {
@@ -172,7 +209,7 @@ fn next_step<'a, S: IndexStorage>(
     match form[0] {
         Symbol::Rule(ridx) => {
             if origin.index == 0 && origin.rank < usize::MAX {
-                ways.way(ridx)
+                ways.way(source, ridx)
             } else {
                 source.tables.vanishing(ridx)
             }
@@ -221,7 +258,7 @@ pub(crate) fn steps_behind<'a, S: IndexStorage>(
     if !begins_with_rule(form.as_slice()) {
         return Ok(steps);
     }
-    let ways = ways_of(alloc, source)?;
+    let ways = ways_for(alloc, source, form.as_slice())?;
     let mut left = MOST_SYMBOLS;
     'steps: for _ in 0..usize::MAX {
         let Some(pidx) = next_step(source, &ways, form.as_slice()) else {

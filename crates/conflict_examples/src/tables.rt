@@ -1,7 +1,7 @@
 //! What the searches for all conflicts of a graph share. What it tells need not be right: an example is checked.
 
 use crate::places::Places;
-use crate::reading::has_production;
+use crate::reading::{has_production, symbols_behind};
 use cfg_base::index::IndexStorage;
 use cfg_base::symbol::{PIdx, RIdx, Symbol, TIdx};
 use cfg_numbered::yacc::NumberedGrammar;
@@ -11,21 +11,15 @@ use std::alloc::{AllocError, Global};
 use vob::Vob;
 
 /// For each rule the tokens that it begins with and a production by which it vanishes, if there is one; for each symbol where
-/// it stands; for each state the edges that lead to it, and the last edge of a shortest string that does.
+/// it stands; for each state those from which an edge leads to it, and the last but one of those that a shortest string to it
+/// goes through.
 #[derive(Drop)]
 pub(crate) struct Tables<S> {
     pub places: Places<S>,
     firsts: Vec<Vob>,
     vanishing: Vec<Option<PIdx<S>>>,
-    back: Vec<Vec<EdgeBack<S>>>,
-    last_edges: Vec<Option<EdgeBack<S>>>,
-}
-
-/// An edge back: the state that it comes from, and its symbol.
-#[derive(Clone, Copy)]
-pub(crate) struct EdgeBack<S> {
-    pub from: StIdx<S>,
-    pub symbol: Symbol<S>,
+    back: Vec<Vec<StIdx<S>>>,
+    before: Vec<Option<StIdx<S>>>,
 }
 
 /// How a list goes on: whether the token begins it, and whether it may be empty.
@@ -118,31 +112,31 @@ pub(crate) fn vanishing_by<S: IndexStorage>(
     Ok(vanishing)
 }
 
-/// Lists the edges of a state with the states that they lead to.
+/// Lists a state with those that its edges lead to.
 fn list_back<S: IndexStorage>(
     graph: &StateGraph<S>,
     from: StIdx<S>,
-    back: &mut Vec<Vec<EdgeBack<S>>>,
+    back: &mut Vec<Vec<StIdx<S>>>,
 ) -> Result<(), AllocError> {
     if !graph.has_state(from) {
         return Ok(());
     }
     let edges = graph.edges(from);
     'edges: for k in 0..edges.len() {
-        let (symbol, target) = edges[k];
+        let (_, target) = edges[k];
         let target = target.0.to_usize();
         if target < back.len() {
-            back[target].push(EdgeBack { from, symbol })?;
+            back[target].push(from)?;
         }
     }
     Ok(())
 }
 
-/// For each state the edges that lead to it.
-fn edges_back<S: IndexStorage>(
+/// For each state those from which an edge leads to it.
+fn states_back<S: IndexStorage>(
     alloc: Global,
     graph: &StateGraph<S>,
-) -> Result<Vec<Vec<EdgeBack<S>>>, AllocError> {
+) -> Result<Vec<Vec<StIdx<S>>>, AllocError> {
     let states = graph.all_states_len().0.to_usize();
     let mut back = Vec::new(alloc);
     'lists: for _ in 0..states {
@@ -154,11 +148,11 @@ fn edges_back<S: IndexStorage>(
     Ok(back)
 }
 
-/// Notes the edges of a state that lead to states not met before, which wait in their turn.
+/// Notes a state with those not met before that its edges lead to, which wait in their turn.
 fn go_on<S: IndexStorage>(
     graph: &StateGraph<S>,
     from: StIdx<S>,
-    last_edges: &mut [Option<EdgeBack<S>>],
+    before: &mut [Option<StIdx<S>>],
     waiting: &mut Vec<StIdx<S>>,
 ) -> Result<(), AllocError> {
     if !graph.has_state(from) {
@@ -166,31 +160,31 @@ fn go_on<S: IndexStorage>(
     }
     let edges = graph.edges(from);
     'edges: for k in 0..edges.len() {
-        let (symbol, target) = edges[k];
-        if put_first(last_edges, target.0.to_usize(), EdgeBack { from, symbol }) {
+        let (_, target) = edges[k];
+        if put_first(before, target.0.to_usize(), from) {
             waiting.push(target)?;
         }
     }
     Ok(())
 }
 
-/// For each state the last edge of a shortest string that leads to it. The start state may have one too.
+/// For each state the last but one of those that a shortest string to it goes through. The start state may have one too.
 fn shortest<S: IndexStorage>(
     alloc: Global,
     graph: &StateGraph<S>,
-) -> Result<Vec<Option<EdgeBack<S>>>, AllocError> {
+) -> Result<Vec<Option<StIdx<S>>>, AllocError> {
     let states = graph.all_states_len().0.to_usize();
-    let mut last_edges = Vec::new(alloc);
-    last_edges.resize(states, None)?;
+    let mut before = Vec::new(alloc);
+    before.resize(states, None)?;
     let mut waiting = Vec::new(alloc);
     waiting.push(graph.start_state())?;
     'states: for index in 0..states {
         if index < waiting.len() {
             let from = waiting[index];
-            go_on(graph, from, last_edges.as_mut_slice(), &mut waiting)?;
+            go_on(graph, from, before.as_mut_slice(), &mut waiting)?;
         }
     }
-    Ok(last_edges)
+    Ok(before)
 }
 
 impl<S: IndexStorage> Tables<S> {
@@ -204,8 +198,8 @@ impl<S: IndexStorage> Tables<S> {
             places: Places::new(alloc, grm)?,
             firsts: first_sets(alloc, grm)?,
             vanishing: vanishing_by(alloc, grm)?,
-            back: edges_back(alloc, graph)?,
-            last_edges: shortest(alloc, graph)?,
+            back: states_back(alloc, graph)?,
+            before: shortest(alloc, graph)?,
         })
     }
 
@@ -252,19 +246,20 @@ impl<S: IndexStorage> Tables<S> {
         if !has_production(grm, pidx) {
             return rest;
         }
-        let symbols = grm.prod(pidx);
+        let symbols = symbols_behind(grm.prod(pidx), dot);
         'symbols: for k in 0..symbols.len() {
-            if k > dot && rest.vanishes {
-                let start = self.symbol_start(symbols[k], token);
-                rest.has |= start.has;
-                rest.vanishes = start.vanishes;
+            let start = self.symbol_start(symbols[k], token);
+            rest.has |= start.has;
+            rest.vanishes = start.vanishes;
+            if !rest.vanishes {
+                return rest;
             }
         }
         rest
     }
 
-    /// The edges that lead to a state.
-    pub(crate) fn back(&self, stidx: StIdx<S>) -> Option<&[EdgeBack<S>]> {
+    /// The states from which an edge leads to a state.
+    pub(crate) fn back(&self, stidx: StIdx<S>) -> Option<&[StIdx<S>]> {
         let number = stidx.0.to_usize();
         if number >= self.back.len() {
             return None;
@@ -272,8 +267,13 @@ impl<S: IndexStorage> Tables<S> {
         Some(self.back[number].as_slice())
     }
 
-    /// The last edge of a shortest string that leads to the state.
-    pub(crate) fn last_edge(&self, stidx: StIdx<S>) -> Option<EdgeBack<S>> {
-        entry(self.last_edges.as_slice(), stidx.0.to_usize())
+    /// The last but one of the states that a shortest string to the state goes through.
+    pub(crate) fn before(&self, stidx: StIdx<S>) -> Option<StIdx<S>> {
+        entry(self.before.as_slice(), stidx.0.to_usize())
+    }
+
+    /// Whether all symbols are rules that vanish.
+    pub(crate) fn all_vanish(&self, symbols: &[Symbol<S>]) -> bool {
+        all_vanish(self.vanishing.as_slice(), symbols)
     }
 }

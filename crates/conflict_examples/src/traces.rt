@@ -5,31 +5,11 @@ use crate::reading::has_production;
 use crate::shown::Trace;
 use crate::source::Source;
 use crate::steps::steps_behind;
-use crate::strings::string_to;
+use crate::strings::states_to;
 use cfg_base::index::IndexStorage;
 use cfg_base::symbol::{PIdx, SIdx, Symbol};
-use lrtable::stategraph::StateGraph;
 use lrtable::stidx::StIdx;
 use std::alloc::{AllocError, Global};
-
-/// The states that a string goes through, the start state first.
-fn states_along<S: IndexStorage>(
-    alloc: Global,
-    graph: &StateGraph<S>,
-    symbols: &[Symbol<S>],
-) -> Result<Vec<StIdx<S>>, AllocError> {
-    let mut states = Vec::new(alloc);
-    let mut at = graph.start_state();
-    states.push(at)?;
-    'symbols: for k in 0..symbols.len() {
-        let Some(next) = graph.edge(at, symbols[k]) else {
-            return Ok(states);
-        };
-        states.push(next)?;
-        at = next;
-    }
-    Ok(states)
-}
 
 /// The production with its dot at the end.
 fn complete<'a, S: IndexStorage>(
@@ -64,7 +44,8 @@ fn shift_trace<'a, S: IndexStorage>(
     states: &[StIdx<S>],
     stidx: StIdx<S>,
 ) -> Result<Option<Trace<S>>, AllocError> {
-    let before = source.items_before(alloc, stidx, Symbol::Token(source.token))?;
+    let mut before = Vec::new(alloc);
+    source.items_before(stidx, Symbol::Token(source.token), &mut before)?;
     'items: for k in 0..before.len() {
         let (pidx, dot) = before[k];
         let items = items_along(alloc, source, states, pidx, dot, false)?;
@@ -86,10 +67,9 @@ pub(crate) fn shift_traces<'a, S: IndexStorage>(
     let Some((pidx, dot)) = complete(source, production) else {
         return Ok(None);
     };
-    let Some(symbols) = string_to(alloc, source, stidx, Some((pidx, dot)), None)? else {
+    let Some(states) = states_to(alloc, source, stidx, Some((pidx, dot)), None)? else {
         return Ok(None);
     };
-    let states = states_along(alloc, source.graph, symbols.as_slice())?;
     let Some(first) = shift_trace(alloc, source, states.as_slice(), stidx)? else {
         return Ok(None);
     };
@@ -115,10 +95,9 @@ pub(crate) fn pair_traces<'a, S: IndexStorage>(
     };
     let one = Some((first, dot));
     let other = Some((second, other_dot));
-    let Some(symbols) = string_to(alloc, source, stidx, one, other)? else {
+    let Some(states) = states_to(alloc, source, stidx, one, other)? else {
         return Ok(None);
     };
-    let states = states_along(alloc, source.graph, symbols.as_slice())?;
     let Some(one) = reduce_trace(alloc, source, states.as_slice(), first, dot)? else {
         return Ok(None);
     };

@@ -9,7 +9,7 @@ use std::alloc::{AllocError, Global};
 const TREE: YaccKind = YaccKind::Original(YaccOriginalActionKind::GenericParseTree);
 
 /// The grammar of a text, if it has one.
-fn grammar(alloc: Global, text: &str) -> Result<Option<YaccGrammar<u32>>, AllocError> {
+pub fn grammar(alloc: Global, text: &str) -> Result<Option<YaccGrammar<u32>>, AllocError> {
     match YaccGrammar::new_with_storaget(alloc, TREE, text) {
         Ok(grm) => Ok(Some(grm)),
         Err(YaccGrammarMakeError::Memory(e)) => Err(e),

@@ -2,6 +2,7 @@
 
 use crate::lexer::{PlainLexeme, PlainLexer, PlainTypes, lexer_of};
 use crate::make::data;
+use crate::nodes::push_nodes;
 use lrpar::{FlatTree, ParseError, ParseRefusal, ParserData, RTParserBuilder};
 use std::alloc::{AllocError, Global};
 
@@ -80,6 +81,17 @@ fn push_flat(
     }
 }
 
+/// Tells what the lexemes come to as a flat tree, and as one by rules.
+fn push_trees(
+    alloc: Global,
+    out: &mut String,
+    data: &ParserData<u32>,
+    lexer: &PlainLexer<u32>,
+) -> Result<(), AllocError> {
+    push_flat(alloc, out, data, lexer)?;
+    push_nodes(alloc, out, data, lexer)
+}
+
 /// Tells a line of the first token, and behind it as many of the second.
 fn push_line(
     alloc: Global,
@@ -88,7 +100,7 @@ fn push_line(
     wrong: u32,
 ) -> Result<(), AllocError> {
     let lexer = lexer_of(alloc, (0, LONG), (1, wrong))?;
-    let pushed = push_flat(alloc, out, data, &lexer);
+    let pushed = push_trees(alloc, out, data, &lexer);
     drop(lexer);
     pushed
 }

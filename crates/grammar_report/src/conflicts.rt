@@ -23,7 +23,7 @@ fn push_shift(
     let shown = formatter.format_shift_reduce(alloc, kit.grm(), kit.ast(), entry)?;
     text.push_str(shown.as_str())?;
     let example = finder.shift_reduce(alloc, entry)?;
-    push_shift_example(text, kit.grm(), &example, entry.1)
+    push_shift_example(alloc, text, kit.grm(), &example, entry.1)
 }
 
 fn push_pair(
@@ -43,7 +43,7 @@ fn push_pair(
     let shown = formatter.format_reduce_reduce(alloc, grm, entry)?;
     text.push_str(shown.as_str())?;
     let example = finder.reduce_reduce(alloc, entry)?;
-    push_pair_example(text, grm, &example, entry.1, entry.2)
+    push_pair_example(alloc, text, grm, &example, entry.1, entry.2)
 }
 
 fn push_shifts(

@@ -42,7 +42,7 @@ fn push_example(
     pidx: PIdx<u32>,
 ) -> Result<(), AllocError> {
     let example = accept_reduce(alloc, grm, pidx)?;
-    push_end_example(text, grm, &example, pidx)
+    push_end_example(alloc, text, grm, &example, pidx)
 }
 
 /// Adds an example of the production in the grammar of what is kept of a text.

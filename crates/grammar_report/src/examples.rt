@@ -1,11 +1,9 @@
 //! Examples of conflicts as a person reads them.
 
-use crate::names::{
-    Grammar, push_body, push_indent, push_item, push_prod, push_symbols, push_token, push_word,
-};
+use crate::names::{Grammar, push_body, push_item, push_prod, push_symbols, push_token, push_word};
 use cfg_base::symbol::{PIdx, SIdx, Symbol};
 use conflict_examples::{ActionExample, ConflictExample};
-use std::alloc::AllocError;
+use std::alloc::{AllocError, Global};
 
 /// Adds the string, a dot and the token.
 fn push_string(
@@ -20,18 +18,20 @@ fn push_string(
     text.push('\n')
 }
 
-/// Adds open productions, each below the one that it stands in.
+/// Adds open productions, each below the one that it stands in and two spaces further in.
 fn push_spine(
+    alloc: Global,
     text: &mut String,
     grm: &Grammar,
     spine: &[(PIdx<u32>, SIdx<u32>)],
 ) -> Result<(), AllocError> {
+    let mut front = String::from_str(alloc, "    ")?;
     'items: for index in 0..spine.len() {
         let (pidx, dot) = spine[index];
-        text.push_str("    ")?;
-        push_indent(text, index)?;
+        text.push_str(front.as_str())?;
         push_item(text, grm, pidx, dot)?;
         text.push('\n')?;
+        front.push_str("  ")?;
     }
     Ok(())
 }
@@ -57,26 +57,29 @@ fn push_forms(
 
 /// Adds why an action is right.
 fn push_action(
+    alloc: Global,
     text: &mut String,
     grm: &Grammar,
     action: &ActionExample<u32>,
 ) -> Result<(), AllocError> {
     text.push('\n')?;
-    push_spine(text, grm, action.spine.as_slice())?;
+    push_spine(alloc, text, grm, action.spine.as_slice())?;
     push_forms(text, grm, action.forms.as_slice())
 }
 
 fn push_shift(
+    alloc: Global,
     text: &mut String,
     grm: &Grammar,
     example: &ConflictExample<u32>,
 ) -> Result<(), AllocError> {
     text.push_str("  shift")?;
     push_token(text, grm, example.token)?;
-    push_action(text, grm, &example.first)
+    push_action(alloc, text, grm, &example.first)
 }
 
 fn push_reduction(
+    alloc: Global,
     text: &mut String,
     grm: &Grammar,
     pidx: PIdx<u32>,
@@ -84,7 +87,7 @@ fn push_reduction(
 ) -> Result<(), AllocError> {
     text.push_str("  reduce ")?;
     push_prod(text, grm, pidx)?;
-    push_action(text, grm, action)
+    push_action(alloc, text, grm, action)
 }
 
 fn push_none(text: &mut String) -> Result<(), AllocError> {
@@ -93,6 +96,7 @@ fn push_none(text: &mut String) -> Result<(), AllocError> {
 
 /// Adds the example of a shift against a reduction.
 pub(crate) fn push_shift_example(
+    alloc: Global,
     text: &mut String,
     grm: &Grammar,
     example: &Option<ConflictExample<u32>>,
@@ -102,13 +106,14 @@ pub(crate) fn push_shift_example(
         return push_none(text);
     };
     push_string(text, grm, example)?;
-    push_shift(text, grm, example)?;
-    push_reduction(text, grm, pidx, &example.second)?;
+    push_shift(alloc, text, grm, example)?;
+    push_reduction(alloc, text, grm, pidx, &example.second)?;
     text.push('\n')
 }
 
 /// Adds the example of a pair of reductions.
 pub(crate) fn push_pair_example(
+    alloc: Global,
     text: &mut String,
     grm: &Grammar,
     example: &Option<ConflictExample<u32>>,
@@ -119,13 +124,14 @@ pub(crate) fn push_pair_example(
         return push_none(text);
     };
     push_string(text, grm, example)?;
-    push_reduction(text, grm, first, &example.first)?;
-    push_reduction(text, grm, second, &example.second)?;
+    push_reduction(alloc, text, grm, first, &example.first)?;
+    push_reduction(alloc, text, grm, second, &example.second)?;
     text.push('\n')
 }
 
 /// Adds the example of a production that may be reduced where a text has ended.
 pub(crate) fn push_end_example(
+    alloc: Global,
     text: &mut String,
     grm: &Grammar,
     example: &Option<ConflictExample<u32>>,
@@ -136,7 +142,7 @@ pub(crate) fn push_end_example(
     };
     push_string(text, grm, example)?;
     text.push_str("  accept")?;
-    push_action(text, grm, &example.first)?;
-    push_reduction(text, grm, pidx, &example.second)?;
+    push_action(alloc, text, grm, &example.first)?;
+    push_reduction(alloc, text, grm, pidx, &example.second)?;
     text.push('\n')
 }

@@ -111,14 +111,6 @@ pub(crate) fn push_item(
     push_symbols(text, grm, after)
 }
 
-/// Adds the front of a line: two spaces for each level.
-pub(crate) fn push_indent(text: &mut String, levels: usize) -> Result<(), AllocError> {
-    'levels: for _ in 0..levels {
-        text.push_str("  ")?;
-    }
-    Ok(())
-}
-
 /// Adds a line.
 pub(crate) fn push_line(text: &mut String, line: &str) -> Result<(), AllocError> {
     text.push_str(line)?;

@@ -36,6 +36,14 @@ fn lie_in(text: &str, errors: &[YaccGrammarError]) -> bool {
     !errors.is_empty()
 }
 
+/// Whether the bytes are a text, there are errors, and each lies in it.
+pub fn lie_in_bytes(bytes: &[u8], errors: &[YaccGrammarError]) -> bool {
+    match str::from_utf8(bytes) {
+        Ok(text) => lie_in(text, errors),
+        Err(_) => false,
+    }
+}
+
 /// Whether the text, as one of this kind, has a kit, or a refusal whose offsets lie in it.
 fn is_answered(alloc: Global, text: &str, kind: YaccKind) -> Result<bool, AllocError> {
     match ParserKit::<u32>::new(alloc, text, kind, CAP) {

@@ -2,8 +2,11 @@
 
 use crate::row::{Row, source_of};
 use crate::streams::{Taker, number_in};
-use lrkit::{Counted, RunFault, run, status};
+use lrkit::{Counted, KitError, RunFault, run, status};
 use std::alloc::{AllocError, Global};
+
+/// There is room for so many bytes of output before it grows.
+const ROOM: usize = 131_072;
 
 /// Adds a line behind a mark.
 fn push_line(out: &mut String, mark: &str, line: &str) -> Result<(), AllocError> {
@@ -30,30 +33,34 @@ fn push_written(out: &mut String, written: &str) -> Result<(), AllocError> {
     }
 }
 
-/// Adds the text of a fault, if there is one, and the status.
+/// Adds the text of a fault, if there is one, and the status. Want of memory is handed on.
 fn push_outcome(
     alloc: Global,
     out: &mut String,
     outcome: &Result<bool, RunFault>,
 ) -> Result<(), AllocError> {
-    if let Err(fault) = outcome {
-        let text = fault.to_string(alloc)?;
-        push_lines(out, "! ", text.as_str())?;
+    match outcome {
+        Err(RunFault::Kit(KitError::Memory(e))) => return Err(*e),
+        Err(fault) => {
+            let text = fault.to_string(alloc)?;
+            push_lines(out, "! ", text.as_str())?;
+        }
+        Ok(_) => {}
     }
     let code = status(outcome);
     out.push_str(format!(in alloc; "status {code}\n")?.as_str())
 }
 
 /// What takes the output, as a heading tells.
-fn sink_of(alloc: Global, heading: &str) -> Counted<Taker> {
+fn sink_of(alloc: Global, heading: &str) -> Result<Counted<Taker>, AllocError> {
     let fails = number_in(heading, "room:");
     let stuck = number_in(heading, "full:");
-    Counted::new(Taker {
-        taken: Vec::new(alloc),
+    Ok(Counted::new(Taker {
+        taken: Vec::with_capacity(alloc, ROOM)?,
         at_once: number_in(heading, "out:").unwrap_or(usize::MAX),
         room: fails.or(stuck).unwrap_or(usize::MAX),
         fails: stuck.is_none(),
-    })
+    }))
 }
 
 /// Adds what was written, the fault and the status.
@@ -62,7 +69,7 @@ fn push_answer(alloc: Global, out: &mut String, row: &Row<'_>) -> Result<(), All
     let mut grammar = source_of(heading, &row.grammar, "grammar-fails:", "grammar-blanks:");
     let mut lines = source_of(heading, &row.lines, "lines-fails:", "lines-blanks:");
     let mut repairs = source_of(heading, &row.repairs, "repairs-fails:", "repairs-blanks:");
-    let mut sink = sink_of(alloc, heading);
+    let mut sink = sink_of(alloc, heading)?;
     let outcome = run(alloc, &mut grammar, &mut lines, &mut repairs, &mut sink);
     if let Ok(written) = String::from_utf8(sink.into_inner().taken) {
         push_written(out, written.as_str())?;

@@ -7,6 +7,7 @@
 //! - `in:N`: a read gives at most N bytes. `out:N`: a write takes at most N bytes.
 //! - `room:N`: behind the first N bytes a write fails. `full:N`: there it takes nothing.
 //! - `grammar-fails:N`, `lines-fails:N`, `repairs-fails:N`: read N of that input, counted from one, fails.
+//! - `interrupted`: such a read fails as one that was interrupted.
 //! - `grammar-blanks:N`, `lines-blanks:N`, `repairs-blanks:N`: that input has N spaces behind its bytes.
 #![tactic(auto)]
 

@@ -1,7 +1,7 @@
 //! A row: a grammar, lines and repairs, under a heading.
 
 use crate::bytes::push_line;
-use crate::streams::{Giver, number_in};
+use crate::streams::{Giver, kind_in, number_in};
 use lrkit::Counted;
 use std::alloc::{AllocError, Global};
 
@@ -76,6 +76,7 @@ pub fn source_of<'a>(
         rest,
         at_once: number_in(heading, "in:").unwrap_or(usize::MAX),
         fault_in: number_in(heading, fails).unwrap_or(0),
+        kind: kind_in(heading),
         blanks: number_in(heading, blanks).unwrap_or(0),
     })
 }

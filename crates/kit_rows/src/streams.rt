@@ -13,6 +13,16 @@ pub fn number_in(heading: &str, name: &str) -> Option<usize> {
     None
 }
 
+/// The kind of the error of a read that fails, among the words of a heading.
+pub fn kind_in(heading: &str) -> ErrorKind {
+    for word in heading.split_whitespace() {
+        if word == "interrupted" {
+            return ErrorKind::Interrupted;
+        }
+    }
+    ErrorKind::Other
+}
+
 /// Gives bytes, and then spaces.
 #[derive(Drop)]
 pub struct Giver<'a> {
@@ -21,6 +31,8 @@ pub struct Giver<'a> {
     pub at_once: usize,
     /// The number of the read that fails, counted from one; none fails where it is nought.
     pub fault_in: usize,
+    /// The kind of its error.
+    pub kind: ErrorKind,
     /// How many spaces come behind the bytes.
     pub blanks: usize,
 }
@@ -28,7 +40,7 @@ pub struct Giver<'a> {
 impl Read for Giver<'_> {
     fn read(&mut self, buf: &mut [u8]) -> io::Result<usize> {
         if self.fault_in == 1 {
-            return Err(io::Error::from(ErrorKind::Other));
+            return Err(io::Error::from(self.kind));
         }
         self.fault_in = self.fault_in.saturating_sub(1);
         let count = self.at_once.min(buf.len()).min(self.rest.len());

@@ -1,6 +1,8 @@
-//! Tests of `lrpar`: which grammars and tables are refused, and where; which tokens may come next.
+//! Tests of `lrpar`: which grammars and tables are refused, and where, with their parts handed back; which tokens may come next.
 #![tactic(auto)]
 
+#[cfg(test)]
+mod foreign;
 #[cfg(test)]
 mod lexeme;
 #[cfg(test)]
@@ -9,5 +11,3 @@ mod make;
 mod next;
 #[cfg(test)]
 mod prefix;
-#[cfg(test)]
-mod refusals;

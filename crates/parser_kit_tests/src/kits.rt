@@ -59,6 +59,7 @@ fn told<S: IndexStorage>(
 ) -> Result<String, AllocError> {
     let text = match &made {
         Ok(kit) => kit_text(alloc, kit),
+        Err(KitError::Memory(e)) => Err(*e),
         Err(error) => error_text(alloc, error),
     };
     drop(made);
@@ -90,15 +91,22 @@ const TEXTS: &[(&str, &str)] = &[
         "%start S %% S: S | 'x';",
         "Accept/reduce conflict, production 0",
     ),
+    ("%start S %% S: S;", "Accept/reduce conflict, production 0"),
     (
         "%nonassoc 'a'\n%nonassoc 'p'\n%start S %% S: E S 'b' | 'a'; E: %prec 'p';",
         "more than 1000 reductions in state 0 on token 1",
+    ),
+    (
+        "%start S %% A: B; B: A | 'x'; S: A;",
+        "more than 1000 reductions in state 0 on token 1 after rule 1",
     ),
     (
         "%start S %% S: T;",
         "invalid grammar; Unknown reference to rule 'T' 15-16",
     ),
     ("%start S %% S: 'a' U | 'b'; U: 'u' U;", "0 0 true false"),
+    ("%start S %% S: U; U: U 'x';", "0 0 true false"),
+    ("%start S %% S: A; A: B; B: A | 'x';", "0 1 false true"),
     ("%start S", "invalid grammar; File ends prematurely 8-8"),
     ("%% S: 'a'", "invalid grammar; Incomplete rule 9-9"),
     ("", "invalid grammar; File ends prematurely 0-0"),

@@ -125,6 +125,7 @@ pub fn mapped_told<S: IndexStorage>(
     outcome: Result<(Option<String>, Vec<LexParseError<RowTypes<S>>>), ParseRefusal>,
 ) -> Result<String, AllocError> {
     match &outcome {
+        Err(ParseRefusal::Memory(e)) => Err(*e),
         Err(_) => format!(in alloc; "refused"),
         Ok((Some(value), errors)) if errors.is_empty() => value.clone(),
         Ok((value, errors)) => {
@@ -155,6 +156,7 @@ pub fn flat_told<S: IndexStorage>(
             format!(in alloc; "{count} nodes")
         }
         Ok(Ok((None, _))) => format!(in alloc; "none"),
+        Err(ParseRefusal::Memory(e)) => Err(*e),
         _ => format!(in alloc; "refused"),
     }
 }

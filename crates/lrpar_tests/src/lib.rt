@@ -1,4 +1,4 @@
-//! Tests of `lrpar`: what lines come to, with repairs and without, which lexemes are refused, and the texts of trees.
+//! Tests of `lrpar`: what lines come to, with repairs and without, and which lexemes are refused.
 #![tactic(auto)]
 
 #[cfg(test)]
@@ -8,12 +8,8 @@ mod lexer;
 #[cfg(test)]
 mod make;
 #[cfg(test)]
-mod nodes;
-#[cfg(test)]
 mod parses;
 #[cfg(test)]
 mod repairs;
-#[cfg(test)]
-mod shown;
 #[cfg(test)]
 mod spell;

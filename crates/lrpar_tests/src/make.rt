@@ -10,7 +10,7 @@ use std::test::*;
 const TREE: YaccKind = YaccKind::Original(YaccOriginalActionKind::GenericParseTree);
 
 /// The grammar of a text that has one.
-pub fn grammar<S: IndexStorage>(alloc: Global, text: &str) -> Result<YaccGrammar<S>, Fail> {
+fn grammar<S: IndexStorage>(alloc: Global, text: &str) -> Result<YaccGrammar<S>, Fail> {
     match YaccGrammar::new_with_storaget(alloc, TREE, text) {
         Ok(grm) => Ok(grm),
         Err(YaccGrammarMakeError::Memory(e)) => Err(e.into()),

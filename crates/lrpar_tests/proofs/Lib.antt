@@ -1,2 +1,0 @@
-mod OneMore
-mod ShownTrees

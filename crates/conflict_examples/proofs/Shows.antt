@@ -1,9 +1,10 @@
 -- What is shown of an action, from what is open.
-use Rattle.std.proofs.Common.{◌≡◌, ◌≢◌, ℕ, List, [], ◌∷◌, length, refl, sym, ap, ◌∙◌, subst}
+use Rattle.std.proofs.Common.{◌≡◌, ◌≢◌, ℕ, List, [], ◌∷◌, ◌++◌, length, map, reverse, refl, sym, ap, ◌∙◌, subst}
 use Rattle.cfg_theory.specs.Grammar.{Sym, token, Grammar, body_of, IsNext, IsEnd}
 use Rattle.lr_theory.specs.Canonical.{shift, reduce, accept}
 use Rattle.conflict_examples.specs.Spines.{Item, IsSpine, before_dots, around, AreForms, Shown, Stands, ShowsAct}
 use Rattle.conflict_examples.specs.Opening.{IsOpened, AreFormsTo}
+use Rattle.conflict_examples.proofs.Openings.{Kept, one_more}
 
 module _ (G : Grammar) where
   stands_open : (i : Item) (js spine : List Item) (w others : List Sym) → IsOpened G (i ∷ js) w others → spine ≡ i ∷ js → Stands G w spine i
@@ -22,3 +23,25 @@ module _ (G : Grammar) where
       subst (λ q. ShowsAct G w t x (reduce q)) same
       (ShowsAct.reduces i f.last (stands_open i js x.spine w others o e) (λ s. differ (sym same ∙ s)) (dot ∙ ap (λ q. length (body_of G q)) (sym same))
       (subst (λ a. AreForms G a x.forms f.last) (sym (ap (around G) e ∙ o.rest)) f.forms_are) f.begins)
+
+module _ {A B : Type 0} (f : A → Item) (h : B → Sym) (G : Grammar) (t : ℕ) (x : A) (outer items spine : List A) (w symbols rest : List B) (forms : List (List Sym))
+    (last : items ≡ outer ++ x ∷ []) (kept : Kept f h G items w rest) (same : spine ≡ items) (string : symbols ≡ w) where
+  abbrev pub Seen : Shown
+  Seen = record { spine = reverse (map f spine); forms = forms }
+
+  seen_open : IsOpened G (f x ∷ reverse (map f outer)) (reverse (map h symbols)) (reverse (map h rest))
+  seen_open =
+      subst (λ l. IsOpened G (f x ∷ reverse (map f outer)) (reverse (map h l)) (reverse (map h rest))) (sym string)
+      (subst (λ l. IsOpened G l (reverse (map h w)) (reverse (map h rest))) (one_more f h G outer items x last) kept)
+
+  seen_spine : reverse (map f spine) ≡ f x ∷ reverse (map f outer)
+  seen_spine = ap (λ l. reverse (map f l)) same ∙ one_more f h G outer items x last
+
+  pub kept_shift : forms ≡ [] → IsNext G (f x).production (f x).dot (token t) → ShowsAct G (reverse (map h symbols)) t Seen shift
+  kept_shift none n = shows_shift G t (f x) (reverse (map f outer)) (reverse (map h symbols)) (reverse (map h rest)) Seen seen_open seen_spine none n
+
+  pub kept_accept : forms ≡ [] → (f x).production ≡ G.start → (f x).dot ≡ length (body_of G G.start) → IsEnd G t → ShowsAct G (reverse (map h symbols)) t Seen accept
+  kept_accept none start dot end = shows_accept G t (f x) (reverse (map f outer)) (reverse (map h symbols)) (reverse (map h rest)) Seen seen_open seen_spine none start dot end
+
+  pub kept_reduce : (p : ℕ) → (f x).production ≡ p → p ≢ G.start → (f x).dot ≡ length (body_of G p) → AreFormsTo G t (reverse (map h rest)) forms → ShowsAct G (reverse (map h symbols)) t Seen (reduce p)
+  kept_reduce p is differ dot a = shows_reduce G t p (f x) (reverse (map f outer)) (reverse (map h symbols)) (reverse (map h rest)) Seen seen_open seen_spine is differ dot a

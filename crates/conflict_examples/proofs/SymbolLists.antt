@@ -1,6 +1,6 @@
 -- Lists of symbols, symbol by symbol.
-use Rattle.std.proofs.Common.{arith, ◌≡◌, ℕ, zero, suc, ◌+◌, ◌<◌, ◌≤◌, List, [], ◌∷◌, ◌++◌, length, map, take, reverse, get_or, Some, Option, refl, sym, ap, ◌∙◌, subst, append_assoc}
-use Rattle.std.proofs.lemmas.List.{get_or-map, length-map, take_more, take_more_same, reverse-append}
+use Rattle.std.proofs.Common.{arith, ◌≡◌, ℕ, zero, suc, ◌+◌, ◌-◌, ◌<◌, ◌≤◌, List, [], ◌∷◌, ◌++◌, length, map, take, reverse, get_or, Some, Option, refl, sym, ap, ◌∙◌, subst, append_assoc, append-nil}
+use Rattle.std.proofs.lemmas.List.{map-append, get_or-map, length-map, take_more, take_more_same, reverse-append, length-reverse, get_or-reverse}
 use Rattle.cfg_theory.specs.Grammar.{Sym}
 use Rattle.lr_theory.specs.Graph.{Graph, Leads}
 
@@ -24,7 +24,7 @@ module _ {A B : Type 0} (f : A → B) where
       let other : k < length ys = omega (arith, lt, same) in
       take_more_same (map f xs) (map f ys) k (f x) left right before (map_at xs k x (f x) lt a ∙ e ∙ sym (map_at ys k y (f x) other b))
 
-all_taken : {A : Type 0} (xs : List A) (k : ℕ) → length xs ≤ k → take k xs ≡ xs
+pub all_taken : {A : Type 0} (xs : List A) (k : ℕ) → length xs ≤ k → take k xs ≡ xs
 all_taken [] zero h = refl
 all_taken [] (suc k) h = refl
 all_taken (x ∷ xs) zero h = absurd (omega (arith, h))
@@ -43,3 +43,29 @@ leads_more f g xs k x s t lt e edge before =
     let inside : k < length (map f xs) = omega (arith, lt, length-map xs f) in
     let one : take (k + 1) (map f xs) ≡ take k (map f xs) ++ f x ∷ [] = take_more (map f xs) k (f x) inside ∙ ap (λ y. take k (map f xs) ++ y ∷ []) (map_at f xs k x (f x) lt e) in
     subst (λ w. Leads g w t) (sym (ap reverse one ∙ reverse-append (take k (map f xs)) (f x ∷ []))) (Leads.on before edge)
+
+-- a list whose last one comes first, put behind others
+module _ {A B : Type 0} (f : A → B) where
+  turned_at : (xs : List A) (k : ℕ) (x : A) → k < length xs → x ≡ get_or xs (length xs - 1 - k) x → get_or (reverse (map f xs)) k (f x) ≡ f x
+  turned_at xs k x lt e =
+      let inside : k < length (map f xs) = omega (arith, lt, length-map xs f) in
+      get_or-reverse (map f xs) k (f x) inside ∙ ap (λ n. get_or (map f xs) (n - 1 - k) (f x)) (length-map xs f) ∙ map_at f xs (length xs - 1 - k) x (f x) (omega (arith, lt)) e
+
+  pub turned_more : (xs start rest next : List A) (k : ℕ) (x : A) → k < length xs → x ≡ get_or xs (length xs - 1 - k) x → next ≡ rest ++ x ∷ [] →
+      map f rest ≡ map f start ++ take k (reverse (map f xs)) → map f next ≡ map f start ++ take (k + 1) (reverse (map f xs))
+  turned_more xs start rest next k x lt e more before =
+      let inside : k < length (reverse (map f xs)) = omega (arith, lt, length-map xs f, length-reverse (map f xs)) in
+      let one : take (k + 1) (reverse (map f xs)) ≡ take k (reverse (map f xs)) ++ f x ∷ [] =
+      take_more (reverse (map f xs)) k (f x) inside ∙ ap (λ y. take k (reverse (map f xs)) ++ y ∷ []) (turned_at xs k x lt e) in
+      ap (map f) more ∙ map-append f rest (x ∷ []) ∙ ap (λ l. l ++ f x ∷ []) before ∙ append_assoc (map f start) (take k (reverse (map f xs))) (f x ∷ []) ∙ ap (λ l. map f start ++ l) (sym one)
+
+  pub turned_none : (xs start : List A) → map f start ≡ map f start ++ take 0 (reverse (map f xs))
+  turned_none xs start = sym (append-nil (map f start))
+
+  pub turned_all : (xs start rest : List A) (k : ℕ) → length xs ≤ k → map f rest ≡ map f start ++ take k (reverse (map f xs)) → map f rest ≡ map f start ++ reverse (map f xs)
+  turned_all xs start rest k h e = e ∙ ap (λ l. map f start ++ l) (all_taken (reverse (map f xs)) k (omega (arith, h, length-map xs f, length-reverse (map f xs))))
+
+pub last_is : {A : Type 0} (xs : List A) (x : A) → x ≡ get_or xs (length xs - 1) x → (length xs ≡ 0 → ⊥) → xs ≡ take (length xs - 1) xs ++ x ∷ []
+last_is xs x e n =
+    let one : length xs - 1 < length xs = omega (arith, n) in
+    sym (all_taken xs (length xs - 1 + 1) (omega arith)) ∙ take_more xs (length xs - 1) x one ∙ ap (λ y. take (length xs - 1) xs ++ y ∷ []) (sym e)

@@ -1,5 +1,5 @@
 -- What is open while an example is put together.
-use Rattle.std.specs.Prelude.{◌≡◌, ℕ, List, [], ◌∷◌, map, reverse}
+use Rattle.std.specs.Prelude.{◌≡◌, ℕ, List, [], ◌∷◌, ◌++◌, map, reverse, IfSome}
 use Rattle.cfg_base.specs.declared.symbol.PIdx.{PIdx}
 use Rattle.cfg_base.specs.declared.symbol.SIdx.{SIdx}
 use Rattle.cfg_theory.specs.Grammar.{Sym, Grammar}
@@ -7,8 +7,9 @@ use Rattle.cfg_theory.specs.Derivation.{Replaces}
 use Rattle.lr_theory.specs.Canonical.{Act}
 use Rattle.cfg_numbered.specs.Symbols.{syms_of}
 use Rattle.conflict_examples.specs.Spines.{Item, IsSpine, before_dots, around, AreForms, Begins, ShowsAct}
-use Rattle.conflict_examples.specs.ExampleViews.{open_item, spine_of, shown_of}
+use Rattle.conflict_examples.specs.ExampleViews.{spine_of, shown_of}
 use Rattle.conflict_examples.specs.declared.opened.Opened.{Opened}
+use Rattle.conflict_examples.specs.declared.checked.Spines.{Spines}
 use Rattle.conflict_examples.specs.declared.forms.Forms.{Forms}
 use Rattle.conflict_examples.specs.declared.shown.Part.{Part}
 
@@ -18,12 +19,18 @@ pub record IsOpened (G : Grammar) (spine : List Item) (w others : List Sym) : Ty
   pub string : before_dots G spine ≡ w
   pub rest : around G spine ≡ others
 
--- the innermost first
-abbrev pub opened_spine : {S : Type 0} → (S → ℕ) → Opened S → List Item
-opened_spine number o = open_item number (o.pidx, o.dot) ∷ spine_of number o.outer.items
-
+-- of what is behind, the last symbol comes first
 abbrev pub IsOpen : {S : Type 0} → (S → ℕ) → Grammar → Opened S → Type 0
-IsOpen number G o = IsOpened G (opened_spine number o) (reverse (syms_of number o.symbols.items)) (syms_of number o.rest.items)
+IsOpen number G o = IsOpened G (spine_of number o.items.items) (reverse (syms_of number o.symbols.items)) (reverse (syms_of number o.rest.items))
+
+-- what is open is, for both actions
+abbrev pub AreOpen : {S : Type 0} → (S → ℕ) → Grammar → Spines S → Type 0
+AreOpen number G o = IfSome o.first (IsOpen number G) × IfSome o.second (IsOpen number G)
+
+-- the last one of a list, the innermost of its productions
+pub record IsInnermost {S : Type 0} (x : PIdx S × SIdx S) (items : List (PIdx S × SIdx S)) : Type 0 where
+  pub outer : List (PIdx S × SIdx S)
+  pub is : items ≡ outer ++ x ∷ []
 
 -- each of the forms gives the next one by a replacement, and the last one gives c
 pub data Leaves (G : Grammar) : List Sym → List (List Sym) → List Sym → Type 0 where

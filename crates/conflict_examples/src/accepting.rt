@@ -6,16 +6,17 @@ ghost use Rattle.std.specs.Prelude.{◌≡◌, IfOk, IfSome};
 ghost use Rattle.cfg_theory.specs.Grammar.{end_token};
 ghost use Rattle.lr_theory.specs.Canonical.{accept, reduce};
 ghost use Rattle.conflict_examples.specs.ExampleViews.{example_of};
+ghost use Rattle.conflict_examples.specs.Opening.{PartShows};
 ghost use Rattle.conflict_examples.specs.Spines.{IsExample};
 
-use crate::checked::checked_end;
 use crate::examples::ConflictExample;
+use crate::opened::{open_all, open_start};
 use crate::reading::{has_production, symbol_after, symbols_behind};
-use crate::shown::Trace;
-use crate::steps::{MOST_SYMBOLS, after_step, behind};
+use crate::shown::{Part, paired, shown_accept, shown_reduce};
+use crate::steps::{MOST_SYMBOLS, first_of, step};
 use crate::tables::{all_vanish, entry, vanishing_by};
 use cfg_base::index::IndexStorage;
-use cfg_base::symbol::{PIdx, SIdx, Symbol};
+use cfg_base::symbol::{PIdx, SIdx, Symbol, TIdx};
 use cfg_numbered::yacc::NumberedGrammar;
 use std::alloc::{AllocError, Global};
 use std::collections::BTreeSet;
@@ -96,12 +97,9 @@ impl<'a, S: IndexStorage> Reading<'a, S> {
         symbol_after(self.grm, pidx, dot).is_none()
     }
 
-    /// The production by which the first symbol of a form vanishes.
+    /// The production by which the first symbol of a list, which stands last, vanishes.
     fn next_step(&self, form: &[Symbol<S>]) -> Option<PIdx<S>> {
-        if form.is_empty() {
-            return None;
-        }
-        match form[0] {
+        match first_of(form)? {
             Symbol::Rule(ridx) => entry(self.vanishing.as_slice(), ridx.0.to_usize()),
             Symbol::Token(_) => None,
         }
@@ -164,7 +162,7 @@ impl<S: IndexStorage> Frames<S> {
         })
     }
 
-    /// The items from the start's production to the frame at an index.
+    /// The items from the frame at an index out to the start's production.
     fn items(&self, alloc: Global, index: usize) -> Result<Vec<(PIdx<S>, SIdx<S>)>, AllocError> {
         let mut items = Vec::new(alloc);
         let mut at = index;
@@ -175,12 +173,12 @@ impl<S: IndexStorage> Frames<S> {
                 at = frame.around;
             }
         }
-        items.as_mut_slice().reverse();
         Ok(items)
     }
 }
 
-/// The productions that are open where this one is complete behind the start's symbol and nothing need stand behind it.
+/// The productions that are open where this one is complete behind the start's symbol and nothing need stand behind it, the
+/// innermost first.
 fn items_to<'a, S: IndexStorage>(
     alloc: Global,
     reading: &Reading<'a, S>,
@@ -211,52 +209,62 @@ fn items_to<'a, S: IndexStorage>(
     Ok(None)
 }
 
-/// The productions by which what stands behind the innermost one of these vanishes. It doesn't where the forms would have more
-/// symbols than they may.
+/// The productions by which a list, with its first symbol last, vanishes. It doesn't where the forms would have more symbols
+/// than they may.
 fn steps_to_nothing<'a, S: IndexStorage>(
     alloc: Global,
     reading: &Reading<'a, S>,
-    items: &[(PIdx<S>, SIdx<S>)],
+    rest: &[Symbol<S>],
 ) -> Result<Vec<PIdx<S>>, AllocError> {
     let mut steps = Vec::new(alloc);
-    let mut form = behind(alloc, reading.grm, items)?;
+    let mut form = Vec::from_slice(alloc, rest)?;
     let mut left = MOST_SYMBOLS;
     'steps: for _ in 0..usize::MAX {
         let Some(pidx) = reading.next_step(form.as_slice()) else {
             return Ok(steps);
         };
-        let Some(rest) = left.checked_sub(form.len()) else {
+        let Some(less) = left.checked_sub(form.len()) else {
             return Ok(steps);
         };
-        left = rest;
+        left = less;
         steps.push(pidx)?;
-        form = after_step(alloc, reading.grm, pidx, form.as_slice())?;
+        step(reading.grm, pidx, &mut form)?;
     }
     Ok(steps)
 }
 
-/// Where the production is shown behind the start's symbol, before the end of the text.
-fn reduce_trace<'a, S: IndexStorage>(
+/// What is shown of the production behind the start's symbol, before the token.
+fn reduce_part<'a, S: IndexStorage>(
     alloc: Global,
+    grm: &NumberedGrammar<S>,
     reading: &Reading<'a, S>,
+    token: TIdx<S>,
     pidx: PIdx<S>,
-) -> Result<Option<Trace<S>>, AllocError> {
+) -> Result<Option<Part<S>>, AllocError>
+    ensures { IfOk result (λ o. IfSome o (PartShows S.number grm.now.grammar (S.number token.0) (reduce (S.number pidx.0)))) }
+{
     let Some(items) = items_to(alloc, reading, pidx)? else {
         return Ok(None);
     };
-    let steps = steps_to_nothing(alloc, reading, items.as_slice())?;
-    Ok(Some(Trace { items, steps }))
+    let Some(opened) = open_all(alloc, grm, items.as_slice())? else {
+        return Ok(None);
+    };
+    let steps = steps_to_nothing(alloc, reading, opened.rest.as_slice())?;
+    shown_reduce(alloc, grm, &opened, steps.as_slice(), token, pidx)
 }
 
-/// Where the end of the text is shown.
-fn end_trace<'a, S: IndexStorage>(
+/// What is shown of the end of the text.
+fn accept_part<S: IndexStorage>(
     alloc: Global,
-    reading: &Reading<'a, S>,
-) -> Result<Trace<S>, AllocError> {
-    let mut items = Vec::new(alloc);
-    items.push((reading.grm.start_prod(), reading.one))?;
-    let steps = Vec::new(alloc);
-    Ok(Trace { items, steps })
+    grm: &NumberedGrammar<S>,
+    dot: SIdx<S>,
+) -> Result<Option<Part<S>>, AllocError>
+    ensures { IfOk result (λ o. IfSome o (PartShows S.number grm.now.grammar (end_token grm.now.grammar) accept)) }
+{
+    let Some(opened) = open_start(alloc, grm, dot)? else {
+        return Ok(None);
+    };
+    shown_accept(alloc, grm, &opened)
 }
 
 /// An example of a production that may be reduced where a text has ended, as a `StateTableError` tells one: before the end
@@ -273,9 +281,13 @@ pub fn accept_reduce<S: IndexStorage>(
     let Some(reading) = Reading::new(alloc, grm)? else {
         return Ok(None);
     };
-    let Some(second) = reduce_trace(alloc, &reading, pidx)? else {
+    let token = grm.eof_token_idx();
+    let Some(other) = reduce_part(alloc, grm, &reading, token, pidx)? else {
         return Ok(None);
     };
-    let first = end_trace(alloc, &reading)?;
-    checked_end(alloc, grm, pidx, &first, &second)
+    let Some(one) = accept_part(alloc, grm, reading.one)? else {
+        return Ok(None);
+    };
+    let found = paired(token, one, other);
+    Ok(found)
 }

@@ -5,13 +5,15 @@ ghost use Rattle.lr_theory.specs.Canonical.{shift, reduce};
 ghost use Rattle.lr_theory.specs.Graph.{Leads};
 ghost use Rattle.lrtable.specs.Graphs.{graph_of};
 ghost use Rattle.conflict_examples.specs.ExampleViews.{FinderValue, example_of};
+ghost use Rattle.conflict_examples.specs.Opening.{AreOpen};
 ghost use Rattle.conflict_examples.specs.Spines.{IsExample};
 
-use crate::checked::{checked_pair, checked_shift};
+use crate::checked::{Found, Spines, no_spines, pair_example, shift_example};
 use crate::examples::ConflictExample;
+use crate::kept::Kept;
 use crate::source::Source;
 use crate::tables::Tables;
-use crate::traces::{pair_traces, shift_traces};
+use crate::traces::{pair_paths, shift_paths};
 use cfg_base::index::IndexStorage;
 use cfg_base::symbol::{PIdx, TIdx};
 use cfg_numbered::yacc::NumberedGrammar;
@@ -19,21 +21,28 @@ use lrtable::stategraph::StateGraph;
 use lrtable::stidx::StIdx;
 use std::alloc::{AllocError, Global};
 use std::marker::Model;
+use std::mem;
 
-/// Finds examples of the conflicts in the states of a grammar's graph. Contracts see the grammar and the graph.
+/// Finds examples of the conflicts in the states of a grammar's graph. Contracts see the grammar and the graph. It keeps what
+/// the last search left, from which the next one goes on; what it finds doesn't hang on what was asked before.
 #[derive(Drop)]
 pub struct ExampleFinder<'a, S: IndexStorage> {
     grm: &'a NumberedGrammar<S>,
     graph: &'a StateGraph<S>,
     tables: Tables<S>,
+    kept: Kept<S>,
+    spines: Spines<S>,
 }
 
 impl<'a, S: IndexStorage> Model for ExampleFinder<'a, S> {
     ghost use Rattle.conflict_examples.specs.ExampleViews.{FinderValue};
+    ghost use Rattle.conflict_examples.specs.Opening.{AreOpen};
 
     ghost Value = { FinderValue };
 
     ghost view = { λ f. record { grammar = f.grm.now; graph = f.graph.now } };
+
+    ghost invariant = { λ f. AreOpen S.number f.grm.now.grammar f.spines };
 }
 
 impl<'a, S: IndexStorage> ExampleFinder<'a, S> {
@@ -47,40 +56,59 @@ impl<'a, S: IndexStorage> ExampleFinder<'a, S> {
         ensures { IfOk result (λ f. f ≡ record { grammar = grm.now; graph = graph.now }) }
     {
         let tables = Tables::new(alloc, grm, graph)?;
-        Ok(ExampleFinder { grm, graph, tables })
+        let kept = Kept::new(alloc)?;
+        Ok(ExampleFinder {
+            grm,
+            graph,
+            tables,
+            kept,
+            spines: no_spines(),
+        })
     }
 
     /// An example of a listed shift against a reduction: on its own token, after symbols that lead to its state. None where
     /// the search finds none; that it finds one for each entry that a table lists is not proved.
     pub fn shift_reduce(
-        &self,
+        &mut self,
         alloc: Global,
         entry: &(TIdx<S>, PIdx<S>, StIdx<S>),
     ) -> Result<Option<ConflictExample<S>>, AllocError>
-        ensures example { IfOk result (λ o. IfSome o (λ x. IsExample self.now.grammar.grammar (example_of S.number x) shift (reduce (S.number entry.now.1.0)))) }
+        ensures unchanged { self.new ≡ self.old }
+        ensures example { IfOk result (λ o. IfSome o (λ x. IsExample self.old.grammar.grammar (example_of S.number x) shift (reduce (S.number entry.now.1.0)))) }
         ensures token { IfOk result (λ o. IfSome o (λ x. S.number x.token.0 ≡ S.number entry.now.0.0)) }
-        ensures state { IfOk result (λ o. IfSome o (λ x. Leads (graph_of self.now.graph) (example_of S.number x).string (S.number entry.now.2.0))) }
+        ensures state { IfOk result (λ o. IfSome o (λ x. Leads (graph_of self.old.graph) (example_of S.number x).string (S.number entry.now.2.0))) }
     {
         let (token, production, stidx) = *entry;
-        let source = self.source(token);
-        let Some((first, second)) = shift_traces(alloc, &source, production, stidx)? else {
-            return Ok(None);
+        let spines = mem::replace(&mut self.spines, no_spines());
+        let source = Source {
+            grm: self.grm,
+            graph: self.graph,
+            tables: &self.tables,
+            token,
         };
-        checked_shift(
-            alloc, self.grm, self.graph, token, production, stidx, &first, &second,
-        )
+        let Found { spines, example } = shift_found(
+            alloc,
+            &source,
+            &mut self.kept,
+            spines,
+            production,
+            stidx,
+        )?;
+        self.spines = spines;
+        Ok(example)
     }
 
     /// An example of a listed pair of reductions, after symbols that lead to its state. Its token may be another than the
     /// listed one: states that were merged share lookaheads that no single string has. None where the search finds none;
     /// that it finds one for each entry that a table lists is not proved.
     pub fn reduce_reduce(
-        &self,
+        &mut self,
         alloc: Global,
         entry: &(TIdx<S>, PIdx<S>, PIdx<S>, StIdx<S>),
     ) -> Result<Option<ConflictExample<S>>, AllocError>
-        ensures example { IfOk result (λ o. IfSome o (λ x. IsExample self.now.grammar.grammar (example_of S.number x) (reduce (S.number entry.now.1.0)) (reduce (S.number entry.now.2.0)))) }
-        ensures state { IfOk result (λ o. IfSome o (λ x. Leads (graph_of self.now.graph) (example_of S.number x).string (S.number entry.now.3.0))) }
+        ensures unchanged { self.new ≡ self.old }
+        ensures example { IfOk result (λ o. IfSome o (λ x. IsExample self.old.grammar.grammar (example_of S.number x) (reduce (S.number entry.now.1.0)) (reduce (S.number entry.now.2.0)))) }
+        ensures state { IfOk result (λ o. IfSome o (λ x. Leads (graph_of self.old.graph) (example_of S.number x).string (S.number entry.now.3.0))) }
     {
         let (listed, first, second, stidx) = *entry;
         let found = self.pair_on(alloc, listed, first, second, stidx)?;
@@ -97,33 +125,91 @@ impl<'a, S: IndexStorage> ExampleFinder<'a, S> {
         Ok(None)
     }
 
-    fn source(&self, token: TIdx<S>) -> Source<'_, S> {
-        Source {
-            grm: self.grm,
-            graph: self.graph,
-            tables: &self.tables,
-            token,
-        }
-    }
-
     /// An example of a pair of reductions on the token.
     fn pair_on(
-        &self,
+        &mut self,
         alloc: Global,
         token: TIdx<S>,
         first: PIdx<S>,
         second: PIdx<S>,
         stidx: StIdx<S>,
     ) -> Result<Option<ConflictExample<S>>, AllocError>
-        ensures example { IfOk result (λ o. IfSome o (λ x. IsExample self.now.grammar.grammar (example_of S.number x) (reduce (S.number first.0)) (reduce (S.number second.0)))) }
-        ensures state { IfOk result (λ o. IfSome o (λ x. Leads (graph_of self.now.graph) (example_of S.number x).string (S.number stidx.0))) }
+        ensures unchanged { self.new ≡ self.old }
+        ensures example { IfOk result (λ o. IfSome o (λ x. IsExample self.old.grammar.grammar (example_of S.number x) (reduce (S.number first.0)) (reduce (S.number second.0)))) }
+        ensures state { IfOk result (λ o. IfSome o (λ x. Leads (graph_of self.old.graph) (example_of S.number x).string (S.number stidx.0))) }
     {
-        let source = self.source(token);
-        let Some((one, other)) = pair_traces(alloc, &source, first, second, stidx)? else {
-            return Ok(None);
+        let source = Source {
+            grm: self.grm,
+            graph: self.graph,
+            tables: &self.tables,
+            token,
         };
-        checked_pair(
-            alloc, self.grm, self.graph, token, first, second, stidx, &one, &other,
-        )
+        if !source.may_reduce(stidx, first) || !source.may_reduce(stidx, second) {
+            return Ok(None);
+        }
+        let spines = mem::replace(&mut self.spines, no_spines());
+        let Found { spines, example } = pair_found(
+            alloc,
+            &source,
+            &mut self.kept,
+            spines,
+            first,
+            second,
+            stidx,
+        )?;
+        self.spines = spines;
+        Ok(example)
     }
+}
+
+/// An example of a shift of the token against a reduction in a state.
+fn shift_found<'a, S: IndexStorage>(
+    alloc: Global,
+    source: &Source<'a, S>,
+    kept: &mut Kept<S>,
+    spines: Spines<S>,
+    production: PIdx<S>,
+    stidx: StIdx<S>,
+) -> Result<Found<S>, AllocError>
+    requires { AreOpen S.number source.now.grm.now.grammar spines }
+    ensures spines { IfOk result (λ r. AreOpen S.number source.now.grm.now.grammar r.spines) }
+    ensures example { IfOk result (λ r. IfSome r.example (λ x. IsExample source.now.grm.now.grammar (example_of S.number x) shift (reduce (S.number production.0)))) }
+    ensures token { IfOk result (λ r. IfSome r.example (λ x. x.token ≡ source.now.token)) }
+    ensures state { IfOk result (λ r. IfSome r.example (λ x. Leads (graph_of source.now.graph.now) (example_of S.number x).string (S.number stidx.0))) }
+{
+    let Some(paths) = shift_paths(alloc, source, kept, &spines, production, stidx)? else {
+        return Ok(Found {
+            spines,
+            example: None,
+        });
+    };
+    let found = shift_example(alloc, source, spines, &paths, production, stidx)?;
+    kept.whole = found.spines.first.is_some() && found.spines.second.is_some();
+    Ok(found)
+}
+
+/// An example of two reductions on the token in a state.
+fn pair_found<'a, S: IndexStorage>(
+    alloc: Global,
+    source: &Source<'a, S>,
+    kept: &mut Kept<S>,
+    spines: Spines<S>,
+    first: PIdx<S>,
+    second: PIdx<S>,
+    stidx: StIdx<S>,
+) -> Result<Found<S>, AllocError>
+    requires { AreOpen S.number source.now.grm.now.grammar spines }
+    ensures spines { IfOk result (λ r. AreOpen S.number source.now.grm.now.grammar r.spines) }
+    ensures example { IfOk result (λ r. IfSome r.example (λ x. IsExample source.now.grm.now.grammar (example_of S.number x) (reduce (S.number first.0)) (reduce (S.number second.0)))) }
+    ensures state { IfOk result (λ r. IfSome r.example (λ x. Leads (graph_of source.now.graph.now) (example_of S.number x).string (S.number stidx.0))) }
+{
+    let Some(paths) = pair_paths(alloc, source, kept, &spines, first, second, stidx)? else {
+        return Ok(Found {
+            spines,
+            example: None,
+        });
+    };
+    let found = pair_example(alloc, source, spines, &paths, first, second, stidx)?;
+    kept.whole = found.spines.first.is_some() && found.spines.second.is_some();
+    Ok(found)
 }

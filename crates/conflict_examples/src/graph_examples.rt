@@ -62,7 +62,7 @@ impl<S: IndexStorage> ConflictExamples<S> for StateGraph<S> {
         entry: &(TIdx<S>, PIdx<S>, StIdx<S>),
     ) -> Result<Option<ConflictExample<S>>, AllocError> {
         examples_are_contests();
-        let finder = ExampleFinder::new(alloc, grm, self)?;
+        let mut finder = ExampleFinder::new(alloc, grm, self)?;
         let found = finder.shift_reduce(alloc, entry)?;
         Ok(found)
     }
@@ -74,7 +74,7 @@ impl<S: IndexStorage> ConflictExamples<S> for StateGraph<S> {
         entry: &(TIdx<S>, PIdx<S>, PIdx<S>, StIdx<S>),
     ) -> Result<Option<ConflictExample<S>>, AllocError> {
         examples_are_contests();
-        let finder = ExampleFinder::new(alloc, grm, self)?;
+        let mut finder = ExampleFinder::new(alloc, grm, self)?;
         let found = finder.reduce_reduce(alloc, entry)?;
         Ok(found)
     }

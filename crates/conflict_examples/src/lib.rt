@@ -13,7 +13,7 @@
 //!     graph: &StateGraph<u32>,
 //!     conflicts: &Conflicts<u32>,
 //! ) -> Result<Vec<usize>, AllocError> {
-//!     let finder = ExampleFinder::new(alloc, grm, graph)?;
+//!     let mut finder = ExampleFinder::new(alloc, grm, graph)?;
 //!     let mut lengths = Vec::new(alloc);
 //!     for entry in conflicts.sr_conflicts() {
 //!         if let Some(example) = finder.shift_reduce(alloc, entry)? {
@@ -32,8 +32,9 @@
 //! A graph may be asked itself, where one example is wanted: with `ConflictExamples` in scope
 //! `graph.shift_reduce_example(alloc, grm, entry)` makes a finder and asks it once.
 //!
-//! A search over the finished graph (`strings`, `along`, `steps`) comes to the open productions; what it comes to is checked
-//! against the grammar (`opened`, `forms`, `shown`), and only what passes is answered. Where no table is made, since a
+//! A search over the finished graph (`strings`, `groups`, `steps`) comes to the open productions; what it comes to is checked
+//! against the grammar (`opened`, `forms`, `shown`), and only what passes is answered. A finder keeps what the last search came
+//! to (`kept`), so that the next one goes on where that one and it part. Where no table is made, since a
 //! production may be reduced where a text has ended, `accept_reduce` searches over the productions. Where the forms would have
 //! more than 262,144 symbols all together none is found (`steps`). The contracts that matter most are those of
 //! `finder::ExampleFinder` and of `graph_examples::ConflictExamples`; the laws that tie examples to canonical LR(1) are in
@@ -41,12 +42,13 @@
 #![tactic(auto)]
 
 mod accepting;
-mod along;
 mod checked;
 pub mod examples;
 pub mod finder;
 mod forms;
 pub mod graph_examples;
+mod groups;
+mod kept;
 pub mod laws;
 mod opened;
 mod places;
@@ -57,6 +59,7 @@ mod steps;
 mod strings;
 mod tables;
 mod traces;
+mod way;
 
 pub use accepting::accept_reduce;
 pub use examples::{ActionExample, ConflictExample};

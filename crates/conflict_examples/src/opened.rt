@@ -1,10 +1,10 @@
 //! Opens one production within another, and keeps the string before the dots and what stands behind.
 
-ghost use Rattle.std.specs.Prelude.{◌≡◌, ◌<◌, ◌++◌, ℕ, suc, length, IsTrue, IfOk, IfSome};
+ghost use Rattle.std.specs.Prelude.{◌≡◌, ◌<◌, ◌≤◌, ◌++◌, ℕ, suc, length, reverse, IsTrue, IfOk, IfSome};
 ghost use Rattle.cfg_theory.specs.Grammar.{rule, IsNext, IsOf};
 ghost use Rattle.lr_theory.specs.Canonical.{from_dot};
 ghost use Rattle.cfg_numbered.specs.Symbols.{syms_of};
-ghost use Rattle.conflict_examples.specs.Opening.{IsOpen};
+ghost use Rattle.conflict_examples.specs.Opening.{IsOpen, IsInnermost};
 
 use crate::reading::{has_production, is_of, symbol_after, symbols_before, symbols_behind};
 use cfg_base::index::IndexStorage;
@@ -12,13 +12,12 @@ use cfg_base::symbol::{PIdx, SIdx, Symbol};
 use cfg_numbered::yacc::NumberedGrammar;
 use std::alloc::{AllocError, Global};
 
-/// The productions that are open: those around the innermost one, from the outermost in, the innermost one with its dot,
-/// the symbols before the dots, and those that stand behind the innermost production.
+/// The productions that are open with their dots, from the outermost in; behind how many symbols each begins; the symbols before
+/// the dots, and those that stand behind the innermost production, the first of these last.
 #[derive(Drop)]
 pub(crate) struct Opened<S> {
-    pub outer: Vec<(PIdx<S>, SIdx<S>)>,
-    pub pidx: PIdx<S>,
-    pub dot: SIdx<S>,
+    pub items: Vec<(PIdx<S>, SIdx<S>)>,
+    pub places: Vec<usize>,
     pub symbols: Vec<Symbol<S>>,
     pub rest: Vec<Symbol<S>>,
 }
@@ -37,12 +36,14 @@ pub(crate) fn open_start<S: IndexStorage>(
     if index > body.len() {
         return Ok(None);
     }
-    let mut symbols = Vec::new(alloc);
-    symbols.extend_from_slice(symbols_before(body, index))?;
+    let mut places = Vec::new(alloc);
+    places.push(0)?;
+    let symbols = Vec::from_slice(alloc, symbols_before(body, index))?;
+    let mut items = Vec::new(alloc);
+    items.push((pidx, dot))?;
     Ok(Some(Opened {
-        outer: Vec::new(alloc),
-        pidx,
-        dot,
+        items,
+        places,
         symbols,
         rest: Vec::new(alloc),
     }))
@@ -64,30 +65,52 @@ fn stands_after<S: IndexStorage>(
     }
 }
 
-/// The symbols behind the one after the dot, and others behind them.
-fn rest_behind<S: IndexStorage>(
-    alloc: Global,
-    grm: &NumberedGrammar<S>,
-    pidx: PIdx<S>,
-    dot: SIdx<S>,
-    others: &[Symbol<S>],
-) -> Result<Vec<Symbol<S>>, AllocError>
-    requires { S.number pidx.0 < length grm.now.grammar.productions }
-    ensures { IfOk result (λ v. syms_of S.number v.items ≡ from_dot grm.now.grammar (S.number pidx.0) (suc (S.number dot.0)) ++ syms_of S.number others.now) }
+/// Puts symbols to the end, the last one first.
+pub(crate) fn push_turned<S: IndexStorage>(
+    symbols: &[Symbol<S>],
+    rest: &mut Vec<Symbol<S>>,
+) -> Result<(), AllocError>
+    ensures { IfOk result (λ _. syms_of S.number rest.new.items ≡ syms_of S.number rest.old.items ++ reverse (syms_of S.number symbols.now)) }
 {
-    let body = grm.prod(pidx);
-    let mut rest = Vec::new(alloc);
-    rest.extend_from_slice(symbols_behind(body, dot.0.to_usize()))?;
-    rest.extend_from_slice(others)?;
-    Ok(rest)
+    'symbols: for back in 0..symbols.len() {
+        rest.push(symbols[symbols.len() - 1 - back])?;
+    }
+    Ok(())
+}
+
+/// The innermost of the productions.
+pub(crate) fn innermost<S: IndexStorage>(items: &[(PIdx<S>, SIdx<S>)]) -> Option<(PIdx<S>, SIdx<S>)>
+    ensures { IfSome result (λ x. IsInnermost x items.now) }
+{
+    if items.is_empty() {
+        return None;
+    }
+    Some(items[items.len() - 1])
 }
 
 impl<S: IndexStorage> Opened<S> {
-    /// Opens a production within the innermost one, and tells whether it is one of the rule after the dot there. Where it
-    /// isn't, nothing changes.
-    pub(crate) fn open(
+    /// Behind how many symbols a production begins; `usize::MAX` past the last one.
+    pub(crate) fn place(&self, index: usize) -> usize {
+        if index >= self.places.len() {
+            return usize::MAX;
+        }
+        self.places[index]
+    }
+
+    /// The index of the last production that begins behind no more symbols, from an index on.
+    pub(crate) fn last_at(&self, index: usize, place: usize) -> usize {
+        'items: for back in 0..self.places.len() {
+            let at = index.saturating_sub(back);
+            if self.place(at) <= place {
+                return at;
+            }
+        }
+        0
+    }
+
+    /// Opens a production within the innermost one, and tells whether it is one of the rule after the dot there.
+    fn open(
         &mut self,
-        alloc: Global,
         grm: &NumberedGrammar<S>,
         pidx: PIdx<S>,
         dot: SIdx<S>,
@@ -95,10 +118,10 @@ impl<S: IndexStorage> Opened<S> {
         requires { IsOpen S.number grm.now.grammar self.old }
         ensures { IfOk result (λ b. IsTrue b → IsOpen S.number grm.now.grammar self.new) }
     {
-        if !has_production(grm, self.pidx) {
+        let Some((outer, at)) = innermost(self.items.as_slice()) else {
             return Ok(false);
-        }
-        if !stands_after(grm, self.pidx, self.dot, pidx) {
+        };
+        if !has_production(grm, outer) || !stands_after(grm, outer, at, pidx) {
             return Ok(false);
         }
         let body = grm.prod(pidx);
@@ -106,18 +129,91 @@ impl<S: IndexStorage> Opened<S> {
         if index > body.len() {
             return Ok(false);
         }
-        let rest = rest_behind(alloc, grm, self.pidx, self.dot, self.rest.as_slice())?;
+        let behind = symbols_behind(grm.prod(outer), at.0.to_usize());
+        push_turned(behind, &mut self.rest)?;
+        self.places.push(self.symbols.len())?;
         self.symbols.extend_from_slice(symbols_before(body, index))?;
-        self.outer.push((self.pidx, self.dot))?;
-        self.pidx = pidx;
-        self.dot = dot;
-        self.rest = rest;
+        self.items.push((pidx, dot))?;
         Ok(true)
+    }
+
+    /// Closes the innermost production, and tells whether there was one around it.
+    fn close(&mut self, grm: &NumberedGrammar<S>) -> bool
+        requires { IsOpen S.number grm.now.grammar self.old }
+        ensures { IsTrue result → IsOpen S.number grm.now.grammar self.new }
+    {
+        let Some((_pidx, dot)) = self.items.pop() else {
+            return false;
+        };
+        let Some((outer, at)) = innermost(self.items.as_slice()) else {
+            return false;
+        };
+        if !has_production(grm, outer) {
+            return false;
+        }
+        let behind = symbols_behind(grm.prod(outer), at.0.to_usize()).len();
+        let length = self.symbols.len().saturating_sub(dot.0.to_usize());
+        self.symbols.truncate(length);
+        self.rest.truncate(self.rest.len().saturating_sub(behind));
+        self.places.truncate(self.items.len());
+        true
+    }
+
+    /// Closes all but so many productions.
+    fn close_to(&mut self, grm: &NumberedGrammar<S>, count: usize) -> bool
+        requires { IsOpen S.number grm.now.grammar self.old }
+        ensures { IsTrue result → IsOpen S.number grm.now.grammar self.new }
+    {
+        'items: for _ in count..self.items.len() {
+            if !self.close(grm) {
+                return false;
+            }
+        }
+        true
+    }
+
+    /// Opens productions, of which the last is the outermost one.
+    fn open_each(
+        &mut self,
+        grm: &NumberedGrammar<S>,
+        items: &[(PIdx<S>, SIdx<S>)],
+    ) -> Result<bool, AllocError>
+        requires { IsOpen S.number grm.now.grammar self.old }
+        ensures { IfOk result (λ b. IsTrue b → IsOpen S.number grm.now.grammar self.new) }
+    {
+        'items: for back in 0..items.len() {
+            let (pidx, dot) = items[items.len() - 1 - back];
+            if !self.open(grm, pidx, dot)? {
+                return Ok(false);
+            }
+        }
+        Ok(true)
+    }
+
+    /// Of productions, of which the last is the outermost one, how many are open already within so many.
+    fn agree(&self, around: usize, items: &[(PIdx<S>, SIdx<S>)]) -> usize
+        ensures { result ≤ length items.now }
+    {
+        'items: for back in 0..items.len() {
+            let (pidx, dot) = items[items.len() - 1 - back];
+            if !self.has_at(around.saturating_add(back), pidx, dot) {
+                return back;
+            }
+        }
+        items.len()
+    }
+
+    fn has_at(&self, index: usize, pidx: PIdx<S>, dot: SIdx<S>) -> bool {
+        if index >= self.items.len() {
+            return false;
+        }
+        let (other, at) = self.items[index];
+        other.0.to_usize() == pidx.0.to_usize() && at.0.to_usize() == dot.0.to_usize()
     }
 }
 
-/// Opens one production after the other, the first of which is to be that of the start. None where one is not of the rule
-/// after the dot of the one before it, or has no such dot.
+/// Opens productions, of which the last is the outermost one and is to be that of the start. None where one is not of the rule
+/// after the dot of the one around it, or has no such dot.
 pub(crate) fn open_all<S: IndexStorage>(
     alloc: Global,
     grm: &NumberedGrammar<S>,
@@ -128,15 +224,42 @@ pub(crate) fn open_all<S: IndexStorage>(
     if items.is_empty() {
         return Ok(None);
     }
-    let (_, dot) = items[0];
+    let (_, dot) = items[items.len() - 1];
     let Some(mut opened) = open_start(alloc, grm, dot)? else {
         return Ok(None);
     };
-    'items: for k in 1..items.len() {
-        let (pidx, dot) = items[k];
-        if !opened.open(alloc, grm, pidx, dot)? {
-            return Ok(None);
-        }
+    if !opened.open_each(grm, &items[..items.len() - 1])? {
+        return Ok(None);
+    }
+    Ok(Some(opened))
+}
+
+/// Goes from the productions that are open to so many of them with these within, of which the last is the outermost one. None
+/// where one is not of the rule after the dot of the one around it, or has no such dot.
+pub(crate) fn reopened<S: IndexStorage>(
+    alloc: Global,
+    grm: &NumberedGrammar<S>,
+    opened: Option<Opened<S>>,
+    around: usize,
+    items: &[(PIdx<S>, SIdx<S>)],
+) -> Result<Option<Opened<S>>, AllocError>
+    requires { IfSome opened (IsOpen S.number grm.now.grammar) }
+    ensures { IfOk result (λ o. IfSome o (IsOpen S.number grm.now.grammar)) }
+{
+    let Some(mut opened) = opened else {
+        return open_all(alloc, grm, items);
+    };
+    let agree = opened.agree(around, items);
+    let stay = around.saturating_add(agree);
+    if stay == 0 {
+        drop(opened);
+        return open_all(alloc, grm, items);
+    }
+    if !opened.close_to(grm, stay) {
+        return Ok(None);
+    }
+    if !opened.open_each(grm, &items[..items.len() - agree])? {
+        return Ok(None);
     }
     Ok(Some(opened))
 }

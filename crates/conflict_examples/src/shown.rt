@@ -6,13 +6,13 @@ ghost use Rattle.lr_theory.specs.Canonical.{Act, shift, reduce, accept};
 ghost use Rattle.lr_theory.specs.Graph.{Leads};
 ghost use Rattle.cfg_numbered.specs.Symbols.{sym_of, syms_of};
 ghost use Rattle.lrtable.specs.Graphs.{graph_of};
-ghost use Rattle.conflict_examples.specs.ExampleViews.{open_item, spine_of, example_of};
-ghost use Rattle.conflict_examples.specs.Opening.{PartShows};
+ghost use Rattle.conflict_examples.specs.ExampleViews.{example_of};
+ghost use Rattle.conflict_examples.specs.Opening.{IsOpen, PartShows};
 ghost use Rattle.conflict_examples.specs.Spines.{IsExample};
 
 use crate::examples::{ActionExample, ConflictExample};
 use crate::forms::forms_to;
-use crate::opened::{Opened, open_all};
+use crate::opened::{Opened, innermost, push_turned};
 use crate::reading::{has_production, symbol_after};
 use cfg_base::index::IndexStorage;
 use cfg_base::symbol::{PIdx, SIdx, Symbol, TIdx};
@@ -28,152 +28,150 @@ pub(crate) struct Part<S> {
     pub shown: ActionExample<S>,
 }
 
-/// Where a search came to for one action: the productions that are open, from that of the start in, and the productions
-/// by which what stands behind derives the token. It may be wrong.
-#[derive(Drop)]
-pub(crate) struct Trace<S> {
-    pub items: Vec<(PIdx<S>, SIdx<S>)>,
-    pub steps: Vec<PIdx<S>>,
-}
-
-/// Whether the token is the symbol after the innermost dot.
-fn shifts<S: IndexStorage>(grm: &NumberedGrammar<S>, opened: &Opened<S>, wanted: TIdx<S>) -> bool
-    ensures { IsTrue result → IsNext grm.now.grammar (S.number opened.now.pidx.0) (S.number opened.now.dot.0) (token (S.number wanted.0)) }
+/// Whether the token is the symbol after the dot.
+fn shifts<S: IndexStorage>(
+    grm: &NumberedGrammar<S>,
+    pidx: PIdx<S>,
+    dot: SIdx<S>,
+    wanted: TIdx<S>,
+) -> bool
+    ensures { IsTrue result → IsNext grm.now.grammar (S.number pidx.0) (S.number dot.0) (token (S.number wanted.0)) }
 {
-    match symbol_after(grm, opened.pidx, opened.dot) {
+    match symbol_after(grm, pidx, dot) {
         Some(Symbol::Token(tidx)) => tidx.0.to_usize() == wanted.0.to_usize(),
         Some(Symbol::Rule(_)) => false,
         None => false,
     }
 }
 
-/// Whether the innermost production is this one, complete, and not that of the start.
-fn reduces<S: IndexStorage>(grm: &NumberedGrammar<S>, opened: &Opened<S>, pidx: PIdx<S>) -> bool
-    ensures production { IsTrue result → S.number opened.now.pidx.0 ≡ S.number pidx.0 }
-    ensures other { IsTrue result → S.number pidx.0 ≢ grm.now.grammar.start }
-    ensures complete { IsTrue result → S.number opened.now.dot.0 ≡ length (body_of grm.now.grammar (S.number pidx.0)) }
+/// Whether this is the wanted production, complete, and not that of the start.
+fn reduces<S: IndexStorage>(
+    grm: &NumberedGrammar<S>,
+    pidx: PIdx<S>,
+    dot: SIdx<S>,
+    wanted: PIdx<S>,
+) -> bool
+    ensures production { IsTrue result → S.number pidx.0 ≡ S.number wanted.0 }
+    ensures other { IsTrue result → S.number wanted.0 ≢ grm.now.grammar.start }
+    ensures complete { IsTrue result → S.number dot.0 ≡ length (body_of grm.now.grammar (S.number wanted.0)) }
 {
-    if !has_production(grm, pidx) {
+    if !has_production(grm, wanted) {
         return false;
     }
-    if pidx.0.to_usize() == grm.start_prod().0.to_usize() {
+    if wanted.0.to_usize() == grm.start_prod().0.to_usize() {
         return false;
     }
-    if opened.pidx.0.to_usize() != pidx.0.to_usize() {
+    if pidx.0.to_usize() != wanted.0.to_usize() {
         return false;
     }
-    opened.dot.0.to_usize() == grm.prod(pidx).len()
+    dot.0.to_usize() == grm.prod(wanted).len()
 }
 
-/// Whether the innermost production is that of the start, complete.
-fn accepts<S: IndexStorage>(grm: &NumberedGrammar<S>, opened: &Opened<S>) -> bool
-    ensures production { IsTrue result → S.number opened.now.pidx.0 ≡ grm.now.grammar.start }
-    ensures complete { IsTrue result → S.number opened.now.dot.0 ≡ length (body_of grm.now.grammar grm.now.grammar.start) }
+/// Whether this is the production of the start, complete.
+fn accepts<S: IndexStorage>(grm: &NumberedGrammar<S>, pidx: PIdx<S>, dot: SIdx<S>) -> bool
+    ensures production { IsTrue result → S.number pidx.0 ≡ grm.now.grammar.start }
+    ensures complete { IsTrue result → S.number dot.0 ≡ length (body_of grm.now.grammar grm.now.grammar.start) }
 {
     let start = grm.start_prod();
-    if opened.pidx.0.to_usize() != start.0.to_usize() {
+    if pidx.0.to_usize() != start.0.to_usize() {
         return false;
     }
-    opened.dot.0.to_usize() == grm.prod(start).len()
+    dot.0.to_usize() == grm.prod(start).len()
 }
 
-/// What is shown by these forms, with the innermost production put behind the others.
+/// What is shown by these forms after what is open.
 fn closed<S: IndexStorage>(
-    outer: Vec<(PIdx<S>, SIdx<S>)>,
-    innermost: (PIdx<S>, SIdx<S>),
-    symbols: Vec<Symbol<S>>,
+    alloc: Global,
+    opened: &Opened<S>,
     forms: Vec<Vec<Symbol<S>>>,
 ) -> Result<Part<S>, AllocError>
-    ensures symbols { IfOk result (λ x. x.symbols ≡ symbols) }
-    ensures spine { IfOk result (λ x. spine_of S.number x.shown.spine.items ≡ open_item S.number innermost ∷ spine_of S.number outer.items) }
+    ensures symbols { IfOk result (λ x. x.symbols.items ≡ opened.now.symbols.items) }
+    ensures spine { IfOk result (λ x. x.shown.spine.items ≡ opened.now.items.items) }
     ensures forms { IfOk result (λ x. x.shown.forms ≡ forms) }
 {
-    let mut spine = outer;
-    spine.push(innermost)?;
+    let symbols = Vec::from_slice(alloc, opened.symbols.as_slice())?;
+    let spine = Vec::from_slice(alloc, opened.items.as_slice())?;
     Ok(Part {
         symbols,
         shown: ActionExample { spine, forms },
     })
 }
 
-/// What is shown of a shift of the token. None where the trace doesn't show it.
+/// What is shown of a shift of the token. None where what is open doesn't show it.
 pub(crate) fn shown_shift<S: IndexStorage>(
     alloc: Global,
     grm: &NumberedGrammar<S>,
-    trace: &Trace<S>,
+    opened: &Opened<S>,
     token: TIdx<S>,
 ) -> Result<Option<Part<S>>, AllocError>
+    requires { IsOpen S.number grm.now.grammar opened.now }
     ensures { IfOk result (λ o. IfSome o (PartShows S.number grm.now.grammar (S.number token.0) shift)) }
 {
-    let Some(opened) = open_all(alloc, grm, trace.items.as_slice())? else {
+    let Some((pidx, dot)) = innermost(opened.items.as_slice()) else {
         return Ok(None);
     };
-    if !shifts(grm, &opened, token) {
+    if !shifts(grm, pidx, dot, token) {
         return Ok(None);
     }
-    let Opened {
-        outer,
-        pidx,
-        dot,
-        symbols,
-        rest: _,
-    } = opened;
-    let part = closed(outer, (pidx, dot), symbols, Vec::new(alloc))?;
+    let part = closed(alloc, opened, Vec::new(alloc))?;
     Ok(Some(part))
 }
 
-/// What is shown of the end of a text. None where the trace doesn't show it.
+/// What is shown of the end of a text. None where what is open doesn't show it.
 pub(crate) fn shown_accept<S: IndexStorage>(
     alloc: Global,
     grm: &NumberedGrammar<S>,
-    trace: &Trace<S>,
+    opened: &Opened<S>,
 ) -> Result<Option<Part<S>>, AllocError>
+    requires { IsOpen S.number grm.now.grammar opened.now }
     ensures { IfOk result (λ o. IfSome o (PartShows S.number grm.now.grammar (end_token grm.now.grammar) accept)) }
 {
-    let Some(opened) = open_all(alloc, grm, trace.items.as_slice())? else {
+    let Some((pidx, dot)) = innermost(opened.items.as_slice()) else {
         return Ok(None);
     };
-    if !accepts(grm, &opened) {
+    if !accepts(grm, pidx, dot) {
         return Ok(None);
     }
-    let Opened {
-        outer,
-        pidx,
-        dot,
-        symbols,
-        rest: _,
-    } = opened;
-    let part = closed(outer, (pidx, dot), symbols, Vec::new(alloc))?;
+    let part = closed(alloc, opened, Vec::new(alloc))?;
     Ok(Some(part))
 }
 
-/// What is shown of a reduction on the token. None where the trace doesn't show it.
+/// The symbols with the last one first.
+fn turned<S: IndexStorage>(
+    alloc: Global,
+    symbols: &[Symbol<S>],
+) -> Result<Vec<Symbol<S>>, AllocError>
+    ensures { IfOk result (λ v. syms_of S.number v.items ≡ reverse (syms_of S.number symbols.now)) }
+{
+    let mut turned = Vec::new(alloc);
+    push_turned(symbols, &mut turned)?;
+    Ok(turned)
+}
+
+/// What is shown of a reduction on the token, by productions one after the other in the place of the first symbol of what stands
+/// behind. None where what is open and these don't show it.
 pub(crate) fn shown_reduce<S: IndexStorage>(
     alloc: Global,
     grm: &NumberedGrammar<S>,
-    trace: &Trace<S>,
+    opened: &Opened<S>,
+    steps: &[PIdx<S>],
     token: TIdx<S>,
     production: PIdx<S>,
 ) -> Result<Option<Part<S>>, AllocError>
+    requires { IsOpen S.number grm.now.grammar opened.now }
     ensures { IfOk result (λ o. IfSome o (PartShows S.number grm.now.grammar (S.number token.0) (reduce (S.number production.0)))) }
 {
-    let Some(opened) = open_all(alloc, grm, trace.items.as_slice())? else {
+    let Some((pidx, dot)) = innermost(opened.items.as_slice()) else {
         return Ok(None);
     };
-    if !reduces(grm, &opened, production) {
+    if !reduces(grm, pidx, dot, production) {
         return Ok(None);
     }
-    let Opened {
-        outer,
-        pidx,
-        dot,
-        symbols,
-        rest,
-    } = opened;
-    let Some(forms) = forms_to(alloc, grm, rest, trace.steps.as_slice(), token)? else {
+    let rest = turned(alloc, opened.rest.as_slice())?;
+    let Some(forms) = forms_to(alloc, grm, rest, steps, token)? else {
         return Ok(None);
     };
-    let part = closed(outer, (pidx, dot), symbols, forms)?;
+    let part = closed(alloc, opened, forms)?;
     Ok(Some(part))
 }
 

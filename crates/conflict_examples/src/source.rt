@@ -1,8 +1,9 @@
-//! What a search for one token reads.
+//! What a search for one token reads of the grammar and the graph: the lookaheads of items, the items before a rule, and whether
+//! the token may stand behind that rule. It may be wrong, since an example is checked.
 
 ghost use Rattle.std.specs.Prelude.{◌<◌, length, IsTrue, IfSome};
 
-use crate::reading::{has_production, symbol_after, symbols_before};
+use crate::reading::{has_production, symbol_after, symbols_before, symbols_behind};
 use crate::shown::same_symbol;
 use crate::tables::{Start, Tables};
 use cfg_base::index::IndexStorage;
@@ -11,7 +12,7 @@ use cfg_numbered::yacc::NumberedGrammar;
 use lrtable::Itemset;
 use lrtable::stategraph::StateGraph;
 use lrtable::stidx::StIdx;
-use std::alloc::AllocError;
+use std::alloc::{AllocError, Global};
 use std::cmp::Ordering;
 
 /// The grammar, its graph, and the token.
@@ -42,37 +43,21 @@ fn index_of<S: IndexStorage>(set: &Itemset<S>, pidx: PIdx<S>, dot: SIdx<S>) -> O
     None
 }
 
-/// Lists which of the places are items of the set.
-fn list_places<S: IndexStorage>(
-    set: &Itemset<S>,
-    places: &[(PIdx<S>, SIdx<S>)],
-    found: &mut Vec<(PIdx<S>, SIdx<S>)>,
-) -> Result<(), AllocError> {
-    'places: for index in 0..places.len() {
-        let (pidx, dot) = places[index];
-        if index_of(set, pidx, dot).is_some() {
-            found.push((pidx, dot))?;
-        }
-    }
-    Ok(())
+/// An item before a rule: its index in its state, and what stands behind the rule.
+#[derive(Clone, Copy)]
+pub(crate) struct Outer<S> {
+    pub pidx: PIdx<S>,
+    pub dot: SIdx<S>,
+    pub index: usize,
+    pub rest: Rest,
 }
 
-/// Lists the items of the set with the symbol after their dot.
-fn list_items<S: IndexStorage>(
-    grm: &NumberedGrammar<S>,
-    set: &Itemset<S>,
-    symbol: Symbol<S>,
-    found: &mut Vec<(PIdx<S>, SIdx<S>)>,
-) -> Result<(), AllocError> {
-    'items: for index in 0..set.len() {
-        let (pidx, dot) = set.item_at(index);
-        if let Some(after) = symbol_after(grm, pidx, dot) {
-            if same_symbol(after, symbol) {
-                found.push((pidx, dot))?;
-            }
-        }
-    }
-    Ok(())
+/// Nothing, symbols that may all vanish, or others.
+#[derive(Clone, Copy)]
+pub(crate) enum Rest {
+    Empty,
+    Vanishes,
+    Stays,
 }
 
 impl<'a, S: IndexStorage> Source<'a, S> {
@@ -81,23 +66,136 @@ impl<'a, S: IndexStorage> Source<'a, S> {
         if !self.graph.has_state(stidx) {
             return false;
         }
-        let set = self.graph.closed_state(stidx);
-        let Some(index) = index_of(set, pidx, dot) else {
+        match index_of(self.graph.closed_state(stidx), pidx, dot) {
+            Some(index) => self.has_look_at(stidx, index),
+            None => false,
+        }
+    }
+
+    /// Whether the token is among the lookaheads of the production in the state with its dot at the end.
+    pub(crate) fn may_reduce(&self, stidx: StIdx<S>, pidx: PIdx<S>) -> bool {
+        if !has_production(self.grm, pidx) {
             return false;
-        };
+        }
+        self.has_look(stidx, pidx, self.grm.prod_len(pidx))
+    }
+
+    /// Whether the token is among the lookaheads of the item at an index of the state.
+    fn has_look_at(&self, stidx: StIdx<S>, index: usize) -> bool {
+        if !self.graph.has_state(stidx) {
+            return false;
+        }
+        let set = self.graph.closed_state(stidx);
+        if index >= set.len() {
+            return false;
+        }
         let looks = set.looks_at(index);
         looks.get(self.token.0.to_usize()).unwrap_or(false)
     }
 
-    /// The items of the state with the symbol after their dot, in place of what the list holds. Of the state's items and the
-    /// places of the symbol those are gone through that are fewer.
-    pub(crate) fn items_before(
+    /// How what stands behind the rule after the dot of an item of the state goes on, and whether the token may stand behind
+    /// that.
+    pub(crate) fn start_behind(&self, stidx: StIdx<S>, outer: &Outer<S>) -> Start {
+        match outer.rest {
+            Rest::Empty => Start {
+                has: false,
+                vanishes: self.has_look_at(stidx, outer.index),
+            },
+            Rest::Vanishes => {
+                let has = self.follows(outer);
+                let vanishes = !has && self.has_look_at(stidx, outer.index);
+                Start { has, vanishes }
+            }
+            Rest::Stays => Start {
+                has: self.follows(outer),
+                vanishes: false,
+            },
+        }
+    }
+
+    /// Whether the token may follow the rule after the dot at once.
+    pub(crate) fn follows(&self, outer: &Outer<S>) -> bool {
+        match outer.rest {
+            Rest::Empty => false,
+            _ => self.rest_start(outer.pidx, outer.dot).has,
+        }
+    }
+
+    /// What stands behind the symbol after the dot.
+    fn rest_of(&self, pidx: PIdx<S>, dot: SIdx<S>) -> Rest {
+        if !has_production(self.grm, pidx) {
+            return Rest::Stays;
+        }
+        let rest = symbols_behind(self.grm.prod(pidx), dot.0.to_usize());
+        if rest.is_empty() {
+            Rest::Empty
+        } else if self.tables.all_vanish(rest) {
+            Rest::Vanishes
+        } else {
+            Rest::Stays
+        }
+    }
+
+    /// Lists which of the places are items of the set.
+    fn list_places(
+        &self,
+        set: &Itemset<S>,
+        places: &[(PIdx<S>, SIdx<S>)],
+        found: &mut Vec<Outer<S>>,
+    ) -> Result<(), AllocError> {
+        'places: for k in 0..places.len() {
+            let (pidx, dot) = places[k];
+            if let Some(index) = index_of(set, pidx, dot) {
+                let rest = self.rest_of(pidx, dot);
+                found.push(Outer {
+                    pidx,
+                    dot,
+                    index,
+                    rest,
+                })?;
+            }
+        }
+        Ok(())
+    }
+
+    /// Lists the items of the set with the symbol after their dot.
+    fn list_items(
+        &self,
+        set: &Itemset<S>,
+        symbol: Symbol<S>,
+        found: &mut Vec<Outer<S>>,
+    ) -> Result<(), AllocError> {
+        'items: for index in 0..set.len() {
+            let (pidx, dot) = set.item_at(index);
+            if self.stands_before(pidx, dot, symbol) {
+                let rest = self.rest_of(pidx, dot);
+                found.push(Outer {
+                    pidx,
+                    dot,
+                    index,
+                    rest,
+                })?;
+            }
+        }
+        Ok(())
+    }
+
+    /// Whether the dot stands before the symbol.
+    fn stands_before(&self, pidx: PIdx<S>, dot: SIdx<S>, symbol: Symbol<S>) -> bool {
+        match symbol_after(self.grm, pidx, dot) {
+            Some(after) => same_symbol(after, symbol),
+            None => false,
+        }
+    }
+
+    /// Adds the items of the state with the symbol after their dot. Of the state's items and the places of the symbol those
+    /// are gone through that are fewer.
+    pub(crate) fn list_before(
         &self,
         stidx: StIdx<S>,
         symbol: Symbol<S>,
-        found: &mut Vec<(PIdx<S>, SIdx<S>)>,
+        found: &mut Vec<Outer<S>>,
     ) -> Result<(), AllocError> {
-        found.clear();
         if !self.graph.has_state(stidx) {
             return Ok(());
         }
@@ -106,16 +204,39 @@ impl<'a, S: IndexStorage> Source<'a, S> {
             return Ok(());
         };
         if places.len() <= set.len() / 4 {
-            list_places(set, places, found)
+            self.list_places(set, places, found)
         } else {
-            list_items(self.grm, set, symbol, found)
+            self.list_items(set, symbol, found)
         }
+    }
+
+    /// The first item of the state before the token.
+    pub(crate) fn item_before_token(
+        &self,
+        alloc: Global,
+        stidx: StIdx<S>,
+    ) -> Result<Option<(PIdx<S>, SIdx<S>)>, AllocError> {
+        let mut found = Vec::new(alloc);
+        self.list_before(stidx, Symbol::Token(self.token), &mut found)?;
+        if found.is_empty() {
+            return Ok(None);
+        }
+        let Outer { pidx, dot, .. } = found[0];
+        Ok(Some((pidx, dot)))
     }
 
     /// How what stands behind the rule after the dot begins.
     pub(crate) fn rest_start(&self, pidx: PIdx<S>, dot: SIdx<S>) -> Start {
         self.tables
             .rest_start(self.grm, pidx, dot.0.to_usize(), self.token)
+    }
+
+    /// Whether the symbol vanishes.
+    pub(crate) fn vanishes(&self, symbol: Symbol<S>) -> bool {
+        match symbol {
+            Symbol::Rule(ridx) => self.tables.vanishing(ridx).is_some(),
+            Symbol::Token(_) => false,
+        }
     }
 
     /// Whether the production is there, and all symbols before the dot vanish.

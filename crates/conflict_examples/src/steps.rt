@@ -1,9 +1,11 @@
-//! Finds the productions by which a list derives one that begins with a token, each put in the place of the first symbol.
+//! Finds the productions by which a list derives one that begins with a token, each put in the place of the first symbol. The
+//! lists have their first symbol last.
 
-use crate::reading::{has_production, symbol_after};
+use crate::opened::push_turned;
+use crate::reading::has_production;
 use crate::source::Source;
 use cfg_base::index::IndexStorage;
-use cfg_base::symbol::{PIdx, RIdx, SIdx, Symbol};
+use cfg_base::symbol::{PIdx, RIdx, Symbol};
 use cfg_numbered::yacc::NumberedGrammar;
 use std::alloc::{AllocError, Global};
 
@@ -17,13 +19,18 @@ struct Ways {
     ranks: Vec<usize>,
 }
 
-/// Where the token comes from in a list: the index of a symbol before which all may vanish, and how many productions are
+/// Where the token comes from in a list: how many symbols stand before, which may all vanish, and how many productions are
 /// needed there.
 #[derive(Clone, Copy)]
 struct Origin {
     index: usize,
     rank: usize,
 }
+
+const NOWHERE: Origin = Origin {
+    index: 0,
+    rank: usize::MAX,
+};
 
 impl Ways {
     /// How many productions a symbol needs to begin with the token; `usize::MAX` where it doesn't.
@@ -58,7 +65,7 @@ impl Ways {
         'prods: for k in 0..prods.len() {
             let pidx = prods[k];
             if has_production(source.grm, pidx) {
-                let origin = self.origin(source, source.grm.prod(pidx));
+                let origin = self.origin_in(source, source.grm.prod(pidx));
                 if origin.rank < rank {
                     return Some(pidx);
                 }
@@ -67,22 +74,46 @@ impl Ways {
         None
     }
 
-    /// The origin of the least rank.
-    fn origin<'a, S: IndexStorage>(&self, source: &Source<'a, S>, symbols: &[Symbol<S>]) -> Origin {
-        let mut best = Origin {
-            index: 0,
-            rank: usize::MAX,
-        };
+    /// The better of an origin and that of a symbol at an index.
+    fn better<'a, S: IndexStorage>(
+        &self,
+        source: &Source<'a, S>,
+        best: Origin,
+        symbol: Symbol<S>,
+        index: usize,
+    ) -> Origin {
+        let rank = self.rank(source, symbol);
+        if rank < best.rank {
+            Origin { index, rank }
+        } else {
+            best
+        }
+    }
+
+    /// The origin of the least rank in a production.
+    fn origin_in<'a, S: IndexStorage>(
+        &self,
+        source: &Source<'a, S>,
+        symbols: &[Symbol<S>],
+    ) -> Origin {
+        let mut best = NOWHERE;
         'symbols: for index in 0..symbols.len() {
-            let rank = self.rank(source, symbols[index]);
-            if rank < best.rank {
-                best = Origin { index, rank };
+            let symbol = symbols[index];
+            best = self.better(source, best, symbol, index);
+            if !source.vanishes(symbol) {
+                return best;
             }
-            if !source
-                .tables
-                .symbol_start(symbols[index], source.token)
-                .vanishes
-            {
+        }
+        best
+    }
+
+    /// The origin of the least rank in a list that has its first symbol last.
+    fn origin<'a, S: IndexStorage>(&self, source: &Source<'a, S>, form: &[Symbol<S>]) -> Origin {
+        let mut best = NOWHERE;
+        'symbols: for index in 0..form.len() {
+            let symbol = form[form.len() - 1 - index];
+            best = self.better(source, best, symbol, index);
+            if !source.vanishes(symbol) {
                 return best;
             }
         }
@@ -163,37 +194,12 @@ fn ways_for<'a, S: IndexStorage>(
     Ok(ways)
 }
 
-/// What stands behind the innermost production of these.
-pub(crate) fn behind<S: IndexStorage>(
-    alloc: Global,
-    grm: &NumberedGrammar<S>,
-    items: &[(PIdx<S>, SIdx<S>)],
-) -> Result<Vec<Symbol<S>>, AllocError> {
-    let mut rest = Vec::new(alloc);
-    'items: for back in 1..items.len() {
-        let (pidx, dot) = items[items.len() - 1 - back];
-        if symbol_after(grm, pidx, dot).is_some() {
-            push_rest(grm, pidx, dot.0.to_usize(), &mut rest)?;
-        }
+/// The first symbol of a list that has it last.
+pub(crate) fn first_of<S: IndexStorage>(form: &[Symbol<S>]) -> Option<Symbol<S>> {
+    if form.is_empty() {
+        return None;
     }
-    Ok(rest)
-}
-
-/// Puts the symbols behind the one after the dot to the end.
-fn push_rest<S: IndexStorage>(
-    grm: &NumberedGrammar<S>,
-    pidx: PIdx<S>,
-    dot: usize,
-    rest: &mut Vec<Symbol<S>>,
-) -> Result<(), AllocError> {
-    if !has_production(grm, pidx) {
-        return Ok(());
-    }
-    let body = grm.prod(pidx);
-    if dot < body.len() {
-        rest.extend_from_slice(&body[dot + 1..])?;
-    }
-    Ok(())
+    Some(form[form.len() - 1])
 }
 
 /// The production that is to be put in the place of the first symbol, if one is.
@@ -202,48 +208,28 @@ fn next_step<'a, S: IndexStorage>(
     ways: &Ways,
     form: &[Symbol<S>],
 ) -> Option<PIdx<S>> {
-    if form.is_empty() {
+    let Symbol::Rule(ridx) = first_of(form)? else {
         return None;
-    }
+    };
     let origin = ways.origin(source, form);
-    match form[0] {
-        Symbol::Rule(ridx) => {
-            if origin.index == 0 && origin.rank < usize::MAX {
-                ways.way(source, ridx)
-            } else {
-                source.tables.vanishing(ridx)
-            }
-        }
-        Symbol::Token(_) => None,
+    if origin.index == 0 && origin.rank < usize::MAX {
+        ways.way(source, ridx)
+    } else {
+        source.tables.vanishing(ridx)
     }
 }
 
-/// The production, and the form behind its first symbol.
-pub(crate) fn after_step<S: IndexStorage>(
-    alloc: Global,
+/// Puts the production in the place of the first symbol.
+pub(crate) fn step<S: IndexStorage>(
     grm: &NumberedGrammar<S>,
     pidx: PIdx<S>,
-    form: &[Symbol<S>],
-) -> Result<Vec<Symbol<S>>, AllocError> {
-    let mut next = Vec::new(alloc);
-    if has_production(grm, pidx) {
-        next.extend_from_slice(grm.prod(pidx))?;
+    form: &mut Vec<Symbol<S>>,
+) -> Result<(), AllocError> {
+    let _first = form.pop();
+    if !has_production(grm, pidx) {
+        return Ok(());
     }
-    if !form.is_empty() {
-        next.extend_from_slice(&form[1..])?;
-    }
-    Ok(next)
-}
-
-/// Whether a rule stands first in a form.
-fn begins_with_rule<S: IndexStorage>(form: &[Symbol<S>]) -> bool {
-    if form.is_empty() {
-        return false;
-    }
-    match form[0] {
-        Symbol::Rule(_) => true,
-        Symbol::Token(_) => false,
-    }
+    push_turned(grm.prod(pidx), form)
 }
 
 /// The productions by which what stands behind the innermost production comes to begin with the token, or to be empty. They don't
@@ -251,25 +237,25 @@ fn begins_with_rule<S: IndexStorage>(form: &[Symbol<S>]) -> bool {
 pub(crate) fn steps_behind<'a, S: IndexStorage>(
     alloc: Global,
     source: &Source<'a, S>,
-    items: &[(PIdx<S>, SIdx<S>)],
+    rest: &[Symbol<S>],
 ) -> Result<Vec<PIdx<S>>, AllocError> {
     let mut steps = Vec::new(alloc);
-    let mut form = behind(alloc, source.grm, items)?;
-    if !begins_with_rule(form.as_slice()) {
+    let Some(Symbol::Rule(_)) = first_of(rest) else {
         return Ok(steps);
-    }
-    let ways = ways_for(alloc, source, form.as_slice())?;
+    };
+    let ways = ways_for(alloc, source, rest)?;
+    let mut form = Vec::from_slice(alloc, rest)?;
     let mut left = MOST_SYMBOLS;
     'steps: for _ in 0..usize::MAX {
         let Some(pidx) = next_step(source, &ways, form.as_slice()) else {
             return Ok(steps);
         };
-        let Some(rest) = left.checked_sub(form.len()) else {
+        let Some(less) = left.checked_sub(form.len()) else {
             return Ok(steps);
         };
-        left = rest;
+        left = less;
         steps.push(pidx)?;
-        form = after_step(alloc, source.grm, pidx, form.as_slice())?;
+        step(source.grm, pidx, &mut form)?;
     }
     Ok(steps)
 }

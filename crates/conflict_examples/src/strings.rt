@@ -1,16 +1,18 @@
-//! Searches backwards for a string after which complete items have a token for a lookahead: over the states, each with the
-//! items there that still need it, those that are fewer steps away first. An item past dot nought goes back over an edge. An
-//! item at dot nought is replaced by one before whose rule it stands, which needs the token only where what follows the rule
-//! may be empty. When nothing is needed, a shortest string to that state is put before.
-//!
-//! What is put waits for as many steps as there are edges to go back to dot nought, and goes back over them when nothing else
-//! is as near. So where many states lead to one it goes over the first alone, if that one serves, and what it comes to is what
-//! it would be if each step were put.
+//! Searches backwards for a string after which complete items have a token for a lookahead. A visit is a state with the items
+//! there that need the token. An item past dot nought goes back over an edge; one at dot nought is replaced by an item before
+//! whose rule it stands, which needs the token only where what follows the rule may be empty, and two items of one rule are
+//! replaced together. Each of both is a step, and what is fewer steps away is gone on with first. Where nothing is needed any
+//! more a shortest string to the state is put before. The items that came in the place of others are the productions that are
+//! open around them. Steps are saved, and what is found stays the same: a visit waits for as many steps as there are edges to
+//! go back to dot nought, and goes back over all of them then; one that comes to the way of the last search for the token
+//! waits for the steps that are left there, and ends the search; and one that would come behind such an end is dropped.
 
+use crate::groups::{Groups, is_later};
 use crate::reading::has_production;
-use crate::source::Source;
+use crate::source::{Outer, Source};
+use crate::way::{Mark, Way};
 use cfg_base::index::IndexStorage;
-use cfg_base::symbol::{PIdx, RIdx, SIdx, Symbol};
+use cfg_base::symbol::{PIdx, RIdx, SIdx};
 use lrtable::stidx::StIdx;
 use std::alloc::{AllocError, Global};
 use std::collections::BTreeSet;
@@ -19,26 +21,54 @@ use std::mem;
 /// An item that needs the token.
 pub type Need<S> = Option<(PIdx<S>, SIdx<S>)>;
 
-/// The numbers of a state, of a rule whose items at dot nought were replaced there, and of the item that needs the token
-/// beside it; `usize::MAX` where there is none. The last tells whether that one is the first of the two.
-type Key = (usize, usize, usize, usize, bool);
+/// The number of a group whose items were replaced, and the numbers of the item that needs the token beside it. The last tells
+/// whether the replaced one is the first of the two.
+type Key = (usize, usize, usize, bool);
 
-/// A state that was come to, with what is needed there, the visit from which it was come to, and whether an edge was gone
-/// back over.
+/// A state that was come to, with what is needed there, and the visit from which it was come to: over an edge, or by an item
+/// in the place of the first, the second or both.
 #[derive(Clone, Copy)]
-struct Visit<S> {
-    stidx: StIdx<S>,
+pub(crate) struct Visit<S> {
+    pub stidx: StIdx<S>,
     first: Need<S>,
     second: Need<S>,
-    from: usize,
-    over: bool,
+    pub from: usize,
+    pub over: bool,
+    pub in_first: bool,
+    pub in_second: bool,
+    pub outer: Need<S>,
+    pub met: Met,
 }
 
-/// A visit that waits, and for how many steps more.
+/// The group of the items that were replaced at a visit, where nothing else was needed beside them, and at which step that was.
+#[derive(Clone, Copy)]
+pub(crate) struct Met {
+    pub group: usize,
+    pub step: usize,
+}
+
+const NOT_MET: Met = Met {
+    group: usize::MAX,
+    step: 0,
+};
+
+/// A visit that waits, and for how many steps more; and whether the search ends with it then, on the way of the last one.
 #[derive(Clone, Copy)]
 struct Wait {
     index: usize,
     steps: usize,
+    ends: bool,
+}
+
+/// Where a search ended: at which visit and step, and at which group of the last way, if it came to that, with the first need,
+/// the second or both.
+#[derive(Clone, Copy)]
+pub(crate) struct End {
+    pub index: usize,
+    pub step: usize,
+    pub mark: Option<Mark>,
+    pub in_first: bool,
+    pub in_second: bool,
 }
 
 /// A visit on the way back from one that waited, and the next of the edges that lead to its state.
@@ -48,22 +78,33 @@ struct Step {
     next: usize,
 }
 
-/// The visits so far, those that wait for the next step, the way back from one of these, what was replaced, and the visit
-/// where nothing is needed, if there is one.
-#[derive(Drop)]
-struct Visits<S> {
-    list: Vec<Visit<S>>,
-    later: Vec<Wait>,
-    way: Vec<Step>,
-    seen: BTreeSet<Key>,
-    done: Option<usize>,
+/// Which of the items of a visit are replaced, of which rule they are, and what is needed beside them.
+#[derive(Clone, Copy)]
+struct Place<S> {
+    index: usize,
+    in_first: bool,
+    in_second: bool,
+    pidx: PIdx<S>,
+    ridx: RIdx<S>,
+    beside: Need<S>,
 }
 
-fn numbers_of<S: IndexStorage>(need: Need<S>) -> (usize, usize) {
-    match need {
-        Some((pidx, dot)) => (pidx.0.to_usize(), dot.0.to_usize()),
-        None => (usize::MAX, usize::MAX),
-    }
+/// The visits so far; those that are gone on with, those that wait for later steps and the fewest steps that one of these
+/// waits for; the edges that are gone back over from a visit; what was replaced beside another need; how many steps were gone;
+/// the step at which one that waits on the way of the last search ends this one, and whether that one stands before the one
+/// that is gone on with; and the end, if there is one.
+#[derive(Drop)]
+pub(crate) struct Visits<S> {
+    list: Vec<Visit<S>>,
+    now: Vec<Wait>,
+    later: Vec<Wait>,
+    least: usize,
+    trail: Vec<Step>,
+    seen: BTreeSet<Key>,
+    step: usize,
+    nearest_end: usize,
+    end_passed: bool,
+    done: Option<End>,
 }
 
 /// How many edges are to be gone back to dot nought; `usize::MAX` where nothing is needed.
@@ -99,47 +140,88 @@ fn are_held<'a, S: IndexStorage>(source: &Source<'a, S>, visit: &Visit<S>) -> bo
     is_held(source, visit.stidx, visit.first) && is_held(source, visit.stidx, visit.second)
 }
 
-/// Whether the first of the two items is at dot nought.
-fn is_first_at_nought<S: IndexStorage>(visit: &Visit<S>) -> bool {
-    edges_to_nought(visit.first) == 0
-}
-
-/// The production of the item at dot nought: of the first, if that is one, else of the second.
-fn needed_at_nought<S: IndexStorage>(visit: &Visit<S>) -> Option<PIdx<S>> {
-    let need = if is_first_at_nought(visit) {
-        visit.first
-    } else {
-        visit.second
-    };
-    let (pidx, _) = need?;
-    Some(pidx)
-}
-
-/// What tells the items of a rule at dot nought in a state, beside what is needed too.
-fn key_of<S: IndexStorage>(visit: &Visit<S>, ridx: RIdx<S>) -> Key {
-    let at_first = is_first_at_nought(visit);
-    let beside = if at_first { visit.second } else { visit.first };
-    let (number, dot) = numbers_of(beside);
-    let stidx = visit.stidx.0.to_usize();
-    (stidx, ridx.0.to_usize(), number, dot, at_first)
-}
-
-/// A visit with another need in the place of that of the item at dot nought.
-fn replaced<S: IndexStorage>(visit: &Visit<S>, from: usize, need: Need<S>) -> Visit<S> {
-    let over = false;
-    let stidx = visit.stidx;
-    let (first, second) = if is_first_at_nought(visit) {
-        (need, visit.second)
-    } else {
-        (visit.first, need)
-    };
-    Visit {
-        stidx,
-        first,
-        second,
-        from,
-        over,
+/// The rule of an item, if that is at dot nought.
+fn rule_at_nought<'a, S: IndexStorage>(
+    source: &Source<'a, S>,
+    need: Need<S>,
+) -> Option<(PIdx<S>, RIdx<S>)> {
+    let (pidx, dot) = need?;
+    if dot.0.to_usize() > 0 || !has_production(source.grm, pidx) {
+        return None;
     }
+    Some((pidx, source.grm.prod_to_rule(pidx)))
+}
+
+/// Whether both are there and of one rule.
+fn are_of_one_rule<S: IndexStorage>(
+    first: Option<(PIdx<S>, RIdx<S>)>,
+    second: Option<(PIdx<S>, RIdx<S>)>,
+) -> bool {
+    match (first, second) {
+        (Some((_, one)), Some((_, other))) => one.0.to_usize() == other.0.to_usize(),
+        _ => false,
+    }
+}
+
+/// What is replaced at a visit: the item at dot nought; if both are, both where they are of one rule, or else the first, unless
+/// it has just come in the place of another. So two that come to one rule within a state are replaced together from there on.
+fn place_at<'a, S: IndexStorage>(
+    source: &Source<'a, S>,
+    visit: &Visit<S>,
+    index: usize,
+) -> Option<Place<S>> {
+    let first = rule_at_nought(source, visit.first);
+    let second = rule_at_nought(source, visit.second);
+    let both = are_of_one_rule(first, second);
+    let turn = second.is_some() && visit.in_first && !visit.in_second;
+    let in_first = both || (first.is_some() && !turn);
+    let in_second = both || !in_first;
+    let (pidx, ridx) = if in_first { first? } else { second? };
+    let beside = match (in_first, in_second) {
+        (true, true) => None,
+        (true, false) => visit.second,
+        _ => visit.first,
+    };
+    Some(Place {
+        index,
+        in_first,
+        in_second,
+        pidx,
+        ridx,
+        beside,
+    })
+}
+
+/// A visit with another need in the place of what is replaced, as the item around gives it.
+fn replaced<S: IndexStorage>(
+    visit: &Visit<S>,
+    place: &Place<S>,
+    need: Need<S>,
+    outer: Need<S>,
+) -> Visit<S> {
+    Visit {
+        stidx: visit.stidx,
+        first: if place.in_first { need } else { visit.first },
+        second: if place.in_second { need } else { visit.second },
+        from: place.index,
+        over: false,
+        in_first: place.in_first,
+        in_second: place.in_second,
+        outer,
+        met: NOT_MET,
+    }
+}
+
+/// Of the items that the token follows at once the first of those with the largest dot.
+fn first_before<'a, S: IndexStorage>(source: &Source<'a, S>, items: &[Outer<S>]) -> Need<S> {
+    let mut best: Need<S> = None;
+    'items: for k in 0..items.len() {
+        let Outer { pidx, dot, .. } = items[k];
+        if source.follows(&items[k]) && is_later(best, dot) {
+            best = Some((pidx, dot));
+        }
+    }
+    best
 }
 
 impl<S: IndexStorage> Visits<S> {
@@ -149,23 +231,59 @@ impl<S: IndexStorage> Visits<S> {
         let index = self.list.len();
         self.list.push(visit)?;
         if visit.first.is_none() && visit.second.is_none() {
-            self.done = Some(index);
+            self.done = Some(End {
+                index,
+                step: self.step,
+                mark: None,
+                in_first: false,
+                in_second: false,
+            });
             return Ok(());
         }
-        let steps = edges_back(&visit);
-        self.later.push(Wait { index, steps })?;
+        self.wait(index, edges_back(&visit), false)
+    }
+
+    fn wait(&mut self, index: usize, steps: usize, ends: bool) -> Result<(), AllocError> {
+        self.least = self.least.min(steps);
+        self.later.push(Wait { index, steps, ends })?;
+        let end = self.step.saturating_add(steps).saturating_add(1);
+        if ends && end <= self.nearest_end {
+            self.nearest_end = end;
+            self.end_passed = true;
+        }
         Ok(())
     }
 
-    /// Puts a visit on the way back, if the state has its items with the token.
-    fn step_to<'a>(&mut self, source: &Source<'a, S>, visit: Visit<S>) -> Result<(), AllocError> {
-        if !are_held(source, &visit) {
-            return Ok(());
+    /// Whether what is so many steps away from its end comes behind one that waits for its own.
+    fn is_late(&self, bound: usize) -> bool {
+        let end = self.step.saturating_add(bound);
+        end > self.nearest_end || (end == self.nearest_end && self.end_passed)
+    }
+
+    /// Notes how far the end is from the groups that the search came to, at least.
+    pub(crate) fn bound(&self, groups: &mut Groups<S>, end: End) {
+        'visits: for visit in &self.list {
+            let Met { group, step } = visit.met;
+            groups.put_bound(group, end.step.saturating_sub(step));
         }
-        let index = self.list.len();
-        self.list.push(visit)?;
-        self.way.push(Step { index, next: 0 })?;
-        Ok(())
+    }
+
+    /// Ends at a visit on the way of the last search.
+    fn end<'a>(&mut self, source: &Source<'a, S>, groups: &Groups<S>, way: &Way, index: usize) {
+        if index >= self.list.len() {
+            return;
+        }
+        let visit = self.list[index];
+        let Some(place) = place_at(source, &visit, index) else {
+            return;
+        };
+        self.done = Some(End {
+            index,
+            step: self.step,
+            mark: way.mark(groups, visit.met.group, place.in_first, place.in_second),
+            in_first: place.in_first,
+            in_second: place.in_second,
+        });
     }
 
     /// Goes back over the next of the edges that lead to a state on the way, or gives the way up there.
@@ -181,7 +299,7 @@ impl<S: IndexStorage> Visits<S> {
         if next >= edges.len() {
             return Ok(());
         }
-        self.way.push(Step {
+        self.trail.push(Step {
             index,
             next: next.saturating_add(1),
         })?;
@@ -191,8 +309,18 @@ impl<S: IndexStorage> Visits<S> {
             second: moved_back(visit.second),
             from: index,
             over: true,
+            in_first: false,
+            in_second: false,
+            outer: None,
+            met: NOT_MET,
         };
-        self.step_to(source, before)
+        if !are_held(source, &before) {
+            return Ok(());
+        }
+        let index = self.list.len();
+        self.list.push(before)?;
+        self.trail.push(Step { index, next: 0 })?;
+        Ok(())
     }
 
     /// Goes back from a visit over so many edges, and replaces what is at dot nought there.
@@ -200,21 +328,23 @@ impl<S: IndexStorage> Visits<S> {
         &mut self,
         alloc: Global,
         source: &Source<'a, S>,
+        groups: &mut Groups<S>,
+        last: &Way,
         index: usize,
     ) -> Result<(), AllocError> {
         if index >= self.list.len() {
             return Ok(());
         }
         let edges = edges_back(&self.list[index]);
-        self.way.clear();
-        self.way.push(Step { index, next: 0 })?;
+        self.trail.clear();
+        self.trail.push(Step { index, next: 0 })?;
         'steps: for _ in 0..usize::MAX {
-            let gone = self.way.len();
-            let Some(step) = self.way.pop() else {
+            let gone = self.trail.len();
+            let Some(step) = self.trail.pop() else {
                 return Ok(());
             };
             if gone > edges {
-                self.go_out(alloc, source, step.index)?;
+                self.go_out(alloc, source, groups, last, step.index)?;
             } else {
                 self.step_back(source, step)?;
             }
@@ -230,74 +360,93 @@ impl<S: IndexStorage> Visits<S> {
         &mut self,
         alloc: Global,
         source: &Source<'a, S>,
+        groups: &mut Groups<S>,
+        last: &Way,
         index: usize,
     ) -> Result<(), AllocError> {
         if index >= self.list.len() {
             return Ok(());
         }
         let visit = self.list[index];
-        let Some(pidx) = needed_at_nought(&visit) else {
+        let Some(place) = place_at(source, &visit, index) else {
             return Ok(());
         };
-        if !has_production(source.grm, pidx) {
+        let group = groups.group(alloc, source, visit.stidx, place.ridx)?;
+        if !self.is_new(groups, group, &place)? {
             return Ok(());
         }
-        let ridx = source.grm.prod_to_rule(pidx);
-        if !self.seen.insert(key_of(&visit, ridx))? {
+        if !self.goes_on(source, groups, last, group, &place)? {
             return Ok(());
         }
-        if source.is_start(pidx) {
-            return self.put_end(source, &visit, index);
+        if source.is_start(place.pidx) {
+            if source.is_end() {
+                self.put(replaced(&visit, &place, None, None))?;
+            }
+            return Ok(());
         }
-        self.put_outer(alloc, source, &visit, index, ridx)
+        self.put_each(source, &visit, &place, groups.items(group))
     }
 
-    /// Where the item is that of the start, the end token alone may follow.
-    fn put_end<'a>(
+    /// Whether nothing of the group was replaced yet beside what is needed too.
+    fn is_new(
+        &mut self,
+        groups: &mut Groups<S>,
+        group: usize,
+        place: &Place<S>,
+    ) -> Result<bool, AllocError> {
+        let Some((pidx, dot)) = place.beside else {
+            return Ok(groups.meet(group));
+        };
+        let key = (group, pidx.0.to_usize(), dot.0.to_usize(), place.in_first);
+        let added = self.seen.insert(key)?;
+        Ok(added)
+    }
+
+    /// Notes of which group the items are, where nothing else is needed, and tells whether these are to be put: not where they
+    /// wait for the end of the last way, or come behind such a one.
+    fn goes_on<'a>(
         &mut self,
         source: &Source<'a, S>,
-        visit: &Visit<S>,
-        index: usize,
-    ) -> Result<(), AllocError> {
-        if source.is_end() {
-            self.put(replaced(visit, index, None))?;
+        groups: &mut Groups<S>,
+        last: &Way,
+        group: usize,
+        place: &Place<S>,
+    ) -> Result<bool, AllocError> {
+        if place.beside.is_some() || place.index >= self.list.len() {
+            return Ok(true);
         }
-        Ok(())
+        let step = self.step;
+        self.list[place.index].met = Met { group, step };
+        let Some(mark) = last.mark(groups, group, place.in_first, place.in_second) else {
+            return Ok(!self.is_late(groups.bound(group)));
+        };
+        match mark.to_end.checked_sub(1) {
+            Some(steps) => self.wait(place.index, steps, true)?,
+            None => self.end(source, groups, last, place.index),
+        }
+        Ok(false)
     }
 
-    /// Puts the items before whose rule those of the rule stand.
-    fn put_outer<'a>(
-        &mut self,
-        alloc: Global,
-        source: &Source<'a, S>,
-        visit: &Visit<S>,
-        index: usize,
-        ridx: RIdx<S>,
-    ) -> Result<(), AllocError> {
-        let mut outer = Vec::new(alloc);
-        source.items_before(visit.stidx, Symbol::Rule(ridx), &mut outer)?;
-        self.put_each(source, visit, index, outer.as_slice())
-    }
-
-    /// Puts each of these items in the place of the one at dot nought, and nothing in it where the token follows at once.
+    /// Puts each of these items in the place of what is at dot nought, and nothing in it where the token follows at once.
     fn put_each<'a>(
         &mut self,
         source: &Source<'a, S>,
         visit: &Visit<S>,
-        index: usize,
-        outer: &[(PIdx<S>, SIdx<S>)],
+        place: &Place<S>,
+        outer: &[Outer<S>],
     ) -> Result<(), AllocError> {
         let mut follows = false;
         'outer: for k in 0..outer.len() {
-            let (pidx, dot) = outer[k];
-            let rest = source.rest_start(pidx, dot);
-            if rest.has {
+            let start = source.start_behind(visit.stidx, &outer[k]);
+            if start.has {
                 if !follows {
-                    self.put(replaced(visit, index, None))?;
+                    let item = first_before(source, outer);
+                    self.put(replaced(visit, place, None, item))?;
                 }
                 follows = true;
-            } else if rest.vanishes && source.has_look(visit.stidx, pidx, dot) {
-                self.put(replaced(visit, index, Some((pidx, dot))))?;
+            } else if start.vanishes {
+                let item = Some((outer[k].pidx, outer[k].dot));
+                self.put(replaced(visit, place, item, item))?;
             }
             if self.done.is_some() {
                 return Ok(());
@@ -306,22 +455,45 @@ impl<S: IndexStorage> Visits<S> {
         Ok(())
     }
 
-    /// Goes on with those that waited, in their order.
+    /// Goes on with one that waited, or has it wait on, where so many steps are passed over.
+    fn go_on_with<'a>(
+        &mut self,
+        alloc: Global,
+        source: &Source<'a, S>,
+        groups: &mut Groups<S>,
+        last: &Way,
+        wait: Wait,
+        passed: usize,
+    ) -> Result<(), AllocError> {
+        let Wait { index, steps, ends } = wait;
+        if steps > passed {
+            return self.wait(index, steps - passed - 1, ends);
+        }
+        if ends {
+            self.end(source, groups, last, index);
+            return Ok(());
+        }
+        self.go_back(alloc, source, groups, last, index)
+    }
+
+    /// Goes on with those that waited, in their order. The steps for which all wait are passed over.
     fn go_on<'a>(
         &mut self,
         alloc: Global,
         source: &Source<'a, S>,
-        waited: &[Wait],
+        groups: &mut Groups<S>,
+        last: &Way,
     ) -> Result<(), AllocError> {
-        'waited: for k in 0..waited.len() {
-            let Wait { index, steps } = waited[k];
-            if steps > 0 {
-                self.later.push(Wait {
-                    index,
-                    steps: steps - 1,
-                })?;
-            } else {
-                self.go_back(alloc, source, index)?;
+        mem::swap(&mut self.now, &mut self.later);
+        self.later.clear();
+        let passed = self.least;
+        self.least = usize::MAX;
+        self.step = self.step.saturating_add(passed).saturating_add(1);
+        self.end_passed = false;
+        'waits: for k in 0..self.now.len() {
+            if k < self.now.len() {
+                let wait = self.now[k];
+                self.go_on_with(alloc, source, groups, last, wait, passed)?;
             }
             if self.done.is_some() {
                 return Ok(());
@@ -329,92 +501,80 @@ impl<S: IndexStorage> Visits<S> {
         }
         Ok(())
     }
-}
 
-/// The states that a shortest string to a state goes through, the start state first.
-fn shortest_to<'a, S: IndexStorage>(
-    alloc: Global,
-    source: &Source<'a, S>,
-    stidx: StIdx<S>,
-) -> Result<Vec<StIdx<S>>, AllocError> {
-    let mut states = Vec::new(alloc);
-    let start = source.graph.start_state().0.to_usize();
-    let mut at = stidx;
-    'edges: for _ in 0..source.graph.all_states_len().0.to_usize() {
-        states.push(at)?;
-        if at.0.to_usize() == start {
-            break 'edges;
-        }
-        let Some(from) = source.tables.before(at) else {
-            break 'edges;
-        };
-        at = from;
-    }
-    states.as_mut_slice().reverse();
-    Ok(states)
-}
-
-/// The states that a shortest string to the state of a visit goes through, and those from there to the first visit.
-fn states_from<'a, S: IndexStorage>(
-    alloc: Global,
-    source: &Source<'a, S>,
-    visits: &[Visit<S>],
-    index: usize,
-) -> Result<Vec<StIdx<S>>, AllocError> {
-    let mut states = Vec::new(alloc);
-    let mut at = index;
-    'visits: for _ in 0..visits.len() {
-        if at < visits.len() {
-            let from = visits[at].from;
-            if states.is_empty() {
-                states = shortest_to(alloc, source, visits[at].stidx)?;
-            }
-            if visits[at].over && from < visits.len() {
-                states.push(visits[from].stidx)?;
-            }
-            at = from;
+    pub(crate) fn new(alloc: Global) -> Visits<S> {
+        Visits {
+            list: Vec::new(alloc),
+            now: Vec::new(alloc),
+            later: Vec::new(alloc),
+            least: usize::MAX,
+            trail: Vec::new(alloc),
+            seen: BTreeSet::new(alloc),
+            step: 0,
+            nearest_end: usize::MAX,
+            end_passed: false,
+            done: None,
         }
     }
-    Ok(states)
+
+    fn clear(&mut self, alloc: Global) {
+        self.list.clear();
+        self.now.clear();
+        self.later.clear();
+        self.least = usize::MAX;
+        self.seen = BTreeSet::new(alloc);
+        self.step = 0;
+        self.nearest_end = usize::MAX;
+        self.end_passed = false;
+        self.done = None;
+    }
+
+    /// The visit at an index.
+    pub(crate) fn at(&self, index: usize) -> Option<Visit<S>> {
+        if index >= self.list.len() {
+            return None;
+        }
+        Some(self.list[index])
+    }
+
+    pub(crate) fn len(&self) -> usize {
+        self.list.len()
+    }
+
+    /// Searches for a string to the state after which the items there have the token for a lookahead, and tells where that
+    /// ended.
+    pub(crate) fn search<'a>(
+        &mut self,
+        alloc: Global,
+        source: &Source<'a, S>,
+        groups: &mut Groups<S>,
+        last: &Way,
+        start: Visit<S>,
+    ) -> Result<Option<End>, AllocError> {
+        self.clear(alloc);
+        groups.begin();
+        self.put(start)?;
+        'steps: for _ in 0..usize::MAX {
+            if self.done.is_some() || self.later.is_empty() {
+                return Ok(self.done);
+            }
+            self.go_on(alloc, source, groups, last)?;
+        }
+        Ok(None)
+    }
 }
 
-/// The states that a string to the state goes through, the start state first, after which the items there have the token for
-/// a lookahead.
-pub(crate) fn states_to<'a, S: IndexStorage>(
-    alloc: Global,
-    source: &Source<'a, S>,
-    stidx: StIdx<S>,
-    first: Need<S>,
-    second: Need<S>,
-) -> Result<Option<Vec<StIdx<S>>>, AllocError> {
-    let start = Visit {
+/// The first visit of a search for a string to the state.
+pub(crate) fn start<S: IndexStorage>(stidx: StIdx<S>, first: Need<S>, second: Need<S>) -> Visit<S> {
+    Visit {
         stidx,
         first,
         second,
         from: usize::MAX,
         over: false,
-    };
-    if !are_held(source, &start) {
-        return Ok(None);
+        in_first: false,
+        in_second: false,
+        outer: None,
+        met: NOT_MET,
     }
-    let mut visits = Visits {
-        list: Vec::new(alloc),
-        later: Vec::new(alloc),
-        way: Vec::new(alloc),
-        seen: BTreeSet::new(alloc),
-        done: None,
-    };
-    visits.put(start)?;
-    'steps: for _ in 0..usize::MAX {
-        if let Some(index) = visits.done {
-            let states = states_from(alloc, source, visits.list.as_slice(), index)?;
-            return Ok(Some(states));
-        }
-        if visits.later.is_empty() {
-            return Ok(None);
-        }
-        let waited = mem::replace(&mut visits.later, Vec::new(alloc));
-        visits.go_on(alloc, source, waited.as_slice())?;
-    }
-    Ok(None)
 }

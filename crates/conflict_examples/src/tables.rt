@@ -11,15 +11,22 @@ use std::alloc::{AllocError, Global};
 use vob::Vob;
 
 /// For each rule the tokens that it begins with and a production by which it vanishes, if there is one; for each symbol where
-/// it stands; for each state those from which an edge leads to it, and the last but one of those that a shortest string to it
-/// goes through.
+/// it stands; for each state those from which an edge leads to it, and a shortest string to it.
 #[derive(Drop)]
 pub(crate) struct Tables<S> {
     pub places: Places<S>,
     firsts: Vec<Vob>,
     vanishing: Vec<Option<PIdx<S>>>,
     back: Vec<Vec<StIdx<S>>>,
+    shortest: Shortest<S>,
+}
+
+/// For each state the last but one of those that a shortest string to it goes through, and how long that string is;
+/// `usize::MAX` where none leads there. For the start state it is the start state itself.
+#[derive(Drop)]
+struct Shortest<S> {
     before: Vec<Option<StIdx<S>>>,
+    lengths: Vec<usize>,
 }
 
 /// How a list goes on: whether the token begins it, and whether it may be empty.
@@ -148,11 +155,34 @@ fn states_back<S: IndexStorage>(
     Ok(back)
 }
 
+/// The number at an index, or `usize::MAX` past the end.
+fn number_at(list: &[usize], index: usize) -> usize {
+    if index >= list.len() {
+        return usize::MAX;
+    }
+    list[index]
+}
+
+impl<S: IndexStorage> Shortest<S> {
+    /// Notes that a shortest string to a state is one longer than one to another, and tells whether none was known.
+    fn note(&mut self, target: StIdx<S>, from: StIdx<S>) -> bool {
+        let number = target.0.to_usize();
+        if !put_first(self.before.as_mut_slice(), number, from) {
+            return false;
+        }
+        let length = number_at(self.lengths.as_slice(), from.0.to_usize());
+        if number < self.lengths.len() {
+            self.lengths[number] = length.saturating_add(1);
+        }
+        true
+    }
+}
+
 /// Notes a state with those not met before that its edges lead to, which wait in their turn.
 fn go_on<S: IndexStorage>(
     graph: &StateGraph<S>,
     from: StIdx<S>,
-    before: &mut [Option<StIdx<S>>],
+    shortest: &mut Shortest<S>,
     waiting: &mut Vec<StIdx<S>>,
 ) -> Result<(), AllocError> {
     if !graph.has_state(from) {
@@ -161,30 +191,38 @@ fn go_on<S: IndexStorage>(
     let edges = graph.edges(from);
     'edges: for k in 0..edges.len() {
         let (_, target) = edges[k];
-        if put_first(before, target.0.to_usize(), from) {
+        if shortest.note(target, from) {
             waiting.push(target)?;
         }
     }
     Ok(())
 }
 
-/// For each state the last but one of those that a shortest string to it goes through. The start state may have one too.
-fn shortest<S: IndexStorage>(
+/// A shortest string to each state.
+fn shortest_strings<S: IndexStorage>(
     alloc: Global,
     graph: &StateGraph<S>,
-) -> Result<Vec<Option<StIdx<S>>>, AllocError> {
+) -> Result<Shortest<S>, AllocError> {
     let states = graph.all_states_len().0.to_usize();
     let mut before = Vec::new(alloc);
     before.resize(states, None)?;
+    let mut lengths = Vec::new(alloc);
+    lengths.resize(states, usize::MAX)?;
+    let mut shortest = Shortest { before, lengths };
+    let start = graph.start_state();
     let mut waiting = Vec::new(alloc);
-    waiting.push(graph.start_state())?;
+    waiting.push(start)?;
+    shortest.note(start, start);
+    if start.0.to_usize() < shortest.lengths.len() {
+        shortest.lengths[start.0.to_usize()] = 0;
+    }
     'states: for index in 0..states {
         if index < waiting.len() {
             let from = waiting[index];
-            go_on(graph, from, before.as_mut_slice(), &mut waiting)?;
+            go_on(graph, from, &mut shortest, &mut waiting)?;
         }
     }
-    Ok(before)
+    Ok(shortest)
 }
 
 impl<S: IndexStorage> Tables<S> {
@@ -199,7 +237,7 @@ impl<S: IndexStorage> Tables<S> {
             firsts: first_sets(alloc, grm)?,
             vanishing: vanishing_by(alloc, grm)?,
             back: states_back(alloc, graph)?,
-            before: shortest(alloc, graph)?,
+            shortest: shortest_strings(alloc, graph)?,
         })
     }
 
@@ -269,7 +307,12 @@ impl<S: IndexStorage> Tables<S> {
 
     /// The last but one of the states that a shortest string to the state goes through.
     pub(crate) fn before(&self, stidx: StIdx<S>) -> Option<StIdx<S>> {
-        entry(self.before.as_slice(), stidx.0.to_usize())
+        entry(self.shortest.before.as_slice(), stidx.0.to_usize())
+    }
+
+    /// How long a shortest string to the state is; `usize::MAX` where none leads there.
+    pub(crate) fn length(&self, stidx: StIdx<S>) -> usize {
+        number_at(self.shortest.lengths.as_slice(), stidx.0.to_usize())
     }
 
     /// Whether all symbols are rules that vanish.

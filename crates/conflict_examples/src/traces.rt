@@ -1,13 +1,12 @@
 //! Where the searches come to for a conflict. It may be wrong: an example is checked.
 
-use crate::along::items_along;
+use crate::checked::Spines;
+use crate::kept::{Kept, Path};
 use crate::reading::has_production;
-use crate::shown::Trace;
 use crate::source::Source;
-use crate::steps::steps_behind;
-use crate::strings::states_to;
+use crate::strings::start;
 use cfg_base::index::IndexStorage;
-use cfg_base::symbol::{PIdx, SIdx, Symbol};
+use cfg_base::symbol::{PIdx, SIdx};
 use lrtable::stidx::StIdx;
 use std::alloc::{AllocError, Global};
 
@@ -22,87 +21,51 @@ fn complete<'a, S: IndexStorage>(
     Some((pidx, source.grm.prod_len(pidx)))
 }
 
-/// A reduction after a string that goes through these states.
-fn reduce_trace<'a, S: IndexStorage>(
+/// The productions that are to be open for a shift and for a reduction after one string to the state, which is kept.
+pub(crate) fn shift_paths<'a, S: IndexStorage>(
     alloc: Global,
     source: &Source<'a, S>,
-    states: &[StIdx<S>],
-    pidx: PIdx<S>,
-    dot: SIdx<S>,
-) -> Result<Option<Trace<S>>, AllocError> {
-    let Some(items) = items_along(alloc, source, states, pidx, dot, true)? else {
-        return Ok(None);
-    };
-    let steps = steps_behind(alloc, source, items.as_slice())?;
-    Ok(Some(Trace { items, steps }))
-}
-
-/// A shift after a string that goes through these states to the last one.
-fn shift_trace<'a, S: IndexStorage>(
-    alloc: Global,
-    source: &Source<'a, S>,
-    states: &[StIdx<S>],
-    stidx: StIdx<S>,
-) -> Result<Option<Trace<S>>, AllocError> {
-    let mut before = Vec::new(alloc);
-    source.items_before(stidx, Symbol::Token(source.token), &mut before)?;
-    'items: for k in 0..before.len() {
-        let (pidx, dot) = before[k];
-        let items = items_along(alloc, source, states, pidx, dot, false)?;
-        if let Some(items) = items {
-            let steps = Vec::new(alloc);
-            return Ok(Some(Trace { items, steps }));
-        }
-    }
-    Ok(None)
-}
-
-/// Where a shift and a reduction are shown after one string to the state.
-pub(crate) fn shift_traces<'a, S: IndexStorage>(
-    alloc: Global,
-    source: &Source<'a, S>,
+    kept: &mut Kept<S>,
+    spines: &Spines<S>,
     production: PIdx<S>,
     stidx: StIdx<S>,
-) -> Result<Option<(Trace<S>, Trace<S>)>, AllocError> {
-    let Some((pidx, dot)) = complete(source, production) else {
+) -> Result<Option<(Path<S>, Path<S>)>, AllocError> {
+    let Some(second) = complete(source, production) else {
         return Ok(None);
     };
-    let Some(states) = states_to(alloc, source, stidx, Some((pidx, dot)), None)? else {
+    let Some(first) = source.item_before_token(alloc, stidx)? else {
         return Ok(None);
     };
-    let Some(first) = shift_trace(alloc, source, states.as_slice(), stidx)? else {
+    let visit = start(stidx, None, Some(second));
+    let Some(ends) = kept.search(alloc, source, visit)? else {
         return Ok(None);
     };
-    let Some(second) = reduce_trace(alloc, source, states.as_slice(), pidx, dot)? else {
-        return Ok(None);
-    };
-    Ok(Some((first, second)))
+    let one = ends.first.turned(kept, first)?;
+    let other = ends.second.turned(kept, second)?;
+    kept.paths(alloc, source, spines, one, other)
 }
 
-/// Where two reductions are shown after one string to the state.
-pub(crate) fn pair_traces<'a, S: IndexStorage>(
+/// The productions that are to be open for two reductions after one string to the state, which is kept.
+pub(crate) fn pair_paths<'a, S: IndexStorage>(
     alloc: Global,
     source: &Source<'a, S>,
+    kept: &mut Kept<S>,
+    spines: &Spines<S>,
     first: PIdx<S>,
     second: PIdx<S>,
     stidx: StIdx<S>,
-) -> Result<Option<(Trace<S>, Trace<S>)>, AllocError> {
-    let Some((first, dot)) = complete(source, first) else {
+) -> Result<Option<(Path<S>, Path<S>)>, AllocError> {
+    let Some(first) = complete(source, first) else {
         return Ok(None);
     };
-    let Some((second, other_dot)) = complete(source, second) else {
+    let Some(second) = complete(source, second) else {
         return Ok(None);
     };
-    let one = Some((first, dot));
-    let other = Some((second, other_dot));
-    let Some(states) = states_to(alloc, source, stidx, one, other)? else {
+    let visit = start(stidx, Some(first), Some(second));
+    let Some(ends) = kept.search(alloc, source, visit)? else {
         return Ok(None);
     };
-    let Some(one) = reduce_trace(alloc, source, states.as_slice(), first, dot)? else {
-        return Ok(None);
-    };
-    let Some(other) = reduce_trace(alloc, source, states.as_slice(), second, other_dot)? else {
-        return Ok(None);
-    };
-    Ok(Some((one, other)))
+    let one = ends.first.turned(kept, first)?;
+    let other = ends.second.turned(kept, second)?;
+    kept.paths(alloc, source, spines, one, other)
 }

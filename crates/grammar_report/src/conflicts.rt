@@ -14,7 +14,7 @@ fn push_shift(
     text: &mut String,
     formatter: &SpannedDiagnosticFormatter<'_>,
     kit: &ParserKit<u32>,
-    finder: &ExampleFinder<'_, u32>,
+    finder: &mut ExampleFinder<'_, u32>,
     entry: &(TIdx<u32>, PIdx<u32>, StIdx<u32>),
 ) -> Result<(), AllocError> {
     if !kit.grm().has_prod(entry.1) {
@@ -31,7 +31,7 @@ fn push_pair(
     text: &mut String,
     formatter: &SpannedDiagnosticFormatter<'_>,
     grm: &Grammar,
-    finder: &ExampleFinder<'_, u32>,
+    finder: &mut ExampleFinder<'_, u32>,
     entry: &(TIdx<u32>, PIdx<u32>, PIdx<u32>, StIdx<u32>),
 ) -> Result<(), AllocError> {
     if !grm.has_prod(entry.1) {
@@ -51,7 +51,7 @@ fn push_shifts(
     text: &mut String,
     formatter: &SpannedDiagnosticFormatter<'_>,
     kit: &ParserKit<u32>,
-    finder: &ExampleFinder<'_, u32>,
+    finder: &mut ExampleFinder<'_, u32>,
     conflicts: &Conflicts<u32>,
 ) -> Result<(), AllocError> {
     'entries: for entry in conflicts.sr_conflicts() {
@@ -65,7 +65,7 @@ fn push_pairs(
     text: &mut String,
     formatter: &SpannedDiagnosticFormatter<'_>,
     grm: &Grammar,
-    finder: &ExampleFinder<'_, u32>,
+    finder: &mut ExampleFinder<'_, u32>,
     conflicts: &Conflicts<u32>,
 ) -> Result<(), AllocError> {
     'entries: for entry in conflicts.rr_conflicts() {
@@ -80,7 +80,7 @@ fn push_listed(
     text: &mut String,
     formatter: &SpannedDiagnosticFormatter<'_>,
     kit: &ParserKit<u32>,
-    finder: &ExampleFinder<'_, u32>,
+    finder: &mut ExampleFinder<'_, u32>,
     conflicts: &Conflicts<u32>,
 ) -> Result<(), AllocError> {
     push_pairs(alloc, text, formatter, kit.grm(), finder, conflicts)?;
@@ -97,8 +97,8 @@ pub(crate) fn push_conflicts(
     let Some(conflicts) = kit.conflicts() else {
         return Ok(());
     };
-    let finder = ExampleFinder::new(alloc, kit.grm(), kit.sgraph())?;
-    let pushed = push_listed(alloc, text, formatter, kit, &finder, conflicts);
+    let mut finder = ExampleFinder::new(alloc, kit.grm(), kit.sgraph())?;
+    let pushed = push_listed(alloc, text, formatter, kit, &mut finder, conflicts);
     drop(finder);
     pushed
 }

@@ -1,4 +1,4 @@
-use Rattle.std.proofs.Common.{arith, ◌≡◌, ℕ, ◌++◌, take, ap, ◌∙◌}
+use Rattle.std.proofs.Common.{arith, ◌≡◌, ℕ, take, ap, ◌∙◌}
 use Rattle.cfg_numbered.specs.Symbols.{sym_of}
 use Rattle.conflict_examples.specs.ExampleViews.{open_item}
 use Rattle.conflict_examples.proofs.Openings.{start_kept}
@@ -8,6 +8,6 @@ pub returns : goal.returns
 returns g c =
     let number = g.S.IndexStorage.number in
     let body = c.prod-body.result.now in
-    start_kept (open_item number) (sym_of number) c.args.grm.now.grammar (open_item number (c.start_prod-pidx.result, c.args.dot)) c.new.result.items c.new-symbols.result.items c.extend_from_slice.new.self.items c.new-2.result.items body
-    c.start_prod-pidx.ensures.value c.prod-body.ensures (grind (arith, c.if-index-body.false, c.to_usize-index.ensures.value)) c.new.ensures.items c.new-2.ensures.items c.new-symbols.ensures.items
-    (c.in_ok-extend_from_slice.ensures.items ∙ ap (λ l. c.new-symbols.result.items ++ l) (c.symbols_before.ensures ∙ ap (λ k. take k body) c.to_usize-index.ensures.value))
+    start_kept (open_item number) (sym_of number) c.args.grm.now.grammar (c.start_prod-pidx.result, c.args.dot) c.new-items.result.items c.push-2.new.self.items c.in_ok-symbols.symbols.items c.new.result.items body
+    c.start_prod-pidx.ensures.value c.prod-body.ensures (grind (arith, c.if-index-body.false, c.to_usize-index.ensures.value)) c.new-items.ensures.items c.in_ok-push-2.ensures.items c.new.ensures.items
+    (c.in_ok-symbols.ensures.items ∙ c.symbols_before.ensures ∙ ap (λ k. take k body) c.to_usize-index.ensures.value)

@@ -1,19 +1,21 @@
-use Rattle.std.proofs.Common.{◌≡◌, ℕ, map, reverse, refl, sym, subst}
-use Rattle.cfg_numbered.specs.Symbols.{syms_of}
-use Rattle.conflict_examples.specs.ExampleViews.{open_item, spine_of, shown_of}
-use Rattle.conflict_examples.specs.Opening.{IsOpened, opened_spine, AreFormsTo}
-use Rattle.conflict_examples.proofs.Shows.{shows_reduce}
+use Rattle.std.proofs.Common.{◌≡◌, ℕ, map, reverse, refl, sym, ap, ◌∙◌, subst}
+use Rattle.cfg_numbered.specs.Symbols.{sym_of, syms_of}
+use Rattle.conflict_examples.specs.ExampleViews.{open_item}
+use Rattle.conflict_examples.specs.Opening.{AreFormsTo}
+use Rattle.conflict_examples.proofs.Shows.{kept_reduce}
 use Rattle.conflict_examples.proofs.shown.shown_reduce.Goals as goal
 
 pub returns : goal.returns
 returns g c =
     let number = g.S.IndexStorage.number in
     let G = c.args.grm.now.grammar in
-    let o = c.in-Some.opened in
+    let o = c.args.opened.now in
     let part = c.in_ok-part.part in
-    let open_part : IsOpened G (opened_spine number o) (reverse (syms_of number part.symbols.items)) (syms_of number o.rest.items) =
-    subst (λ v. IsOpened G (opened_spine number o) (reverse (syms_of number v.items)) (syms_of number o.rest.items)) (sym c.in_ok-part.ensures.symbols) (rw c.in-Some.is at c.in_ok-opened.ensures) in
-    let forms : AreFormsTo G (number c.args.token.0) (syms_of number o.rest.items) (map (λ x. syms_of number x.items) part.shown.forms.items) =
-    subst (λ v. AreFormsTo G (number c.args.token.0) (syms_of number o.rest.items) (map (λ x. syms_of number x.items) v.items)) (sym c.in_ok-part.ensures.forms) (rw c.in-Some-2.is at c.in_ok-forms.ensures) in
-    shows_reduce G (number c.args.token.0) (number c.args.production.0) (open_item number (o.pidx, o.dot)) (spine_of number o.outer.items) (reverse (syms_of number part.symbols.items)) (syms_of number o.rest.items) (shown_of number part.shown)
-    open_part c.in_ok-part.ensures.spine (c.if-not-reduces.ensures.production refl) (c.if-not-reduces.ensures.other refl) (c.if-not-reduces.ensures.complete refl) forms
+    let inner = rw c.as_slice.ensures.value at c.in-Some.ensures in
+    let rest : syms_of number c.in_ok-rest.rest.items ≡ reverse (syms_of number o.rest.items) = rw c.as_slice-2.ensures.value at c.in_ok-rest.ensures in
+    let one : AreFormsTo G (number c.args.token.0) (reverse (syms_of number o.rest.items)) (map (λ l. syms_of number l.items) c.in-Some-2.forms.items) =
+    subst (λ a. AreFormsTo G (number c.args.token.0) a (map (λ l. syms_of number l.items) c.in-Some-2.forms.items)) rest (rw c.in-Some-2.is at c.in_ok-forms.ensures) in
+    let forms : AreFormsTo G (number c.args.token.0) (reverse (syms_of number o.rest.items)) (map (λ l. syms_of number l.items) part.shown.forms.items) =
+    subst (λ v. AreFormsTo G (number c.args.token.0) (reverse (syms_of number o.rest.items)) (map (λ l. syms_of number l.items) v.items)) (sym c.in_ok-part.ensures.forms) one in
+    kept_reduce (open_item number) (sym_of number) G (number c.args.token.0) (c.in-Some.pidx, c.in-Some.dot) inner.outer o.items.items part.shown.spine.items o.symbols.items part.symbols.items o.rest.items (map (λ l. syms_of number l.items) part.shown.forms.items)
+    inner.is c.requires c.in_ok-part.ensures.spine c.in_ok-part.ensures.symbols (number c.args.production.0) (c.if-not-reduces.ensures.production refl) (c.if-not-reduces.ensures.other refl) (c.if-not-reduces.ensures.complete refl) forms

@@ -1,17 +1,15 @@
-use Rattle.std.proofs.Common.{◌≡◌, ℕ, map, reverse, refl, sym, ap, ◌∙◌, subst}
-use Rattle.cfg_numbered.specs.Symbols.{syms_of}
-use Rattle.conflict_examples.specs.ExampleViews.{open_item, spine_of, shown_of}
-use Rattle.conflict_examples.specs.Opening.{IsOpened, opened_spine}
-use Rattle.conflict_examples.proofs.Shows.{shows_shift}
+use Rattle.std.proofs.Common.{◌≡◌, ℕ, map, refl, ap, ◌∙◌}
+use Rattle.cfg_numbered.specs.Symbols.{sym_of, syms_of}
+use Rattle.conflict_examples.specs.ExampleViews.{open_item}
+use Rattle.conflict_examples.proofs.Shows.{kept_shift}
 use Rattle.conflict_examples.proofs.shown.shown_shift.Goals as goal
 
 pub returns : goal.returns
 returns g c =
     let number = g.S.IndexStorage.number in
-    let G = c.args.grm.now.grammar in
-    let o = c.in-Some.opened in
+    let o = c.args.opened.now in
     let part = c.in_ok-part.part in
-    let open_part : IsOpened G (opened_spine number o) (reverse (syms_of number part.symbols.items)) (syms_of number o.rest.items) =
-    subst (λ v. IsOpened G (opened_spine number o) (reverse (syms_of number v.items)) (syms_of number o.rest.items)) (sym c.in_ok-part.ensures.symbols) (rw c.in-Some.is at c.in_ok-opened.ensures) in
-    shows_shift G (number c.args.token.0) (open_item number (o.pidx, o.dot)) (spine_of number o.outer.items) (reverse (syms_of number part.symbols.items)) (syms_of number o.rest.items) (shown_of number part.shown)
-    open_part c.in_ok-part.ensures.spine (ap (λ v. map (λ x. syms_of number x.items) v.items) c.in_ok-part.ensures.forms ∙ ap (map (λ x. syms_of number x.items)) c.new.ensures.items) (c.if-not-shifts.ensures refl)
+    let inner = rw c.as_slice.ensures.value at c.in-Some.ensures in
+    let none = ap (λ v. map (λ l. syms_of number l.items) v.items) c.in_ok-part.ensures.forms ∙ ap (map (λ l. syms_of number l.items)) c.new.ensures.items in
+    kept_shift (open_item number) (sym_of number) c.args.grm.now.grammar (number c.args.token.0) (c.in-Some.pidx, c.in-Some.dot) inner.outer o.items.items part.shown.spine.items o.symbols.items part.symbols.items o.rest.items (map (λ l. syms_of number l.items) part.shown.forms.items)
+    inner.is c.requires c.in_ok-part.ensures.spine c.in_ok-part.ensures.symbols none (c.if-not-shifts.ensures refl)

@@ -1,0 +1,465 @@
+//! What a search leaves for the next one: the string that was found, the way to it, and how many of the productions that are open
+//! after it are its way out, which depends on states and rules alone. A search for the same token may end on that way, and a way
+//! out may go over to what is open. What is found so depends on the grammar, its graph and what is asked alone: of what was kept
+//! only that is taken which would be found again.
+
+use crate::checked::Spines;
+use crate::groups::Groups;
+use crate::opened::Opened;
+use crate::reading::has_production;
+use crate::source::Source;
+use crate::strings::{End, Met, Visit, Visits};
+use crate::way::{Mark, Way};
+use cfg_base::index::IndexStorage;
+use cfg_base::symbol::{PIdx, SIdx};
+use lrtable::stidx::StIdx;
+use std::alloc::{AllocError, Global};
+use std::mem;
+
+/// Productions that are open for a need with their dots, the innermost first; behind how many symbols of the string the dot of
+/// the outermost one stands; and how many of those that are open already are around it, if it is within these.
+#[derive(Drop)]
+pub(crate) struct Chain<S> {
+    pub items: Vec<(PIdx<S>, SIdx<S>)>,
+    pub place: usize,
+    pub around: Option<usize>,
+}
+
+/// The items that are open for each need, as far as they were read; how many steps the search took, and the visit that is read
+/// next.
+#[derive(Drop)]
+pub(crate) struct Ends<S> {
+    pub first: Chain<S>,
+    pub second: Chain<S>,
+    steps: usize,
+    next: usize,
+}
+
+/// What the searches for all conflicts keep: the items before rules; the last search and the way that it came on; the states
+/// that its string goes through, of which the first `shortest` are those of a shortest string and the first `common` those of
+/// the one before too; how many of the productions that are open after it for either action, from that of the start in, are the
+/// way out from the next one; and whether all that is whole.
+#[derive(Drop)]
+pub(crate) struct Kept<S> {
+    groups: Groups<S>,
+    visits: Visits<S>,
+    way: Way,
+    states: Vec<StIdx<S>>,
+    shortest: usize,
+    common: usize,
+    first_free: usize,
+    second_free: usize,
+    pub whole: bool,
+}
+
+/// The productions that are to be open: so many of those that are, and these within them, the innermost first. Those of the
+/// way out are so many from that of the start in.
+#[derive(Drop)]
+pub(crate) struct Path<S> {
+    pub around: usize,
+    pub items: Vec<(PIdx<S>, SIdx<S>)>,
+    pub free: usize,
+}
+
+/// The items so far from the innermost one out, the outermost of them and where its dot stands, and the index of the open
+/// production that is looked at next.
+#[derive(Drop)]
+struct Out<S> {
+    items: Vec<(PIdx<S>, SIdx<S>)>,
+    item: (PIdx<S>, SIdx<S>),
+    place: usize,
+    index: usize,
+}
+
+/// Whether two productions are of one rule.
+fn are_of_one_rule<'a, S: IndexStorage>(
+    source: &Source<'a, S>,
+    pidx: PIdx<S>,
+    other: PIdx<S>,
+) -> bool {
+    if !has_production(source.grm, pidx) || !has_production(source.grm, other) {
+        return false;
+    }
+    let ridx = source.grm.prod_to_rule(pidx);
+    ridx.0.to_usize() == source.grm.prod_to_rule(other).0.to_usize()
+}
+
+impl<S: IndexStorage> Chain<S> {
+    fn new(alloc: Global, around: Option<usize>) -> Chain<S> {
+        Chain {
+            items: Vec::new(alloc),
+            place: 0,
+            around,
+        }
+    }
+
+    /// Puts an item behind the others, if that is asked and there is one.
+    fn put(
+        &mut self,
+        asked: bool,
+        item: Option<(PIdx<S>, SIdx<S>)>,
+        place: usize,
+    ) -> Result<(), AllocError> {
+        if !asked {
+            return Ok(());
+        }
+        let Some(item) = item else {
+            return Ok(());
+        };
+        if self.items.is_empty() {
+            self.place = place;
+        }
+        self.items.push(item)?;
+        Ok(())
+    }
+
+    /// The items from the innermost one out, where they were put from the outermost one in, and this is the innermost one, at the
+    /// end of the string.
+    pub(crate) fn turned(
+        mut self,
+        kept: &Kept<S>,
+        item: (PIdx<S>, SIdx<S>),
+    ) -> Result<Chain<S>, AllocError> {
+        self.put(true, Some(item), kept.states.len().saturating_sub(1))?;
+        self.items.as_mut_slice().reverse();
+        Ok(self)
+    }
+}
+
+impl<S: IndexStorage> Kept<S> {
+    pub(crate) fn new(alloc: Global) -> Result<Kept<S>, AllocError> {
+        Ok(Kept {
+            groups: Groups::new(alloc)?,
+            visits: Visits::new(alloc),
+            way: Way::new(alloc),
+            states: Vec::new(alloc),
+            shortest: 0,
+            common: 0,
+            first_free: 0,
+            second_free: 0,
+            whole: false,
+        })
+    }
+
+    /// Begins a search for a token. What the last one left goes if it isn't whole.
+    fn begin(&mut self, token: usize) {
+        if !self.whole {
+            self.way.clear();
+            self.shortest = 0;
+        }
+        self.whole = false;
+        if self.way.begin(token) {
+            self.groups.forget();
+        }
+    }
+
+    /// Searches for a string to the state, which is kept, and tells the items that are open for each need; None where there is
+    /// none.
+    pub(crate) fn search<'a>(
+        &mut self,
+        alloc: Global,
+        source: &Source<'a, S>,
+        start: Visit<S>,
+    ) -> Result<Option<Ends<S>>, AllocError> {
+        self.begin(source.token.0.to_usize());
+        let found = self
+            .visits
+            .search(alloc, source, &mut self.groups, &self.way, start)?;
+        let Some(end) = found else {
+            self.whole = true;
+            return Ok(None);
+        };
+        self.visits.bound(&mut self.groups, end);
+        match end.mark {
+            Some(mark) => self.stay_to(mark, end.in_first, end.in_second),
+            None => self.lead_to(alloc, source, end.index)?,
+        }
+        let ends = self.read(alloc, end)?;
+        Ok(Some(ends))
+    }
+
+    /// Keeps the string and the way to a group on it.
+    fn stay_to(&mut self, mark: Mark, in_first: bool, in_second: bool) {
+        let length = mark.place.saturating_add(1);
+        let index = self.groups.mark(mark.group);
+        self.way.stay_to(index, in_first, in_second);
+        self.states.truncate(length);
+        self.shortest = self.shortest.min(length);
+        self.common = self.states.len();
+    }
+
+    /// Reads what the search came to, from its end: adds the states behind that one's to the string and the groups to the way.
+    fn read(&mut self, alloc: Global, end: End) -> Result<Ends<S>, AllocError> {
+        let mut ends = ends_at(alloc, end);
+        'visits: for _ in 0..self.visits.len() {
+            self.read_one(&mut ends)?;
+        }
+        Ok(ends)
+    }
+
+    /// Reads the next visit, if there is one.
+    fn read_one(&mut self, ends: &mut Ends<S>) -> Result<(), AllocError> {
+        let Some(visit) = self.visits.at(ends.next) else {
+            return Ok(());
+        };
+        let place = self.states.len().saturating_sub(1);
+        ends.first.put(visit.in_first, visit.outer, place)?;
+        ends.second.put(visit.in_second, visit.outer, place)?;
+        ends.next = visit.from;
+        self.put_before(&visit, ends)
+    }
+
+    /// Adds the state of the visit from which one was come to over an edge, or the group that was replaced there.
+    fn put_before(&mut self, visit: &Visit<S>, ends: &Ends<S>) -> Result<(), AllocError> {
+        let Some(before) = self.visits.at(visit.from) else {
+            return Ok(());
+        };
+        if visit.over {
+            self.states.push(before.stidx)?;
+            return Ok(());
+        }
+        let Met { group, step } = before.met;
+        if group == usize::MAX {
+            return Ok(());
+        }
+        let mark = Mark {
+            group,
+            to_end: ends.steps.saturating_sub(step),
+            place: self.states.len().saturating_sub(1),
+            first: ends.first.items.len(),
+            second: ends.second.items.len(),
+        };
+        self.way
+            .put(&mut self.groups, mark, visit.in_first, visit.in_second)
+    }
+
+    /// Whether the state is that of a shortest string behind so many symbols.
+    fn has_kept(&self, stidx: StIdx<S>, length: usize, shortest: usize) -> bool {
+        if length >= shortest || length >= self.states.len() {
+            return false;
+        }
+        self.states[length].0.to_usize() == stidx.0.to_usize()
+    }
+
+    /// The states of a shortest string to a state from the last one back, without those that are kept.
+    fn new_states<'a>(
+        &self,
+        alloc: Global,
+        source: &Source<'a, S>,
+        stidx: StIdx<S>,
+        shortest: usize,
+    ) -> Result<Vec<StIdx<S>>, AllocError> {
+        let mut states = Vec::new(alloc);
+        let mut at = stidx;
+        let all = source.tables.length(stidx);
+        'edges: for back in 0..self.most_states(source) {
+            if back > all || self.has_kept(at, all - back, shortest) {
+                return Ok(states);
+            }
+            states.push(at)?;
+            let Some(from) = source.tables.before(at) else {
+                return Ok(states);
+            };
+            at = from;
+        }
+        Ok(states)
+    }
+
+    fn most_states<'a>(&self, source: &Source<'a, S>) -> usize {
+        source.graph.all_states_len().0.to_usize()
+    }
+
+    /// Keeps the states of a shortest string to the state of a visit, and no way.
+    fn lead_to<'a>(
+        &mut self,
+        alloc: Global,
+        source: &Source<'a, S>,
+        index: usize,
+    ) -> Result<(), AllocError> {
+        self.way.clear();
+        let shortest = mem::replace(&mut self.shortest, 0);
+        let Some(visit) = self.visits.at(index) else {
+            return Ok(());
+        };
+        let states = self.new_states(alloc, source, visit.stidx, shortest)?;
+        let all = source.tables.length(visit.stidx).saturating_add(1);
+        self.common = all.saturating_sub(states.len());
+        self.states.truncate(self.common);
+        'states: for back in 0..states.len() {
+            self.states.push(states[states.len() - 1 - back])?;
+        }
+        self.shortest = self.states.len();
+        Ok(())
+    }
+
+    /// How many of the open productions are around one of the same rule as this, that begins behind so many symbols, where
+    /// these would be the way out from this one too. Of those that begin there the last is at the index.
+    fn around<'a>(
+        &self,
+        source: &Source<'a, S>,
+        opened: &Opened<S>,
+        pidx: PIdx<S>,
+        place: usize,
+        index: usize,
+    ) -> Option<usize> {
+        if place >= self.common {
+            return None;
+        }
+        'items: for back in 0..opened.items.len() {
+            let at = index.checked_sub(back)?;
+            if opened.place(at) != place || at >= opened.items.len() {
+                return None;
+            }
+            let (other, _) = opened.items[at];
+            if are_of_one_rule(source, pidx, other) {
+                return Some(at);
+            }
+        }
+        None
+    }
+
+    /// The productions that are to be open where these are the innermost ones: they go out to that of the start, or to those that
+    /// are open already.
+    fn path<'a>(
+        &mut self,
+        alloc: Global,
+        source: &Source<'a, S>,
+        opened: &Option<Opened<S>>,
+        free: usize,
+        chain: Chain<S>,
+    ) -> Result<Option<Path<S>>, AllocError> {
+        let Chain {
+            items,
+            place,
+            around,
+        } = chain;
+        if let Some(around) = around {
+            return Ok(Some(Path {
+                around,
+                items,
+                free,
+            }));
+        }
+        if items.is_empty() {
+            return Ok(None);
+        }
+        let item = items[items.len() - 1];
+        let index = free;
+        let out = Out {
+            items,
+            item,
+            place,
+            index,
+        };
+        self.way_out(alloc, source, opened, out)
+    }
+
+    /// The same, from the outermost item on.
+    fn way_out<'a>(
+        &mut self,
+        alloc: Global,
+        source: &Source<'a, S>,
+        opened: &Option<Opened<S>>,
+        out: Out<S>,
+    ) -> Result<Option<Path<S>>, AllocError> {
+        let mut out = out;
+        let within = out.items.len();
+        'items: for _ in 0..usize::MAX {
+            let Some(around) = self.step_out(alloc, source, opened, &mut out)? else {
+                continue 'items;
+            };
+            if around == usize::MAX {
+                return Ok(None);
+            }
+            let items = out.items;
+            let free = around.saturating_add(items.len()).saturating_sub(within);
+            return Ok(Some(Path {
+                around,
+                items,
+                free,
+            }));
+        }
+        Ok(None)
+    }
+
+    /// Goes out from the outermost item, or tells how many productions are open around it; `usize::MAX` where there is no way
+    /// out.
+    fn step_out<'a>(
+        &mut self,
+        alloc: Global,
+        source: &Source<'a, S>,
+        opened: &Option<Opened<S>>,
+        out: &mut Out<S>,
+    ) -> Result<Option<usize>, AllocError> {
+        let (pidx, dot) = out.item;
+        let Some(place) = out.place.checked_sub(dot.0.to_usize()) else {
+            return Ok(Some(usize::MAX));
+        };
+        if place >= self.states.len() || !has_production(source.grm, pidx) {
+            return Ok(Some(usize::MAX));
+        }
+        if source.is_start(pidx) {
+            return Ok(Some(0));
+        }
+        if let Some(opened) = opened {
+            out.index = opened.last_at(out.index, place);
+            let around = self.around(source, opened, pidx, place, out.index);
+            if around.is_some() {
+                return Ok(around);
+            }
+        }
+        let ridx = source.grm.prod_to_rule(pidx);
+        let stidx = self.states[place];
+        let Some(item) = self.groups.way_out(alloc, source, stidx, ridx)? else {
+            return Ok(Some(usize::MAX));
+        };
+        out.items.push(item)?;
+        out.item = item;
+        out.place = place;
+        Ok(None)
+    }
+
+    /// The productions that are to be open for both actions, where these are the innermost ones.
+    pub(crate) fn paths<'a>(
+        &mut self,
+        alloc: Global,
+        source: &Source<'a, S>,
+        spines: &Spines<S>,
+        one: Chain<S>,
+        other: Chain<S>,
+    ) -> Result<Option<(Path<S>, Path<S>)>, AllocError> {
+        let (first_free, second_free) = (self.first_free, self.second_free);
+        let (first, second) = (one.around, other.around);
+        let Some(one) = self.path(alloc, source, &spines.first, first_free, one)? else {
+            return Ok(None);
+        };
+        let Some(other) = self.path(alloc, source, &spines.second, second_free, other)? else {
+            return Ok(None);
+        };
+        self.first_free = one.free;
+        self.second_free = other.free;
+        self.way
+            .settle(first.unwrap_or(one.free), second.unwrap_or(other.free));
+        Ok(Some((one, other)))
+    }
+}
+
+/// Where a search ended, of which nothing is read.
+fn ends_at<S: IndexStorage>(alloc: Global, end: End) -> Ends<S> {
+    let mut first = None;
+    let mut second = None;
+    if let Some(mark) = end.mark {
+        if end.in_first {
+            first = Some(mark.first);
+        }
+        if end.in_second {
+            second = Some(mark.second);
+        }
+    }
+    Ends {
+        first: Chain::new(alloc, first),
+        second: Chain::new(alloc, second),
+        steps: end.step,
+        next: end.index,
+    }
+}

@@ -47,16 +47,34 @@ static long number(const char *name, long without) {
     return text ? atol(text) : without;
 }
 
+/* What all the processes share: what one tells at its end, the counts, and the end of what is marked. */
+struct told {
+    long made, kept;
+    int ended;
+};
+
+static struct shared {
+    struct told told;
+    long failed, refused, answered, faults;
+    size_t marked;
+} *shared;
+
 /* A mark for each byte of the program that a call comes back to. */
 static unsigned char *marks;
 static const size_t most_marks = 64ul << 20;
 static size_t base;
 
+static void mark(size_t place) {
+    if (place >= most_marks) return;
+    marks[place] = 1;
+    if (place >= shared->marked) shared->marked = place + 1;
+}
+
 static __attribute__((noinline)) void mark_frames(void) {
     size_t *frame = __builtin_frame_address(0);
     for (;;) {
         size_t place = frame[1] - base, *above = (size_t *)frame[0];
-        if (place < most_marks) marks[place] = 1;
+        mark(place);
         if (above <= frame || (size_t)((char *)above - (char *)frame) > most_marks) return;
         frame = above;
     }
@@ -116,17 +134,6 @@ void free(void *old) {
     live -= !inside;
     real(old);
 }
-
-/* What all the processes share: what one tells at its end, and the counts. */
-struct told {
-    long made, kept;
-    int ended;
-};
-
-static struct shared {
-    struct told told;
-    long failed, refused, answered, faults;
-} *shared;
 
 __attribute__((destructor)) static void tell(void) {
     const char *path = getenv("COUNT_FILE");
@@ -286,7 +293,7 @@ static void *shared_room(size_t size) {
 static void tell_frames(const char *path) {
     FILE *file = fopen(path, "a");
     if (!file) stop("no file for frames");
-    for (size_t place = 0; place < most_marks; place++)
+    for (size_t place = 0; place < shared->marked; place++)
         if (marks[place]) fprintf(file, "%zx\n", place);
     fclose(file);
 }

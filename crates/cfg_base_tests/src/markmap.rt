@@ -485,3 +485,87 @@ fn came_in(rt: &impl Abort, ours: &Named, a: &String, c: &String, merged: bool) 
         assert!(rt; !ours.contains_key(a) && !ours.contains_key(c));
     }
 }
+
+/// The calls that make a key that is absent.
+#[derive(Clone, Copy)]
+enum Making {
+    Behavior,
+    EntryBehavior,
+    EntryRequired,
+    EntryValue,
+    FilledEntry,
+}
+
+// These calls, whether the key is required then, and whether it has a value.
+const MAKINGS: &[(Making, bool, bool)] = &[
+    (Making::Behavior, false, false),
+    (Making::EntryBehavior, false, false),
+    (Making::EntryRequired, true, false),
+    (Making::EntryValue, false, true),
+    (Making::FilledEntry, false, true),
+];
+
+// A call that makes its key leaves none where it is refused, and can be made again.
+#[test]
+fn absent_keys_are_made(rt: HostRuntime) -> Result<(), AllocError> {
+    'makings: for (making, required, filled) in MAKINGS {
+        is_made(&rt, rt.alloc(), *making, *required, *filled)?;
+    }
+    Ok(())
+}
+
+fn is_made(
+    rt: &impl Abort,
+    alloc: Global,
+    making: Making,
+    required: bool,
+    filled: bool,
+) -> Result<(), AllocError> {
+    let mut map: Small = MarkMap::new(alloc);
+    if makes(&mut map, making).is_err() {
+        assert!(rt; !map.is_required(&7) && !map.contains_key(&7));
+        makes(&mut map, making)?;
+    }
+    assert_eq!(rt; map.is_required(&7), required);
+    assert_eq!(rt; map.contains_key(&7), filled);
+    Ok(())
+}
+
+fn makes(map: &mut Small, making: Making) -> Result<(), AllocError> {
+    match making {
+        Making::Behavior => map.set_merge_behavior(&7, MergeBehavior::Theirs),
+        Making::EntryBehavior => entry_has_behavior(map),
+        Making::EntryRequired => entry_is_required(map),
+        Making::EntryValue => entry_has_value(map),
+        Making::FilledEntry => entry_is_filled(map),
+    }
+}
+
+fn entry_has_behavior(map: &mut Small) -> Result<(), AllocError> {
+    if let Entry::Vacant(mut entry) = map.entry(7) {
+        entry.set_merge_behavior(MergeBehavior::Theirs)?;
+    }
+    Ok(())
+}
+
+fn entry_is_required(map: &mut Small) -> Result<(), AllocError> {
+    if let Entry::Vacant(mut entry) = map.entry(7) {
+        entry.mark_required()?;
+    }
+    Ok(())
+}
+
+fn entry_has_value(map: &mut Small) -> Result<(), AllocError> {
+    if let Entry::Vacant(entry) = map.entry(7) {
+        *entry.insert(5)? = 6;
+    }
+    Ok(())
+}
+
+fn entry_is_filled(map: &mut Small) -> Result<(), AllocError> {
+    if let Entry::Vacant(entry) = map.entry(7) {
+        let mut entry = entry.insert_entry(5)?;
+        entry.mark_used();
+    }
+    Ok(())
+}

@@ -107,6 +107,14 @@ fn pieces_are_gathered(rt: HostRuntime) -> Result<(), Fail> {
     Ok(())
 }
 
+// The method of the trait gathers them too.
+#[test]
+fn pieces_are_gathered_by_the_trait(rt: HostRuntime) -> Result<(), Fail> {
+    let cache = <NewlineCache as FromIterator<&str>>::from_iter(rt.alloc(), ["a", "\nb"])?;
+    assert_eq!(rt; cache.byte_to_line_num_and_col_num("a\nb", 2), Some((2, 1)));
+    Ok(())
+}
+
 #[test]
 fn no_pieces_make_the_empty_text(rt: HostRuntime) -> Result<(), Fail> {
     let none: [&str; 0] = [];

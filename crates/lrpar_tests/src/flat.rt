@@ -5,7 +5,7 @@ use crate::make::data;
 use crate::spell::leaf;
 use cfg_base::index::IndexStorage;
 use lrpar::flat::FlatNode;
-use lrpar::{FlatTree, ParserData, RTParserBuilder};
+use lrpar::{FlatTree, ParseRefusal, ParserData, RTParserBuilder};
 use std::alloc::{AllocError, Global};
 use std::test::*;
 
@@ -55,6 +55,7 @@ fn told_by<S: IndexStorage>(
     match &parser.parse_flat(alloc, &lexer) {
         Ok(Ok((Some(tree), _))) => tree_text(alloc, tree),
         Ok(Ok((None, _))) => format!(in alloc; "none"),
+        Err(ParseRefusal::Memory(e)) => Err(*e),
         _ => format!(in alloc; "refused"),
     }
 }

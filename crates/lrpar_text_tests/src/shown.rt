@@ -1,0 +1,108 @@
+//! Trees as texts over an input.
+
+ghost use Rattle.std.specs.Prelude.{◌≡◌, IsTrue, IfOk, Some};
+ghost use Rattle.std.specs.List.{AllByRecursion};
+ghost use Rattle.lrpar.specs.FlatLines.{CanShowPiece};
+ghost use Rattle.lrpar.specs.FlatTrees.{piece_of};
+ghost use Rattle.lrpar.specs.Shapes.{lexeme, over, nothing, along, shape_of, HasText};
+
+use cfg_base::index::IndexStorage;
+use cfg_base::symbol::RIdx;
+use cfg_numbered::yacc::grammar::NumberedGrammar;
+use lrpar::flat::FlatNode;
+use lrpar::{FlatTree, Lexeme, Node};
+use std::alloc::{AllocError, Global};
+use std::test::*;
+
+/// Whether the lexeme is of a token with a name, and of a part of the input.
+fn has_text<S: IndexStorage, L: Lexeme<S>>(grm: &NumberedGrammar<S>, input: &str, lexeme: L) -> bool
+    ensures { IsTrue result → HasText grm.now L.lex input.now lexeme }
+{
+    let span = lexeme.span();
+    let token = lexeme.tok_id().to_usize();
+    token < grm.eof_token_idx().0.to_usize()
+        && input.is_char_boundary(span.start())
+        && input.is_char_boundary(span.end())
+}
+
+/// Whether the node of a flat tree can be shown.
+fn is_shown<S: IndexStorage, L: Lexeme<S>>(
+    grm: &NumberedGrammar<S>,
+    input: &str,
+    node: FlatNode<S, L>,
+) -> bool
+    ensures { IsTrue result → CanShowPiece grm.now L.lex input.now (Some (piece_of S.number node)) }
+{
+    match node {
+        FlatNode::Term { lexeme } => has_text(grm, input, lexeme),
+        FlatNode::Nonterm {
+            pidx,
+            span: _,
+            below: _,
+        } => pidx.0.to_usize() < grm.prods_len().0.to_usize(),
+    }
+}
+
+/// Whether each of these nodes can be shown.
+fn are_shown<S: IndexStorage, L: Lexeme<S>>(
+    grm: &NumberedGrammar<S>,
+    input: &str,
+    nodes: &[FlatNode<S, L>],
+) -> bool
+    ensures { IsTrue result → AllByRecursion (λ n. CanShowPiece grm.now L.lex input.now (Some (piece_of S.number n))) nodes.now }
+{
+    'nodes: for at in 0..nodes.len() {
+        if !is_shown(grm, input, nodes[at]) {
+            return false;
+        }
+    }
+    true
+}
+
+/// The text of a flat tree, or that there is none.
+pub fn flat_shown<S: IndexStorage, L: Lexeme<S>>(
+    alloc: Global,
+    grm: &NumberedGrammar<S>,
+    input: &str,
+    tree: &FlatTree<S, L>,
+) -> Result<String, AllocError> {
+    if !are_shown(grm, input, tree.nodes()) {
+        return format!(in alloc; "no text");
+    }
+    tree.pp(alloc, grm, input)
+}
+
+/// A rule over two lexemes.
+fn pair<S: IndexStorage, L: Lexeme<S>>(
+    alloc: Global,
+    ridx: RIdx<S>,
+    one: L,
+    two: L,
+) -> Result<Node<L, S>, AllocError>
+    ensures { IfOk result (λ n. shape_of S.number n ≡ over (S.number ridx.0) (along (lexeme one) (along (lexeme two) nothing))) }
+{
+    let mut nodes = Vec::new(alloc);
+    nodes.push(Node::Term { lexeme: one })?;
+    nodes.push(Node::Term { lexeme: two })?;
+    Ok(Node::Nonterm { ridx, nodes })
+}
+
+/// The text of a rule over two lexemes.
+pub fn pair_shown<S: IndexStorage, L: Lexeme<S>>(
+    alloc: Global,
+    grm: &NumberedGrammar<S>,
+    input: &str,
+    ridx: RIdx<S>,
+    (one, two): (L, L),
+) -> Result<String, Fail> {
+    if ridx.0.to_usize() >= grm.rules_len().0.to_usize() {
+        return Err("no rule".into());
+    }
+    if !has_text(grm, input, one) || !has_text(grm, input, two) {
+        return Err("no text".into());
+    }
+    let node = pair(alloc, ridx, one, two)?;
+    let text = node.pp(alloc, grm, input);
+    drop(node);
+    Ok(text?)
+}

@@ -1,0 +1,84 @@
+//! Flat trees as texts, and the children of their nodes.
+
+use crate::lexer::{Mark, MarkTypes, marks_of};
+use crate::make::data;
+use crate::shown::flat_shown;
+use cfg_numbered::yacc::grammar::NumberedGrammar;
+use lrpar::flat::Visit;
+use lrpar::{FlatTree, ParseRefusal, ParserData, RTParserBuilder};
+use std::alloc::{AllocError, Global};
+use std::test::*;
+
+/// The children of a node, none where there is no such node.
+fn children_of(
+    alloc: Global,
+    tree: &FlatTree<u8, Mark>,
+    at: Visit,
+) -> Result<Vec<Visit>, AllocError> {
+    let count = tree.nodes().len();
+    if at.index < count && at.depth < count {
+        tree.children(alloc, at)
+    } else {
+        Ok(Vec::new(alloc))
+    }
+}
+
+/// The text of a tree over an input, and behind it the children of nodes.
+fn tree_told(
+    alloc: Global,
+    grm: &NumberedGrammar<u8>,
+    input: &str,
+    tree: &FlatTree<u8, Mark>,
+    nodes: &[Visit],
+) -> Result<String, AllocError> {
+    let mut text = flat_shown(alloc, grm, input, tree)?;
+    for at in nodes {
+        let children = children_of(alloc, tree, *at)?;
+        text.push_str(format!(in alloc; "{children:?}\n")?.as_str())?;
+    }
+    Ok(text)
+}
+
+/// What the lexemes of an input come to.
+fn told(
+    alloc: Global,
+    data: &ParserData<u8>,
+    input: &str,
+    lexemes: &[(u8, u8, u8)],
+    nodes: &[Visit],
+) -> Result<String, AllocError> {
+    let lexer = marks_of(alloc, lexemes)?;
+    let parser = RTParserBuilder::<MarkTypes, _>::new(data);
+    match &parser.parse_flat(alloc, &lexer) {
+        Ok(Ok((Some(tree), _))) => tree_told(alloc, data.grm(), input, tree, nodes),
+        Err(ParseRefusal::Memory(e)) => Err(*e),
+        _ => format!(in alloc; "no tree"),
+    }
+}
+
+const SUMS: &str =
+    "%start Expr %% Expr : Expr '+' Term | Term; Term : Term '*' Factor | Factor; Factor : 'INT';";
+
+const TOLD: &str =
+    "Expr\n Expr\n  Term\n   Factor\n    INT 2\n + +\n Term\n  Term\n   Factor\n    INT \u{E9}\n  * *\n  Factor\n   INT 4\n[Visit { index: 3, depth: 1 }, Visit { index: 4, depth: 1 }, Visit { index: 11, depth: 1 }]\n[Visit { index: 7, depth: 2 }, Visit { index: 8, depth: 2 }, Visit { index: 10, depth: 2 }]\n[]\n";
+
+#[test]
+fn trees_are_shown(rt: HostRuntime) -> Result<(), Fail> {
+    let data = data(rt.alloc(), SUMS)?;
+    let lexemes = &[(2, 0, 1), (0, 1, 1), (2, 2, 2), (1, 4, 1), (2, 5, 1)];
+    let nodes = &[
+        Visit {
+            index: 12,
+            depth: 0,
+        },
+        Visit {
+            index: 11,
+            depth: 1,
+        },
+        Visit { index: 4, depth: 1 },
+    ];
+    let text = told(rt.alloc(), &data, "2+\u{E9}*4", lexemes, nodes);
+    drop(data);
+    assert_eq!(rt; text?.as_str(), TOLD);
+    Ok(())
+}

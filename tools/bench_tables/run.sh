@@ -10,8 +10,7 @@ for file in "$@"; do
     none=$(count "$file" make)
     firsts=$(count "$file" firsts)
     all=$(count "$file" table)
-    memory=$(python3 -c 'import resource, subprocess, sys
-subprocess.run(sys.argv[1:], stdout=subprocess.DEVNULL, check=True)
-print(resource.getrusage(resource.RUSAGE_CHILDREN).ru_maxrss)' "$program" "$file" table)
+    # By GNU time: a child of Python's would be told to have held Python's own memory, more than most of these runs take.
+    memory=$(/usr/bin/time -f %M "$program" "$file" table 2>&1 >/dev/null)
     echo "$(basename "$file"): $((firsts - none)) FIRST, $((all - none)) FIRST, graph, table and conflicts; $memory KB; $("$program" "$file" table | tr '\n' ' ')"
 done

@@ -2,14 +2,14 @@
 use Rattle.std.proofs.lemmas.List.{append-nil, append_assoc}
 use Rattle.std.proofs.lemmas.List.Sums.{fold-append}
 use Rattle.cfg_read.specs.Asts.{level_precedences, precedences_at, precedences_of, with_precedence_of}
-use Rattle.std.proofs.Common.{suc, ◌+◌, length, fold, arith, ◌≡◌, ℕ, Bool, true, false, ◌||◌, List, [], ◌∷◌, ◌++◌, map, is_some, cond, Some, if◌then◌else◌, refl, sym, ap, ◌∙◌}
-use Rattle.std.specs.List.{list_any}
-use Rattle.std.specs.Map.{lookup}
+use Rattle.std.proofs.Common.{suc, ◌+◌, length, fold, arith, ◌≡◌, ℕ, Bool, true, false, not, ◌||◌, List, [], ◌∷◌, ◌++◌, map, is_some, cond, Option, None, Some, if◌then◌else◌, refl, sym, ap, ◌∙◌}
+use Rattle.std.specs.List.{list_any, position_or_len}
+use Rattle.std.specs.Map.{lookup, keys_of}
 use Rattle.std.specs.Str.{bytes_eq}
 use Rattle.std.specs.String.{string_bytes, string_eq}
 use Rattle.std.specs.declared.alloc.Global.{Global}
 use Rattle.std.specs.declared.string.String.{String}
-use Rattle.indexmap.specs.IndexMap.{insert_entry}
+use Rattle.indexmap.specs.IndexMap.{insert_entry, set_value_at}
 use Rattle.cfg_base.specs.SpanModel.{SpanModel}
 use Rattle.cfg_read.specs.SyntaxTexts.{WordText, LevelText}
 use Rattle.cfg_read.specs.Names.{is_among, with_distinct}
@@ -36,6 +36,28 @@ module _ {X Y : Type 0} (f : String Global × X → Y) (name : Y → List ℕ) (
       let rest = insert_by es k v q same (or_right (bytes_eq q (name (f e))) (list_any (λ (y : Y). bytes_eq q (name y)) (map f es)) h) in
       ap (λ (b : Bool). map f (if b then (e.0, v) ∷ es else e ∷ insert_entry string_eq es k v)) apart
       ∙ ap (λ (l : List Y). f e ∷ l) rest
+
+  same_value : (x y : X) → Some x ≡ Some y → y ≡ x
+  same_value x y e = cc
+
+  -- a value that is put back in its place
+  pub put_back : (es : List (String Global × X)) (k : String Global) (v old : X) → lookup (string_eq k) es ≡ Some old
+      → map f (set_value_at (insert_entry string_eq es k v) (position_or_len (string_eq k) (keys_of es)) old) ≡ map f es
+  put_back [] k v old h = cc
+  put_back (e ∷ es) k v old h = by (string_eq k e.0) h (put_back es k v old)
+    where
+      by : (b : Bool) → cond b (Some e.1) (lookup (string_eq k) es) ≡ Some old
+          → (lookup (string_eq k) es ≡ Some old → map f (set_value_at (insert_entry string_eq es k v) (position_or_len (string_eq k) (keys_of es)) old) ≡ map f es)
+          → map f (set_value_at (if b then (e.0, v) ∷ es else e ∷ insert_entry string_eq es k v) (cond (not b) (1 + position_or_len (string_eq k) (keys_of es)) 0) old) ≡ map f (e ∷ es)
+      by true is rest = ap (λ (x : X). f (e.0, x) ∷ map f es) (same_value e.1 old is)
+      by false is rest =
+          let next : 1 + position_or_len (string_eq k) (keys_of es) ≡ suc (position_or_len (string_eq k) (keys_of es)) = omega arith in
+          ap (λ (n : ℕ). map f (set_value_at (e ∷ insert_entry string_eq es k v) n old)) next ∙ ap (λ (l : List Y). f e ∷ l) (rest is)
+
+-- a look-up that answers nothing
+pub none_of : {X : Type 0} (o : Option X) → ((x : X) → o ≡ Some x → ⊥) → is_some o ≡ false
+none_of None h = refl
+none_of (Some x) h = absurd (h x refl)
 
 pub found_among : (es : List (String Global × SpanModel)) (q : List ℕ) → is_some (lookup (λ (k : String Global). bytes_eq q (string_bytes k)) es) ≡ is_among (map named_span es) q
 found_among es q = found_by named_span (λ (w : WordText). w.text) (λ e. refl) es q

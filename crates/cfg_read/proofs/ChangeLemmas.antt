@@ -78,13 +78,12 @@ places_are [] = refl
 places_are (e ∷ es) = ap (λ (l : List SpanModel). e.1 ∷ l) (places_are es)
 
 -- equal parts make equal trees
-pub spans_put : (ast : Ast) {ts us : List WordText} {ps qs : List PrecedenceAst} {is js : List WordText} → ts ≡ us → ps ≡ qs → is ≡ js
-    → record ast { tokens = ts; precedences = ps; implicit_tokens = is } ≡ record ast { tokens = us; precedences = qs; implicit_tokens = js }
-spans_put ast e f h = λ i. record ast { tokens = e i; precedences = f i; implicit_tokens = h i }
+pub spans_put : (ast : Ast) {ts us : List WordText} → ts ≡ us → record ast { tokens = ts } ≡ record ast { tokens = us }
+spans_put ast e = λ i. record ast { tokens = e i }
 
-pub words_put : (ast : Ast) {ps qs : List ProductionAst} {vs ws : List WordText} {es fs : List EppText} → ps ≡ qs → vs ≡ ws → es ≡ fs
-    → record ast { productions = ps; avoid_insert = vs; epp = es } ≡ record ast { productions = qs; avoid_insert = ws; epp = fs }
-words_put ast e f h = λ i. record ast { productions = e i; avoid_insert = f i; epp = h i }
+pub words_put : (ast : Ast) {ps qs : List ProductionAst} {ls ms : List PrecedenceAst} {vs ws : List WordText} {is js : List WordText} {es fs : List EppText} → ps ≡ qs → ls ≡ ms → vs ≡ ws → is ≡ js → es ≡ fs
+    → record ast { productions = ps; precedences = ls; avoid_insert = vs; implicit_tokens = is; epp = es } ≡ record ast { productions = qs; precedences = ms; avoid_insert = ws; implicit_tokens = js; epp = fs }
+words_put ast e f g h k = λ i. record ast { productions = e i; precedences = f i; avoid_insert = g i; implicit_tokens = h i; epp = k i }
 
 pub tokens_put : (ast : Ast) {ts us : List WordText} {ps qs : List PrecedenceAst} {vs ws : List WordText} {is js : List WordText} → ts ≡ us → ps ≡ qs → vs ≡ ws → is ≡ js
     → record ast { tokens = ts; precedences = ps; avoid_insert = vs; implicit_tokens = is } ≡ record ast { tokens = us; precedences = qs; avoid_insert = ws; implicit_tokens = js }

@@ -3,7 +3,7 @@ use Rattle.std.proofs.Common.{◌≡◌, ℕ, zero, suc, ◌+◌, ◌<◌, ◌�
 use Rattle.std.specs.declared.alloc.Global.{Global}
 use Rattle.std.specs.List.{flat_map, position_or_len}
 use Rattle.std.specs.Str.{bytes_eq}
-use Rattle.std.proofs.lemmas.List.{map-append}
+use Rattle.std.proofs.lemmas.List.{map-append, length_push, append_assoc}
 use Rattle.std.proofs.lemmas.List.Folds.{list_any-append}
 use Rattle.std.proofs.lemmas.List.Sums.{fold_push}
 use Rattle.std.proofs.lemmas.Slice.Eq.{bytes_eq-Decides}
@@ -196,3 +196,43 @@ new_names_once k ws w new once =
     ∙ ap (flat_map (repeated k)) (with_place_end (groups_of ws) (position_or_len (bytes_eq w.text) (texts (distinct ws))) w.span (past_all (distinct ws) w.text there ∙ sym (length_map (spans_named ws) (distinct ws))))
     ∙ repeated_last k (groups_of ws) w.span
     ∙ once
+
+-- names are no more than words
+grown_by : (acc ws : List WordText) → length (fold with_distinct acc ws) ≤ length acc + length ws
+grown_by acc [] = omega arith
+grown_by acc (w ∷ ws) = by (is_among acc w.text) (grown_by (with_distinct acc w) ws)
+  where
+    by : (b : Bool) → length (fold with_distinct (if b then acc else acc ++ w ∷ []) ws) ≤ length (if b then acc else acc ++ w ∷ []) + length ws
+        → length (fold with_distinct (if b then acc else acc ++ w ∷ []) ws) ≤ length acc + suc (length ws)
+    by true h = omega (arith, h)
+    by false h = let more = length_push acc w in omega (arith, h, more)
+
+once_from : (k : FailureKind) (done ws : List WordText) → repeated_names k done ≡ [] → length (distinct done) ≡ length done
+    → length (fold with_distinct (distinct done) ws) ≡ length done + length ws → repeated_names k (done ++ ws) ≡ []
+once_from k done [] once same all = ap (repeated_names k) (append-nil done) ∙ once
+once_from k done (w ∷ ws) once same all = by (is_among (distinct done) w.text) refl (once_from k (done ++ w ∷ []) ws)
+  where
+    step : Bool → List WordText
+    step b = if b then distinct done else distinct done ++ w ∷ []
+
+    by : (b : Bool) → is_among (distinct done) w.text ≡ b
+        → (repeated_names k (done ++ w ∷ []) ≡ [] → length (distinct (done ++ w ∷ [])) ≡ length (done ++ w ∷ [])
+        → length (fold with_distinct (distinct (done ++ w ∷ [])) ws) ≡ length (done ++ w ∷ []) + length ws → repeated_names k ((done ++ w ∷ []) ++ ws) ≡ [])
+        → repeated_names k (done ++ w ∷ ws) ≡ []
+    by true e rest =
+        let few : length (fold with_distinct (distinct done) ws) ≤ length (distinct done) + length ws = grown_by (distinct done) ws in
+        let is : length (fold with_distinct (distinct done) ws) ≡ length done + suc (length ws) = ap (λ (b : Bool). length (fold with_distinct (step b) ws)) (sym e) ∙ all in
+        absurd (omega (arith, few, is, same))
+    by false e rest =
+        let next : distinct (done ++ w ∷ []) ≡ distinct done ++ w ∷ [] = fold_push with_distinct [] done w ∙ ap step e in
+        let longer = length_push done w in
+        let counted : length (distinct (done ++ w ∷ [])) ≡ length (done ++ w ∷ []) = ap length next ∙ length_push (distinct done) w ∙ ap (λ n. n + 1) same ∙ sym longer in
+        let sum : length done + suc (length ws) ≡ length (done ++ w ∷ []) + length ws = omega (arith, longer) in
+        let still : length (fold with_distinct (distinct (done ++ w ∷ [])) ws) ≡ length (done ++ w ∷ []) + length ws =
+        ap (λ vs. length (fold with_distinct vs ws)) next ∙ ap (λ (b : Bool). length (fold with_distinct (step b) ws)) (sym e) ∙ all ∙ sum in
+        ap (repeated_names k) (sym (append_assoc done (w ∷ []) ws))
+        ∙ rest (new_names_once k done w (sym (among_distinct done w.text) ∙ e) once) counted still
+
+-- as many names as words: none is told as repeated
+pub as_many : (k : FailureKind) (ws : List WordText) → length (distinct ws) ≡ length ws → repeated_names k ws ≡ []
+as_many k ws same = once_from k [] ws refl refl (same ∙ omega arith)

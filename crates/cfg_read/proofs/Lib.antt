@@ -17,6 +17,7 @@ pub mod WholeFiles
 pub mod KindValues
 pub mod FileFailures
 pub mod TextKinds
+pub mod Tokens
 pub mod WellFormedStart
 pub mod WellFormedLevels
 pub mod WellFormedNames

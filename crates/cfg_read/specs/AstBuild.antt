@@ -46,13 +46,13 @@ with_heads_of from ast = record ast { start = from.start; rules = from.rules }
 
 -- those that are filled in from what was read, and those whose words are taken over from it
 abbrev pub with_spans_of : Ast → Ast → Ast
-with_spans_of from ast = record ast { tokens = from.tokens; precedences = from.precedences; implicit_tokens = from.implicit_tokens }
+with_spans_of from ast = record ast { tokens = from.tokens }
 
 abbrev pub with_parts_of : Ast → Ast → Ast
 with_parts_of from ast = record ast { parse_param = from.parse_param; parse_generics = from.parse_generics; programs = from.programs }
 
 abbrev pub with_words_of : Ast → Ast → Ast
-with_words_of from ast = record ast { productions = from.productions; avoid_insert = from.avoid_insert; epp = from.epp }
+with_words_of from ast = record ast { productions = from.productions; precedences = from.precedences; avoid_insert = from.avoid_insert; implicit_tokens = from.implicit_tokens; epp = from.epp }
 
 abbrev pub with_tokens_of : Ast → Ast → Ast
 with_tokens_of from ast = record ast { tokens = from.tokens; precedences = from.precedences; avoid_insert = from.avoid_insert; implicit_tokens = from.implicit_tokens }

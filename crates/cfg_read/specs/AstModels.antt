@@ -11,7 +11,8 @@ use Rattle.cfg_read.specs.declared.yacc.ast.Production.{Production}
 use Rattle.cfg_read.specs.declared.yacc.ast.Rule.{Rule as RuleEntry}
 use Rattle.cfg_base.specs.declared.precedence.Precedence.{Precedence}
 use Rattle.cfg_read.specs.SyntaxTexts.{WordText, NumberText, EppText}
-use Rattle.cfg_read.specs.Asts.{SymbolAst, RuleAst, ProductionAst, PrecedenceAst}
+use Rattle.cfg_read.specs.Asts.{SymbolAst, RuleAst, ProductionAst, PrecedenceAst, text_of, span_of}
+use Rattle.cfg_read.specs.SyntaxModels.{precedence_by, action_by}
 
 abbrev pub ast_symbol_of : Symbol → SymbolAst
 ast_symbol_of (Rule text span) = record { is_token = false; word = record { text = string_bytes text; span = span } }
@@ -20,9 +21,9 @@ ast_symbol_of (Token text span) = record { is_token = true; word = record { text
 abbrev pub production_of : Production → ProductionAst
 production_of p = record {
   symbols = map ast_symbol_of p.symbols.items;
-  precedence = option_map string_bytes p.precedence;
-  action = option_map string_bytes p.action;
-  action_span = p.action_span;
+  precedence = text_of (precedence_by p.extras);
+  action = text_of (action_by p.extras);
+  action_span = span_of (action_by p.extras);
   span = p.prod_span;
 }
 

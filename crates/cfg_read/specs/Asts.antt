@@ -98,12 +98,15 @@ symbol_ast declared s = symbol_ast_at declared s s.optional
 abbrev pub text_of : Option WordText → Option (List ℕ)
 text_of o = option_map (λ (w : WordText). w.text) o
 
+abbrev pub span_of : Option WordText → Option SpanModel
+span_of o = option_map (λ (w : WordText). w.span) o
+
 abbrev pub production_ast : (List ℕ → Bool) → AlternativeText → ProductionAst
 production_ast declared a = record {
   symbols = map (symbol_ast declared) a.symbols;
   precedence = text_of a.precedence;
   action = text_of a.action;
-  action_span = option_map (λ (w : WordText). w.span) a.action;
+  action_span = span_of a.action;
   span = a.span;
 }
 

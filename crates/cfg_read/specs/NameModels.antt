@@ -12,7 +12,7 @@ use Rattle.cfg_base.specs.SpanModel.{SpanModel}
 use Rattle.cfg_read.specs.declared.yacc.parser.syntax.Word.{Word}
 use Rattle.cfg_read.specs.declared.yacc.parser.syntax.Symbol.{Symbol}
 use Rattle.cfg_read.specs.SyntaxTexts.{WordText, SymbolText, SyntaxText}
-use Rattle.cfg_read.specs.Names.{is_among, declared_tokens, is_rule, is_grammar_token, token_appearances, rules_used}
+use Rattle.cfg_read.specs.Names.{is_among, distinct, texts, declared_tokens, level_tokens, is_rule, is_grammar_token, token_appearances, rules_used}
 use Rattle.cfg_read.specs.FreshRules.{FreshText}
 use Rattle.cfg_read.specs.SyntaxModels.{word_of, symbol_of}
 
@@ -37,10 +37,12 @@ abbrev pub named_fresh : {S : Type 0} → IndexMap (String Global) (SpanModel ×
 named_fresh m = map fresh_entry m.entries
 
 -- what is collected of a syntax: which names `%token` declares, rules have and tokens have, every appearance of a
--- token, and the names in alternatives that stand for rules
-pub record AreNamesOf (x : SyntaxText) (declared rules tokens : List ℕ → Bool) (token_words used_rules : List WordText) : Type 0 where
+-- token, the names in alternatives that stand for rules, and the tokens of precedence lines with their names
+pub record AreNamesOf (x : SyntaxText) (declared rules tokens : List ℕ → Bool) (token_words used_rules level_words : List WordText) (levels : List (List ℕ)) : Type 0 where
   pub declared_is : declared ≡ is_among (declared_tokens x)
   pub rules_is : rules ≡ is_rule x
   pub tokens_is : tokens ≡ is_grammar_token x
   pub token_words_is : token_words ≡ token_appearances x
   pub used_rules_is : used_rules ≡ rules_used x
+  pub level_words_is : level_words ≡ level_tokens x
+  pub levels_is : levels ≡ texts (distinct (level_tokens x))

@@ -1,8 +1,10 @@
 -- What a syntax value of the program says, without where it lies in memory.
-use Rattle.std.specs.Prelude.{map, option_map, List}
+use Rattle.std.specs.Prelude.{Bool, false, map, option_map, List, Option, None, Some, Box}
 use Rattle.std.specs.String.{string_bytes}
 use Rattle.cfg_read.specs.declared.yacc.parser.syntax.Word.{Word}
 use Rattle.cfg_read.specs.declared.yacc.parser.syntax.Symbol.{Symbol}
+use Rattle.std.specs.declared.alloc.Global.{Global}
+use Rattle.cfg_read.specs.declared.yacc.parser.syntax.Extras.{Extras}
 use Rattle.cfg_read.specs.declared.yacc.parser.syntax.Alternative.{Alternative}
 use Rattle.cfg_read.specs.declared.yacc.parser.draft.Draft.{Draft}
 use Rattle.cfg_read.specs.declared.yacc.parser.syntax.Rule.{Rule}
@@ -30,8 +32,22 @@ symbols_of ss = map symbol_of ss
 abbrev pub line_of : Line → List SymbolText
 line_of l = symbols_of l.items.items
 
+-- what stands in an alternative beside its symbols
+abbrev pub is_empty_by : Option (Box Extras Global) → Bool
+is_empty_by None = false
+is_empty_by (Some e) = e.value.is_empty
+
+abbrev pub precedence_by : Option (Box Extras Global) → Option WordText
+precedence_by None = None
+precedence_by (Some e) = option_map word_of e.value.precedence
+
+abbrev pub action_by : Option (Box Extras Global) → Option WordText
+action_by None = None
+action_by (Some e) = option_map word_of e.value.action
+
+-- an alternative, and what it stands in
 abbrev pub alternative_of : Alternative → AlternativeText
-alternative_of a = record { symbols = symbols_of a.symbols.items; is_empty = a.is_empty; precedence = option_map word_of a.precedence; action = option_map word_of a.action; span = a.span }
+alternative_of a = record { symbols = symbols_of a.symbols.items; is_empty = is_empty_by a.extras; precedence = precedence_by a.extras; action = action_by a.extras; span = a.span }
 
 abbrev pub part_of : Draft → Part
 part_of d = record { symbols = symbols_of d.symbols.items; is_empty = d.is_empty; precedence = option_map word_of d.precedence; action = option_map word_of d.action; span = d.span }

@@ -3,7 +3,7 @@
 use cfg_read::yacc::parser::error::{ReadError, YaccGrammarErrorKind};
 use cfg_read::yacc::parser::read_syntax;
 use cfg_read::yacc::parser::syntax::{
-    Alternative, Epp, Level, Line, Number, Param, Rule, Symbol, Syntax, Word,
+    Alternative, Epp, Extras, Level, Line, Number, Param, Rule, Symbol, Syntax, Word,
 };
 use cfg_read::yacc::{YaccKind, YaccOriginalActionKind};
 use std::alloc::{AllocError, Global};
@@ -89,16 +89,23 @@ fn spell_option(
     Ok(())
 }
 
-fn spell_alternative(alloc: Global, out: &mut String, x: &Alternative) -> Result<(), AllocError> {
-    let start = x.span.start();
-    let end = x.span.end();
-    out.push_str(format!(in alloc; "|{start}-{end} ")?.as_str())?;
-    spell_symbols(alloc, out, x.symbols.as_slice())?;
+fn spell_extras(alloc: Global, out: &mut String, x: &Extras) -> Result<(), AllocError> {
     if x.is_empty {
         out.push_str("%")?;
     }
     spell_option(alloc, out, "^", &x.precedence)?;
     spell_option(alloc, out, "=", &x.action)
+}
+
+fn spell_alternative(alloc: Global, out: &mut String, x: &Alternative) -> Result<(), AllocError> {
+    let start = x.span.start();
+    let end = x.span.end();
+    out.push_str(format!(in alloc; "|{start}-{end} ")?.as_str())?;
+    spell_symbols(alloc, out, x.symbols.as_slice())?;
+    match &x.extras {
+        Some(extras) => spell_extras(alloc, out, extras),
+        None => Ok(()),
+    }
 }
 
 fn spell_alternatives(

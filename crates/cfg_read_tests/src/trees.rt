@@ -107,9 +107,7 @@ fn empty_tree(alloc: Global) -> Result<GrammarAST, AllocError> {
 fn add_production(alloc: Global, ast: &mut GrammarAST, rule: &str) -> Result<(), AllocError> {
     let production = Production {
         symbols: Vec::new(alloc),
-        precedence: None,
-        action: None,
-        action_span: None,
+        extras: None,
         prod_span: span_of(5),
     };
     if ast.get_rule(rule).is_some() {

@@ -1,21 +1,18 @@
 -- Chains by the cells that a table keeps.
-use Rattle.std.proofs.Common.{◌≡◌, ℕ, zero, suc, ◌+◌, ◌<◌, ◌≤◌, inl, inr, List, [], ◌∷◌, length, drop, get_or, Option, Some, None, refl, sym, ap, ◌∙◌, subst, arith}
-use Rattle.std.specs.Prelude.{slice_get}
-use Rattle.std.proofs.lemmas.Bool.{cases_lt}
+use Rattle.std.proofs.Common.{◌≡◌, ℕ, suc, ◌+◌, ◌<◌, ◌≤◌, List, [], ◌∷◌, length, Option, Some, None, refl, sym, ap, ◌∙◌, subst, arith}
 use Rattle.std.proofs.lemmas.List.{drop_all}
-use Rattle.std.proofs.lemmas.Option.{slice_get_within, some_pair_parts}
-use Rattle.cfg_theory.specs.Grammar.{Grammar, head_of, body_of}
+use Rattle.std.proofs.lemmas.Option.{slice_get_within}
+use Rattle.cfg_base.specs.declared.symbol.PIdx.{PIdx}
+use Rattle.cfg_theory.specs.Grammar.{Grammar, body_of}
 use Rattle.lr_theory.specs.Automaton.{Action, shift, reduce, accept, error, Automaton}
 use Rattle.lr_theory.specs.Chains.{goto_from, reduce_by, reduction, Reductions}
 use Rattle.lrtable.specs.Graphs.{GraphValue}
-use Rattle.lrtable.specs.Rows.{at_of}
-use Rattle.lrtable.specs.SparseRows.{full_cells, IsCellRow}
 use Rattle.lrtable.specs.TableValues.{TableValue, action_at}
 use Rattle.lrtable.specs.Tables.{automaton_of}
-use Rattle.lrpar.specs.Reducing.{IsLong, BeginsNone, chain_top, chain_depth, chain_stack, ShortBelow}
+use Rattle.lrpar.specs.Reducing.{IsLong, BeginsNone, chain_top, chain_depth, chain_stack, ShortAt, ShortIn}
+use Rattle.lrpar.specs.Branching.{AreReducers}
 use Rattle.lrpar.specs.declared.shorts.Short.{Short}
 use Rattle.lrpar.specs.declared.shorts.Short.TheVariants as shorts
-use Rattle.lrpar.proofs.RowWalks.{found_at, rises_at, cell_nowhere, cell_there}
 
 -- an action that begins no chain
 module _ (G : Grammar) (x : GraphValue) (v : TableValue) (limit : ℕ) where
@@ -40,55 +37,19 @@ module _ (G : Grammar) (x : GraphValue) (v : TableValue) (limit : ℕ) where
   pub error_begins_none : (p t : ℕ) (above : Option ℕ) → action_at v (chain_top p above) t ≡ error → IsLong G (automaton_of x v) limit p above t → ⊥
   error_begins_none p t above e = begins_none p t above error e tt
 
--- the short reductions of a state are told on the tokens before those of the cells from the i-th on
-abbrev pub ShortTo : {S : Type 0} → (S → ℕ) → Grammar → TableValue → ℕ → List (ℕ × Action) → ℕ → Short S → Type 0
-ShortTo number G v s row i x = (n : ℕ) → ((k t : ℕ) (a : Action) → i ≤ k → slice_get row k ≡ Some (t, a) → n ≤ t) → ShortBelow number G v s n x
-
-module _ {S : Type 0} (number : S → ℕ) (G : Grammar) (v : TableValue) (s : ℕ) (row : List (ℕ × Action)) (whole : get_or v.actions s [] ≡ full_cells v.tokens row) (is : IsCellRow v.tokens row) where
-  -- a token on which the state reduces has a cell
-  reduces_at : (t p : ℕ) (o : Option Action) → at_of row t ≡ o → action_at v s t ≡ reduce p → (k : ℕ) × (a : Action) × (slice_get row k ≡ Some (t, a))
-  reduces_at t p None e at = cc (sym (cell_nowhere v s row whole is t e) ∙ at)
-  reduces_at t p (Some a) e at = let f = found_at row t a e in (f.0, a, f.1)
-
-  pub short_none : ShortTo number G v s row 0 shorts.Nothing
-  short_none n low t p lt at =
-      let f = reduces_at t p (at_of row t) refl at in
-      let le = low f.0 t f.1 (omega arith) f.2 in
-      absurd (omega (arith, lt, le))
-
-  -- where no token from m on below n has a reduction
-  short_on : (m n : ℕ) (x : Short S) → ((t p : ℕ) → m ≤ t → t < n → action_at v s t ≡ reduce p → ⊥) → ShortBelow number G v s m x → ShortBelow number G v s n x
-  short_on m n shorts.Nothing gap h = λ t p lt at. elim (cases_lt t m) [ inl less ↦ h t p less at | inr ge ↦ absurd (gap t p ge lt at) ]
-  short_on m n (shorts.Unit i) gap h = (h.0, h.1, λ t p lt at short. elim (cases_lt t m) [ inl less ↦ h.2 t p less at short | inr ge ↦ absurd (gap t p ge lt at) ])
-  short_on m n shorts.Other gap h = h
-
-  pub short_here : (i t : ℕ) (a : Action) (x : Short S) → ShortTo number G v s row i x → slice_get row i ≡ Some (t, a) → ShortBelow number G v s t x
-  short_here i t a x h at = h t (λ k u b le atk. elim (cases_lt i k) [
-    | inl lt ↦ (let r = rises_at row i k (t, a) (u, b) is.rises at atk lt in omega (arith, r))
-    | inr ge ↦
-        let e : k ≡ i = omega (arith, le, ge) in
-        let same = some_pair_parts t u a b (sym at ∙ ap (slice_get row) (sym e) ∙ atk) in
-        let f = same.0 in
-        omega (arith, f)
-  ])
-
-  pub short_more : (i t : ℕ) (a : Action) (x : Short S) → slice_get row i ≡ Some (t, a) → ShortBelow number G v s (t + 1) x → ShortTo number G v s row (i + 1) x
-  short_more i t a x at h n low = short_on (t + 1) n x gap h
-    where
-      gap : (u p : ℕ) → t + 1 ≤ u → u < n → action_at v s u ≡ reduce p → ⊥
-      gap u p ge lt red =
-          let f = reduces_at u p (at_of row u) refl red in
-          elim (cases_lt i f.0) [
-            | inl later ↦ (let le = low f.0 u f.1 (omega (arith, later)) f.2 in omega (arith, le, lt))
-            | inr early ↦ elim (cases_lt f.0 i) [
-              | inl before ↦ (let r = rises_at row f.0 i (u, f.1) (t, a) is.rises f.2 at before in omega (arith, r, ge))
-              | inr here ↦
-                  let e : f.0 ≡ i = omega (arith, early, here) in
-                  let same = some_pair_parts u t f.1 a (sym f.2 ∙ ap (slice_get row) e ∙ at) in
-                  let k = same.0 in
-                  omega (arith, k, ge)
-            ]
-          ]
-
-  pub short_all : (i : ℕ) (x : Short S) → ShortTo number G v s row i x → length row ≤ i → (n : ℕ) → ShortBelow number G v s n x
-  short_all i x h le n = h n (λ k t a ge at. (let w = slice_get_within row k (t, a) at in absurd (omega (arith, w, le, ge))))
+-- what is told of the productions by which a state reduces is told of the state
+module _ {S : Type 0} (number : S → ℕ) (G : Grammar) (ps : List (PIdx S)) (v : TableValue) (q : ℕ) (are : AreReducers number G v q ps) where
+  pub short_told : (n : ℕ) (x : Short S) → length ps ≤ n → ShortIn number G ps n x → ShortAt number G v q x
+  short_told n shorts.Nothing le h = λ t p at.
+      let f = are.all t p at in
+      let w = slice_get_within ps f.0 f.1 f.2 in
+      subst (λ r. 1 < length (body_of G r)) f.3 (h f.0 f.1 (omega (arith, w, le)) f.2)
+  short_told n (shorts.Unit j) le h = (
+    h.0,
+    h.1,
+    λ t p at short.
+        let f = are.all t p at in
+        let w = slice_get_within ps f.0 f.1 f.2 in
+        sym f.3 ∙ h.2 f.0 f.1 (omega (arith, w, le)) f.2 (subst (λ r. length (body_of G r) ≤ 1) (sym f.3) short),
+  )
+  short_told n shorts.Other le h = h

@@ -1,5 +1,5 @@
 -- Values by functions as values by others.
-use Rattle.std.proofs.Common.{◌≡◌, ℕ, List, map, Option, None, Some, refl, sym, ap, ◌∙◌, subst, rules}
+use Rattle.std.proofs.Common.{◌≡◌, ℕ, List, Option, None, Some, refl, sym, ◌∙◌, subst}
 use Rattle.std.specs.Prelude.{option_map, IfOk, Result, Ok, Err, Vec}
 use Rattle.std.specs.declared.alloc.AllocError.{AllocError}
 use Rattle.std.specs.declared.alloc.Global.{Global}
@@ -17,20 +17,15 @@ use Rattle.lrtable.specs.Tables.{automaton_of}
 use Rattle.lrpar.specs.Acting.{acted_by, action_in, HasAction}
 use Rattle.lrpar.specs.Lex.{Lex}
 use Rattle.lrpar.specs.Made.{end_of, made_by}
-use Rattle.lrpar.specs.NodeValues.{HasNode}
 use Rattle.lrpar.specs.Parses.{HasValue}
 use Rattle.lrpar.specs.Run.{token_by, span_by}
-use Rattle.lrpar.specs.Shapes.{lexeme, along, over, shape, shapes, shape_of, shapes_from}
 use Rattle.lrpar.specs.Stacks.{span_of_places}
 use Rattle.lrpar.specs.Told.{IsToldParse, IsToldOutcome, IsFoldedOutcome}
 use Rattle.lrpar.specs.declared.folded_parse.FoldedOutcome.{FoldedOutcome}
 use Rattle.lrpar.specs.declared.folded_parse.FoldedOutcome.TheVariants as folded
-use Rattle.lrpar.specs.declared.node.Node.{Node, the_lemmas}
-use Rattle.lrpar.specs.declared.node.Node.TheVariants as nodes
 use Rattle.lrpar.specs.declared.parse_actions.AStackType.{AStackType}
 use Rattle.lrpar.specs.declared.parse_actions.AStackType.TheVariants as args
 use Rattle.lrpar.specs.declared.parse_error.ParseError.{ParseError}
-use Rattle.lrpar.proofs.NodeLines.{shape_of-Nonterm}
 use Rattle.lrpar.proofs.Valued.{parse_gives_at}
 
 -- what holds of each lexeme and of each node from its children's on holds of a value that a tree folds to
@@ -49,25 +44,6 @@ module _ {L V : Type 0} (G : Grammar) (by by' : Answers L V) (at : L → Span) (
   value_over (Some v) None h = absurd h
   value_over None (Some t) h = absurd h
   value_over (Some v) (Some t) h = folds_over t no_span v h
-
--- nodes have the shapes of the trees that they stand for
-module _ {S L : Type 0} (number : S → ℕ) (G : Grammar) (by : Answers L (Node L S)) (at : L → Span) (term : (x : L) (n : Node L S) → by.term x n → shape_of number n ≡ lexeme x) (says : (p r : ℕ) (s : Span) (ns : List (Node L S)) (n : Node L S) → by.says p r s ns n → shape_of number n ≡ over r (shapes_from (map (shape_of number) ns))) where
-  mutual
-    node_shape : (t : Tree L) → (left : Span) (n : Node L S) → Folds G by at left t n → shape_of number n ≡ shape G t
-    node_shape (leaf x) left n h = term x n h
-    node_shape (node p ts) left n h = says p (head_of G p) (span_over at left ts) h.0 n h.2 ∙ ap (over (head_of G p)) (node_shapes ts left h.0 h.1)
-
-    node_shapes : (ts : Forest L) → (left : Span) (ns : List (Node L S)) → FoldsAll G by at left ts ns → shapes_from (map (shape_of number) ns) ≡ shapes G ts
-    node_shapes none left ns h = ap (λ l. shapes_from (map (shape_of number) l)) h
-    node_shapes (before t ts) left ns h =
-        ap (λ l. shapes_from (map (shape_of number) l)) h.2
-        ∙ (λ i. along (node_shape t left h.0 h.3 i) (node_shapes ts (span_of at left t) h.1 h.4 i))
-
-  pub node_value : (value : Option (Node L S)) (tree : Option (Tree L)) → HasValue G by at value tree → HasNode number G value tree
-  node_value None None h = tt
-  node_value (Some n) None h = absurd h
-  node_value None (Some t) h = absurd h
-  node_value (Some n) (Some t) h = node_shape t no_span n h
 
 -- what stands for a tree whose root is a rule is what an action answered
 module _ {L U : Type 0} (G : Grammar) (answers : ℕ → ℕ → Span → List (AStackType L U) → U → Type 0) (at : L → Span) where
@@ -113,9 +89,6 @@ module _ {S L E : Type 0} (number : S → ℕ) (lex : L → Lex) (faulty : ℕ �
       (value_over G by (acted_by acts) (span_by lex) term says value tree k)))
       h
 
-shape_of-Term : {S L : Type 0} (number : S → ℕ) (x : L) → shape_of number (nodes.Term x) ≡ lexeme x
-shape_of-Term number x = search (rules, the_lemmas)
-
 pub ok_same : {A : Type 0} (x y : A) → (let r : Result A AllocError = Ok x in r) ≡ Ok y → x ≡ y
 ok_same x y e = cc
 
@@ -138,15 +111,3 @@ module _ {S L E F : Type 0} (number : S → ℕ) (lex : L → Lex) (faulty : ℕ
       IfOk r (λ o. (g : GraphValue) → Q g → R g → IsFoldedOutcome number lex faulty G g v by' answers items o)
   results_over by by' (Ok o) h term says = λ g q k. outcome_gives number lex faulty G g v answers items (HasValue G by (span_by lex)) (HasValue G by' (span_by lex)) (value_over G by by' (span_by lex) term says) o (h g q k)
   results_over by by' (Err e) h term says = h
-
-  pub results_nodes : (by : Answers L (Node L S)) (r : Result (FoldedOutcome S L E (Node L S)) F) → IfOk r (λ o. (g : GraphValue) → Q g → R g → IsFoldedOutcome number lex faulty G g v by answers items o) →
-      ((x : L) (n : Node L S) → by.term x n → n ≡ nodes.Term x) →
-      ((p r : ℕ) (s : Span) (ns : List (Node L S)) (n : Node L S) → by.says p r s ns n → (j : RIdx S) × (below : Vec (Node L S) Global) × (number j.0 ≡ r) × (below.items ≡ ns) × (n ≡ nodes.Nonterm j below)) →
-      IfOk r (λ o. (g : GraphValue) → Q g → R g → IsToldOutcome number lex faulty G g v (HasNode number G) answers items o)
-  results_nodes by (Ok o) h term says = λ g q k. outcome_gives number lex faulty G g v answers items (HasValue G by (span_by lex)) (HasNode number G)
-      (node_value number G by (span_by lex) (λ x n e. ap (shape_of number) (term x n e) ∙ shape_of-Term number x)
-      (λ p r s ns n e.
-      let f = says p r s ns n e in
-      ap (shape_of number) f.4 ∙ shape_of-Nonterm lex number f.0 f.1 ∙ ap (λ m. over m (shapes_from (map (shape_of number) f.1.items))) f.2 ∙ ap (λ l. over r (shapes_from (map (shape_of number) l))) f.3))
-      o (h g q k)
-  results_nodes by (Err e) h term says = h

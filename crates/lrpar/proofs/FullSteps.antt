@@ -1,12 +1,11 @@
 -- Full rows, place by place and row by row.
-use Rattle.std.proofs.Common.{◌≡◌, ℕ, zero, suc, ◌+◌, ◌<◌, ◌≤◌, ◌⊎◌, inl, inr, List, [], ◌∷◌, ◌++◌, length, get_or, map, Option, Some, None, refl, sym, ap, ◌∙◌, subst, arith}
+use Rattle.std.proofs.Common.{◌≡◌, ℕ, zero, suc, ◌+◌, ◌-◌, ◌<◌, ◌≤◌, ◌⊎◌, inl, inr, List, [], ◌∷◌, ◌++◌, length, take, get_or, map, Option, Some, None, refl, sym, ap, ◌∙◌, subst, arith}
 use Rattle.std.specs.Prelude.{slice_get, slice_set, replicate, option_map}
 use Rattle.std.specs.declared.alloc.Global.{Global}
 use Rattle.std.specs.declared.vec.Vec.{Vec}
 use Rattle.std.proofs.lemmas.Bool.{cases_lt, cases_eq}
 use Rattle.std.proofs.lemmas.List.{length-replicate, length-map, get_or-map}
 use Rattle.std.proofs.lemmas.Option.{get_or_from_slice_get, slice_get-get_or, slice_get_within, same_Some}
-use Rattle.lr_theory.specs.Automaton.{Action}
 use Rattle.lrtable.specs.declared.stidx.StIdx.{StIdx}
 use Rattle.lrtable.specs.declared.cells.Action.{Action as TableAction}
 use Rattle.lrtable.specs.declared.cells.Action.TheVariants as actions
@@ -42,6 +41,11 @@ replicated : {X : Type 0} (n k : ℕ) (b : X) → k < n → slice_get (replicate
 replicated zero k b lt = absurd (omega (arith, lt))
 replicated (suc n) zero b lt = refl
 replicated (suc n) (suc k) b lt = replicated n k b (omega (arith, lt))
+
+-- a new row of one value
+pub filled : {X : Type 0} (n : ℕ) (b : X) → take n [] ++ replicate (n - 0) b ≡ replicate n b
+filled zero b = refl
+filled (suc n) b = let same : suc n - 0 ≡ suc n = omega arith in ap (λ k. replicate k b) same
 
 -- a place is told by the row, or is empty where none of the first i entries has its number
 pub record FullTo {V : Type 0} (n : ℕ) (row : List (ℕ × V)) (empty : V) (i : ℕ) (full : List V) : Type 0 where

@@ -28,6 +28,7 @@ pub mod FlatWalks
 pub mod FlatSpans
 pub mod NodeLines
 pub mod NodeLists
+pub mod NodeStacks
 pub mod OnlyTree
 pub mod FlatLines
 pub mod Valued

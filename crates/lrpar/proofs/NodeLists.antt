@@ -245,6 +245,16 @@ module _ {S L : Type 0} (number : S → ℕ) where
   pub pushed_on : (made made' : List (Node L S)) (n : Node L S) → made' ≡ made ++ n ∷ [] → shapes_on number made' ≡ shape_of number n ∷ shapes_on number made
   pushed_on made made' n e = ap (shapes_on number) e ∙ ap reverse (mapped_push (shape_of number) made n) ∙ reverse-append (map (shape_of number) made) (shape_of number n ∷ [])
 
+  -- the last node becomes an only child
+  pub one_joined : (made below made' : List (Node L S)) (r : RIdx S) (child : Node L S) (nodes : Vec (Node L S) Global) (ss : Shapes L) (rest : List (Shape L)) → made ≡ below ++ child ∷ [] → nodes.items ≡ child ∷ [] → made' ≡ below ++ Nonterm r nodes ∷ [] →
+      grab (shapes_on number made) 1 nothing ≡ Some (ss, rest) → shapes_on number made' ≡ over (number r.0) ss ∷ rest
+  one_joined made below made' r child nodes ss rest is_made is_nodes is_new is =
+      let found : Some (along (shape_of number child) nothing, shapes_on number below) ≡ Some (ss, rest) = sym (ap (λ l. grab l 1 nothing) (pushed_on below made child is_made)) ∙ is in
+      let kids : along (shape_of number child) nothing ≡ ss = ap (λ (o : Option (Shapes L × List (Shape L))). option_map_or (λ (p : Shapes L × List (Shape L)). p.0) o nothing) found in
+      let others : shapes_on number below ≡ rest = ap (λ (o : Option (Shapes L × List (Shape L))). option_map_or (λ (p : Shapes L × List (Shape L)). p.1) o []) found in
+      pushed_on below made' (Nonterm r nodes) is_new ∙
+      ap (λ s. s ∷ shapes_on number below) (shape_of-Nonterm r nodes ∙ ap (λ ks. over (number r.0) (shapes_of number ks)) is_nodes ∙ ap (over (number r.0)) kids) ∙ ap (λ l. over (number r.0) ss ∷ l) others
+
   -- the entry before those that were taken is next
   pub next_entry : (entries : List (NodeEntry S L)) (m : ℕ) (e : NodeEntry S L) → m < length entries → e ≡ get_or entries m e → reverse (map (entry_of number) (take (m + 1) entries)) ≡ entry_of number e ∷ reverse (map (entry_of number) (take m entries))
   next_entry entries m e lt is =

@@ -1,15 +1,14 @@
 -- Chains that follow reductions of one symbol.
-use Rattle.std.proofs.Common.{◌≡◌, ℕ, zero, suc, ◌+◌, ◌<◌, ◌≤◌, ◌⊎◌, inl, inr, ⊎_elim, List, [], ◌∷◌, ◌++◌, length, drop, Option, Some, None, refl, sym, ap, ◌∙◌, subst, arith}
-use Rattle.std.proofs.lemmas.Bool.{cases_lt}
+use Rattle.std.proofs.Common.{◌≡◌, ℕ, zero, suc, ◌+◌, ◌≤◌, ◌⊎◌, inl, inr, ⊎_elim, List, [], ◌∷◌, ◌++◌, length, drop, Option, Some, None, refl, sym, ap, ◌∙◌, subst, arith}
 use Rattle.std.specs.Prelude.{slice_get}
 use Rattle.cfg_theory.specs.Grammar.{Grammar, head_of, body_of}
 use Rattle.lr_theory.specs.Automaton.{Action, shift, reduce, accept, error, Automaton}
 use Rattle.cfg_base.specs.declared.symbol.PIdx.{PIdx}
 use Rattle.lrtable.specs.Graphs.{GraphValue}
-use Rattle.lrtable.specs.TableValues.{TableValue, action_at, goto_at}
+use Rattle.lrtable.specs.TableValues.{TableValue, goto_at}
 use Rattle.lrpar.specs.Ranges.{IsTable}
 use Rattle.lrtable.specs.Tables.{automaton_of}
-use Rattle.lrpar.specs.Reducing.{ShortBelow}
+use Rattle.lrpar.specs.Reducing.{ShortAt}
 use Rattle.lrpar.specs.declared.shorts.Short.TheVariants as shorts
 use Rattle.lr_theory.specs.Chains.{push_goto, goto_from, reduce_by, Reductions}
 
@@ -53,21 +52,18 @@ abbrev pub GoesFrom : Grammar → GraphValue → TableValue → ℕ → ℕ → 
 GoesFrom G x v t n p R = (q : ℕ) × (goto_at v p R ≡ Some q) × Reductions G (automaton_of x v) t n (q ∷ p ∷ [])
 
 module _ {S : Type 0} (number : S → ℕ) (G : Grammar) (x : GraphValue) (v : TableValue) (table : IsTable v) (t : ℕ) where
-  inside : (q pr : ℕ) → action_at v q t ≡ reduce pr → t < v.tokens
-  inside q pr e = ⊎_elim (λ lt. lt) (λ le. cc (sym (table.no_action q t (inr le)) ∙ e)) (cases_lt t v.tokens)
-
   -- where a state has no such reduction
-  pub ends : (m q p : ℕ) → ShortBelow number G v q v.tokens shorts.Nothing → Reductions G (automaton_of x v) t (suc m) (q ∷ p ∷ []) → ⊥
+  pub ends : (m q p : ℕ) → ShortAt number G v q shorts.Nothing → Reductions G (automaton_of x v) t (suc m) (q ∷ p ∷ []) → ⊥
   ends m q p none h =
       let l = link G (automaton_of x v) t m q p h in
-      let lt = none t l.production (inside q l.production l.cell) l.cell in
+      let lt = none t l.production l.cell in
       omega (arith, lt, l.short)
 
   -- where it has one alone
-  pub goes_on : (m q p : ℕ) (i : PIdx S) → ShortBelow number G v q v.tokens (shorts.Unit i) → Reductions G (automaton_of x v) t (suc m) (q ∷ p ∷ []) → From G (automaton_of x v) t m p (head_of G (number i.0))
+  pub goes_on : (m q p : ℕ) (i : PIdx S) → ShortAt number G v q (shorts.Unit i) → Reductions G (automaton_of x v) t (suc m) (q ∷ p ∷ []) → From G (automaton_of x v) t m p (head_of G (number i.0))
   goes_on m q p i one h =
       let l = link G (automaton_of x v) t m q p h in
-      let same : l.production ≡ number i.0 = one.2 t l.production (inside q l.production l.cell) l.cell l.short in
+      let same : l.production ≡ number i.0 = one.2 t l.production l.cell l.short in
       let f = l.on (ap (λ k. length (body_of G k)) same ∙ one.1) in
       subst (λ k. From G (automaton_of x v) t m p (head_of G k)) same f
 
@@ -116,18 +112,18 @@ module _ (G : Grammar) (a : Automaton) (t : ℕ) where
       let k = subst (λ n. Reductions G a t n (p ∷ [])) e h in
       alone_by_action p (a.action p t) k.0 refl k.1
 
-module _ {S : Type 0} (number : S → ℕ) (G : Grammar) (x : GraphValue) (v : TableValue) (limit p t : ℕ) (lt : t < v.tokens) (h : Reductions G (automaton_of x v) t (limit + 1) (p ∷ [])) where
-  pub not_nothing : ShortBelow number G v p v.tokens shorts.Nothing → ⊥
+module _ {S : Type 0} (number : S → ℕ) (G : Grammar) (x : GraphValue) (v : TableValue) (limit p t : ℕ) (h : Reductions G (automaton_of x v) t (limit + 1) (p ∷ [])) where
+  pub not_nothing : ShortAt number G v p shorts.Nothing → ⊥
   not_nothing none =
       let k = alone G (automaton_of x v) t limit p h in
-      let more = none t k.0 lt k.1 in
+      let more = none t k.0 k.1 in
       let len = k.2 in
       omega (arith, more, len)
 
-  pub not_unit : (i : PIdx S) → ShortBelow number G v p v.tokens (shorts.Unit i) → ⊥
+  pub not_unit : (i : PIdx S) → ShortAt number G v p (shorts.Unit i) → ⊥
   not_unit i one =
       let k = alone G (automaton_of x v) t limit p h in
       let len = k.2 in
-      let same : k.0 ≡ number i.0 = one.2 t k.0 lt k.1 (omega (arith, len)) in
+      let same : k.0 ≡ number i.0 = one.2 t k.0 k.1 (omega (arith, len)) in
       let other = ap (λ q. length (body_of G q)) same ∙ one.1 in
       omega (arith, len, other)

@@ -1,13 +1,13 @@
--- A number that falls at each turn of the loop that takes a tree apart: twice the nodes, less those on the way down
--- along first children.
-use Rattle.std.proofs.Common.{◌≡◌, ◌<◌, ◌+◌, ℕ, suc, List, [], ◌∷◌, ◌++◌, length, rules, arith, refl, ap, Vec, Global}
+-- A number that falls at each turn of the loop that takes a tree apart: twice the nodes in hand, twice those that wait in
+-- each vector above, and one for each of these.
+use Rattle.std.proofs.Common.{◌≡◌, ◌<◌, ◌+◌, ℕ, suc, List, [], ◌∷◌, ◌++◌, rules, arith, refl, ap, Vec, Global}
 use Rattle.std.specs.Prelude.{map}
 use Rattle.cfg_base.specs.declared.symbol.RIdx.{RIdx}
 use Rattle.lrpar.specs.declared.node.Node.{Node, fold-Node, the_lemmas}
 use Rattle.lrpar.specs.declared.node.Node.TheOpen.{Node-F}
 use Rattle.lrpar.specs.declared.node.Node.TheVariants.{Nonterm}
 
--- the nodes below a tree's root, and the number for them
+-- the nodes below a tree's root, and the number for them, were they those of a vector above
 pub record Load : Type 0 where
   pub below : ℕ
   pub left : ℕ
@@ -16,24 +16,41 @@ abbrev pub total : List Load → ℕ
 total [] = 0
 total (w ∷ ws) = suc (w.below + total ws)
 
+-- the last one of a vector above is the way up
+abbrev pub left_from : Load → List Load → ℕ
+left_from w [] = suc w.left
+left_from w (v ∷ vs) = suc (suc (w.below + w.below)) + left_from v vs
+
 abbrev pub left_in : List Load → ℕ
 left_in [] = 0
-left_in (w ∷ ws) = suc (w.left + (total ws + total ws))
+left_in (w ∷ ws) = left_from w ws
 
 total-push : (ws : List Load) (w : Load) → total (ws ++ w ∷ []) ≡ suc (total ws + w.below)
 total-push [] w = omega arith
 total-push (v ∷ ws) w = omega (arith, total-push ws w)
 
-left-push : (v : Load) (ws : List Load) (w : Load) → left_in ((v ∷ ws) ++ w ∷ []) ≡ left_in (v ∷ ws) + (suc w.below + suc w.below)
-left-push v ws w = omega (arith, total-push ws w)
+from-push : (v : Load) (ws : List Load) (w : Load) → left_from v (ws ++ w ∷ []) ≡ (total (v ∷ ws) + total (v ∷ ws)) + suc w.left
+from-push v [] w = omega arith
+from-push v (u ∷ us) w = omega (arith, from-push u us w)
 
-left-less : (ws : List Load) (w : Load) → left_in ws < left_in (ws ++ w ∷ [])
-left-less [] w = omega arith
-left-less (v ∷ ws) w = omega (arith, left-push v ws w)
+left-push : (ws : List Load) (w : Load) → left_in (ws ++ w ∷ []) ≡ (total ws + total ws) + suc w.left
+left-push [] w = omega arith
+left-push (v ∷ ws) w = from-push v ws w
 
-turn-loads : (vs rest : List Load) (last : Load) → 0 < length vs → left_in (record { below = total (vs ++ last ∷ []); left = left_in (vs ++ last ∷ []) } ∷ rest) < left_in (vs ++ record { below = total (rest ++ last ∷ []); left = left_in (rest ++ last ∷ []) } ∷ [])
-turn-loads [] rest last some = omega (arith, some)
-turn-loads (v ∷ vs) rest last some = omega (arith, left-push v vs last, left-push v vs (record { below = total (rest ++ last ∷ []); left = left_in (rest ++ last ∷ []) }), total-push rest last)
+pop-loads : (ws above : List Load) (w : Load) → (total ws + total ws) + left_in above < (total (ws ++ w ∷ []) + total (ws ++ w ∷ [])) + left_in above
+pop-loads ws above w = omega (arith, total-push ws w)
+
+down-loads : (ws vs above : List Load) → (total vs + total vs) + left_in above < (total (ws ++ record { below = total vs; left = left_in vs } ∷ []) + total (ws ++ record { below = total vs; left = left_in vs } ∷ [])) + left_in above
+down-loads ws vs above = omega (arith, total-push ws (record { below = total vs; left = left_in vs }))
+
+hang-loads : (ws vs above : List Load) → (total vs + total vs) + left_in (ws ++ record { below = total above; left = left_in above } ∷ []) < (total (ws ++ record { below = total vs; left = left_in vs } ∷ []) + total (ws ++ record { below = total vs; left = left_in vs } ∷ [])) + left_in above
+hang-loads ws vs above = omega (arith, total-push ws (record { below = total vs; left = left_in vs }), left-push ws (record { below = total above; left = left_in above }))
+
+rise-loads : (n : ℕ) (ws above : List Load) → (total ws + total ws) + left_in above < (n + n) + left_in (ws ++ record { below = total above; left = left_in above } ∷ [])
+rise-loads n ws above = omega (arith, left-push ws (record { below = total above; left = left_in above }))
+
+end-loads : (n : ℕ) (ws : List Load) (w : Load) → (total ws + total ws) + 0 < (n + n) + left_in (ws ++ w ∷ [])
+end-loads n ws w = omega (arith, left-push ws w)
 
 module _ {L S : Type 0} where
   abbrev pub load_step : Node-F L S Load → Load
@@ -46,8 +63,8 @@ module _ {L S : Type 0} where
   abbrev pub loads : List (Node L S) → List Load
   loads nodes = map load nodes
 
-  abbrev pub left_of : List (Node L S) → ℕ
-  left_of nodes = left_in (loads nodes)
+  abbrev pub left_of : List (Node L S) → List (Node L S) → ℕ
+  left_of nodes above = (total (loads nodes) + total (loads nodes)) + left_in (loads above)
 
   pub load-Nonterm : (r : RIdx S) (nodes : Vec (Node L S) Global) → load (Nonterm r nodes) ≡ record { below = total (loads nodes.items); left = left_in (loads nodes.items) }
   load-Nonterm r nodes = search (rules, the_lemmas)
@@ -57,14 +74,22 @@ module _ {L S : Type 0} where
   loads-push (y ∷ xs) x = ap (λ ws. load y ∷ ws) (loads-push xs x)
 
   -- a node leaves at the end
-  pub pop-less : (xs ys : List (Node L S)) (x : Node L S) → ys ≡ xs ++ x ∷ [] → left_of xs < left_of ys
-  pop-less xs ys x is = rw (is, loads-push xs x) (left-less (loads xs) (load x))
+  pub pop-less : (xs ys above : List (Node L S)) (x : Node L S) → ys ≡ xs ++ x ∷ [] → left_of xs above < left_of ys above
+  pop-less xs ys above x is = rw (is, loads-push xs x) (pop-loads (loads xs) (loads above) (load x))
 
-  loads-length : (xs : List (Node L S)) → length (loads xs) ≡ length xs
-  loads-length [] = refl
-  loads-length (x ∷ xs) = ap suc (loads-length xs)
+  -- the last node's vector comes in hand
+  pub down-less : (xs ys above : List (Node L S)) (x : Node L S) (r : RIdx S) (below : Vec (Node L S) Global) → x ≡ Nonterm r below → ys ≡ xs ++ x ∷ [] → left_of below.items above < left_of ys above
+  down-less xs ys above x r below is_x is_ys = rw (is_ys, loads-push xs x, is_x, load-Nonterm r below) (down-loads (loads xs) (loads below.items) (loads above))
 
-  -- the last node's last child takes its place, and the rest goes below its first
-  pub turn-less : (xs rest ys zs : List (Node L S)) (last x y : Node L S) (r r' : RIdx S) (below above : Vec (Node L S) Global) → 0 < length xs → below.items ≡ rest ++ last ∷ [] → above.items ≡ xs ++ last ∷ [] → x ≡ Nonterm r below → y ≡ Nonterm r' above → ys ≡ xs ++ x ∷ [] → zs ≡ y ∷ rest → left_of zs < left_of ys
-  turn-less xs rest ys zs last x y r r' below above some is_below is_above is_x is_y is_ys is_zs =
-      rw (is_zs, is_ys, loads-push xs x, is_x, is_y, load-Nonterm r below, load-Nonterm r' above, is_below, is_above, loads-push rest last, loads-push xs last) (turn-loads (loads xs) (loads rest) (load last) (rw (loads-length xs) some))
+  -- and those that wait beside it go above
+  pub hang-less : (xs ys zs : List (Node L S)) (x : Node L S) (r r' : RIdx S) (below above : Vec (Node L S) Global) → x ≡ Nonterm r below → ys ≡ xs ++ x ∷ [] → zs ≡ xs ++ Nonterm r' above ∷ [] → left_of below.items zs < left_of ys above.items
+  hang-less xs ys zs x r r' below above is_x is_ys is_zs =
+      rw (is_ys, is_zs, loads-push xs x, loads-push xs (Nonterm r' above), is_x, load-Nonterm r below, load-Nonterm r' above) (hang-loads (loads xs) (loads below.items) (loads above.items))
+
+  -- the vector above comes in hand
+  pub rise-less : (old xs ys : List (Node L S)) (link : Node L S) (r : RIdx S) (above : Vec (Node L S) Global) → link ≡ Nonterm r above → ys ≡ xs ++ link ∷ [] → left_of xs above.items < left_of old ys
+  rise-less old xs ys link r above is_link is_ys = rw (is_ys, loads-push xs link, is_link, load-Nonterm r above) (rise-loads (total (loads old)) (loads xs) (loads above.items))
+
+  -- and is the last one
+  pub end-less : (old xs ys zs : List (Node L S)) (link : Node L S) → ys ≡ xs ++ link ∷ [] → zs ≡ [] → left_of xs zs < left_of old ys
+  end-less old xs ys zs link is_ys is_zs = rw (is_ys, is_zs, loads-push xs link) (end-loads (total (loads old)) (loads xs) (load link))

@@ -4,6 +4,7 @@ use Rattle.cfg_theory.specs.Grammar.{Grammar, WellFormed, body_of}
 use Rattle.lr_theory.specs.Automaton.{Action, shift, reduce, accept, error, Automaton}
 use Rattle.lr_theory.specs.Chains.{reduction, Reductions, ChainsWithin}
 use Rattle.lr_theory.specs.LongChains.{Chain, GoesPast, Passes, ChainBefore, IsLeastChain}
+use Rattle.cfg_base.specs.declared.symbol.PIdx.{PIdx}
 use Rattle.cfg_base.specs.declared.symbol.RIdx.{RIdx}
 use Rattle.lrpar.specs.declared.chains.LongChain.{LongChain}
 use Rattle.lrpar.specs.declared.shorts.Short.{Short}
@@ -109,13 +110,19 @@ abbrev pub TellsChain : {S : Type 0} → (S → ℕ) → Grammar → Automaton �
 TellsChain number G a limit None = ChainsWithin G a limit
 TellsChain number G a limit (Some c) = IsLeastChain G a limit (chain_of number c)
 
--- which reductions of at most one symbol a state makes on the tokens below n: none, by one production of one symbol alone, or whatever
-abbrev pub ShortBelow : {S : Type 0} → (S → ℕ) → Grammar → TableValue → ℕ → ℕ → Short S → Type 0
-ShortBelow number G v q n shorts.Nothing = (t p : ℕ) → t < n → action_at v q t ≡ reduce p → 1 < length (body_of G p)
-ShortBelow number G v q n (shorts.Unit i) = (number i.0 < length G.productions) × (length (body_of G (number i.0)) ≡ 1) × ((t p : ℕ) → t < n → action_at v q t ≡ reduce p → length (body_of G p) ≤ 1 → p ≡ number i.0)
-ShortBelow number G v q n shorts.Other = Unit {0}
+-- which reductions of at most one symbol a state makes: none, by one production of one symbol alone, or whatever
+abbrev pub ShortAt : {S : Type 0} → (S → ℕ) → Grammar → TableValue → ℕ → Short S → Type 0
+ShortAt number G v q shorts.Nothing = (t p : ℕ) → action_at v q t ≡ reduce p → 1 < length (body_of G p)
+ShortAt number G v q (shorts.Unit i) = (number i.0 < length G.productions) × (length (body_of G (number i.0)) ≡ 1) × ((t p : ℕ) → action_at v q t ≡ reduce p → length (body_of G p) ≤ 1 → p ≡ number i.0)
+ShortAt number G v q shorts.Other = Unit {0}
 
--- that of each state, on all tokens
+-- the same of the first n productions of a list
+abbrev pub ShortIn : {S : Type 0} → (S → ℕ) → Grammar → List (PIdx S) → ℕ → Short S → Type 0
+ShortIn {S} number G ps n shorts.Nothing = (k : ℕ) (i : PIdx S) → k < n → slice_get ps k ≡ Some i → 1 < length (body_of G (number i.0))
+ShortIn {S} number G ps n (shorts.Unit j) = (number j.0 < length G.productions) × (length (body_of G (number j.0)) ≡ 1) × ((k : ℕ) (i : PIdx S) → k < n → slice_get ps k ≡ Some i → length (body_of G (number i.0)) ≤ 1 → number i.0 ≡ number j.0)
+ShortIn number G ps n shorts.Other = Unit {0}
+
+-- that of each state
 pub record AreShorts {S : Type 0} (number : S → ℕ) (G : Grammar) (v : TableValue) (xs : List (Short S)) : Type 0 where
   pub count : length xs ≡ v.states
-  pub each : (k : ℕ) (x : Short S) → slice_get xs k ≡ Some x → ShortBelow number G v k v.tokens x
+  pub each : (k : ℕ) (x : Short S) → slice_get xs k ≡ Some x → ShortAt number G v k x

@@ -16,11 +16,25 @@ use cfg_numbered::yacc::grammar::NumberedGrammar;
 use lrtable::{StIdx, StateTable};
 use std::alloc::{AllocError, Global};
 
+/// A stack without states: one of the spare ones, whose room it keeps, where there is one.
+fn empty_stack<S: IndexStorage>(alloc: Global, spare: &mut Vec<Vec<StIdx<S>>>) -> Vec<StIdx<S>>
+    ensures { result.items ≡ [] }
+{
+    match spare.pop() {
+        Some(mut stack) => {
+            stack.clear();
+            stack
+        }
+        None => Vec::new(alloc),
+    }
+}
+
 /// The stack after a reduction by a production, where that leaves a state and there is a goto. The stack's top is last.
 fn reduced<S: IndexStorage>(
     alloc: Global,
     grm: &NumberedGrammar<S>,
     stable: &StateTable<S>,
+    spare: &mut Vec<Vec<StIdx<S>>>,
     stack: &[StIdx<S>],
     pidx: PIdx<S>,
 ) -> Result<Option<Vec<StIdx<S>>>, AllocError>
@@ -39,7 +53,8 @@ fn reduced<S: IndexStorage>(
     let Some(target) = stable.goto(below, grm.prod_to_rule(pidx)) else {
         return Ok(None);
     };
-    let mut next = Vec::from_slice(alloc, &stack[..left])?;
+    let mut next = empty_stack(alloc, spare);
+    next.extend_from_slice(&stack[..left])?;
     next.push(target)?;
     Ok(Some(next))
 }
@@ -49,6 +64,7 @@ fn follow<S: IndexStorage>(
     alloc: Global,
     grm: &NumberedGrammar<S>,
     stable: &StateTable<S>,
+    spare: &mut Vec<Vec<StIdx<S>>>,
     list: &[PIdx<S>],
     stack: &[StIdx<S>],
     stacks: &mut Vec<Vec<StIdx<S>>>,
@@ -62,7 +78,8 @@ fn follow<S: IndexStorage>(
     ensures stacks { OnOk result (AllHoldStates S.number stable.now stacks.new.items) }
 {
     'prods: for index in 0..list.len() {
-        let Some(next) = reduced(alloc, grm, stable, stack, prod_of_list(list, index))? else {
+        let pidx = prod_of_list(list, index);
+        let Some(next) = reduced(alloc, grm, stable, spare, stack, pidx)? else {
             continue;
         };
         stacks.push(next)?;
@@ -76,6 +93,7 @@ fn take_stack<S: IndexStorage>(
     grm: &NumberedGrammar<S>,
     stable: &StateTable<S>,
     reducers: &[Vec<PIdx<S>>],
+    spare: &mut Vec<Vec<StIdx<S>>>,
     stack: &[StIdx<S>],
     stacks: &mut Vec<Vec<StIdx<S>>>,
 ) -> Result<(), AllocError>
@@ -89,19 +107,20 @@ fn take_stack<S: IndexStorage>(
 {
     let top = stack[stack.len() - 1];
     let list = reducers_at(grm, stable, reducers, top);
-    follow(alloc, grm, stable, list, stack, stacks)?;
+    follow(alloc, grm, stable, spare, list, stack, stacks)?;
     Ok(())
 }
 
 /// The stack that a chain begins with.
 fn first_stack<S: IndexStorage>(
     alloc: Global,
+    spare: &mut Vec<Vec<StIdx<S>>>,
     state: StIdx<S>,
     above: Option<StIdx<S>>,
 ) -> Result<Vec<StIdx<S>>, AllocError>
     ensures { IfOk result (λ v. states_of S.number v.items ≡ chain_states (S.number state.0) (state_of S.number above)) }
 {
-    let mut stack = Vec::new(alloc);
+    let mut stack = empty_stack(alloc, spare);
     stack.push(state)?;
     match above {
         None => Ok(stack),
@@ -123,13 +142,16 @@ fn most_stacks(limit: u16) -> usize
 }
 
 /// Whether it is seen, without looking at tokens, that no chain of the state passes the limit: alone, or with `above` on
-/// it. All that may be reduced on some token is followed, for at most so many stacks as a chain may have.
+/// it. All that may be reduced on some token is followed, for at most so many stacks as a chain may have. The stacks that
+/// are handed in serve as room, and the spare ones are written over.
 pub(crate) fn ends_soon<S: IndexStorage>(
     alloc: Global,
     grm: &NumberedGrammar<S>,
     stable: &StateTable<S>,
     reducers: &[Vec<PIdx<S>>],
     limit: u16,
+    stacks: &mut Vec<Vec<StIdx<S>>>,
+    spare: &mut Vec<Vec<StIdx<S>>>,
     state: StIdx<S>,
     above: Option<StIdx<S>>,
 ) -> Result<bool, AllocError>
@@ -139,14 +161,23 @@ pub(crate) fn ends_soon<S: IndexStorage>(
     requires above { (q : ℕ) → state_of S.number above ≡ Some q → q < stable.now.states }
     ensures { IfOk result (λ ends. ends ≡ true → (g : GraphValue) (t : ℕ) → IsLong grm.now.grammar (automaton_of g stable.now) limit (S.number state.0) (state_of S.number above) t → ⊥) }
 {
-    let mut stacks = Vec::new(alloc);
-    stacks.push(first_stack(alloc, state, above)?)?;
+    stacks.clear();
+    stacks.push(first_stack(alloc, spare, state, above)?)?;
     let most = most_stacks(limit);
     'stacks: for _ in 0..most {
         let Some(stack) = stacks.pop() else {
             return Ok(true);
         };
-        take_stack(alloc, grm, stable, reducers, stack.as_slice(), &mut stacks)?;
+        take_stack(
+            alloc,
+            grm,
+            stable,
+            reducers,
+            spare,
+            stack.as_slice(),
+            stacks,
+        )?;
+        spare.push(stack)?;
     }
     Ok(false)
 }

@@ -27,6 +27,14 @@ pub struct LongChain<S> {
     pub tidx: TIdx<S>,
 }
 
+/// Room that the search for a long chain writes over: a stack that is run on one token, and stacks that are followed.
+#[derive(Drop)]
+struct Rooms<S: IndexStorage> {
+    stack: Vec<StIdx<S>>,
+    stacks: Vec<Vec<StIdx<S>>>,
+    spare: Vec<Vec<StIdx<S>>>,
+}
+
 /// One reduction on the token, where one can be made that leaves a state on the stack. The stack's top is last.
 pub(crate) fn reduce_once<S: IndexStorage>(
     grm: &NumberedGrammar<S>,
@@ -167,6 +175,34 @@ pub(crate) fn long_token<S: IndexStorage>(
     Ok(None)
 }
 
+/// The same. Tokens are tried only where following all reductions, whatever the token, doesn't show that none is long.
+fn least_long<S: IndexStorage>(
+    alloc: Global,
+    grm: &NumberedGrammar<S>,
+    stable: &StateTable<S>,
+    reducers: &[Vec<PIdx<S>>],
+    limit: u16,
+    rooms: &mut Rooms<S>,
+    state: StIdx<S>,
+    above: Option<StIdx<S>>,
+) -> Result<Option<TIdx<S>>, AllocError>
+    requires table { IsTableFor grm.now.grammar stable.now }
+    requires reducers { AreAllReducers S.number grm.now.grammar stable.now reducers.now }
+    requires state { S.number state.0 < stable.now.states }
+    requires above { (q : ℕ) → state_of S.number above ≡ Some q → q < stable.now.states }
+    ensures { IfOk result (λ found. (g : GraphValue) → TellsToken grm.now.grammar (automaton_of g stable.now) limit stable.now.tokens (S.number state.0) (state_of S.number above) (token_number S.number found)) }
+{
+    let stacks = &mut rooms.stacks;
+    let spare = &mut rooms.spare;
+    if ends_soon(
+        alloc, grm, stable, reducers, limit, stacks, spare, state, above,
+    )? {
+        return Ok(None);
+    }
+    let found = long_token(grm, stable, limit, &mut rooms.stack, state, above)?;
+    Ok(found)
+}
+
 /// The least token on which a chain of the state alone passes the limit. Such a chain begins with an empty reduction.
 fn long_alone<S: IndexStorage>(
     alloc: Global,
@@ -175,7 +211,7 @@ fn long_alone<S: IndexStorage>(
     shorts: &[Short<S>],
     reducers: &[Vec<PIdx<S>>],
     limit: u16,
-    stack: &mut Vec<StIdx<S>>,
+    rooms: &mut Rooms<S>,
     state: StIdx<S>,
 ) -> Result<Option<TIdx<S>>, AllocError>
     requires table { IsTableFor grm.now.grammar stable.now }
@@ -188,10 +224,7 @@ fn long_alone<S: IndexStorage>(
         Short::Nothing => Ok(None),
         Short::Unit(_) => Ok(None),
         Short::Other => {
-            if ends_soon(alloc, grm, stable, reducers, limit, state, None)? {
-                return Ok(None);
-            }
-            let found = long_token(grm, stable, limit, stack, state, None)?;
+            let found = least_long(alloc, grm, stable, reducers, limit, rooms, state, None)?;
             Ok(found)
         }
     }
@@ -205,7 +238,7 @@ fn long_above<S: IndexStorage>(
     shorts: &[Short<S>],
     reducers: &[Vec<PIdx<S>>],
     limit: u16,
-    stack: &mut Vec<StIdx<S>>,
+    rooms: &mut Rooms<S>,
     state: StIdx<S>,
 ) -> Result<Option<LongChain<S>>, AllocError>
     requires table { IsTableFor grm.now.grammar stable.now }
@@ -218,14 +251,12 @@ fn long_above<S: IndexStorage>(
     let row = stable.state_gotos(state);
     'gotos: for index in 0..row.len() {
         let (number, above) = goto_of_row(row, index);
-        let ridx = RIdx(index_below(number, rules));
-        if is_quiet(grm, stable, shorts, limit, state, ridx) {
+        if is_quiet(grm, stable, shorts, limit, state, above) {
             continue;
         }
-        if ends_soon(alloc, grm, stable, reducers, limit, state, Some(above))? {
-            continue;
-        }
-        if let Some(tidx) = long_token(grm, stable, limit, stack, state, Some(above))? {
+        let onto = Some(above);
+        if let Some(tidx) = least_long(alloc, grm, stable, reducers, limit, rooms, state, onto)? {
+            let ridx = RIdx(index_below(number, rules));
             return Ok(Some(LongChain {
                 state,
                 ridx: Some(ridx),
@@ -244,7 +275,7 @@ fn long_of<S: IndexStorage>(
     shorts: &[Short<S>],
     reducers: &[Vec<PIdx<S>>],
     limit: u16,
-    stack: &mut Vec<StIdx<S>>,
+    rooms: &mut Rooms<S>,
     state: StIdx<S>,
 ) -> Result<Option<LongChain<S>>, AllocError>
     requires table { IsTableFor grm.now.grammar stable.now }
@@ -253,14 +284,14 @@ fn long_of<S: IndexStorage>(
     requires state { S.number state.0 < stable.now.states }
     ensures { IfOk result (λ found. (g : GraphValue) → TellsOf S.number grm.now.grammar (automaton_of g stable.now) limit (S.number state.0) found) }
 {
-    if let Some(tidx) = long_alone(alloc, grm, stable, shorts, reducers, limit, stack, state)? {
+    if let Some(tidx) = long_alone(alloc, grm, stable, shorts, reducers, limit, rooms, state)? {
         return Ok(Some(LongChain {
             state,
             ridx: None,
             tidx,
         }));
     }
-    let found = long_above(alloc, grm, stable, shorts, reducers, limit, stack, state)?;
+    let found = long_above(alloc, grm, stable, shorts, reducers, limit, rooms, state)?;
     Ok(found)
 }
 
@@ -274,9 +305,13 @@ pub(crate) fn long_chain<S: IndexStorage>(
     requires table { IsTableFor grm.now.grammar stable.now }
     ensures { IfOk result (λ found. (g : GraphValue) → TellsChain S.number grm.now.grammar (automaton_of g stable.now) limit found) }
 {
-    let shorts = all_shorts(alloc, grm, stable)?;
     let reducers = all_reducers(alloc, grm, stable)?;
-    let mut stack = Vec::new(alloc);
+    let shorts = all_shorts(alloc, grm, stable, reducers.as_slice())?;
+    let mut rooms = Rooms {
+        stack: Vec::new(alloc),
+        stacks: Vec::new(alloc),
+        spare: Vec::new(alloc),
+    };
     let states = stable.states_len().0;
     'states: for number in 0..states.to_usize() {
         let state = StIdx(index_below(number, states));
@@ -287,7 +322,7 @@ pub(crate) fn long_chain<S: IndexStorage>(
             shorts.as_slice(),
             reducers.as_slice(),
             limit,
-            &mut stack,
+            &mut rooms,
             state,
         )? {
             return Ok(Some(found));

@@ -44,16 +44,14 @@ fn repeated<V: Copy>(alloc: Global, value: V, count: usize) -> Result<Vec<V>, Al
     ensures { IfOk result (λ v. v.items ≡ replicate count value) }
 {
     let mut values = Vec::with_capacity(alloc, count)?;
-    'places: for _place in 0..count {
-        values.push(value)?;
-    }
+    values.resize(count, value)?;
     Ok(values)
 }
 
 /// A place for each number below the count, with what the row has beside it, or else with `empty`.
 fn full_row<V: Copy>(
     alloc: Global,
-    row: &[(usize, V)],
+    row: &[(u32, V)],
     empty: V,
     count: usize,
 ) -> Result<Vec<V>, AllocError>
@@ -64,7 +62,7 @@ fn full_row<V: Copy>(
     let mut full = repeated(alloc, empty, count)?;
     'entries: for i in 0..row.len() {
         let entry = row[i];
-        put(&mut full, entry.0, entry.1);
+        put(&mut full, entry.0 as usize, entry.1);
     }
     Ok(full)
 }

@@ -47,6 +47,7 @@ pub mod lexemes;
 mod next_tokens;
 pub mod node;
 mod node_lists;
+mod node_values;
 mod numbers;
 mod overlay;
 mod parse;

@@ -88,31 +88,36 @@ impl<L: Lexeme<S>, S: IndexStorage> Node<L, S> {
     }
 }
 
-// The vector in hand holds at index 0, once below the root, the node that it was taken from.
+// Each vector from `above` on ends in a node that holds the one above it, the root's aside.
 fn dismantle<L: Lexeme<S>, S: IndexStorage>(mut nodes: Vec<Node<L, S>>) {
+    let alloc = *nodes.allocator();
+    let mut above = Vec::new(alloc);
     'turns: loop {
-        let Some(node) = nodes.pop() else {
-            nodes.destroy_empty();
-            return;
-        };
-        if let Some((ridx, mut below)) = node.into_nodes() {
-            if nodes.is_empty() {
-                nodes.destroy_empty();
-                nodes = below;
-            } else {
-                match below.pop() {
-                    None => below.destroy_empty(),
-                    Some(last) => {
-                        match nodes.push(last) {
-                            Ok(()) => {}
-                            Err(_) => unreachable!(),
-                        }
-                        match below.insert(0, Node::Nonterm { ridx, nodes }) {
-                            Ok(()) => {}
-                            Err(_) => unreachable!(),
-                        }
+        match nodes.pop() {
+            Some(node) => {
+                if let Some((ridx, below)) = node.into_nodes() {
+                    if nodes.is_empty() {
+                        nodes.destroy_empty();
+                        nodes = below;
+                    } else if below.is_empty() {
+                        below.destroy_empty();
+                    } else {
+                        nodes.push_reserved(Node::Nonterm { ridx, nodes: above });
+                        above = nodes;
                         nodes = below;
                     }
+                }
+            }
+            None => {
+                nodes.destroy_empty();
+                let Some(link) = above.pop() else {
+                    above.destroy_empty();
+                    return;
+                };
+                nodes = above;
+                match link.into_nodes() {
+                    Some((_ridx, higher)) => above = higher,
+                    None => above = Vec::new(alloc),
                 }
             }
         }

@@ -85,6 +85,22 @@ pub(crate) fn join_last<L: Lexeme<S>, S: IndexStorage>(
     Ok(())
 }
 
+/// Takes the last node for the only child of one of the rule, which stands in its place.
+#[inline(always)]
+pub(crate) fn join_one<L: Lexeme<S>, S: IndexStorage>(
+    made: &mut Vec<Node<L, S>>,
+    ridx: RIdx<S>,
+) -> Result<(), AllocError>
+    requires { 1 ≤ length made.old.items }
+    ensures { (ss : Shapes L) (rest : List (Shape L)) → grab (shapes_on S.number made.old.items) 1 nothing ≡ Some (ss, rest) →
+        OnOk result (shapes_on S.number made.new.items ≡ over (S.number ridx.0) ss ∷ rest) }
+{
+    let mut nodes = Vec::with_capacity(*made.allocator(), 1)?;
+    nodes.push_reserved(made.take_last());
+    made.push_reserved(Node::Nonterm { ridx, nodes });
+    Ok(())
+}
+
 /// Puts the node of an entry behind these, in the place of its children.
 fn make_next<L: Lexeme<S>, S: IndexStorage>(
     made: &mut Vec<Node<L, S>>,

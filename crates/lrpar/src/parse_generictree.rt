@@ -1,29 +1,42 @@
 //! Parses whose value is a node.
 
-ghost use Rattle.std.specs.Prelude.{◌≡◌, Ok, IfOk, IfErr};
+ghost use Rattle.std.specs.Prelude.{◌≡◌, ℕ, List, Option, map, IfOk, IfErr};
+ghost use Rattle.cfg_theory.specs.Grammar.{Grammar};
+ghost use Rattle.cfg_theory.specs.Tree.{Tree};
 ghost use Rattle.lr_theory.specs.Automaton.{Safe};
 ghost use Rattle.lr_theory.specs.Chains.{ChainsWithin};
 ghost use Rattle.lrtable.specs.Graphs.{GraphValue};
 ghost use Rattle.lrtable.specs.Tables.{automaton_of};
+ghost use Rattle.lrpar.specs.NodeLists.{shapes_on};
 ghost use Rattle.lrpar.specs.NodeValues.{HasNode};
+ghost use Rattle.lrpar.specs.Parses.{HoldsValue};
 ghost use Rattle.lrpar.specs.Reducing.{IsTableFor};
 ghost use Rattle.lrpar.specs.Refusals.{IsParseRefusal};
+ghost use Rattle.lrpar.specs.Shapes.{shape};
 ghost use Rattle.lrpar.specs.Told.{IsToldOutcome};
-ghost use Rattle.lrpar.specs.declared.node.Node.TheVariants as variants;
 
-use crate::folded_parse::FoldedOutcome;
+use crate::folded_parse::{FoldedOutcome, tell_errors};
 use crate::full_table::FullTable;
 use crate::lex_api::Lexeme;
 use crate::lexemes::ParseRefusal;
 use crate::node::Node;
-use crate::parse_map::parse_mapped;
+use crate::node_values::NodeValues;
+use crate::parse::Parsed;
+use crate::parser::{Outcome, parse_items};
 use crate::recoverer::Recoverer;
 use cfg_base::index::IndexStorage;
-use cfg_base::symbol::RIdx;
 use cfg_numbered::yacc::grammar::NumberedGrammar;
-use std::alloc::{AllocError, Global};
+use std::alloc::Global;
 
-type MadeNode<L, S> = Result<Node<L, S>, AllocError>;
+/// The node that a parse leaves, where it accepts.
+fn node_left<S: IndexStorage, L: Lexeme<S>>(
+    values: NodeValues<S, L>,
+    accepted: bool,
+) -> Option<Node<L, S>>
+    ensures { (G : Grammar) (tree : Option (Tree L)) → HoldsValue (λ ts. shapes_on S.number values.nodes.items ≡ map (shape G) ts) accepted tree → HasNode S.number G result tree }
+{
+    if accepted { values.finish() } else { None }
+}
 
 /// What the list of a lexer comes to, with a node for its value.
 pub(crate) fn parse_nodes<S: IndexStorage, L: Lexeme<S>, E: Copy, R: Recoverer<S, L>>(
@@ -41,11 +54,24 @@ pub(crate) fn parse_nodes<S: IndexStorage, L: Lexeme<S>, E: Copy, R: Recoverer<S
         IsToldOutcome S.number L.lex L.faulty_of grm.now.grammar g stable.now (HasNode S.number grm.now.grammar) (R.answers recoverer.now) items.now o) }
     ensures refused { IfErr result (IsParseRefusal grm.now.grammar L.lex items.now) }
 {
-    let term = |_alloc: Global, lexeme: L| -> MadeNode<L, S>
-        ensures { result ≡ Ok (variants.Term lexeme) }
-    { Ok(Node::Term { lexeme }) };
-    let nonterm = |_alloc: Global, ridx: RIdx<S>, nodes: Vec<Node<L, S>>| -> MadeNode<L, S>
-        ensures { result ≡ Ok (variants.Nonterm ridx nodes) }
-    { Ok(Node::Nonterm { ridx, nodes }) };
-    parse_mapped(alloc, grm, stable, limit, items, recoverer, &term, &nonterm)
+    // Room for a stack of 24; a higher one grows.
+    let values = match NodeValues::with_room(alloc, 24) {
+        Ok(values) => values,
+        Err(e) => return Err(ParseRefusal::Memory(e)),
+    };
+    match parse_items(alloc, grm, stable, limit, items, recoverer, values)? {
+        Outcome::Fault(fault) => Ok(FoldedOutcome::Fault(fault)),
+        Outcome::Parsed(lexemes, parsed) => {
+            let Parsed {
+                values,
+                accepted,
+                errors,
+            } = parsed;
+            let value = node_left(values, accepted);
+            match tell_errors(alloc, lexemes.as_slice(), errors.as_slice()) {
+                Ok(errors) => Ok(FoldedOutcome::Parsed(value, errors)),
+                Err(e) => Err(ParseRefusal::Memory(e)),
+            }
+        }
+    }
 }

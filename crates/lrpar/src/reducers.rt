@@ -84,7 +84,7 @@ pub(crate) fn all_reducers<S: IndexStorage>(
     ensures { IfOk result (λ v. AreAllReducers S.number grm.now.grammar stable.now v.items) }
 {
     let states = stable.states_len().0;
-    let mut all = Vec::new(alloc);
+    let mut all = Vec::with_capacity(alloc, states.to_usize())?;
     'states: for number in 0..states.to_usize() {
         let state = StIdx(index_below(number, states));
         all.push(reducers_of(alloc, grm, stable, state)?)?;

@@ -8,22 +8,24 @@ use lrtable::{Action, StIdx};
 
 /// The cell at a place, beside its token's number.
 pub(crate) fn cell_of_row<S: IndexStorage>(
-    row: &[(usize, Action<S>)],
+    row: &[(u32, Action<S>)],
     index: usize,
 ) -> (usize, Action<S>)
     requires { index < length row.now }
     ensures { slice_get (cells_of S.number row.now) index ≡ Some (result.0, action_of S.number result.1) }
 {
-    row[index]
+    let (number, action) = row[index];
+    (number as usize, action)
 }
 
 /// The goto at a place, beside its rule's number.
 pub(crate) fn goto_of_row<S: IndexStorage>(
-    row: &[(usize, StIdx<S>)],
+    row: &[(u32, StIdx<S>)],
     index: usize,
 ) -> (usize, StIdx<S>)
     requires { index < length row.now }
     ensures { slice_get (targets_of S.number row.now) index ≡ Some (result.0, S.number result.1.0) }
 {
-    row[index]
+    let (number, target) = row[index];
+    (number as usize, target)
 }

@@ -1,20 +1,18 @@
 //! A quick test that no chain is long: it follows the reductions of one symbol, without their tokens.
 
-ghost use Rattle.std.specs.Prelude.{◌≡◌, ◌<◌, ◌+◌, ℕ, true, Some, length, slice_get, IfOk};
-ghost use Rattle.lr_theory.specs.Automaton.{reduce};
-ghost use Rattle.lr_theory.specs.LongChains.{GoesPast};
+ghost use Rattle.std.specs.Prelude.{◌≡◌, ◌<◌, ◌+◌, ℕ, List, true, Some, length, slice_get, IfOk};
 ghost use Rattle.lrtable.specs.Graphs.{GraphValue};
-ghost use Rattle.lrtable.specs.TableValues.{TableValue, action_at};
-ghost use Rattle.lrtable.specs.CellViews.{action_of};
+ghost use Rattle.lrtable.specs.TableValues.{TableValue};
 ghost use Rattle.lrtable.specs.Tables.{automaton_of};
-ghost use Rattle.lrpar.specs.Reducing.{IsTableFor, ShortBelow, AreShorts};
+ghost use Rattle.lrpar.specs.Reducing.{IsLong, IsTableFor, ShortAt, ShortIn, AreShorts};
+ghost use Rattle.lrpar.specs.Branching.{Lists, AreReducers, AreAllReducers};
 
 use crate::numbers::index_below;
-use crate::rows::cell_of_row;
+use crate::reducers::{prod_of_list, reducers_at};
 use cfg_base::index::IndexStorage;
-use cfg_base::symbol::{PIdx, RIdx};
+use cfg_base::symbol::PIdx;
 use cfg_numbered::yacc::grammar::NumberedGrammar;
-use lrtable::{Action, StIdx, StateTable};
+use lrtable::{StIdx, StateTable};
 use std::alloc::{AllocError, Global};
 
 /// The reductions of at most one symbol that a state makes: none, by one production of one symbol alone, or others.
@@ -25,14 +23,11 @@ pub(crate) enum Short<S> {
     Other,
 }
 
-/// One action more.
-fn joined<S: IndexStorage>(grm: &NumberedGrammar<S>, found: Short<S>, action: Action<S>) -> Short<S>
-    requires { (p : ℕ) → action_of S.number action ≡ reduce p → p < length grm.now.grammar.productions }
-    ensures { (v : TableValue) (q n : ℕ) → action_at v q n ≡ action_of S.number action → ShortBelow S.number grm.now.grammar v q n found → ShortBelow S.number grm.now.grammar v q (n + 1) result }
+/// One production more.
+fn joined<S: IndexStorage>(grm: &NumberedGrammar<S>, found: Short<S>, pidx: PIdx<S>) -> Short<S>
+    requires { S.number pidx.0 < length grm.now.grammar.productions }
+    ensures { (ps : List (PIdx S)) (n : ℕ) → slice_get ps n ≡ Some pidx → ShortIn S.number grm.now.grammar ps n found → ShortIn S.number grm.now.grammar ps (n + 1) result }
 {
-    let Action::Reduce(pidx) = action else {
-        return found;
-    };
     let count = grm.prod_len(pidx).0.to_usize();
     if count > 1 {
         return found;
@@ -53,21 +48,14 @@ fn joined<S: IndexStorage>(grm: &NumberedGrammar<S>, found: Short<S>, action: Ac
     }
 }
 
-/// The state's own.
-fn short_of<S: IndexStorage>(
-    grm: &NumberedGrammar<S>,
-    stable: &StateTable<S>,
-    state: StIdx<S>,
-) -> Short<S>
-    requires table { IsTableFor grm.now.grammar stable.now }
-    requires state { S.number state.0 < stable.now.states }
-    ensures { ShortBelow S.number grm.now.grammar stable.now (S.number state.0) stable.now.tokens result }
+/// The ones of a state that reduces by these productions.
+fn short_of<S: IndexStorage>(grm: &NumberedGrammar<S>, list: &[PIdx<S>]) -> Short<S>
+    requires { (p : ℕ) → Lists S.number list.now p → p < length grm.now.grammar.productions }
+    ensures { (v : TableValue) (q : ℕ) → AreReducers S.number grm.now.grammar v q list.now → ShortAt S.number grm.now.grammar v q result }
 {
-    let row = stable.state_cells(state);
     let mut found = Short::Nothing;
-    'cells: for index in 0..row.len() {
-        let (_, action) = cell_of_row(row, index);
-        found = joined(grm, found, action);
+    'prods: for index in 0..list.len() {
+        found = joined(grm, found, prod_of_list(list, index));
     }
     found
 }
@@ -77,15 +65,17 @@ pub(crate) fn all_shorts<S: IndexStorage>(
     alloc: Global,
     grm: &NumberedGrammar<S>,
     stable: &StateTable<S>,
+    reducers: &[Vec<PIdx<S>>],
 ) -> Result<Vec<Short<S>>, AllocError>
-    requires table { IsTableFor grm.now.grammar stable.now }
+    requires { AreAllReducers S.number grm.now.grammar stable.now reducers.now }
     ensures { IfOk result (λ v. AreShorts S.number grm.now.grammar stable.now v.items) }
 {
     let states = stable.states_len().0;
-    let mut shorts = Vec::new(alloc);
+    let mut shorts = Vec::with_capacity(alloc, states.to_usize())?;
     'states: for number in 0..states.to_usize() {
         let state = StIdx(index_below(number, states));
-        shorts.push(short_of(grm, stable, state))?;
+        let list = reducers_at(grm, stable, reducers, state);
+        shorts.push(short_of(grm, list))?;
     }
     Ok(shorts)
 }
@@ -98,32 +88,33 @@ pub(crate) fn short_at<S: IndexStorage>(shorts: &[Short<S>], state: StIdx<S>) ->
     shorts[state.0.to_usize()]
 }
 
-/// Whether it is seen, without looking at tokens, that no chain from the state with its goto on the rule above it
-/// passes the limit.
+/// Whether it is seen, without looking at tokens, that no chain from the state with another one above it passes the limit.
 pub(crate) fn is_quiet<S: IndexStorage>(
     grm: &NumberedGrammar<S>,
     stable: &StateTable<S>,
     shorts: &[Short<S>],
     limit: u16,
     state: StIdx<S>,
-    ridx: RIdx<S>,
+    above: StIdx<S>,
 ) -> bool
     requires table { IsTableFor grm.now.grammar stable.now }
     requires shorts { AreShorts S.number grm.now.grammar stable.now shorts.now }
     requires state { S.number state.0 < stable.now.states }
-    requires rule { S.number ridx.0 < stable.now.rules }
-    ensures { result ≡ true → (g : GraphValue) (t : ℕ) → GoesPast grm.now.grammar (automaton_of g stable.now) limit (S.number state.0) (Some (S.number ridx.0)) t → ⊥ }
+    requires above { S.number above.0 < stable.now.states }
+    ensures { result ≡ true → (g : GraphValue) (t : ℕ) → IsLong grm.now.grammar (automaton_of g stable.now) limit (S.number state.0) (Some (S.number above.0)) t → ⊥ }
 {
-    let mut rule = ridx;
+    let mut top = above;
     let most = limit as usize + 1;
     'links: for _ in 0..most {
-        let Some(above) = stable.goto(state, rule) else {
-            return true;
-        };
-        match short_at(shorts, above) {
+        match short_at(shorts, top) {
             Short::Nothing => return true,
-            Short::Unit(pidx) => rule = grm.prod_to_rule(pidx),
             Short::Other => return false,
+            Short::Unit(pidx) => {
+                let Some(next) = stable.goto(state, grm.prod_to_rule(pidx)) else {
+                    return true;
+                };
+                top = next;
+            }
         }
     }
     false

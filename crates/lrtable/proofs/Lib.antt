@@ -27,6 +27,7 @@ pub mod Stepping
 pub mod Starting
 pub mod Marking
 pub mod Numbering
+pub mod Whole
 pub mod Cutting
 pub mod Renumbering
 pub mod Quiet
@@ -75,6 +76,10 @@ pub mod BlankCells
 pub mod MarkedSets
 pub mod SpreadSteps
 pub mod Waiting
+pub mod Noting
 pub mod OwnSets
 pub mod TakenStates
 pub mod TakenAgain
+pub mod Reaching
+pub mod Passing
+pub mod Copies

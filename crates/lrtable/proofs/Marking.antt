@@ -64,7 +64,7 @@ marks_none N flags waiting none = record {
   fewer = omega arith;
 }
 
-marks_on : (N M K : ℕ → Type 0) (a b c : List Bool) (u v w : List ℕ) → ((s : ℕ) → (N s ⊎ M s) ↔ K s) → Marks N a b u v → Marks M b c v w → Marks K a c u w
+pub marks_on : (N M K : ℕ → Type 0) (a b c : List Bool) (u v w : List ℕ) → ((s : ℕ) → (N s ⊎ M s) ↔ K s) → Marks N a b u v → Marks M b c v w → Marks K a c u w
 marks_on N M K a b c u v w same h k = record {
   size = k.size ∙ h.size;
   flags = λ s. (
@@ -119,7 +119,7 @@ marking_begins states none flags n waiting now count empty no_one h = record {
     idle s x = nothing s waiting no_one x
 
 -- an edge of a state leads on
-edge_leads : (states : List StateValue) (s k : ℕ) → AreLinked states → s < length states → IsLed states s → IsTargetOf (state_at states s).edges k → IsLed states k
+pub edge_leads : (states : List StateValue) (s k : ℕ) → AreLinked states → s < length states → IsLed states s → IsTargetOf (state_at states s).edges k → IsLed states k
 edge_leads states s k linked lt (w, l) (e, at, q) = (e.symbol ∷ w, Leads.on l (edge_here (state_at states s).edges e (linked.ascend s lt) at ∙ ap Some q))
 
 -- the targets of an edge are states

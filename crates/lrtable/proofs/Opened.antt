@@ -18,13 +18,13 @@ use Rattle.lrtable.specs.Closes.{AreFronts}
 use Rattle.lrtable.specs.ItemRows.{Core, IsCoreOf, map_of}
 use Rattle.lrtable.specs.Meeting.{rows_in, row}
 use Rattle.lrtable.specs.Opening.{Front, RuleSets, IsOpen, HasRuleLook}
-use Rattle.lrtable.specs.Sharing.{shared_core, shared_map, PointIn, TakesIn, GrowsBy}
+use Rattle.lrtable.specs.Sharing.{shared_core, shared_map, PointIn, KeepsSets, TakesIn, GrowsBy}
 use Rattle.lrtable.specs.Stepping.{OfRule, OfRuleLooks, OpenBelow, OpenLooksBelow, IsClosureOf}
 use Rattle.lrtable.proofs.Clearing.{next_in, rest_in, set_below}
 use Rattle.lrtable.proofs.CloseLaws.{item, look, held_look}
 use Rattle.lrtable.proofs.Closing.{look_open}
 use Rattle.lrtable.proofs.Moving.{ListedBelow, ListedLooks}
-use Rattle.lrtable.proofs.Sharing.{grows_none, grows_on, grows_as, grows_one, grows_from, stays_pushed, pushed_keeps, pushed_lt, pushed_row}
+use Rattle.lrtable.proofs.Sharing.{grows_none, grows_on, grows_as, grows_one, grows_from, stays_pushed}
 
 none_listed : (p : ℕ) → Contains [] p → ⊥
 none_listed p h = let lt = h.1 in omega (arith, lt)
@@ -188,12 +188,11 @@ module _ (G : Grammar) (fronts : List (List Front)) (c : Core) (s : RuleSets) (g
         looks = λ p d t. (λ x. (looks' p d t).0 ((closure_looks p d t).1 x), λ x. (closure_looks p d t).0 ((looks' p d t).1 x));
       }
 
--- where a rule's set was put last, its productions are added to what was there before
-pub rule_begun : {S : Type 0} (number : S → ℕ) (G : Grammar) (A n : ℕ) (bits : List Bool) (old new : SharedSets S) (v : Contents) → new.sets.items ≡ old.sets.items ++ v ∷ [] → v.bits ≡ bits → n ≡ length old.sets.items → new.entries.items ≡ old.entries.items →
+-- where the set that the productions of a rule share stands, before the first is added
+pub rule_begun : {S : Type 0} (number : S → ℕ) (G : Grammar) (A n : ℕ) (bits : List Bool) (old new : SharedSets S) → KeepsSets (rows_in old.sets.items) (rows_in new.sets.items) → new.entries.items ≡ old.entries.items → n < length (rows_in new.sets.items) → row (rows_in new.sets.items) n ≡ bits →
     IsCoreOf G.tokens (shared_core number old) → PointIn (rows_in old.sets.items) old.entries.items → AddsListed number G A 0 n bits new new × ((k : ℕ) (b : SharedSets S) → AddsListed number G A k n bits new b → AddsListed number G A k n bits old b)
-rule_begun {S = S} number G A n bits old new v pushed is last es core points =
-    let keeps = pushed_keeps old.sets.items new.sets.items v bits n pushed is last in
+rule_begun {S = S} number G A n bits old new keeps es lt is core points =
     let same = stays_pushed number old new points keeps es in (
-      listed_none number G A n bits new (subst (IsCoreOf G.tokens) (sym same.core) core) same.within (pushed_lt old.sets.items new.sets.items v bits n pushed is last) (pushed_row old.sets.items new.sets.items v bits n pushed is last),
+      listed_none number G A n bits new (subst (IsCoreOf G.tokens) (sym same.core) core) same.within lt is,
       λ k b h. record { grows = grows_from number G.tokens (ListedBelow G A k) (ListedLooks G A k (λ t. IsTrue (is_set bits t))) old new b same.core h.grows; set = h.set; is = h.is },
     )

@@ -6,7 +6,7 @@ use Rattle.std.proofs.lemmas.List.{get_or_default}
 use Rattle.cfg_theory.specs.Grammar.{Sym, rule, token, Grammar, IsNext, WellFormed}
 use Rattle.cfg_theory.specs.Derivation.{Nullable, IsFirst}
 use Rattle.lr_theory.specs.Canonical.{from_dot}
-use Rattle.lr_theory.specs.Itemset.{Items, Lookaheads, HasItem, HasLook, SameItems, SameLooks}
+use Rattle.lr_theory.specs.Itemset.{Items, Lookaheads, ItemSet, HasItem, HasLook, SameItems, SameLooks}
 use Rattle.cfg_numbered.specs.Sets.{is_set}
 use Rattle.lrtable.specs.Adding.{One, OneLooks}
 use Rattle.lrtable.specs.ItemRows.{Item, IsAt, Core, IsCoreOf, map_of}
@@ -25,6 +25,11 @@ seeds_as G I J A h (p, d, i, n) = (p, d, (h p d).0 i, n)
 pub seed_looks_as : (G : Grammar) (I J : Items) (L M : Lookaheads) (A t : ℕ) → SameItems I J → SameLooks L M → SeedsLook G I L A t → SeedsLook G J M A t
 seed_looks_as G I J L M A t h k (inl (p, d, i, n, f)) = inl (p, d, (h p d).0 i, n, f)
 seed_looks_as G I J L M A t h k (inr (p, d, i, n, f)) = inr (p, d, (k p d t).0 i, n, f)
+
+-- a lookahead comes to what is opened
+pub seeds_named : (G : Grammar) (s : ItemSet) (A t : ℕ) → SeedsLook G (HasItem s) (HasLook s) A t → Seeds G (HasItem s) A
+seeds_named G s A t (inl (p, d, i, n, f)) = (p, d, i, n)
+seeds_named G s A t (inr (p, d, l, n, f)) = (p, d, record { lookaheads = l.lookaheads; at = l.at }, n)
 
 -- one item that stands before a rule
 module _ (G : Grammar) (p d A : ℕ) (bits begins : List Bool) (skipped : Bool) (n : IsNext G p d (rule A)) (rest : IsRest G p d begins skipped) where

@@ -271,28 +271,23 @@ grown_takes {S = S} number old new k p d bits x v w n core points here read foun
 -- ---- copies
 
 -- a copy of a core, so far
-pub record CopiesCore {S : Type 0} (number : S → ℕ) (c : Core) (k : ℕ) (entries : List (SharedItem S)) (sets : List Contents) : Type 0 where
-  pub count : length sets ≡ k
+pub record CopiesCore {S : Type 0} (number : S → ℕ) (c : Core) (k : ℕ) (entries : List (SharedItem S)) (sets : List (List Bool)) : Type 0 where
   pub items : keys_of number entries ≡ take k c.items
-  pub rows : rows_at (rows_in sets) entries ≡ take k c.rows
-  pub within : PointIn (rows_in sets) entries
+  pub rows : rows_at sets entries ≡ take k c.rows
+  pub within : PointIn sets entries
 
-pub copy_next : {S : Type 0} (number : S → ℕ) (c : Core) (k : ℕ) (es es' : List (SharedItem S)) (vs vs' : List Contents) (e : SharedItem S) (v : Contents) → CopiesCore number c k es vs → k < length c.items → k < length c.rows → e.set ≡ k →
-    ((d : Item) → get_or c.items k d ≡ item_of number e.item) → get_or c.rows k [] ≡ v.bits → es' ≡ es ++ e ∷ [] → vs' ≡ vs ++ v ∷ [] → CopiesCore number c (k + 1) es' vs'
-copy_next {S = S} number c k es es' vs vs' e v h lt lt' at item bits ee ev =
+pub copy_next : {S : Type 0} (number : S → ℕ) (c : Core) (k : ℕ) (es es' : List (SharedItem S)) (sets sets' : List (List Bool)) (e : SharedItem S) (bits : List Bool) → CopiesCore number c k es sets → k < length c.items → k < length c.rows →
+    KeepsSets sets sets' → e.set < length sets' → row sets' e.set ≡ bits → ((d : Item) → get_or c.items k d ≡ item_of number e.item) → get_or c.rows k [] ≡ bits → es' ≡ es ++ e ∷ [] → CopiesCore number c (k + 1) es' sets'
+copy_next {S = S} number c k es es' sets sets' e bits h lt lt' keeps below here item same ee =
     let i = item_of number e.item in
-    let keeps = pushed_keeps vs vs' v v.bits k ev refl (sym h.count) in
-    let here = ap (row (rows_in vs')) at ∙ pushed_row vs vs' v v.bits k ev refl (sym h.count) in
-    let below : e.set < length (rows_in vs') = (let l = pushed_lt vs vs' v v.bits k ev refl (sym h.count) in omega (arith, l, at)) in
     record {
-      count = ap length ev ∙ length_push vs v ∙ ap (λ n. n + 1) h.count;
       items = ap (keys_of number) ee ∙ map_push (λ (x : SharedItem S). item_of number x.item) es e ∙ ap₂ (λ (l : List Item) (x : Item). l ++ x ∷ []) h.items (sym (item i)) ∙ sym (take_more c.items k i lt);
-      rows = ap (rows_at (rows_in vs')) ee ∙ map_push (λ (x : SharedItem S). row (rows_in vs') x.set) es e ∙ ap₂ (λ (l : List (List Bool)) (b : List Bool). l ++ b ∷ []) (rows_kept (rows_in vs) (rows_in vs') keeps es h.within ∙ h.rows) (here ∙ sym bits) ∙ sym (take_more c.rows k [] lt');
-      within = subst (λ (l : List (SharedItem S)). PointIn (rows_in vs') l) (sym ee) (All-push (λ (x : SharedItem S). x.set < length (rows_in vs')) es e (points_kept (rows_in vs) (rows_in vs') keeps es h.within) below);
+      rows = ap (rows_at sets') ee ∙ map_push (λ (x : SharedItem S). row sets' x.set) es e ∙ ap₂ (λ (l : List (List Bool)) (b : List Bool). l ++ b ∷ []) (rows_kept sets sets' keeps es h.within ∙ h.rows) (here ∙ sym same) ∙ sym (take_more c.rows k [] lt');
+      within = subst (λ (l : List (SharedItem S)). PointIn sets' l) (sym ee) (All-push (λ (x : SharedItem S). x.set < length sets') es e (points_kept sets sets' keeps es h.within) below);
     }
 
-pub copy_all : {S : Type 0} (number : S → ℕ) (c : Core) (k : ℕ) (es : List (SharedItem S)) (vs : List Contents) → CopiesCore number c k es vs → length c.items ≤ k → length c.rows ≤ k → ◌≡◌ {A = Core} (record { items = keys_of number es; rows = rows_at (rows_in vs) es }) c
-copy_all number c k es vs h le le' = ap₂ (λ (a : List Item) (b : List (List Bool)). record { items = a; rows = b }) (h.items ∙ take_all k c.items le) (h.rows ∙ take_all k c.rows le')
+pub copy_all : {S : Type 0} (number : S → ℕ) (c : Core) (k : ℕ) (es : List (SharedItem S)) (sets : List (List Bool)) → CopiesCore number c k es sets → length c.items ≤ k → length c.rows ≤ k → ◌≡◌ {A = Core} (record { items = keys_of number es; rows = rows_at sets es }) c
+copy_all number c k es sets h le le' = ap₂ (λ (a : List Item) (b : List (List Bool)). record { items = a; rows = b }) (h.items ∙ take_all k c.items le) (h.rows ∙ take_all k c.rows le')
 
 -- ---- what is added one after another
 

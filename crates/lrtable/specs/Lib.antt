@@ -3,6 +3,7 @@ pub mod Fronts
 pub mod Closes
 pub mod Meeting
 pub mod ItemRows
+pub mod Reaching
 pub mod States
 pub mod StateViews
 pub mod LookRows

@@ -23,6 +23,11 @@ pub record AreLinked (states : List StateValue) : Type 0 where
 abbrev pub IsTargetOf : List Edge → ℕ → Type 0
 IsTargetOf es s = (e : Edge) × Contains es e × (e.target ≡ s)
 
+-- flags were set for states of N alone
+pub record Flagged (N : ℕ → Type 0) (old new : List Bool) : Type 0 where
+  pub size : length new ≡ length old
+  pub only : (s : ℕ) → IsTrue (is_set new s) → IsTrue (is_set old s) ⊎ N s
+
 -- the states of N were marked, and those that weren't before wait
 pub record Marks (N : ℕ → Type 0) (old new : List Bool) (was now : List ℕ) : Type 0 where
   pub size : length new ≡ length old

@@ -7,6 +7,7 @@ ghost use Rattle.lrtable.specs.CellRows.{OfToken, OfProduction, first_of, cell_f
 ghost use Rattle.lrtable.specs.SparseRows.{or_error};
 ghost use Rattle.lrtable.specs.CellViews.{action_of, cells_of, precedence_of, precedences_of, production_of, state_of, shifts_of};
 
+use crate::rows::row_number;
 use crate::stidx::StIdx;
 use cfg_base::index::IndexStorage;
 use cfg_base::precedence::{AssocKind, Precedence};
@@ -163,16 +164,16 @@ pub(crate) fn cell_or_error<S: IndexStorage>(cell: Option<Action<S>>) -> Action<
 
 /// Puts a cell behind those of the tokens before, unless it is an error.
 pub(crate) fn put_cell<S: IndexStorage>(
-    row: &mut Vec<(usize, Action<S>)>,
-    number: usize,
+    row: &mut Vec<(u32, Action<S>)>,
+    tidx: TIdx<S>,
     cell: Action<S>,
 ) -> Result<(), AllocError>
-    ensures { OnOk result (cells_of S.number row.new.items ≡ cells_of S.number row.old.items ++ filled number (action_of S.number cell)) }
+    ensures { OnOk result (cells_of S.number row.new.items ≡ cells_of S.number row.old.items ++ filled (S.number tidx.0) (action_of S.number cell)) }
 {
     if matches!(cell, Action::Error) {
         return Ok(());
     }
-    row.push((number, cell))?;
+    row.push((row_number(tidx.0), cell))?;
     Ok(())
 }
 

@@ -19,6 +19,7 @@ use crate::moves::dot_behind;
 use crate::openers::Openers;
 use crate::opening::Closer;
 use crate::rests::symbol_after;
+use crate::rooms::opened_room;
 use crate::shared_sets::SharedSets;
 use cfg_base::index::IndexStorage;
 use cfg_base::symbol::{PIdx, Symbol};
@@ -67,8 +68,8 @@ pub(crate) fn closed_by<S: IndexStorage>(
 {
     grm.start_prod();
     closer.close(grm, firsts, openers, core)?;
-    let rules = closer.opening.opened().iter_set_bits(..).count();
-    let mut set = SharedSets::of_core(alloc, core, rules)?;
+    let (rules, productions) = opened_room(closer.counts.as_slice(), &closer.opening);
+    let mut set = SharedSets::of_core(alloc, core, rules, productions)?;
     set.open_rules(grm, &closer.opening)?;
     set.fit();
     Ok(set)
@@ -132,7 +133,7 @@ pub(crate) fn moved_set<S: IndexStorage>(
     let mut moved = SharedSets::empty(alloc);
     'items: for k in 0..set.entries.len() {
         let entry = &set.entries[k];
-        let looks = &set.sets[entry.set];
+        let looks = &set.sets[entry.set.get()];
         let dot = entry.item.dot.0.to_usize();
         move_one(grm, &mut moved, entry.item.pidx, dot, looks, symbol)?;
     }

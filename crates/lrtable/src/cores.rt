@@ -64,23 +64,6 @@ pub(crate) fn comes_before<S: IndexStorage>(a: &CoreItem<S>, b: &CoreItem<S>) ->
     a.dot.0.to_usize() < b.dot.0.to_usize()
 }
 
-/// A copy of a set of tokens, in the place of one that isn't used any more, if the last of these is of its size.
-pub(crate) fn copied(spare: &mut Vec<Vob>, looks: &Vob) -> Result<Vob, AllocError>
-    ensures { IfOk result (λ v. v.bits ≡ looks.now.bits) }
-{
-    match spare.pop() {
-        Some(mut row) => {
-            if row.len() != looks.len() {
-                return looks.clone();
-            }
-            row.set_all(false);
-            row.or(looks);
-            Ok(row)
-        }
-        None => looks.clone(),
-    }
-}
-
 /// Puts a value at an index of a list, most often at its end.
 pub(crate) fn put_in<T: Drop>(list: &mut Vec<T>, index: usize, value: T) -> Result<(), AllocError>
     requires { index ≤ length list.old.items }
@@ -91,16 +74,6 @@ pub(crate) fn put_in<T: Drop>(list: &mut Vec<T>, index: usize, value: T) -> Resu
         return Ok(());
     }
     list.insert(index, value)?;
-    Ok(())
-}
-
-/// Puts sets of tokens that aren't used any more with others, and leaves none behind.
-pub(crate) fn lay_by(spare: &mut Vec<Vob>, looks: &mut Vec<Vob>) -> Result<(), AllocError>
-    ensures { OnOk result (looks.new.items ≡ []) }
-{
-    'rows: while let Some(row) = looks.pop() {
-        spare.push(row)?;
-    }
     Ok(())
 }
 

@@ -4,6 +4,8 @@ ghost use Rattle.std.specs.Prelude.{◌≡◌, ◌<◌, ◌≤◌, ℕ, [], leng
 ghost use Rattle.cfg_numbered.specs.Firsts.{AreFirsts};
 ghost use Rattle.lr_theory.specs.Itemset.{FitsGrammar};
 ghost use Rattle.lr_theory.specs.Sizes.{StaysWithin};
+ghost use Rattle.lrtable.specs.Closers.{IsReady};
+ghost use Rattle.lrtable.specs.Closes.{AreFronts};
 ghost use Rattle.lrtable.specs.FinalStates.{AreClosures, AreFinal, pair_of_edge, edge_pairs_of};
 ghost use Rattle.lrtable.specs.Graphs.{IsGraphOf};
 ghost use Rattle.lrtable.specs.GraphViews.{edges_seen};
@@ -20,6 +22,8 @@ use crate::itemset::{Itemset, of_shared};
 use crate::openers::Openers;
 use crate::opening::Closer;
 use crate::pager;
+use crate::reached::with_reached;
+use crate::rooms::rules_behind;
 use crate::shared_sets::SharedSets;
 use crate::stategraph::{StateGraph, of_lists};
 use crate::states::{BuildError, EdgeTo, State};
@@ -103,19 +107,21 @@ fn closed_sets<S: IndexStorage>(
     alloc: Global,
     grm: &NumberedGrammar<S>,
     firsts: &YaccFirsts<S>,
+    openers: &Openers,
+    closer: &mut Closer,
     states: &[State<S>],
 ) -> Result<Vec<Itemset<S>>, AllocError>
     requires firsts { AreFirsts grm.now.grammar firsts.now }
+    requires openers { AreFronts grm.now.grammar openers.now }
+    requires ready { IsReady grm.now.grammar closer.old }
     requires fit { (s : ℕ) → s < length states.now → FitsCore grm.now.grammar (state_at (map (value_of S.number) states.now) s).core }
     requires dots { (s : ℕ) → s < length states.now → FitsGrammar grm.now.grammar (map_of (state_at (map (value_of S.number) states.now) s).core) }
     ensures { IfOk result (λ v. AreClosures grm.now.grammar (map (λ s. map_of s.core) (map (value_of S.number) states.now)) v.items) }
 {
-    let openers = Openers::new(alloc, grm, firsts)?;
-    let mut closer = Closer::new(alloc, grm)?;
     let mut sets = Vec::with_capacity(alloc, states.len())?;
     'states: for number in 0..states.len() {
         let core = &states[number].core;
-        sets.push(of_shared(closed_by(alloc, grm, firsts, &openers, &mut closer, core)?))?;
+        sets.push(of_shared(closed_by(alloc, grm, firsts, openers, closer, core)?))?;
     }
     Ok(sets)
 }
@@ -125,9 +131,13 @@ fn from_states<S: IndexStorage>(
     alloc: Global,
     grm: &NumberedGrammar<S>,
     firsts: &YaccFirsts<S>,
+    openers: &Openers,
+    closer: &mut Closer,
     states: &mut Vec<State<S>>,
 ) -> Result<StateGraph<S>, AllocError>
     requires firsts { AreFirsts grm.now.grammar firsts.now }
+    requires openers { AreFronts grm.now.grammar openers.now }
+    requires closer { IsReady grm.now.grammar closer.old }
     requires few { length states.old.items ≤ S.MAX }
     requires ready { AreFinal grm.now.grammar (map (value_of S.number) states.old.items) }
     ensures graph { IfOk result (λ g. IsGraphOf grm.now.grammar g) }
@@ -135,7 +145,7 @@ fn from_states<S: IndexStorage>(
     ensures edges { IfOk result (λ g. g.edges ≡ map edge_pairs_of (map (value_of S.number) states.old.items)) }
 {
     grm.start_prod();
-    let closed = closed_sets(alloc, grm, firsts, states.as_slice())?;
+    let closed = closed_sets(alloc, grm, firsts, openers, closer, states.as_slice())?;
     let edges = edge_lists(alloc, states.as_slice())?;
     let cores = core_sets(alloc, states)?;
     Ok(of_lists(cores, closed, edges))
@@ -152,7 +162,12 @@ pub(crate) fn graph_of_grammar<S: IndexStorage>(
     ensures within { OnOk result (StaysWithin grm.now.grammar S.MAX) }
     ensures many { IsErrOf result faults.TooManyStates → TooManyStand grm.now.grammar S.MAX }
 {
-    let mut states = pager::states(alloc, grm, firsts)?;
-    let graph = from_states(alloc, grm, firsts, &mut states)?;
+    let tokens = grm.tokens_len().0.to_usize();
+    let fronts = Openers::new(alloc, grm, firsts)?;
+    let behind = rules_behind(alloc, grm)?;
+    let openers = with_reached(alloc, fronts, &behind, tokens)?;
+    let mut closer = Closer::new(alloc, grm)?;
+    let mut states = pager::states(alloc, grm, firsts, &openers, &mut closer)?;
+    let graph = from_states(alloc, grm, firsts, &openers, &mut closer, &mut states)?;
     Ok(graph)
 }

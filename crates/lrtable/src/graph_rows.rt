@@ -17,6 +17,7 @@ ghost use Rattle.lrtable.specs.TableRows.{AreRowsOf, rows_of};
 ghost use Rattle.lrtable.specs.Tables.{IsTableRefusal};
 
 use crate::cores::CoreItem;
+use crate::rows::row_number;
 use crate::shared_sets::{SharedItem, SharedSets};
 use crate::state_rows::{Reduction, StateParts, contesting};
 use crate::stategraph::StateGraph;
@@ -64,7 +65,7 @@ fn keep_complete<S: IndexStorage>(
     }
     reductions.push(Reduction {
         pidx: entry.item.pidx,
-        set: entry.set,
+        set: entry.set.get(),
     })?;
     Ok(())
 }
@@ -92,14 +93,14 @@ fn fill_complete<S: IndexStorage>(
 /// Puts an edge behind the shifts so far, if it is on a token.
 fn keep_shift<S: IndexStorage>(
     edge: (Symbol<S>, StIdx<S>),
-    shifts: &mut Vec<(usize, StIdx<S>)>,
+    shifts: &mut Vec<(u32, StIdx<S>)>,
 ) -> Result<(), AllocError>
     ensures { OnOk result (targets_of S.number shifts.new.items ≡ targets_of S.number shifts.old.items ++ token_edges (edge_seen S.number edge ∷ [])) }
 {
     let (symbol, target) = edge;
     match symbol {
         Symbol::Token(tidx) => {
-            shifts.push((tidx.0.to_usize(), target))?;
+            shifts.push((row_number(tidx.0), target))?;
             Ok(())
         }
         Symbol::Rule(_) => Ok(()),
@@ -109,7 +110,7 @@ fn keep_shift<S: IndexStorage>(
 /// Takes the edges on tokens, in order, in place of the shifts that are there.
 fn fill_shifts<S: IndexStorage>(
     edges: &[(Symbol<S>, StIdx<S>)],
-    shifts: &mut Vec<(usize, StIdx<S>)>,
+    shifts: &mut Vec<(u32, StIdx<S>)>,
 ) -> Result<(), AllocError>
     ensures { OnOk result (targets_of S.number shifts.new.items ≡ token_edges (edges_seen S.number edges.now)) }
 {
@@ -123,14 +124,14 @@ fn fill_shifts<S: IndexStorage>(
 /// Puts an edge behind the gotos so far, if it is on a rule.
 fn keep_goto<S: IndexStorage>(
     edge: (Symbol<S>, StIdx<S>),
-    gotos: &mut Vec<(usize, StIdx<S>)>,
+    gotos: &mut Vec<(u32, StIdx<S>)>,
 ) -> Result<(), AllocError>
     ensures { OnOk result (targets_of S.number gotos.new.items ≡ targets_of S.number gotos.old.items ++ rule_edges (edge_seen S.number edge ∷ [])) }
 {
     let (symbol, target) = edge;
     match symbol {
         Symbol::Rule(ridx) => {
-            gotos.push((ridx.0.to_usize(), target))?;
+            gotos.push((row_number(ridx.0), target))?;
             Ok(())
         }
         Symbol::Token(_) => Ok(()),
@@ -142,7 +143,7 @@ fn goto_row<S: IndexStorage>(
     alloc: Global,
     edges: &[(Symbol<S>, StIdx<S>)],
     shifts: usize,
-) -> Result<Vec<(usize, StIdx<S>)>, AllocError>
+) -> Result<Vec<(u32, StIdx<S>)>, AllocError>
     ensures { IfOk result (λ v. targets_of S.number v.items ≡ rule_edges (edges_seen S.number edges.now)) }
 {
     let mut gotos = Vec::with_capacity(alloc, edges.len().saturating_sub(shifts))?;

@@ -130,7 +130,7 @@ impl<S: IndexStorage> Itemset<S> {
         ensures { (e : Entry) → result.now.bits ≡ (get_or self.now index e).lookaheads }
     {
         let entry = &self.set.entries[index];
-        &self.set.sets[entry.set]
+        &self.set.sets[entry.set.get()]
     }
 
     /// Walks over the items with their lookaheads, ascending by production, then by dot.

@@ -91,6 +91,19 @@ pub(crate) fn put_moved<S: IndexStorage>(
     Ok(())
 }
 
+/// The same, for the items of a core, of which there are few: what puts the many that a rule opens stands in their loop.
+pub(crate) fn insert_moved<S: IndexStorage>(
+    items: &mut Vec<MovedItem<S>>,
+    moved: MovedItem<S>,
+) -> Result<(), AllocError>
+    requires { Ascends (moved_items S.number items.old.items) }
+    ensures { OnOk result ((k : ℕ) × BelongsAt (moved_items S.number items.old.items) (moved_item S.number moved) k × (items.new.items ≡ insert items.old.items k moved)) }
+{
+    let place = index_of(items.as_slice(), &moved.item);
+    items.insert(place, moved)?;
+    Ok(())
+}
+
 /// Tells whether moved items are those of a core.
 pub(crate) fn same_items<S: IndexStorage>(core: &[CoreItem<S>], moved: &[MovedItem<S>]) -> bool
     ensures { IsTrue result ↔ (items_of S.number core.now ≡ moved_items S.number moved.now) }

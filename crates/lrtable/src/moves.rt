@@ -17,7 +17,7 @@ ghost use Rattle.lrtable.specs.StateViews.{core_of_set};
 ghost use Rattle.lrtable.specs.Stepping.{FitsCore, IsSized, IsClosureOf, OfRule, OfRuleLooks, OpenAt, OpenLooksAt, OpenBelow, OpenLooksBelow, AreGotos};
 
 use crate::cores::{CoreItem, CoreSet};
-use crate::moved_items::{MovedItem, Rows, Source, put_moved};
+use crate::moved_items::{MovedItem, Rows, Source, insert_moved, put_moved};
 use crate::opening::Opening;
 use crate::rests::symbol_after;
 use cfg_base::index::IndexStorage;
@@ -93,6 +93,41 @@ fn move_over<S: IndexStorage>(
             let number = rank_of(grm, symbol);
             marks.set(number, true);
             let set = &mut sets[number];
+            insert_moved(set, MovedItem { item, source })?;
+            Ok(())
+        }
+        None => Ok(()),
+    }
+}
+
+/// The same of a production at dot nought.
+fn move_first<S: IndexStorage>(
+    grm: &NumberedGrammar<S>,
+    sets: &mut Vec<Vec<MovedItem<S>>>,
+    marks: &mut Vob,
+    rows: &Rows<'_>,
+    pidx: PIdx<S>,
+    source: Source,
+) -> Result<(), AllocError>
+    requires production { S.number pidx.0 < length grm.now.grammar.productions }
+    requires count { length sets.old.items ≡ grm.now.grammar.rules + grm.now.grammar.tokens }
+    requires wide { length marks.old.bits ≡ grm.now.grammar.rules + grm.now.grammar.tokens }
+    requires good { AreSets grm.now.grammar.tokens (map (set_of_moved S.number rows.now) sets.old.items) }
+    requires width { length (row_from rows.now source) ≡ grm.now.grammar.tokens }
+    requires fresh { HaveNone grm.now.grammar (One (S.number pidx.0) 0) (map (set_of_moved S.number rows.now) sets.old.items) }
+    ensures gains { OnOk result (Gains grm.now.grammar (One (S.number pidx.0) 0) (OneLooks (S.number pidx.0) 0 (row_from rows.now source)) (map (set_of_moved S.number rows.now) sets.old.items) (map (set_of_moved S.number rows.now) sets.new.items)) }
+    ensures marks { OnOk result (KeepsMarks marks.old.bits (map (set_of_moved S.number rows.now) sets.old.items) marks.new.bits (map (set_of_moved S.number rows.now) sets.new.items)) }
+{
+    grm.start_prod();
+    match symbol_after(grm, pidx, 0) {
+        Some(symbol) => {
+            let item = CoreItem {
+                pidx,
+                dot: dot_behind(grm, pidx, 0),
+            };
+            let rank = rank_of(grm, symbol);
+            marks.set(rank, true);
+            let set = &mut sets[rank];
             put_moved(set, MovedItem { item, source })?;
             Ok(())
         }
@@ -153,7 +188,7 @@ fn move_rule<S: IndexStorage>(
 {
     let prods = grm.rule_to_prods(ridx);
     'prods: for k in 0..prods.len() {
-        move_over(grm, sets, marks, rows, prods[k], 0, source)?;
+        move_first(grm, sets, marks, rows, prods[k], source)?;
     }
     Ok(())
 }

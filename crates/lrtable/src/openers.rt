@@ -7,6 +7,7 @@ ghost use Rattle.cfg_numbered.specs.Value.{productions_of};
 ghost use Rattle.lrtable.specs.Closes.{AreFronts, AreFrontsOf, PutsFront, PutsAt, joined_front};
 ghost use Rattle.lrtable.specs.Fronts.{front_of, front_with};
 ghost use Rattle.lrtable.specs.Opening.{Front};
+ghost use Rattle.lrtable.specs.Reaching.{AreReachedBy, IsReachedBy};
 
 use crate::rests::{Rest, rest_after, rule_after};
 use cfg_base::index::IndexStorage;
@@ -22,20 +23,26 @@ pub(crate) struct Opener {
     pub rest: Rest,
 }
 
-/// For each rule, the rules that stand first in its productions.
+/// For each rule, the rules that stand first in its productions; and for those of which it was asked for, all rules that the
+/// rule leads to in that way, with what comes to each of them.
 #[derive(Drop)]
 pub(crate) struct Openers {
     rules: Vec<Vec<Opener>>,
+    reached: Vec<Vec<Opener>>,
+    tokens: usize,
 }
 
 impl Model for Openers {
     ghost use Rattle.std.specs.Prelude.{List, map};
     ghost use Rattle.lrtable.specs.Opening.{Front};
     ghost use Rattle.lrtable.specs.Fronts.{front_of};
+    ghost use Rattle.lrtable.specs.Reaching.{AreReachedBy};
 
     ghost Value = { List (List Front) };
 
     ghost view = { λ o. map (λ l. map front_of l.items) o.rules.items };
+
+    ghost invariant = { λ o. AreReachedBy (map (λ l. map front_of l.items) o.rules.items) o.tokens (map (λ l. map front_of l.items) o.reached.items) };
 }
 
 /// The index of the opener of a rule, if it is there.
@@ -132,7 +139,52 @@ impl Openers {
         'rules: for number in 0..grm.rules_len().0.to_usize() {
             rules.push(openers_of(alloc, grm, firsts, grm.rule_at(number))?)?;
         }
-        Ok(Openers { rules })
+        Ok(Openers {
+            rules,
+            reached: Vec::new(alloc),
+            tokens: grm.tokens_len().0.to_usize(),
+        })
+    }
+
+    /// With these lists of what each rule leads to beside.
+    pub(crate) fn with_reached(self, lists: Vec<Vec<Opener>>, tokens: usize) -> Openers
+        requires { AreReachedBy self tokens (map (λ l. map front_of l.items) lists.items) }
+        ensures { result ≡ self }
+    {
+        let Openers {
+            rules,
+            reached: _,
+            tokens: _,
+        } = self;
+        Openers {
+            rules,
+            reached: lists,
+            tokens,
+        }
+    }
+
+    /// How many rules there are.
+    pub(crate) fn len(&self) -> usize
+        ensures { result ≡ length self.now }
+    {
+        self.rules.len()
+    }
+
+    /// What a rule leads to, if that was asked for with so many tokens.
+    pub(crate) fn reached_from(&self, rule: usize, tokens: usize) -> Option<&[Opener]>
+        ensures { IfSome result (λ l. IsReachedBy self.now tokens rule (map front_of l.now)) }
+    {
+        if tokens != self.tokens {
+            return None;
+        }
+        if rule >= self.reached.len() {
+            return None;
+        }
+        let list = &self.reached[rule];
+        if list.is_empty() {
+            return None;
+        }
+        Some(list.as_slice())
     }
 
     /// Those of a rule.

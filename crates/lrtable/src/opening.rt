@@ -1,10 +1,10 @@
 //! The rules that a closure opens. All productions of a rule that it opens come in at dot nought with the same
 //! lookaheads, so these are kept once for each rule.
 
-ghost use Rattle.std.specs.Prelude.{◌≡◌, ℕ, ◌<◌, true, false, [], ◌∷◌, length, map, get_or, replicate, slice_set, IfOk, OnOk, IsTrue, ◌↔◌, if◌then◌else◌};
+ghost use Rattle.std.specs.Prelude.{◌≡◌, ℕ, Bool, List, ◌<◌, ◌≤◌, ◌+◌, ◌++◌, true, false, [], ◌∷◌, length, map, get_or, replicate, slice_set, IfOk, OnOk, IsTrue, ◌↔◌, if◌then◌else◌};
 ghost use Rattle.std.specs.List.{Contains};
 ghost use Rattle.cfg_numbered.specs.Passes.{PassStep};
-ghost use Rattle.cfg_numbered.specs.Sets.{joined_to, is_set, HasAllOf};
+ghost use Rattle.cfg_numbered.specs.Sets.{joined_to, is_set, is_set_in, HasAllOf};
 ghost use Rattle.lrtable.specs.Fronts.{front_of, front_with};
 ghost use Rattle.cfg_numbered.specs.Firsts.{AreFirsts};
 ghost use Rattle.lr_theory.specs.Itemset.{HasItem, HasLook};
@@ -15,12 +15,15 @@ ghost use Rattle.lrtable.specs.Meeting.{rows_in};
 ghost use Rattle.lrtable.specs.StateViews.{core_of_set};
 ghost use Rattle.lrtable.specs.Stepping.{FitsCore, IsSized, IsClosureOf};
 ghost use Rattle.lrtable.specs.Closers.{IsReady};
-ghost use Rattle.lrtable.specs.Opening.{Front, RuleSets, IsTidy, IsOpen, HasRuleLook, room, FitsIn, AllFit, Brings, Follows, FrontStep, NamedIn, BroughtBy, GainsOwn, SameSizes, Underway, AreOpened};
+ghost use Rattle.lrtable.specs.Opening.{AreNoted, Front, RuleSets, IsTidy, IsOpen, HasRuleLook, room, FitsIn, AllFit, Brings, Comes, Follows, FrontStep, NamedIn, BroughtBy, GainsOwn, SameSizes, Underway, AreOpened};
+ghost use Rattle.lrtable.specs.Reaching.{AreListed, IsAlone};
 ghost use Rattle.lrtable.specs.Waits.{WaitsToo};
 
 use crate::cores::{CoreItem, CoreSet};
+use crate::noted::Noted;
 use crate::openers::{Opener, Openers};
 use crate::rests::{Rest, fill_rest, rule_after};
+use crate::rooms::{bits_set, production_counts};
 use crate::rule_rows::RuleRows;
 use cfg_base::index::IndexStorage;
 use cfg_numbered::yacc::{NumberedGrammar, YaccFirsts};
@@ -53,22 +56,49 @@ fn put_to_wait(waiting: &mut Vec<usize>, rule: usize) -> Result<(), AllocError>
     Ok(())
 }
 
-/// The open rules, and a set of tokens for each rule.
+/// Empties the sets of the open rules.
+fn empty_rows(looks: &mut RuleRows, opened: &Vob, noted: &Noted)
+    requires size { length opened.now.bits ≡ length looks.old.rows }
+    requires noted { AreNoted opened.now.bits noted.now.count noted.now.order.items }
+    ensures width { looks.new.width ≡ looks.old.width }
+    ensures count { length looks.new.rows ≡ length looks.old.rows }
+    ensures kept { (A t : ℕ) → IsTrue (is_set_in looks.new.rows A t) → IsTrue (is_set_in looks.old.rows A t) }
+    ensures emptied { (A t : ℕ) → IsTrue (is_set opened.now.bits A) → IsTrue (is_set_in looks.new.rows A t) → ⊥ }
+{
+    if noted.is_full() {
+        looks.clear_all(opened);
+        return;
+    }
+    looks.clear_each(noted.numbers());
+}
+
+/// Notes a rule that was opened, if it is a new one.
+fn note_if(noted: &mut Noted, rule: usize, new: bool)
+    ensures { (flags : List Bool) → rule < length flags → (is_set flags rule ≡ false → new ≡ true) → AreNoted flags noted.old.count noted.old.order.items → AreNoted (slice_set flags rule true) noted.new.count noted.new.order.items }
+{
+    if !new {
+        return;
+    }
+    noted.put(rule);
+}
+
+/// The open rules, and a set of tokens for each rule; and the open rules once more, as they were opened.
 #[derive(Drop)]
 pub(crate) struct Opening {
     looks: RuleRows,
     opened: Vob,
+    noted: Noted,
 }
 
 impl Model for Opening {
     ghost use Rattle.std.specs.Prelude.{◌≡◌, length};
-    ghost use Rattle.lrtable.specs.Opening.{RuleSets};
+    ghost use Rattle.lrtable.specs.Opening.{RuleSets, AreNoted};
 
     ghost Value = { RuleSets };
 
     ghost view = { λ s. record { tokens = s.looks.width; rows = s.looks.rows; opened = s.opened.bits } };
 
-    ghost invariant = { λ s. length s.looks.rows ≡ length s.opened.bits };
+    ghost invariant = { λ s. (length s.looks.rows ≡ length s.opened.bits) × AreNoted s.opened.bits s.noted.count s.noted.order.items };
 }
 
 impl Opening {
@@ -78,7 +108,12 @@ impl Opening {
     {
         let looks = RuleRows::empty(alloc, rules, tokens)?;
         let opened = Vob::from_elem(alloc, false, rules)?;
-        Ok(Opening { looks, opened })
+        let noted = Noted::empty(alloc, rules)?;
+        Ok(Opening {
+            looks,
+            opened,
+            noted,
+        })
     }
 
     /// Closes all rules and empties their sets, where those of the others are empty.
@@ -88,8 +123,9 @@ impl Opening {
         ensures none_open { (A : ℕ) → IsOpen self.new A → ⊥ }
         ensures no_look { (A t : ℕ) → HasRuleLook self.new A t → ⊥ }
     {
-        self.looks.clear_all(&self.opened);
+        empty_rows(&mut self.looks, &self.opened, &self.noted);
         self.opened.set_all(false);
+        self.noted.clear();
     }
 
     /// Opens a rule.
@@ -100,7 +136,9 @@ impl Opening {
         ensures opened { self.new.opened ≡ slice_set self.old.opened rule true }
         ensures steps { PassStep room (λ s. IsOpen s rule) self.old self.new result }
     {
-        self.opened.set(rule, true)
+        let new = self.opened.set(rule, true);
+        note_if(&mut self.noted, rule, new);
+        new
     }
 
     /// Tells whether a rule is open.
@@ -116,6 +154,11 @@ impl Opening {
         ensures { (A : ℕ) → Contains result A ↔ IsOpen self.now A }
     {
         self.opened.iter_set_bits(..)
+    }
+
+    /// The open rules as they were opened, or most of them.
+    pub(crate) fn noted(&self) -> &[usize] {
+        self.noted.numbers()
     }
 
     /// A flag for each rule, which tells whether it is open.
@@ -250,6 +293,127 @@ impl Opening {
         looks.or(self.looks.row(rule));
     }
 
+    /// As `bring`, of which nobody asks whether it changed something.
+    fn bring_on(&mut self, opener: &Opener, looks: &Vob)
+        requires rules { opener.now.rule < length self.old.opened }
+        requires within { opener.now.rule < length self.old.rows }
+        requires first { length opener.now.rest.first.bits ≡ self.old.tokens }
+        requires width { length looks.now.bits ≡ self.old.tokens }
+        ensures { (changed : Bool) × FrontStep looks.now.bits (front_of opener.now) self.old self.new changed }
+    {
+        self.open(opener.rule);
+        self.join(opener.rule, &opener.rest.first);
+        self.pass(opener.rule, opener.rest.nullable, looks);
+    }
+
+    /// Brings to the rules of openers what follows them, where a rule with these lookaheads leads to them.
+    fn bring_all(&mut self, reached: &[Opener], looks: &Vob)
+        requires rows { length self.old.rows ≡ length self.old.opened }
+        requires fit { AllFit (length self.old.opened) self.old.tokens (map front_of reached.now) }
+        requires width { length looks.now.bits ≡ self.old.tokens }
+        ensures comes { Comes (NamedIn (map front_of reached.now)) (BroughtBy looks.now.bits (map front_of reached.now)) self.old self.new }
+        ensures fewer { room self.new ≤ room self.old }
+    {
+        'openers: for opener in reached {
+            self.bring_on(opener, looks);
+        }
+    }
+
+    /// Brings to all rules that a rule leads to what comes to them, if that is kept; else takes the rule, and puts the
+    /// rules to which something came with those that wait.
+    fn take_rule(
+        &mut self,
+        openers: &Openers,
+        rule: usize,
+        looks: &mut Vob,
+        waiting: &mut Vec<usize>,
+    ) -> Result<(), AllocError>
+        requires rows { length self.old.rows ≡ length self.old.opened }
+        requires rules { length openers.now ≡ length self.old.opened }
+        requires rule { rule < length self.old.opened }
+        requires open_is { IsOpen self.old rule }
+        requires tidy { IsTidy self.old }
+        requires fit { (A : ℕ) → AllFit (length self.old.opened) self.old.tokens (get_or openers.now A []) }
+        requires width { length looks.old.bits ≡ self.old.tokens }
+        ensures sizes { OnOk result (SameSizes self.old self.new) }
+        ensures tidy { OnOk result (IsTidy self.new) }
+        ensures width { OnOk result (length looks.new.bits ≡ self.old.tokens) }
+        ensures waiting { OnOk result ((from : RuleSets) → Underway openers.now from self.old (waiting.old.items ++ rule ∷ []) → Underway openers.now from self.new waiting.new.items) }
+        ensures fewer { OnOk result (room self.new + length waiting.new.items ≤ room self.old + length waiting.old.items) }
+    {
+        match openers.reached_from(rule, looks.len()) {
+            Some(reached) => {
+                self.copy_looks(rule, looks);
+                self.bring_all(reached, looks);
+                Ok(())
+            }
+            None => {
+                self.keep_own(rule, openers.of_rule(rule));
+                self.copy_looks(rule, looks);
+                self.follow_all(openers.of_rule(rule), looks, waiting)?;
+                Ok(())
+            }
+        }
+    }
+
+    /// Opens one rule without lookaheads, and what it leads to.
+    pub(crate) fn open_from(
+        &mut self,
+        openers: &Openers,
+        looks: &mut Vob,
+        waiting: &mut Vec<usize>,
+        rule: usize,
+    ) -> Result<(), AllocError>
+        requires tidy { IsTidy self.old }
+        requires rows { length self.old.rows ≡ length self.old.opened }
+        requires rules { length openers.now ≡ length self.old.opened }
+        requires rule { rule < length openers.now }
+        requires fit { (A : ℕ) → AllFit (length self.old.opened) self.old.tokens (get_or openers.now A []) }
+        requires width { length looks.old.bits ≡ self.old.tokens }
+        requires none_waits { waiting.old.items ≡ [] }
+        ensures opened { OnOk result ((from : RuleSets) × IsAlone rule from × AreOpened openers.now from self.new) }
+        ensures tidy { OnOk result (IsTidy self.new) }
+        ensures sizes { OnOk result (SameSizes self.old self.new) }
+        ensures width { OnOk result (length looks.new.bits ≡ self.old.tokens) }
+        ensures none_waits { OnOk result (waiting.new.items ≡ []) }
+    {
+        self.clear();
+        self.open(rule);
+        waiting.push(rule)?;
+        self.close(openers, looks, waiting)?;
+        Ok(())
+    }
+
+    /// An open rule with its lookaheads, and whether it is a marked one.
+    fn opener_at(&self, passed: &Vob, rule: usize) -> Result<Opener, AllocError>
+        requires rule { rule < length self.now.rows }
+        requires width { rule < length passed.now.bits }
+        ensures rule { IfOk result (λ o. o.rule ≡ rule) }
+        ensures first { IfOk result (λ o. o.rest.first.bits ≡ get_or self.now.rows rule []) }
+        ensures width { IfOk result (λ o. length o.rest.first.bits ≡ self.now.tokens) }
+        ensures nullable { IfOk result (λ o. o.rest.nullable ≡ is_set passed.now.bits rule) }
+    {
+        let first = self.row(rule).clone()?;
+        let rest = Rest {
+            first,
+            nullable: passed.get_unchecked(rule),
+        };
+        Ok(Opener { rule, rest })
+    }
+
+    /// The open rules with their lookaheads, and which of them are marked.
+    pub(crate) fn listed(&self, alloc: Global, passed: &Vob) -> Result<Vec<Opener>, AllocError>
+        requires rows { length self.now.rows ≡ length self.now.opened }
+        requires width { length passed.now.bits ≡ length self.now.opened }
+        ensures { IfOk result (λ v. AreListed self.now passed.now.bits (map front_of v.items)) }
+    {
+        let mut list = Vec::with_capacity(alloc, bits_set(&self.opened))?;
+        'rules: for rule in self.open_rules() {
+            list.push(self.opener_at(passed, rule)?)?;
+        }
+        Ok(list)
+    }
+
     /// Opens what the open rules lead to: the least sets that hold these and are closed. Each rule that waits is taken,
     /// and again when something came to it.
     pub(crate) fn close(
@@ -262,16 +426,16 @@ impl Opening {
         requires rules { length openers.now ≡ length self.old.opened }
         requires fit { (A : ℕ) → AllFit (length self.old.opened) self.old.tokens (get_or openers.now A []) }
         requires width { length looks.old.bits ≡ self.old.tokens }
+        requires tidy { IsTidy self.old }
         requires waiting { Underway openers.now self.old self.old waiting.old.items }
+        ensures tidy { OnOk result (IsTidy self.new) }
         ensures opened { OnOk result (AreOpened openers.now self.old self.new) }
         ensures sizes { OnOk result (SameSizes self.old self.new) }
         ensures width { OnOk result (length looks.new.bits ≡ self.old.tokens) }
         ensures none_waits { OnOk result (waiting.new.items ≡ []) }
     {
         'waiting: while let Some(rule) = waiting.pop() {
-            self.keep_own(rule, openers.of_rule(rule));
-            self.copy_looks(rule, looks);
-            self.follow_all(openers.of_rule(rule), looks, waiting)?;
+            self.take_rule(openers, rule, looks, waiting)?;
         }
         Ok(())
     }
@@ -338,6 +502,7 @@ pub(crate) struct Closer {
     pub looks: Vob,
     pub rest: Rest,
     pub waiting: Vec<usize>,
+    pub counts: Vec<usize>,
 }
 
 impl Closer {
@@ -355,6 +520,7 @@ impl Closer {
             looks: Vob::from_elem(alloc, false, tokens)?,
             rest: Rest::empty(alloc, tokens)?,
             waiting: Vec::new(alloc),
+            counts: production_counts(alloc, grm)?,
         })
     }
 

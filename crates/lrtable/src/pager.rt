@@ -1,6 +1,6 @@
 //! The building of the states, by Pager's merging.
 
-ghost use Rattle.std.specs.Prelude.{◌↔◌, IsTrue, ◌≡◌, ◌<◌, ◌≤◌, ◌+◌, ℕ, true, false, [], ◌∷◌, length, map, replicate, slice_set, IfOk, OnOk, IsErrOf, MatchOption};
+ghost use Rattle.std.specs.Prelude.{◌↔◌, IsTrue, ◌≡◌, ◌<◌, ◌≤◌, ◌+◌, ℕ, true, false, [], ◌∷◌, ◌++◌, length, map, take, replicate, slice_set, IfOk, OnOk, IsErrOf, MatchOption};
 ghost use Rattle.cfg_numbered.specs.Firsts.{AreFirsts};
 ghost use Rattle.cfg_theory.specs.Grammar.{IsEnd};
 ghost use Rattle.cfg_numbered.specs.Sets.{is_set};
@@ -20,13 +20,14 @@ ghost use Rattle.lrtable.specs.StateViews.{value_of, core_of_set};
 ghost use Rattle.lrtable.specs.Stepping.{FitsCore, AreGotos, AreGotosOf, IsGotoAt, IsNextTaken, set_off};
 ghost use Rattle.lrtable.specs.declared.states.BuildError.TheVariants as faults;
 
-use crate::cores::{CoreItem, CoreSet, copied, lay_by};
+use crate::cores::{CoreItem, CoreSet};
 use crate::moved_items::{MovedItem, Rows};
 use crate::moves::{empty_sets, goto_sets, symbol_at};
 use crate::openers::Openers;
 use crate::opening::Closer;
 use crate::pruning::prune;
 use crate::retaking::{Retaken, retake_all};
+use crate::rooms::bits_set;
 use crate::states::{BuildError, EdgeTo, State, place};
 use cfg_base::index::IndexStorage;
 use cfg_base::symbol::SIdx;
@@ -158,7 +159,7 @@ fn gotos<S: IndexStorage>(
 /// How many edges a state is to have room for: one for each mark, if it has none yet.
 fn edges_wanted<S: IndexStorage>(edges: &[EdgeTo<S>], marks: &Vob) -> usize {
     if edges.is_empty() {
-        return marks.iter_set_bits(..).count();
+        return bits_set(marks);
     }
     0
 }
@@ -179,16 +180,44 @@ fn take<S: IndexStorage>(
     Ok(())
 }
 
-/// Copies sets of tokens, each in the place of a spare one: the lookaheads of the state that is taken, which may grow while
-/// its goto sets are placed.
-fn copy_looks(alloc: Global, spare: &mut Vec<Vob>, looks: &[Vob]) -> Result<Vec<Vob>, AllocError>
-    ensures { IfOk result (λ v. rows_in v.items ≡ rows_in looks.now) }
+/// Writes a set of tokens over another, in its room where both have one size.
+fn overwrite(row: &mut Vob, looks: &Vob) -> Result<(), AllocError>
+    ensures { OnOk result (row.new.bits ≡ looks.now.bits) }
 {
-    let mut copies = Vec::with_capacity(alloc, looks.len())?;
-    'each: for k in 0..looks.len() {
-        copies.push(copied(spare, &looks[k])?)?;
+    if row.len() != looks.len() {
+        *row = looks.clone()?;
+        return Ok(());
     }
-    Ok(copies)
+    row.set_all(false);
+    row.or(looks);
+    Ok(())
+}
+
+/// Writes a set of tokens over that at an index, or behind the last.
+fn put_copy(own: &mut Vec<Vob>, index: usize, looks: &Vob) -> Result<(), AllocError>
+    requires { index ≤ length own.old.items }
+    ensures within { OnOk result (index < length own.new.items) }
+    ensures copied { OnOk result (rows_in (take (index + 1) own.new.items) ≡ rows_in (take index own.old.items) ++ looks.now.bits ∷ []) }
+{
+    if index < own.len() {
+        let row = &mut own[index];
+        overwrite(row, looks)?;
+        return Ok(());
+    }
+    own.push(looks.clone()?)?;
+    Ok(())
+}
+
+/// Copies sets of tokens over the first of a list: the lookaheads of the state that is taken, which may grow while its goto
+/// sets are placed.
+fn copy_looks(own: &mut Vec<Vob>, looks: &[Vob]) -> Result<(), AllocError>
+    ensures within { OnOk result (length looks.now ≤ length own.new.items) }
+    ensures copied { OnOk result (rows_in (take (length looks.now) own.new.items) ≡ rows_in looks.now) }
+{
+    'each: for k in 0..looks.len() {
+        put_copy(own, k, &looks[k])?;
+    }
+    Ok(())
 }
 
 /// A step that takes a state without edges: its goto sets are put together and placed.
@@ -200,7 +229,7 @@ fn step_anew<S: IndexStorage>(
     closer: &mut Closer,
     sets: &mut Vec<Vec<MovedItem<S>>>,
     marks: &mut Vob,
-    spare: &mut Vec<Vob>,
+    own: &mut Vec<Vob>,
     states: &mut Vec<State<S>>,
     begins: &mut Vec<Vec<usize>>,
     number: usize,
@@ -231,9 +260,10 @@ fn step_anew<S: IndexStorage>(
     grm.start_prod();
     let core = &states[number].core;
     gotos(grm, firsts, openers, closer, core, sets, marks)?;
-    let mut own = copy_looks(alloc, spare, core.looks.as_slice())?;
+    let count = core.looks.len();
+    copy_looks(own, core.looks.as_slice())?;
     take(states, number, marks)?;
-    let rows = Rows::new(own.as_slice(), &closer.opening);
+    let rows = Rows::new(&own[..count], &closer.opening);
     let mut cursor = number;
     place_all(
         alloc,
@@ -246,7 +276,6 @@ fn step_anew<S: IndexStorage>(
         marks,
         &rows,
     )?;
-    lay_by(spare, &mut own)?;
     Ok(cursor)
 }
 
@@ -260,7 +289,7 @@ fn step_again<S: IndexStorage>(
     closer: &mut Closer,
     was: &mut Retaken<S>,
     marks: &Vob,
-    spare: &mut Vec<Vob>,
+    own: &mut Vec<Vob>,
     states: &mut Vec<State<S>>,
     begins: &mut Vec<Vec<usize>>,
     number: usize,
@@ -291,9 +320,10 @@ fn step_again<S: IndexStorage>(
     let state = &states[number];
     closer.close(grm, firsts, openers, &state.core)?;
     was.note(state)?;
-    let mut own = copy_looks(alloc, spare, state.core.looks.as_slice())?;
+    let count = state.core.looks.len();
+    copy_looks(own, state.core.looks.as_slice())?;
     take(states, number, marks)?;
-    let rows = Rows::new(own.as_slice(), &closer.opening);
+    let rows = Rows::new(&own[..count], &closer.opening);
     let mut cursor = number;
     retake_all(
         alloc,
@@ -306,7 +336,6 @@ fn step_again<S: IndexStorage>(
         &rows,
         &closer.opening,
     )?;
-    lay_by(spare, &mut own)?;
     Ok(cursor)
 }
 
@@ -320,7 +349,7 @@ fn step<S: IndexStorage>(
     was: &mut Retaken<S>,
     sets: &mut Vec<Vec<MovedItem<S>>>,
     marks: &mut Vob,
-    spare: &mut Vec<Vob>,
+    own: &mut Vec<Vob>,
     states: &mut Vec<State<S>>,
     begins: &mut Vec<Vec<usize>>,
     number: usize,
@@ -352,11 +381,11 @@ fn step<S: IndexStorage>(
 {
     if states[number].edges.is_empty() {
         return step_anew(
-            alloc, grm, firsts, openers, closer, sets, marks, spare, states, begins, number,
+            alloc, grm, firsts, openers, closer, sets, marks, own, states, begins, number,
         );
     }
     step_again(
-        alloc, grm, firsts, openers, closer, was, marks, spare, states, begins, number,
+        alloc, grm, firsts, openers, closer, was, marks, own, states, begins, number,
     )
 }
 
@@ -442,7 +471,7 @@ pub(crate) fn finish<S: IndexStorage>(
     was: &mut Retaken<S>,
     sets: &mut Vec<Vec<MovedItem<S>>>,
     marks: &mut Vob,
-    spare: &mut Vec<Vob>,
+    own: &mut Vec<Vob>,
     states: &mut Vec<State<S>>,
     begins: &mut Vec<Vec<usize>>,
 ) -> Result<(), BuildError>
@@ -456,6 +485,7 @@ pub(crate) fn finish<S: IndexStorage>(
     requires buckets { AreBuckets (map (value_of S.number) states.old.items) (map (λ l. l.items) begins.old.items) }
     requires lists { length begins.old.items ≡ length grm.now.grammar.productions }
     requires few { length states.old.items ≤ S.MAX }
+    ensures ready { OnOk result (IsReady grm.now.grammar closer.new) }
     ensures built { OnOk result (AreBuilt grm.now.grammar (map (value_of S.number) states.new.items)) }
     ensures few { OnOk result (length states.new.items ≤ S.MAX) }
     ensures many { IsErrOf result faults.TooManyStates → TooManyStand grm.now.grammar S.MAX }
@@ -465,7 +495,7 @@ pub(crate) fn finish<S: IndexStorage>(
         match lowest(states.as_slice(), cursor) {
             Some(number) => {
                 cursor = step(
-                    alloc, grm, firsts, openers, closer, was, sets, marks, spare, states, begins,
+                    alloc, grm, firsts, openers, closer, was, sets, marks, own, states, begins,
                     number,
                 )?;
             }
@@ -493,32 +523,35 @@ fn build<S: IndexStorage>(
     alloc: Global,
     grm: &NumberedGrammar<S>,
     firsts: &YaccFirsts<S>,
+    openers: &Openers,
+    closer: &mut Closer,
 ) -> Result<Vec<State<S>>, BuildError>
-    requires { AreFirsts grm.now.grammar firsts.now }
+    requires firsts { AreFirsts grm.now.grammar firsts.now }
+    requires openers { AreFronts grm.now.grammar openers.now }
+    requires ready { IsReady grm.now.grammar closer.old }
+    ensures ready { OnOk result (IsReady grm.now.grammar closer.new) }
     ensures built { IfOk result (λ v. AreBuilt grm.now.grammar (map (value_of S.number) v.items)) }
     ensures few { IfOk result (λ v. length v.items ≤ S.MAX) }
     ensures within { OnOk result (StaysWithin grm.now.grammar S.MAX) }
     ensures many { IsErrOf result faults.TooManyStates → TooManyStand grm.now.grammar S.MAX }
 {
     let first = grm.start_prod().0.to_usize();
-    let openers = Openers::new(alloc, grm, firsts)?;
     let mut begins = start_lists(alloc, grm.prods_len().0.to_usize(), first)?;
     let mut states = start_states(alloc, grm)?;
-    let mut closer = Closer::new(alloc, grm)?;
     let mut was = Retaken::empty(alloc, grm)?;
     let mut sets = symbol_sets(alloc, grm)?;
     let mut marks = Vob::from_elem(alloc, false, sets.len())?;
-    let mut spare = Vec::new(alloc);
+    let mut own = Vec::new(alloc);
     finish(
         alloc,
         grm,
         firsts,
-        &openers,
-        &mut closer,
+        openers,
+        closer,
         &mut was,
         &mut sets,
         &mut marks,
-        &mut spare,
+        &mut own,
         &mut states,
         &mut begins,
     )?;
@@ -530,8 +563,13 @@ pub(crate) fn states<S: IndexStorage>(
     alloc: Global,
     grm: &NumberedGrammar<S>,
     firsts: &YaccFirsts<S>,
+    openers: &Openers,
+    closer: &mut Closer,
 ) -> Result<Vec<State<S>>, BuildError>
-    requires { AreFirsts grm.now.grammar firsts.now }
+    requires firsts { AreFirsts grm.now.grammar firsts.now }
+    requires openers { AreFronts grm.now.grammar openers.now }
+    requires ready { IsReady grm.now.grammar closer.old }
+    ensures ready { OnOk result (IsReady grm.now.grammar closer.new) }
     ensures graph { IfOk result (λ v. IsGraph grm.now.grammar (graph_of_states (map (value_of S.number) v.items))) }
     ensures linked { IfOk result (λ v. AreLinked (map (value_of S.number) v.items)) }
     ensures cores { IfOk result (λ v. (s : ℕ) → s < length v.items → FitsCore grm.now.grammar (state_at (map (value_of S.number) v.items) s).core) }
@@ -541,7 +579,7 @@ pub(crate) fn states<S: IndexStorage>(
     ensures many { IsErrOf result faults.TooManyStates → TooManyStand grm.now.grammar S.MAX }
 {
     grm.start_prod();
-    let mut states = build(alloc, grm, firsts)?;
+    let mut states = build(alloc, grm, firsts, openers, closer)?;
     let kept = prune(alloc, &mut states)?;
     Ok(kept)
 }

@@ -1,9 +1,9 @@
 //! The states that edges lead to from the first, in order and with new numbers.
 
-ghost use Rattle.std.specs.Prelude.{◌≡◌, ℕ, ◌+◌, ◌<◌, ◌↔◌, IsTrue, length, map, IfOk, OnOk};
+ghost use Rattle.std.specs.Prelude.{◌≡◌, ℕ, ◌+◌, ◌<◌, ◌↔◌, true, IsTrue, length, map, slice_set, IfOk, OnOk};
 ghost use Rattle.std.specs.List.{Contains, AllPairs};
 ghost use Rattle.cfg_numbered.specs.Sets.{is_set};
-ghost use Rattle.lrtable.specs.Pruning.{AreLinked, IsLed, IsTargetOf, Marks, AreNumbered, IsCut, renumbered, renumbered_state};
+ghost use Rattle.lrtable.specs.Pruning.{AreLinked, Flagged, IsLed, IsTargetOf, Marks, AreNumbered, IsCut, renumbered, renumbered_state};
 ghost use Rattle.lrtable.specs.States.{Edge, state_at};
 ghost use Rattle.lrtable.specs.StateViews.{edges_of, value_of};
 
@@ -14,7 +14,11 @@ use std::mem;
 use vob::Vob;
 
 /// Marks a state, and puts it with those that wait if it wasn't marked.
-fn mark(marked: &mut Vob, waiting: &mut Vec<usize>, number: usize) -> Result<(), AllocError>
+pub(crate) fn mark(
+    marked: &mut Vob,
+    waiting: &mut Vec<usize>,
+    number: usize,
+) -> Result<(), AllocError>
     requires { number < length marked.old.bits }
     ensures { OnOk result (Marks (λ s. number ≡ s) marked.old.bits marked.new.bits waiting.old.items waiting.new.items) }
 {
@@ -37,6 +41,49 @@ fn mark_targets<S: IndexStorage>(
         mark(marked, waiting, edge.target)?;
     }
     Ok(())
+}
+
+/// Sets a flag.
+fn flag(flags: &mut Vec<bool>, number: usize)
+    requires { number < length flags.old.items }
+    ensures { flags.new.items ≡ slice_set flags.old.items number true }
+{
+    flags[number] = true;
+}
+
+/// Sets the flags of the targets of edges.
+fn flag_targets<S: IndexStorage>(edges: &[EdgeTo<S>], flags: &mut Vec<bool>)
+    requires { (e : Edge) → Contains (edges_of S.number edges.now) e → e.target < length flags.old.items }
+    ensures { Flagged (IsTargetOf (edges_of S.number edges.now)) flags.old.items flags.new.items }
+{
+    'edges: for edge in edges {
+        flag(flags, edge.target);
+    }
+}
+
+/// Tells whether a flag is set.
+fn has_flag(flags: &[bool], number: usize) -> bool
+    requires { number < length flags.now }
+    ensures { result ≡ is_set flags.now number }
+{
+    flags[number]
+}
+
+/// Tells whether an edge leads to each state but the first from a lower one. Then edges lead to all states from the first.
+fn are_led<S: IndexStorage>(alloc: Global, states: &[State<S>]) -> Result<bool, AllocError>
+    requires some { 0 < length states.now }
+    requires linked { AreLinked (map (value_of S.number) states.now) }
+    ensures { IfOk result (λ b. b ≡ true → (s : ℕ) → s < length states.now → IsLed (map (value_of S.number) states.now) s) }
+{
+    let mut led = vec![in alloc; false; states.len()]?;
+    flag(&mut led, 0);
+    'states: for number in 0..states.len() {
+        if !has_flag(led.as_slice(), number) {
+            return Ok(false);
+        }
+        flag_targets(states[number].edges.as_slice(), &mut led);
+    }
+    Ok(true)
 }
 
 /// Marks the states that edges lead to from the first.
@@ -135,8 +182,8 @@ fn take_all<S: IndexStorage>(
     Ok(new)
 }
 
-/// The states that edges lead to from the first, in order and with new numbers.
-pub(crate) fn prune<S: IndexStorage>(
+/// The states that edges lead to from the first, in order and with new numbers, where there may be others.
+fn cut<S: IndexStorage>(
     alloc: Global,
     states: &mut Vec<State<S>>,
 ) -> Result<Vec<State<S>>, AllocError>
@@ -147,5 +194,29 @@ pub(crate) fn prune<S: IndexStorage>(
     let marked = marks(alloc, states.as_slice())?;
     let numbered = number_all(alloc, &marked)?;
     let new = take_all(alloc, states, numbered.0.as_slice(), numbered.1.as_slice())?;
+    Ok(new)
+}
+
+/// The states, taken out as they are.
+fn whole<S: IndexStorage>(alloc: Global, states: &mut Vec<State<S>>) -> Vec<State<S>>
+    ensures { result.items ≡ states.old.items }
+{
+    mem::replace(states, Vec::new(alloc))
+}
+
+/// The states that edges lead to from the first, in order and with new numbers.
+pub(crate) fn prune<S: IndexStorage>(
+    alloc: Global,
+    states: &mut Vec<State<S>>,
+) -> Result<Vec<State<S>>, AllocError>
+    requires some { 0 < length states.old.items }
+    requires linked { AreLinked (map (value_of S.number) states.old.items) }
+    ensures { IfOk result (λ v. IsCut (map (value_of S.number) states.old.items) (map (value_of S.number) v.items)) }
+{
+    let led = are_led(alloc, states.as_slice())?;
+    if led {
+        return Ok(whole(alloc, states));
+    }
+    let new = cut(alloc, states)?;
     Ok(new)
 }

@@ -325,9 +325,7 @@ fn copy_all<T: Copy>(from: &[T], to: &mut Vec<T>) -> Result<(), AllocError>
     ensures { OnOk result (to.new.items ≡ from.now) }
 {
     to.clear();
-    'each: for k in 0..from.len() {
-        to.push(from[k])?;
-    }
+    to.extend_from_slice(from)?;
     Ok(())
 }
 

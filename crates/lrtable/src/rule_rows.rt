@@ -1,6 +1,7 @@
 //! Sets of tokens, one for each rule, that are emptied and used again.
 
 ghost use Rattle.std.specs.Prelude.{◌≡◌, ◌<◌, ℕ, false, IfOk, IsTrue, [], length, get_or, replicate, slice_set};
+ghost use Rattle.std.specs.List.{Contains};
 ghost use Rattle.cfg_numbered.specs.Sets.{SetRows, is_set, is_set_in, missing_in, joined_to, HasAllOf};
 ghost use Rattle.cfg_numbered.specs.Passes.{PassStep};
 
@@ -68,7 +69,20 @@ impl RuleRows {
         row.set_all(false);
     }
 
-    /// Empties the sets of some rules.
+    /// Empties the sets of these rules.
+    pub(crate) fn clear_each(&mut self, rules: &[usize])
+        requires { (A : ℕ) → Contains rules.now A → A < length self.old.rows }
+        ensures width { self.new.width ≡ self.old.width }
+        ensures count { length self.new.rows ≡ length self.old.rows }
+        ensures kept { (A t : ℕ) → IsTrue (is_set_in self.new.rows A t) → IsTrue (is_set_in self.old.rows A t) }
+        ensures emptied { (A t : ℕ) → Contains rules.now A → IsTrue (is_set_in self.new.rows A t) → ⊥ }
+    {
+        'rules: for rule in rules {
+            self.clear(*rule);
+        }
+    }
+
+    /// Empties the sets of the rules whose flags are set.
     pub(crate) fn clear_all(&mut self, rules: &Vob)
         requires { length rules.now.bits ≡ length self.old.rows }
         ensures width { self.new.width ≡ self.old.width }

@@ -1,7 +1,7 @@
 //! Item sets that keep each set of lookaheads once: the items that a closure opens share those of their rule, and none
 //! has a set of its own.
 
-ghost use Rattle.std.specs.Prelude.{◌≡◌, ◌<◌, ◌≤◌, ◌↔◌, ℕ, [], true, false, length, get_or, option_map, IsTrue, IfOk, OnOk, OnErr};
+ghost use Rattle.std.specs.Prelude.{◌≡◌, ◌<◌, ◌≤◌, ◌-◌, ◌↔◌, ℕ, [], true, false, length, get_or, option_map, IsTrue, IfOk, IfSome, OnOk, OnErr};
 ghost use Rattle.cfg_numbered.specs.Sets.{is_set};
 ghost use Rattle.lr_theory.specs.Itemset.{entry_at};
 ghost use Rattle.lrtable.specs.Gaining.{no_core};
@@ -15,6 +15,7 @@ ghost use Rattle.lrtable.specs.Stepping.{IsSized, OfRule, OfRuleLooks, OpenBelow
 
 use crate::cores::{CoreItem, CoreSet, comes_before, same_item};
 use crate::opening::Opening;
+use crate::set_index::SetIndex;
 use cfg_base::index::IndexStorage;
 use cfg_base::symbol::{PIdx, RIdx, SIdx};
 use cfg_numbered::yacc::NumberedGrammar;
@@ -25,7 +26,7 @@ use vob::Vob;
 #[derive(Clone, Copy)]
 pub(crate) struct SharedItem<S> {
     pub item: CoreItem<S>,
-    pub set: usize,
+    pub set: SetIndex,
 }
 
 /// Items in ascending order, and the sets of lookaheads that they share.
@@ -62,6 +63,30 @@ fn is_at<S: IndexStorage>(entries: &[SharedItem<S>], index: usize, item: &CoreIt
     same_item(&entries[index].item, item)
 }
 
+/// The index of a set like this one, if one of the last four is.
+fn like_among(sets: &[Vob], looks: &Vob) -> Option<usize>
+    ensures { IfSome result (λ k. (k < length sets.now) × (row (rows_in sets.now) k ≡ looks.now.bits)) }
+{
+    'back: for n in 0..sets.len().min(4) {
+        let last = sets.len() - 1 - n;
+        if sets[last] == *looks {
+            return Some(last);
+        }
+    }
+    None
+}
+
+/// Tells whether the last set is like this one.
+fn is_last(sets: &[Vob], looks: &Vob) -> bool
+    ensures { result ≡ true → (0 < length sets.now) × (row (rows_in sets.now) (length sets.now - 1) ≡ looks.now.bits) }
+{
+    let count = sets.len();
+    if count == 0 {
+        return false;
+    }
+    sets[count - 1] == *looks
+}
+
 /// Items, each with the index of a set of its own.
 fn each_own<S: IndexStorage>(
     alloc: Global,
@@ -72,9 +97,21 @@ fn each_own<S: IndexStorage>(
     let mut entries = Vec::with_capacity(alloc, items.len())?;
     'items: for set in 0..items.len() {
         let item = items[set];
-        entries.push(SharedItem { item, set })?;
+        entries.push(SharedItem {
+            item,
+            set: SetIndex::of(set),
+        })?;
     }
     Ok(entries)
+}
+
+/// Gives back the room that no set takes, if there is more than a little.
+fn give_back(sets: &mut Vec<Vob>)
+    ensures { sets.new.items ≡ sets.old.items }
+{
+    if sets.capacity().saturating_sub(sets.len()) > 2 {
+        sets.shrink_to_fit();
+    }
 }
 
 impl<S: IndexStorage> SharedSets<S> {
@@ -101,7 +138,11 @@ impl<S: IndexStorage> SharedSets<S> {
         let own = looks.clone()?;
         let set = self.sets.len();
         self.sets.push(own)?;
-        self.entries.insert(index, SharedItem { item, set })?;
+        let entry = SharedItem {
+            item,
+            set: SetIndex::of(set),
+        };
+        self.entries.insert(index, entry)?;
         Ok(true)
     }
 
@@ -114,7 +155,7 @@ impl<S: IndexStorage> SharedSets<S> {
         ensures grew { IfOk result (λ b. IsTrue b ↔ IsNewTo (shared_map S.number self.old) (S.number item.pidx.0) (S.number item.dot.0) looks.now.bits) }
         ensures kept { OnErr result (StaysAs S.number self.old self.new) }
     {
-        let number = self.entries[index].set;
+        let number = self.entries[index].set.get();
         if self.sets[number].holds(looks) {
             return Ok(false);
         }
@@ -123,7 +164,7 @@ impl<S: IndexStorage> SharedSets<S> {
         let set = self.sets.len();
         self.sets.push(joined)?;
         let entry = &mut self.entries[index];
-        entry.set = set;
+        entry.set = SetIndex::of(set);
         Ok(true)
     }
 
@@ -152,7 +193,7 @@ impl<S: IndexStorage> SharedSets<S> {
         if !is_at(self.entries.as_slice(), index, item) {
             return None;
         }
-        Some(&self.sets[self.entries[index].set])
+        Some(&self.sets[self.entries[index].set.get()])
     }
 
     /// Adds an item with the set at an index, or its lookaheads to those of the item that is there.
@@ -168,12 +209,46 @@ impl<S: IndexStorage> SharedSets<S> {
             self.grow(index, item, &looks)?;
             return Ok(());
         }
+        let entry = SharedItem {
+            item,
+            set: SetIndex::of(set),
+        };
         if index == self.entries.len() {
-            self.entries.push(SharedItem { item, set })?;
+            self.entries.push(entry)?;
             return Ok(());
         }
-        self.entries.insert(index, SharedItem { item, set })?;
+        self.entries.insert(index, entry)?;
         Ok(())
+    }
+
+    /// The index of a set like this one, which is put behind the others unless the last is like it.
+    fn own_set(&mut self, looks: &Vob) -> Result<usize, AllocError>
+        ensures entries { OnOk result (self.new.entries.items ≡ self.old.entries.items) }
+        ensures within { IfOk result (λ k. k < length (rows_in self.new.sets.items)) }
+        ensures like { IfOk result (λ k. row (rows_in self.new.sets.items) k ≡ looks.now.bits) }
+        ensures sets { OnOk result (KeepsSets (rows_in self.old.sets.items) (rows_in self.new.sets.items)) }
+    {
+        if is_last(self.sets.as_slice(), looks) {
+            return Ok(self.sets.len() - 1);
+        }
+        let set = self.sets.len();
+        self.sets.push(looks.clone()?)?;
+        Ok(set)
+    }
+
+    /// The index of a set like this one, which is put behind the others unless one of the last is like it.
+    fn set_like(&mut self, looks: &Vob) -> Result<usize, AllocError>
+        ensures entries { OnOk result (self.new.entries.items ≡ self.old.entries.items) }
+        ensures within { IfOk result (λ k. k < length (rows_in self.new.sets.items)) }
+        ensures like { IfOk result (λ k. row (rows_in self.new.sets.items) k ≡ looks.now.bits) }
+        ensures sets { OnOk result (KeepsSets (rows_in self.old.sets.items) (rows_in self.new.sets.items)) }
+    {
+        if let Some(set) = like_among(self.sets.as_slice(), looks) {
+            return Ok(set);
+        }
+        let set = self.sets.len();
+        self.sets.push(looks.clone()?)?;
+        Ok(set)
     }
 
     /// Adds the productions of a rule at dot nought with one set.
@@ -189,8 +264,7 @@ impl<S: IndexStorage> SharedSets<S> {
         requires within { PointIn (rows_in self.old.sets.items) self.old.entries.items }
         ensures { OnOk result (GrowsBy S.number grm.now.grammar.tokens (OfRule grm.now.grammar (S.number ridx.0)) (OfRuleLooks grm.now.grammar (S.number ridx.0) (λ t. IsTrue (is_set looks.now.bits t))) self.old self.new) }
     {
-        let set = self.sets.len();
-        self.sets.push(looks.clone()?)?;
+        let set = self.set_like(looks)?;
         let prods = grm.rule_to_prods(ridx);
         'prods: for k in 0..prods.len() {
             let dot = SIdx(S::from_usize(0).unwrap());
@@ -220,35 +294,41 @@ impl<S: IndexStorage> SharedSets<S> {
         Ok(())
     }
 
-    /// Gives back the room that no item takes.
+    /// Gives back the room that no item and no set takes.
     pub(crate) fn fit(&mut self)
         ensures core { shared_core S.number self.new ≡ shared_core S.number self.old }
         ensures within { PointIn (rows_in self.old.sets.items) self.old.entries.items → PointIn (rows_in self.new.sets.items) self.new.entries.items }
     {
         self.entries.shrink_to_fit();
+        give_back(&mut self.sets);
     }
 
-    /// The items of a core, each with a set of its own, and room for the productions of so many rules.
+    /// The items of a core with copies of their sets, one for items that follow one another with like sets, and room for so
+    /// many more sets and items.
     pub(crate) fn of_core(
         alloc: Global,
         core: &CoreSet<S>,
-        rules: usize,
+        more_sets: usize,
+        more_items: usize,
     ) -> Result<SharedSets<S>, AllocError>
         requires { length core.now.looks.items ≡ length core.now.items.items }
         ensures core { IfOk result (λ s. shared_core S.number s ≡ core_of_set S.number core.now) }
         ensures within { IfOk result (λ s. PointIn (rows_in s.sets.items) s.entries.items) }
     {
-        let room = core.items.len().saturating_add(rules);
-        let mut entries = Vec::with_capacity(alloc, room.saturating_add(rules))?;
-        let mut sets = Vec::with_capacity(alloc, room)?;
+        let own = core.items.len();
+        let mut shared = SharedSets {
+            entries: Vec::with_capacity(alloc, own.saturating_add(more_items))?,
+            sets: Vec::with_capacity(alloc, own.saturating_add(more_sets))?,
+        };
         'items: for k in 0..core.items.len() {
-            sets.push(core.looks[k].clone()?)?;
-            entries.push(SharedItem {
-                item: core.items[k],
-                set: k,
+            let item = core.items[k];
+            let set = shared.own_set(&core.looks[k])?;
+            shared.entries.push(SharedItem {
+                item,
+                set: SetIndex::of(set),
             })?;
         }
-        Ok(SharedSets { entries, sets })
+        Ok(shared)
     }
 
     /// The items of a core, each with its own set.
@@ -275,7 +355,7 @@ impl<S: IndexStorage> SharedSets<S> {
         'entries: for k in 0..self.entries.len() {
             let entry = &self.entries[k];
             items.push(entry.item)?;
-            looks.push(self.sets[entry.set].clone()?)?;
+            looks.push(self.sets[entry.set.get()].clone()?)?;
         }
         Ok(CoreSet { items, looks })
     }

@@ -19,7 +19,7 @@ fn put<V: Copy>(spread: &mut Vec<Option<V>>, number: usize, value: V)
 /// A place for each number below the count, with what the row has beside it.
 fn spread_row<V: Copy>(
     alloc: Global,
-    row: &[(usize, V)],
+    row: &[(u32, V)],
     count: usize,
 ) -> Result<Vec<Option<V>>, AllocError>
     requires rises { Rises row.now }
@@ -29,7 +29,7 @@ fn spread_row<V: Copy>(
     let mut spread = vec![in alloc; None; count]?;
     'entries: for i in 0..row.len() {
         let entry = row[i];
-        put(&mut spread, entry.0, entry.1);
+        put(&mut spread, entry.0 as usize, entry.1);
     }
     Ok(spread)
 }
@@ -37,7 +37,7 @@ fn spread_row<V: Copy>(
 /// The full row of a row of several entries; of fewer none, since halving finds them as fast.
 fn spread_if_long<V: Copy>(
     alloc: Global,
-    row: &[(usize, V)],
+    row: &[(u32, V)],
     count: usize,
 ) -> Result<Vec<Option<V>>, AllocError>
     requires rises { Rises row.now }
@@ -68,7 +68,7 @@ fn place_in<V: Copy>(spread: &[Option<V>], number: usize) -> Option<Option<V>>
 /// The full rows of a table's rows.
 pub(crate) fn spread_rows<V: Copy>(
     alloc: Global,
-    rows: &[Vec<(usize, V)>],
+    rows: &[Vec<(u32, V)>],
     count: usize,
 ) -> Result<Vec<Vec<Option<V>>>, AllocError>
     requires { CanSpread count rows.now }

@@ -14,6 +14,7 @@ ghost use Rattle.lrtable.specs.Cursors.{IsCursor};
 ghost use Rattle.lrtable.specs.Rows.{Rises, at_of};
 
 use crate::cells::{Action, cell_on, list_shift, put_cell};
+use crate::rooms::bits_set;
 use crate::stidx::StIdx;
 use cfg_base::index::IndexStorage;
 use cfg_base::symbol::{PIdx, TIdx};
@@ -39,7 +40,7 @@ pub(crate) struct Reduction<S> {
 #[derive(Drop)]
 pub(crate) struct StateParts<S> {
     pub reductions: Vec<Reduction<S>>,
-    pub shifts: Vec<(usize, StIdx<S>)>,
+    pub shifts: Vec<(u32, StIdx<S>)>,
     pub accepts: bool,
 }
 
@@ -152,7 +153,7 @@ fn settle_token<S: IndexStorage>(
     sets: &[Vob],
     tidx: TIdx<S>,
     edge: Option<StIdx<S>>,
-    row: &mut Vec<(usize, Action<S>)>,
+    row: &mut Vec<(u32, Action<S>)>,
     pairs: &mut Vec<ReduceReduce<S>>,
     shifts: &mut Vec<ShiftReduce<S>>,
 ) -> Result<(), AllocError>
@@ -167,7 +168,7 @@ fn settle_token<S: IndexStorage>(
     list_shift(grm, tidx, first, edge, stidx, shifts)?;
     let accepts = accepts_on(grm, parts.accepts, tidx);
     let cell = cell_on(grm, tidx, accepts, first, edge);
-    put_cell(row, tidx.0.to_usize(), cell)?;
+    put_cell(row, tidx, cell)?;
     Ok(())
 }
 
@@ -230,7 +231,7 @@ fn put_token<S: IndexStorage>(
     sets: &[Vob],
     tidx: TIdx<S>,
     edge: Option<StIdx<S>>,
-    row: &mut Vec<(usize, Action<S>)>,
+    row: &mut Vec<(u32, Action<S>)>,
     pairs: &mut Vec<ReduceReduce<S>>,
     shifts: &mut Vec<ShiftReduce<S>>,
 ) -> Result<(), AllocError>
@@ -244,7 +245,7 @@ fn put_token<S: IndexStorage>(
     let number = tidx.0.to_usize();
     match plain_cell(parts, sets, number, edge) {
         Some(cell) => {
-            put_cell(row, number, cell)?;
+            put_cell(row, tidx, cell)?;
             Ok(())
         }
         None => settle_token(grm, stidx, parts, sets, tidx, edge, row, pairs, shifts),
@@ -253,7 +254,7 @@ fn put_token<S: IndexStorage>(
 
 /// The target of the edge on a token, of a row of which all edges on tokens before were taken.
 fn take_edge<S: IndexStorage>(
-    shifts: &[(usize, StIdx<S>)],
+    shifts: &[(u32, StIdx<S>)],
     next: &mut usize,
     number: usize,
 ) -> Option<StIdx<S>>
@@ -266,12 +267,12 @@ fn take_edge<S: IndexStorage>(
     if index >= shifts.len() {
         return None;
     }
-    let edge = shifts[index];
-    if edge.0 != number {
+    let (at, target) = shifts[index];
+    if at as usize != number {
         return None;
     }
     *next = index + 1;
-    Some(edge.1)
+    Some(target)
 }
 
 /// Marks the tokens of a set, or all tokens where the set is of another size.
@@ -313,11 +314,11 @@ fn mark_token(marks: &mut Vob, number: usize)
 }
 
 /// Marks the tokens of edges.
-fn mark_shifts<S: IndexStorage>(marks: &mut Vob, shifts: &[(usize, StIdx<S>)])
+fn mark_shifts<S: IndexStorage>(marks: &mut Vob, shifts: &[(u32, StIdx<S>)])
     ensures { LeavesOut (λ t. at_of (targets_of S.number shifts.now) t ≡ None) marks.old.bits marks.new.bits }
 {
     'each: for i in 0..shifts.len() {
-        mark_token(marks, shifts[i].0);
+        mark_token(marks, shifts[i].0 as usize);
     }
 }
 
@@ -346,7 +347,7 @@ fn put_tokens<S: IndexStorage>(
     parts: &StateParts<S>,
     sets: &[Vob],
     marks: &Vob,
-    row: &mut Vec<(usize, Action<S>)>,
+    row: &mut Vec<(u32, Action<S>)>,
     pairs: &mut Vec<ReduceReduce<S>>,
     shifts: &mut Vec<ShiftReduce<S>>,
 ) -> Result<(), AllocError>
@@ -376,35 +377,35 @@ fn settled_row<S: IndexStorage>(
     sets: &[Vob],
     pairs: &mut Vec<ReduceReduce<S>>,
     shifts: &mut Vec<ShiftReduce<S>>,
-) -> Result<Vec<(usize, Action<S>)>, AllocError>
+) -> Result<Vec<(u32, Action<S>)>, AllocError>
     requires { FitsParts grm.now.grammar (parts_of S.number (rows_in sets.now) parts.now) }
     ensures row { IfOk result (λ r. cells_of S.number r.items ≡ filled_row (cells_by grm.now.grammar (precedences_of grm.now) (parts_of S.number (rows_in sets.now) parts.now)) grm.now.grammar.tokens) }
     ensures pairs { OnOk result (pairs_of S.number pairs.new.items ≡ pairs_of S.number pairs.old.items ++ pairs_in (S.number stidx.0) (parts_of S.number (rows_in sets.now) parts.now) grm.now.grammar.tokens) }
     ensures shifts { OnOk result (shifts_of S.number shifts.new.items ≡ shifts_of S.number shifts.old.items ++ shifts_in (precedences_of grm.now) (S.number stidx.0) (parts_of S.number (rows_in sets.now) parts.now) grm.now.grammar.tokens) }
 {
     let marks = filled_tokens(alloc, grm, parts, sets)?;
-    let mut row = Vec::with_capacity(alloc, marks.iter_set_bits(..).count())?;
+    let mut row = Vec::with_capacity(alloc, bits_set(&marks))?;
     put_tokens(grm, stidx, parts, sets, &marks, &mut row, pairs, shifts)?;
     Ok(row)
 }
 
 /// Puts the shifts of edges behind the cells so far, from the next edge on: of those on tokens before a number.
 fn put_shifts<S: IndexStorage>(
-    shifts: &[(usize, StIdx<S>)],
+    shifts: &[(u32, StIdx<S>)],
     next: &mut usize,
     end: usize,
-    row: &mut Vec<(usize, Action<S>)>,
+    row: &mut Vec<(u32, Action<S>)>,
 ) -> Result<(), AllocError>
     requires { Rises (targets_of S.number shifts.now) }
     ensures { OnOk result ((cells : ℕ → CellAction) (n : ℕ) → n ≤ end → HasOnlyShifts cells (targets_of S.number shifts.now) n end → StandsAt cells (targets_of S.number shifts.now) n next.old (cells_of S.number row.old.items) →
         StandsAt cells (targets_of S.number shifts.now) end next.new (cells_of S.number row.new.items)) }
 {
     'edges: for i in *next..shifts.len() {
-        let edge = shifts[i];
-        if edge.0 >= end {
+        let (at, target) = shifts[i];
+        if at as usize >= end {
             return Ok(());
         }
-        row.push((edge.0, Action::Shift(edge.1)))?;
+        row.push((at, Action::Shift(target)))?;
         *next = i + 1;
     }
     Ok(())
@@ -413,9 +414,9 @@ fn put_shifts<S: IndexStorage>(
 /// The row of a state that shifts alone.
 fn shift_row<S: IndexStorage>(
     alloc: Global,
-    shifts: &[(usize, StIdx<S>)],
+    shifts: &[(u32, StIdx<S>)],
     width: usize,
-) -> Result<Vec<(usize, Action<S>)>, AllocError>
+) -> Result<Vec<(u32, Action<S>)>, AllocError>
     requires { Rises (targets_of S.number shifts.now) }
     ensures { IfOk result (λ r. cells_of S.number r.items ≡ filled_row (λ t. shift_to (at_of (targets_of S.number shifts.now) t)) width) }
 {
@@ -426,11 +427,11 @@ fn shift_row<S: IndexStorage>(
 }
 
 /// Tells whether an edge stands on a token of a set.
-fn crosses<S: IndexStorage>(shifts: &[(usize, StIdx<S>)], tokens: &Vob) -> bool
+fn crosses<S: IndexStorage>(shifts: &[(u32, StIdx<S>)], tokens: &Vob) -> bool
     ensures { result ≡ false → AreApart tokens.now.bits (targets_of S.number shifts.now) }
 {
     'each: for i in 0..shifts.len() {
-        if is_in(tokens, shifts[i].0) {
+        if is_in(tokens, shifts[i].0 as usize) {
             return true;
         }
     }
@@ -440,20 +441,22 @@ fn crosses<S: IndexStorage>(shifts: &[(usize, StIdx<S>)], tokens: &Vob) -> bool
 /// Puts the cells of a state that reduces by one production on the tokens of a set, on which no edge stands, and shifts on
 /// others.
 fn put_lone<S: IndexStorage>(
-    shifts: &[(usize, StIdx<S>)],
+    shifts: &[(u32, StIdx<S>)],
     tokens: &Vob,
     pidx: PIdx<S>,
-    row: &mut Vec<(usize, Action<S>)>,
+    row: &mut Vec<(u32, Action<S>)>,
 ) -> Result<(), AllocError>
     requires rises { Rises (targets_of S.number shifts.now) }
     requires apart { AreApart tokens.now.bits (targets_of S.number shifts.now) }
+    requires width { length tokens.now.bits ≤ S.MAX }
     requires none { row.old.items ≡ [] }
     ensures { OnOk result (cells_of S.number row.new.items ≡ filled_row (lone_cells (S.number pidx.0) tokens.now.bits (targets_of S.number shifts.now)) (length tokens.now.bits)) }
 {
     let mut next = 0;
     'tokens: for number in tokens.iter_set_bits(..) {
         put_shifts(shifts, &mut next, number, row)?;
-        row.push((number, Action::Reduce(pidx)))?;
+        let at = number as u32;
+        row.push((at, Action::Reduce(pidx)))?;
     }
     put_shifts(shifts, &mut next, tokens.len(), row)?;
     Ok(())
@@ -462,15 +465,16 @@ fn put_lone<S: IndexStorage>(
 /// The row of a state that reduces by one production on the tokens of a set, on which no edge stands, and shifts on others.
 fn lone_row<S: IndexStorage>(
     alloc: Global,
-    shifts: &[(usize, StIdx<S>)],
+    shifts: &[(u32, StIdx<S>)],
     tokens: &Vob,
     pidx: PIdx<S>,
-) -> Result<Vec<(usize, Action<S>)>, AllocError>
+) -> Result<Vec<(u32, Action<S>)>, AllocError>
     requires rises { Rises (targets_of S.number shifts.now) }
     requires apart { AreApart tokens.now.bits (targets_of S.number shifts.now) }
+    requires width { length tokens.now.bits ≤ S.MAX }
     ensures { IfOk result (λ r. cells_of S.number r.items ≡ filled_row (lone_cells (S.number pidx.0) tokens.now.bits (targets_of S.number shifts.now)) (length tokens.now.bits)) }
 {
-    let count = tokens.iter_set_bits(..).count();
+    let count = bits_set(tokens);
     let mut row = Vec::with_capacity(alloc, count.saturating_add(shifts.len()))?;
     put_lone(shifts, tokens, pidx, &mut row)?;
     Ok(row)
@@ -485,7 +489,7 @@ fn reducing_row<S: IndexStorage>(
     sets: &[Vob],
     pairs: &mut Vec<ReduceReduce<S>>,
     shifts: &mut Vec<ShiftReduce<S>>,
-) -> Result<Vec<(usize, Action<S>)>, AllocError>
+) -> Result<Vec<(u32, Action<S>)>, AllocError>
     requires one { length parts.now.reductions.items ≡ 1 }
     requires quiet { parts.now.accepts ≡ false }
     requires fits { FitsParts grm.now.grammar (parts_of S.number (rows_in sets.now) parts.now) }
@@ -518,7 +522,7 @@ pub(crate) fn state_row<S: IndexStorage>(
     sets: &[Vob],
     pairs: &mut Vec<ReduceReduce<S>>,
     shifts: &mut Vec<ShiftReduce<S>>,
-) -> Result<Vec<(usize, Action<S>)>, AllocError>
+) -> Result<Vec<(u32, Action<S>)>, AllocError>
     requires { FitsParts grm.now.grammar (parts_of S.number (rows_in sets.now) parts.now) }
     ensures row { IfOk result (λ r. cells_of S.number r.items ≡ filled_row (cells_by grm.now.grammar (precedences_of grm.now) (parts_of S.number (rows_in sets.now) parts.now)) grm.now.grammar.tokens) }
     ensures pairs { OnOk result (pairs_of S.number pairs.new.items ≡ pairs_of S.number pairs.old.items ++ pairs_in (S.number stidx.0) (parts_of S.number (rows_in sets.now) parts.now) grm.now.grammar.tokens) }

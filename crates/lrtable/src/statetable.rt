@@ -42,8 +42,8 @@ use std::marker::Model;
 /// full rows beside them where it was asked to; contracts see full rows.
 #[derive(Drop)]
 pub struct StateTable<S: IndexStorage> {
-    actions: Vec<Vec<(usize, Action<S>)>>,
-    gotos: Vec<Vec<(usize, StIdx<S>)>>,
+    actions: Vec<Vec<(u32, Action<S>)>>,
+    gotos: Vec<Vec<(u32, StIdx<S>)>>,
     start: StIdx<S>,
     states: S,
     tokens: S,
@@ -149,7 +149,7 @@ impl<S: IndexStorage> StateTable<S> {
     }
 
     /// The cells of a state that are kept.
-    fn row(&self, stidx: StIdx<S>) -> &[(usize, Action<S>)]
+    fn row(&self, stidx: StIdx<S>) -> &[(u32, Action<S>)]
         requires { S.number stidx.0 < self.now.states }
         ensures cells { IsCellRow self.now.tokens (cells_of S.number result.now) }
         ensures whole { slice_index_or self.now.actions (S.number stidx.0) [] ≡ full_cells self.now.tokens (cells_of S.number result.now) }
@@ -160,7 +160,7 @@ impl<S: IndexStorage> StateTable<S> {
     }
 
     /// Lends the cells of a state that aren't errors, each beside its token's number, ascending.
-    pub fn state_cells(&self, stidx: StIdx<S>) -> &[(usize, Action<S>)]
+    pub fn state_cells(&self, stidx: StIdx<S>) -> &[(u32, Action<S>)]
         requires { S.number stidx.0 < self.now.states }
         ensures cells { IsCellRow self.now.tokens (cells_of S.number result.now) }
         ensures whole { slice_index_or self.now.actions (S.number stidx.0) [] ≡ full_cells self.now.tokens (cells_of S.number result.now) }
@@ -169,7 +169,7 @@ impl<S: IndexStorage> StateTable<S> {
     }
 
     /// Lends the gotos of a state, each beside its rule's number, ascending.
-    pub fn state_gotos(&self, stidx: StIdx<S>) -> &[(usize, StIdx<S>)]
+    pub fn state_gotos(&self, stidx: StIdx<S>) -> &[(u32, StIdx<S>)]
         requires { S.number stidx.0 < self.now.states }
         ensures targets { IsTargetRow self.now.rules (targets_of S.number result.now) }
         ensures whole { slice_index_or self.now.gotos (S.number stidx.0) [] ≡ full_targets self.now.rules (targets_of S.number result.now) }
@@ -287,7 +287,7 @@ impl<S: IndexStorage> StateTable<S> {
 }
 
 /// Counts the entries of rows.
-fn count_entries<V>(rows: &[Vec<(usize, V)>]) -> usize
+fn count_entries<V>(rows: &[Vec<(u32, V)>]) -> usize
     requires { sum_by (λ row. length row.items) rows.now < 2 ^ 64 }
     ensures { result ≡ sum_by (λ row. length row.items) rows.now }
 {
@@ -295,7 +295,7 @@ fn count_entries<V>(rows: &[Vec<(usize, V)>]) -> usize
 }
 
 /// Tells whether each cell of a row reduces by a production.
-fn all_reduce<S: IndexStorage>(row: &[(usize, Action<S>)], pidx: PIdx<S>) -> bool
+fn all_reduce<S: IndexStorage>(row: &[(u32, Action<S>)], pidx: PIdx<S>) -> bool
     ensures { IsTrue result ↔ AllReduce (cells_of S.number row.now) (S.number pidx.0) }
 {
     'each: for i in 0..row.len() {
@@ -308,7 +308,7 @@ fn all_reduce<S: IndexStorage>(row: &[(usize, Action<S>)], pidx: PIdx<S>) -> boo
 }
 
 /// Tells whether a row has a cell, and each reduces by one production.
-fn reduces_only<S: IndexStorage>(row: &[(usize, Action<S>)]) -> bool
+fn reduces_only<S: IndexStorage>(row: &[(u32, Action<S>)]) -> bool
     ensures { IsTrue result ↔ ((p : ℕ) × RowReduces (cells_of S.number row.now) p) }
 {
     if row.is_empty() {

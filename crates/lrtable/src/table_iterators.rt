@@ -17,7 +17,7 @@ use std::marker::Model;
 /// the numbers that are left.
 #[derive(Drop)]
 pub struct StateActionsIterator<'a, S: IndexStorage> {
-    row: &'a [(usize, Action<S>)],
+    row: &'a [(u32, Action<S>)],
     index: usize,
     shifts: bool,
 }
@@ -46,11 +46,7 @@ fn is_kept<S: IndexStorage>(shifts: bool, cell: Action<S>) -> bool
 }
 
 /// The index of the next cell that is given.
-fn next_kept<S: IndexStorage>(
-    row: &[(usize, Action<S>)],
-    from: usize,
-    shifts: bool,
-) -> Option<usize>
+fn next_kept<S: IndexStorage>(row: &[(u32, Action<S>)], from: usize, shifts: bool) -> Option<usize>
     requires { from ≤ length row.now }
     ensures { MatchOption result (kept_tokens shifts (cells_of S.number (drop from row.now)) ≡ []) (λ i. (i < length row.now) × ((d : ℕ × TableAction S) → kept_tokens shifts (cells_of S.number (drop from row.now)) ≡ (slice_index_or row.now i d).0 ∷ kept_tokens shifts (cells_of S.number (drop (i + 1) row.now)))) }
 {
@@ -65,7 +61,7 @@ fn next_kept<S: IndexStorage>(
 
 /// The tokens of a row's cells, or of its shifts alone.
 pub(crate) fn tokens_of_row<S: IndexStorage>(
-    row: &[(usize, Action<S>)],
+    row: &[(u32, Action<S>)],
     shifts: bool,
 ) -> StateActionsIterator<'_, S>
     requires { Below (S.MAX + 1) row.now }
@@ -90,7 +86,7 @@ impl<'a, S: IndexStorage> Iterator for StateActionsIterator<'a, S> {
             Some(index) => {
                 self.index = index + 1;
                 let cell = self.row[index];
-                Some(TIdx(S::from_usize(cell.0).unwrap()))
+                Some(TIdx(S::from_usize(cell.0 as usize).unwrap()))
             }
             None => {
                 self.index = self.row.len();
@@ -104,7 +100,7 @@ impl<'a, S: IndexStorage> Iterator for StateActionsIterator<'a, S> {
 /// left.
 #[derive(Drop)]
 pub struct CoreReducesIterator<'a, S: IndexStorage> {
-    row: &'a [(usize, Action<S>)],
+    row: &'a [(u32, Action<S>)],
     next: usize,
     end: usize,
 }
@@ -141,7 +137,7 @@ fn lesser<S: IndexStorage>(cell: Action<S>, from: usize, below: usize) -> usize
 }
 
 /// The least production from one number up to before another by which a row reduces, else that other.
-fn least_reduced<S: IndexStorage>(row: &[(usize, Action<S>)], from: usize, end: usize) -> usize
+fn least_reduced<S: IndexStorage>(row: &[(u32, Action<S>)], from: usize, end: usize) -> usize
     requires { from ≤ end }
     ensures { IsLeastReduced (cells_of S.number row.now) from end result }
 {
@@ -154,11 +150,7 @@ fn least_reduced<S: IndexStorage>(row: &[(usize, Action<S>)], from: usize, end: 
 }
 
 /// The next production by which a row reduces.
-fn next_reduced<S: IndexStorage>(
-    row: &[(usize, Action<S>)],
-    from: usize,
-    end: usize,
-) -> Option<usize>
+fn next_reduced<S: IndexStorage>(row: &[(u32, Action<S>)], from: usize, end: usize) -> Option<usize>
     requires { from ≤ end }
     ensures { MatchOption result (reduced_from (cells_of S.number row.now) from (end - from) ≡ []) (λ p. (p < end) × (reduced_from (cells_of S.number row.now) from (end - from) ≡ p ∷ reduced_from (cells_of S.number row.now) (p + 1) (end - (p + 1)))) }
 {
@@ -171,7 +163,7 @@ fn next_reduced<S: IndexStorage>(
 
 /// The productions by which a row reduces, before a number.
 pub(crate) fn productions_of_row<S: IndexStorage>(
-    row: &[(usize, Action<S>)],
+    row: &[(u32, Action<S>)],
     end: usize,
 ) -> CoreReducesIterator<'_, S>
     requires { end ≤ S.MAX }

@@ -19,8 +19,8 @@ use vob::Vob;
 /// The rows of the states so far, and the conflicts that are listed of them.
 #[derive(Drop)]
 pub(crate) struct TableRows<S> {
-    pub actions: Vec<Vec<(usize, Action<S>)>>,
-    pub gotos: Vec<Vec<(usize, StIdx<S>)>>,
+    pub actions: Vec<Vec<(u32, Action<S>)>>,
+    pub gotos: Vec<Vec<(u32, StIdx<S>)>>,
     pub pairs: Vec<ReduceReduce<S>>,
     pub shifts: Vec<ShiftReduce<S>>,
 }
@@ -49,7 +49,7 @@ impl<S: IndexStorage> TableRows<S> {
         stidx: StIdx<S>,
         parts: &StateParts<S>,
         sets: &[Vob],
-        gotos: Vec<(usize, StIdx<S>)>,
+        gotos: Vec<(u32, StIdx<S>)>,
     ) -> Result<(), AllocError>
         requires { FitsParts grm.now.grammar (parts_of S.number (rows_in sets.now) parts.now) }
         ensures { OnOk result ((all : ℕ → PartsValue) (targets : ℕ → List (ℕ × ℕ)) → all (S.number stidx.0) ≡ parts_of S.number (rows_in sets.now) parts.now → targets (S.number stidx.0) ≡ targets_of S.number gotos.items →

@@ -15,7 +15,7 @@ use std::process::Abort;
 use std::sync::ledger::{Blank, Ledger};
 use std::test::*;
 
-fn searched<L: Ledger>(row: &[(usize, u8)], number: usize, blank: Blank) -> Option<u8>
+fn searched<L: Ledger>(row: &[(u32, u8)], number: usize, blank: Blank) -> Option<u8>
     requires rises { Rises row.now }
     requires name { blank.name ≡ L.name }
     requires parts { blank.parts ≡ L.parts }

@@ -43,10 +43,10 @@ fn push_production(alloc: Global, out: &mut String, made: &Production) -> Result
     push_span(alloc, out, &made.prod_span)?;
     out.push(':')?;
     push_symbols(alloc, out, made.symbols.as_slice())?;
-    push_option(out, " %prec ", made.precedence.as_ref())?;
-    push_option(out, " action ", made.action.as_ref())?;
-    if let Some(span) = &made.action_span {
-        push_span(alloc, out, span)?;
+    push_option(out, " %prec ", made.precedence())?;
+    push_option(out, " action ", made.action())?;
+    if let Some(span) = made.action_span() {
+        push_span(alloc, out, &span)?;
     }
     out.push('\n')
 }

@@ -3,11 +3,14 @@
 ghost use Rattle.std.specs.Prelude.{◌≡◌, Some, map, option_map, slice_get};
 ghost use Rattle.std.specs.Option.{option_copied};
 ghost use Rattle.std.specs.String.{string_bytes};
+ghost use Rattle.cfg_read.specs.Asts as asts;
+ghost use Rattle.cfg_read.specs.SyntaxModels.{word_of};
 ghost use Rattle.cfg_read.specs.AstChanges.{with_start};
 ghost use Rattle.cfg_read.specs.AstBuild.{empty_ast};
 ghost use Rattle.cfg_read.specs.AstModels.{ast_symbol_of, production_of, named_span, named_spans, named_rules, named_epps, named_precedences, rule_keys, own_names, number_with_span, param_pair};
 
 use crate::yacc::Precedence;
+use crate::yacc::parser::syntax::{Extras, Word};
 pub use crate::yacc::validity_info::ASTWithValidityInfo;
 use cfg_base::span::Span;
 use indexmap::IndexMap;
@@ -47,13 +50,64 @@ impl fmt::Display for Symbol {
 #[derive(Debug, Drop)]
 pub struct Production {
     pub symbols: Vec<Symbol>,
-    /// The token of `%prec`.
-    pub precedence: Option<String>,
-    pub action: Option<String>,
-    pub action_span: Option<Span>,
+    /// `%empty`, `%prec` with its token and the action: `None` where none of them stands there, so that such a production is
+    /// small.
+    pub extras: Option<Box<Extras>>,
     /// The span of symbols, `%empty` and `%prec` with its token; without these an empty one at the `|` or `;`. In a fresh
     /// rule that of the rule's name.
     pub prod_span: Span,
+}
+
+impl Production {
+    /// The token of `%prec`.
+    pub fn precedence(&self) -> Option<&String>
+        ensures { option_map string_bytes (option_copied result) ≡ (production_of self.now).precedence }
+    {
+        match &self.extras {
+            Some(extras) => text_of(&extras.precedence),
+            None => None,
+        }
+    }
+
+    /// The action.
+    pub fn action(&self) -> Option<&String>
+        ensures { option_map string_bytes (option_copied result) ≡ (production_of self.now).action }
+    {
+        match &self.extras {
+            Some(extras) => text_of(&extras.action),
+            None => None,
+        }
+    }
+
+    /// Where the action stands.
+    pub fn action_span(&self) -> Option<Span>
+        ensures { result ≡ (production_of self.now).action_span }
+    {
+        match &self.extras {
+            Some(extras) => span_of(&extras.action),
+            None => None,
+        }
+    }
+}
+
+/// The text of a word, if there is one.
+fn text_of(word: &Option<Word>) -> Option<&String>
+    ensures { option_map string_bytes (option_copied result) ≡ asts.text_of (option_map word_of word.now) }
+{
+    match word {
+        Some(word) => Some(&word.text),
+        None => None,
+    }
+}
+
+/// The span of a word, if there is one.
+fn span_of(word: &Option<Word>) -> Option<Span>
+    ensures { result ≡ asts.span_of (option_map word_of word.now) }
+{
+    match word {
+        Some(word) => Some(word.span),
+        None => None,
+    }
 }
 
 /// A rule, and the numbers of its productions.

@@ -1,9 +1,9 @@
 //! The names of a grammar text, collected for looking them up.
 
-ghost use Rattle.std.specs.Prelude.{◌≡◌, ◌≤◌, ◌++◌, ◌∷◌, [], List, map, drop, length, option_to_list, if◌then◌else◌, IfOk, OnOk};
+ghost use Rattle.std.specs.Prelude.{◌≡◌, ◌≤◌, ◌++◌, ◌∷◌, [], List, map, drop, length, option_map, option_to_list, if◌then◌else◌, IfOk, OnOk};
 ghost use Rattle.std.specs.List.{flat_map};
 ghost use Rattle.cfg_read.specs.SyntaxTexts.{WordText};
-ghost use Rattle.cfg_read.specs.Names.{is_among, distinct, texts, headings, words_in, declared_tokens, implicit_tokens_of, symbols_in, is_token_by, tokens_by, rules_by, rules_used, put_by_offset, by_offset, is_rule, is_grammar_token, token_appearances};
+ghost use Rattle.cfg_read.specs.Names.{is_among, distinct, texts, headings, words_in, declared_tokens, implicit_tokens_of, symbols_in, is_token_by, tokens_by, rules_by, rules_used, put_by_offset, by_offset, is_rule, is_grammar_token, token_appearances, level_tokens};
 ghost use Rattle.cfg_read.specs.Validity.{precs_in};
 ghost use Rattle.cfg_read.specs.SyntaxModels.{word_of, line_of, symbol_of, symbols_of, alternative_of, rule_of, level_of, epp_of, syntax_of};
 ghost use Rattle.cfg_read.specs.NameModels.{words_at, symbols_at, names_in, has_name};
@@ -81,10 +81,7 @@ fn heading_words<'a>(alloc: Global, rules: &'a [Rule]) -> Result<Vec<&'a Word>, 
 }
 
 /// Collects the tokens of the precedence lines.
-pub(crate) fn level_words<'a>(
-    alloc: Global,
-    levels: &'a [Level],
-) -> Result<Vec<&'a Word>, AllocError>
+fn level_words<'a>(alloc: Global, levels: &'a [Level]) -> Result<Vec<&'a Word>, AllocError>
     ensures { IfOk result (λ found. words_at found.items ≡ flat_map (λ l. words_in l.tokens) (map level_of levels.now)) }
 {
     let mut found = Vec::with_capacity(alloc, levels.len())?;
@@ -105,15 +102,26 @@ pub(crate) fn epp_words<'a>(alloc: Global, epp: &'a [Epp]) -> Result<Vec<&'a Wor
     Ok(found)
 }
 
+/// Puts a word behind the others, if there is one.
+fn push_option<'a>(found: &mut Vec<&'a Word>, word: &'a Option<Word>) -> Result<(), AllocError>
+    ensures { OnOk result (words_at found.new.items
+        ≡ words_at found.old.items ++ option_to_list (option_map word_of word.now)) }
+{
+    if let Some(word) = word {
+        found.push(word)?;
+    }
+    Ok(())
+}
+
 /// Puts the token of `%prec` behind the others, if the alternative has one.
 fn push_prec<'a>(found: &mut Vec<&'a Word>, alternative: &'a Alternative) -> Result<(), AllocError>
     ensures { OnOk result (words_at found.new.items
         ≡ words_at found.old.items ++ option_to_list (alternative_of alternative.now).precedence) }
 {
-    if let Some(word) = &alternative.precedence {
-        found.push(word)?;
+    match &alternative.extras {
+        Some(extras) => push_option(found, &extras.precedence),
+        None => Ok(()),
     }
-    Ok(())
 }
 
 /// Puts the tokens of `%prec` of these alternatives behind the others.
@@ -341,19 +349,21 @@ pub(crate) struct Names<'a> {
     tokens: IndexSet<&'a str>,
     token_words: Vec<&'a Word>,
     used_rules: Vec<&'a Word>,
+    level_words: Vec<&'a Word>,
+    levels: IndexSet<&'a str>,
 }
 
 impl<'a> Model for Names<'a> {
     ghost use Rattle.cfg_read.specs.SyntaxTexts.{SyntaxText};
     ghost use Rattle.cfg_read.specs.SyntaxModels.{syntax_of};
-    ghost use Rattle.cfg_read.specs.NameModels.{words_at, has_name, AreNamesOf};
+    ghost use Rattle.cfg_read.specs.NameModels.{words_at, names_in, has_name, AreNamesOf};
 
     ghost Value = { SyntaxText };
 
     ghost view = { λ n. syntax_of n.syntax.now };
 
     ghost invariant = { λ n. AreNamesOf (syntax_of n.syntax.now) (has_name n.declared) (has_name n.rules) (has_name n.tokens)
-        (words_at n.token_words.items) (words_at n.used_rules.items) };
+        (words_at n.token_words.items) (words_at n.used_rules.items) (words_at n.level_words.items) (names_in n.levels) };
 }
 
 impl<'a> Names<'a> {
@@ -367,6 +377,8 @@ impl<'a> Names<'a> {
         let used_rules = rule_words(alloc, &symbols, &declared)?;
         let tokens = distinct_names(alloc, &token_words)?;
         let rules = rule_names(alloc, syntax)?;
+        let level_words = level_words(alloc, &syntax.levels)?;
+        let levels = distinct_names(alloc, &level_words)?;
         Ok(Names {
             syntax,
             declared,
@@ -374,6 +386,8 @@ impl<'a> Names<'a> {
             tokens,
             token_words,
             used_rules,
+            level_words,
+            levels,
         })
     }
 
@@ -417,5 +431,20 @@ impl<'a> Names<'a> {
         ensures { words_at result.now ≡ rules_used self.now }
     {
         self.used_rules.as_slice()
+    }
+
+    /// The tokens of the precedence lines.
+    pub(crate) fn level_words(&self) -> &[&'a Word]
+        ensures { words_at result.now ≡ level_tokens self.now }
+    {
+        self.level_words.as_slice()
+    }
+
+    /// The names of the tokens of the precedence lines.
+    pub(crate) fn levels(&self) -> &IndexSet<&'a str>
+        ensures names { names_in result.now ≡ texts (distinct (level_tokens self.now)) }
+        ensures has { has_name result.now ≡ is_among (level_tokens self.now) }
+    {
+        &self.levels
     }
 }

@@ -164,7 +164,7 @@ pub(crate) fn failures_by(alloc: Global, names: &Names) -> Result<Vec<YaccGramma
     let mut errors = Vec::new(alloc);
     push_no_start(alloc, &mut errors, &x.starts, &x.rules)?;
     unknown::push_unknown_names(alloc, &mut errors, names)?;
-    repeated::push_repeated_words(alloc, &mut errors, x)?;
+    repeated::push_repeated_words(alloc, &mut errors, names)?;
     repeated::push_repeated_declarations(alloc, &mut errors, x)?;
     Ok(errors)
 }

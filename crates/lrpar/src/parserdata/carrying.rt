@@ -44,7 +44,7 @@ fn all_past<S: IndexStorage>(
     ensures { IfOk result (λ v. AreAllPast S.number sgraph.now v.items) }
 {
     let states = sgraph.all_states_len().0;
-    let mut all = Vec::new(alloc);
+    let mut all = Vec::with_capacity(alloc, states.to_usize())?;
     'states: for number in 0..states.to_usize() {
         let state = StIdx(index_below(number, states));
         all.push(past_items(alloc, sgraph.closed_state(state))?)?;

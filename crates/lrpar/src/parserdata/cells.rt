@@ -1,6 +1,6 @@
 //! Whether the cells and gotos of a state fit a grammar.
 
-ghost use Rattle.std.specs.Prelude.{◌≡◌, ◌<◌, ℕ, true, Option, Some, length, slice_get};
+ghost use Rattle.std.specs.Prelude.{◌≡◌, ◌<◌, ℕ, true, Option, Some, IfSome, length, slice_get};
 ghost use Rattle.cfg_theory.specs.Grammar.{Grammar, rule, token};
 ghost use Rattle.lr_theory.specs.Itemset.{ItemSet};
 ghost use Rattle.lrtable.specs.CellViews.{action_of, state_of, targets_of};
@@ -193,7 +193,7 @@ fn ends_at<S: IndexStorage>(edges: &[(Symbol<S>, StIdx<S>)], index: usize, rules
 /// Whether the gotos are, one by one, the edges on rules below the count.
 fn are_edges<S: IndexStorage>(
     edges: &[(Symbol<S>, StIdx<S>)],
-    row: &[(usize, StIdx<S>)],
+    row: &[(u32, StIdx<S>)],
     rules: RIdx<S>,
 ) -> bool
     ensures { result ≡ true → AreEdges (targets_of S.number row.now) (edges_seen S.number edges.now) (S.number rules.0) }
@@ -310,8 +310,115 @@ fn bare_of<S: IndexStorage>(
     }
 }
 
+/// Whether the goto at an index of a state's row is on a rule.
+fn is_goto_on<S: IndexStorage>(
+    stable: &StateTable<S>,
+    state: StIdx<S>,
+    index: usize,
+    ridx: RIdx<S>,
+) -> bool
+    requires { S.number state.0 < stable.now.states }
+    ensures { result ≡ true → (q : ℕ) × (goto_at stable.now (S.number state.0) (S.number ridx.0) ≡ Some q) }
+{
+    let row = stable.state_gotos(state);
+    if index >= row.len() {
+        return false;
+    }
+    let (number, _) = goto_of_row(row, index);
+    number == ridx.0.to_usize()
+}
+
+/// The index in a state's row of the goto on a rule, where that is this one or the next; else this one, if there is a goto
+/// on the rule at all.
+fn goto_near<S: IndexStorage>(
+    stable: &StateTable<S>,
+    state: StIdx<S>,
+    index: usize,
+    ridx: RIdx<S>,
+) -> Option<usize>
+    requires state { S.number state.0 < stable.now.states }
+    requires rule { S.number ridx.0 < stable.now.rules }
+    ensures { IfSome result (λ _. (q : ℕ) × (goto_at stable.now (S.number state.0) (S.number ridx.0) ≡ Some q)) }
+{
+    if is_goto_on(stable, state, index, ridx) {
+        return Some(index);
+    }
+    let next = index.saturating_add(1);
+    if is_goto_on(stable, state, next, ridx) {
+        return Some(next);
+    }
+    match stable.goto(state, ridx) {
+        Some(_) => Some(index),
+        None => None,
+    }
+}
+
+/// The same for the rule of a production that begins; this index where none does.
+fn begun_near<S: IndexStorage>(
+    grm: &NumberedGrammar<S>,
+    stable: &StateTable<S>,
+    state: StIdx<S>,
+    index: usize,
+    pidx: PIdx<S>,
+    dot: SIdx<S>,
+) -> Option<usize>
+    requires production { S.number pidx.0 < length grm.now.grammar.productions }
+    requires rules { stable.now.rules ≡ grm.now.grammar.rules }
+    requires state { S.number state.0 < stable.now.states }
+    ensures { IfSome result (λ _. (A : ℕ) → GoesFrom grm.now.grammar stable.now (S.number state.0) A (S.number pidx.0) (S.number dot.0)) }
+{
+    if dot.0.to_usize() != 0 {
+        return Some(index);
+    }
+    if pidx.0.to_usize() == grm.start_prod().0.to_usize() {
+        return Some(index);
+    }
+    goto_near(stable, state, index, grm.prod_to_rule(pidx))
+}
+
+/// Whether there is a goto on the rule of each production that begins. Items and gotos are gone through side by side.
+fn begin_all<S: IndexStorage>(
+    grm: &NumberedGrammar<S>,
+    items: &Itemset<S>,
+    stable: &StateTable<S>,
+    state: StIdx<S>,
+) -> bool
+    requires items { OfGrammar grm.now.grammar items.now }
+    requires rules { stable.now.rules ≡ grm.now.grammar.rules }
+    requires state { S.number state.0 < stable.now.states }
+    ensures { result ≡ true → (A : ℕ) → HasGotos grm.now.grammar items.now stable.now (S.number state.0) A }
+{
+    let mut at = 0;
+    'items: for index in 0..items.len() {
+        let (pidx, dot) = items.item_at(index);
+        match begun_near(grm, stable, state, at, pidx, dot) {
+            Some(next) => at = next,
+            None => return false,
+        }
+    }
+    true
+}
+
 /// The least rule with a production that begins where there is no goto on it.
 pub(crate) fn least_bare<S: IndexStorage>(
+    grm: &NumberedGrammar<S>,
+    items: &Itemset<S>,
+    stable: &StateTable<S>,
+    state: StIdx<S>,
+) -> Option<RIdx<S>>
+    requires items { OfGrammar grm.now.grammar items.now }
+    requires rules { stable.now.rules ≡ grm.now.grammar.rules }
+    requires state { S.number state.0 < stable.now.states }
+    ensures { LeastNot (HasGotos grm.now.grammar items.now stable.now (S.number state.0)) (rule_number S.number result) }
+{
+    if begin_all(grm, items, stable, state) {
+        return None;
+    }
+    first_bare(grm, items, stable, state)
+}
+
+/// The same, by a look at each item.
+fn first_bare<S: IndexStorage>(
     grm: &NumberedGrammar<S>,
     items: &Itemset<S>,
     stable: &StateTable<S>,

@@ -4,11 +4,11 @@ ghost use Rattle.std.specs.Prelude.{◌≡◌, true, ◌++◌, [], map, fold, op
 ghost use Rattle.std.specs.List.{flat_map};
 ghost use Rattle.std.specs.Option.{option_or};
 ghost use Rattle.std.specs.String.{string_bytes};
-ghost use Rattle.cfg_read.specs.Asts.{first_item, last_text, text_of, param_texts, expected_ast, heads_in, fresh_heads, productions_in, start_of, rule_ast, no_ast, ast_of};
+ghost use Rattle.cfg_read.specs.Asts.{first_item, last_text, text_of, param_texts, expected_ast, heads_in, fresh_heads, productions_in, productions_of, start_of, rule_ast, no_ast, ast_of};
 ghost use Rattle.cfg_read.specs.AstModels.{ast_symbol_of, production_of, named_span, named_spans, named_rules, rule_entry_of, rule_keys, own_names, number_with_span, param_pair};
-ghost use Rattle.cfg_read.specs.Names.{is_among, distinct, words_in, declared_tokens, tokens_of};
+ghost use Rattle.cfg_read.specs.Names.{is_among, declared_tokens, tokens_of};
 ghost use Rattle.cfg_read.specs.Validity.{expected_symbols};
-ghost use Rattle.cfg_read.specs.SyntaxModels.{word_of, words_of, symbol_of, line_of, param_of, rule_of, number_text, syntax_of};
+ghost use Rattle.cfg_read.specs.SyntaxModels.{word_of, words_of, symbol_of, param_of, rule_of, number_text, syntax_of};
 ghost use Rattle.cfg_read.specs.NameModels.{symbols_at, named_fresh};
 ghost use Rattle.cfg_read.specs.FreshRules.{fresh_of, rule_words};
 ghost use Rattle.cfg_read.specs.AstBuild.{headed, blank_headings, fresh_rule, with_first, with_numbers, names_at, with_heads_of, with_spans_of, with_parts_of, with_words_of, with_expected_of};
@@ -16,7 +16,7 @@ ghost use Rattle.cfg_read.specs.AstChanges.{with_number};
 
 use super::{GrammarAST, Production, Rule, Symbol, fresh, parts};
 use crate::yacc::names::{self, Names};
-use crate::yacc::parser::syntax::{self, Line, Number, Param, Syntax, Word};
+use crate::yacc::parser::syntax::{self, Number, Param, Syntax, Word};
 use cfg_base::span::Span;
 use indexmap::IndexMap;
 use std::alloc::{AllocError, Global};
@@ -103,15 +103,6 @@ fn expected(alloc: Global, x: &Syntax) -> Result<Vec<Symbol>, AllocError>
     Ok(made)
 }
 
-/// The tokens of these lines, each with the span of its first appearance.
-fn line_spans(alloc: Global, lines: &[Line]) -> Result<IndexMap<String, Span>, AllocError>
-    ensures { IfOk result (λ spans. named_spans spans ≡ distinct (flat_map words_in (map line_of lines.now))) }
-{
-    let words = names::line_words(alloc, lines)?;
-    let spans = parts::first_spans(alloc, &words, words.len())?;
-    Ok(spans)
-}
-
 /// The grammar's tokens, each with the span of its first appearance.
 fn tokens(alloc: Global, names: &Names) -> Result<IndexMap<String, Span>, AllocError>
     ensures { IfOk result (λ spans. named_spans spans ≡ tokens_of names.now) }
@@ -133,6 +124,16 @@ fn prods(
     let mut made = parts::productions(alloc, rules, &declared)?;
     parts::push_all(&mut made, fresh)?;
     Ok(made)
+}
+
+/// All productions of a text, for which it gives its rules.
+fn take_prods(alloc: Global, mut x: Syntax) -> Result<Vec<Production>, AllocError>
+    ensures { IfOk result (λ made. map production_of made.items ≡ productions_of (syntax_of x)) }
+{
+    let fresh = fresh::fresh_prods(alloc, &x)?;
+    let rules = mem::replace(&mut x.rules, Vec::new(alloc));
+    let prods = prods(alloc, &x, rules, fresh)?;
+    Ok(prods)
 }
 
 /// The type of a rule's actions: its own, else the one for all rules.
@@ -344,34 +345,34 @@ impl GrammarAST {
         Ok(())
     }
 
-    /// Takes over the words of a text for the productions, the tokens of `%avoid_insert` and the printed texts.
+    /// Takes over the words of a text for the productions, the precedences, the tokens of `%avoid_insert` and of
+    /// `%implicit_tokens`, and the printed texts.
     pub(crate) fn take_words(&mut self, alloc: Global, mut x: Syntax) -> Result<(), AllocError>
         ensures { OnOk result (self.new ≡ with_words_of (ast_of true (syntax_of x)) self.old) }
     {
-        let fresh = fresh::fresh_prods(alloc, &x)?;
-        let rules = mem::replace(&mut x.rules, Vec::new(alloc));
-        let lines = mem::replace(&mut x.avoid_insert, Vec::new(alloc));
+        let levels = mem::replace(&mut x.levels, Vec::new(alloc));
+        let avoided = mem::replace(&mut x.avoid_insert, Vec::new(alloc));
+        let implicit = mem::replace(&mut x.implicit_tokens, Vec::new(alloc));
         let texts = mem::replace(&mut x.epp, Vec::new(alloc));
-        let prods = prods(alloc, &x, rules, fresh)?;
-        let avoid_insert = parts::take_spans(alloc, lines)?;
+        let prods = take_prods(alloc, x)?;
+        let precs = parts::first_precedences(alloc, levels)?;
+        let avoid_insert = parts::take_spans(alloc, avoided)?;
+        let implicit_tokens = parts::take_spans(alloc, implicit)?;
         let epp = parts::first_epps(alloc, texts)?;
         self.prods = prods;
+        self.precs = precs;
         self.avoid_insert = avoid_insert;
+        self.implicit_tokens = implicit_tokens;
         self.epp = epp;
         Ok(())
     }
 
-    /// Puts in the tokens of a text, their precedences, and those that are implicit.
+    /// Puts in the tokens of a text.
     fn fill_tokens(&mut self, alloc: Global, names: &Names) -> Result<(), AllocError>
         ensures { OnOk result (self.new ≡ with_spans_of (ast_of true names.now) self.old) }
     {
-        let x = names.syntax();
         let tokens = tokens(alloc, names)?;
-        let precs = parts::first_precedences(alloc, &x.levels)?;
-        let implicit_tokens = line_spans(alloc, &x.implicit_tokens)?;
         self.tokens = tokens;
-        self.precs = precs;
-        self.implicit_tokens = implicit_tokens;
         Ok(())
     }
 

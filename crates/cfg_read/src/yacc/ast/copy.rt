@@ -3,13 +3,15 @@
 ghost use Rattle.std.specs.Prelude.{◌≡◌, map, option_map, IfOk, OnOk};
 ghost use Rattle.std.specs.String.{string_bytes};
 ghost use Rattle.cfg_read.specs.AstModels.{ast_symbol_of, production_of, named_span, param_pair, named_spans, named_rules, named_epps, named_precedences, rule_keys, own_names};
+ghost use Rattle.cfg_read.specs.SyntaxModels.{word_of, precedence_by, action_by};
 ghost use Rattle.cfg_read.specs.AstBuild.{with_rules_of, with_tokens_of, with_texts_of, with_expected_of};
 
 use super::{GrammarAST, Production, Rule, Symbol};
 use crate::yacc::Precedence;
+use crate::yacc::parser::syntax::{Extras, Word};
 use cfg_base::span::Span;
 use indexmap::IndexMap;
-use std::alloc::AllocError;
+use std::alloc::{AllocError, Global};
 
 impl Clone for Symbol {
     ghost use Rattle.std.specs.Prelude.{◌≡◌};
@@ -35,6 +37,48 @@ fn copy_text(text: &Option<String>) -> Result<Option<String>, AllocError>
     }
 }
 
+/// Copies a word, if there is one.
+fn copy_word(word: &Option<Word>) -> Result<Option<Word>, AllocError>
+    ensures { IfOk result (λ copy. option_map word_of copy ≡ option_map word_of word.now) }
+{
+    match word {
+        Some(word) => {
+            let text = word.text.clone()?;
+            Ok(Some(Word {
+                text,
+                span: word.span,
+            }))
+        }
+        None => Ok(None),
+    }
+}
+
+/// Copies what stands beside the symbols of a production, if something does.
+fn copy_extras(
+    alloc: Global,
+    extras: &Option<Box<Extras>>,
+) -> Result<Option<Box<Extras>>, AllocError>
+    ensures precedence { IfOk result (λ copy. precedence_by copy ≡ precedence_by extras.now) }
+    ensures action { IfOk result (λ copy. action_by copy ≡ action_by extras.now) }
+{
+    match extras {
+        Some(extras) => {
+            let precedence = copy_word(&extras.precedence)?;
+            let action = copy_word(&extras.action)?;
+            let copy = Box::new(
+                alloc,
+                Extras {
+                    is_empty: extras.is_empty,
+                    precedence,
+                    action,
+                },
+            )?;
+            Ok(Some(copy))
+        }
+        None => Ok(None),
+    }
+}
+
 impl Clone for Production {
     ghost use Rattle.std.specs.Prelude.{◌≡◌};
     ghost use Rattle.cfg_read.specs.AstModels.{production_of};
@@ -43,13 +87,10 @@ impl Clone for Production {
 
     fn clone(&self) -> Result<Production, AllocError> {
         let symbols = self.symbols.clone()?;
-        let precedence = copy_text(&self.precedence)?;
-        let action = copy_text(&self.action)?;
+        let extras = copy_extras(*self.symbols.allocator(), &self.extras)?;
         Ok(Production {
             symbols,
-            precedence,
-            action,
-            action_span: self.action_span,
+            extras,
             prod_span: self.prod_span,
         })
     }

@@ -173,9 +173,7 @@ fn to_production(symbols: Vec<Symbol>, span: Span) -> Production
 {
     Production {
         symbols,
-        precedence: None,
-        action: None,
-        action_span: None,
+        extras: None,
         prod_span: span,
     }
 }

@@ -74,17 +74,6 @@ pub(super) fn to_text(word: &Option<Word>) -> Result<Option<String>, AllocError>
     }
 }
 
-/// A word's text and its span, if there is a word.
-fn split(word: Option<Word>) -> (Option<String>, Option<Span>)
-    ensures text { option_map string_bytes result.0 ≡ text_of (option_map word_of word) }
-    ensures span { result.1 ≡ option_map (λ w. w.span) (option_map word_of word) }
-{
-    match word {
-        Some(Word { text, span }) => (Some(text), Some(span)),
-        None => (None, None),
-    }
-}
-
 /// The production of an alternative.
 fn to_production(
     alloc: Global,
@@ -95,19 +84,13 @@ fn to_production(
 {
     let Alternative {
         symbols,
-        is_empty: _,
-        precedence,
-        action,
+        extras,
         span,
     } = alternative;
     let symbols = to_symbols(alloc, symbols, declared)?;
-    let (precedence, _) = split(precedence);
-    let (action, action_span) = split(action);
     Ok(Production {
         symbols,
-        precedence,
-        action,
-        action_span,
+        extras,
         prod_span: span,
     })
 }
@@ -195,8 +178,9 @@ fn take_first(spans: &mut IndexMap<String, Span>, word: Word) -> Result<(), Allo
     ensures { OnOk result (named_spans spans.new ≡ with_distinct (named_spans spans.old) (word_of word)) }
 {
     let Word { text, span } = word;
-    if !spans.contains_key(text.as_str()) {
-        spans.insert(text, span)?;
+    let (index, old) = spans.insert_full(text, span)?;
+    if let Some(first) = old {
+        spans[index] = first;
     }
     Ok(())
 }
@@ -246,8 +230,9 @@ fn insert_epp(
         text: printed,
         span,
     } = text;
-    if !epps.contains_key(name.as_str()) {
-        epps.insert(name, (at, (printed, span)))?;
+    let (index, old) = epps.insert_full(name, (at, (printed, span)))?;
+    if let Some(first) = old {
+        epps[index] = first;
     }
     Ok(())
 }
@@ -270,14 +255,15 @@ pub(super) fn first_epps(
 fn insert_precedence(
     found: &mut IndexMap<String, (Precedence, Span)>,
     precedence: Precedence,
-    word: &Word,
+    word: Word,
 ) -> Result<(), AllocError>
     ensures { OnOk result (named_precedences found.new
-        ≡ with_precedence_of (named_precedences found.old) (precedence_ast precedence.level precedence.kind (word_of word.now))) }
+        ≡ with_precedence_of (named_precedences found.old) (precedence_ast precedence.level precedence.kind (word_of word))) }
 {
-    if !found.contains_key(word.text.as_str()) {
-        let name = word.text.clone()?;
-        found.insert(name, (precedence, word.span))?;
+    let Word { text, span } = word;
+    let (index, old) = found.insert_full(text, (precedence, span))?;
+    if let Some(first) = old {
+        found[index] = first;
     }
     Ok(())
 }
@@ -286,17 +272,19 @@ fn insert_precedence(
 fn insert_level(
     found: &mut IndexMap<String, (Precedence, Span)>,
     number: PrecedenceLevel,
-    level: &Level,
+    level: Level,
 ) -> Result<(), AllocError>
     ensures { OnOk result (named_precedences found.new
-        ≡ fold with_precedence_of (named_precedences found.old) (level_precedences number (level_of level.now))) }
+        ≡ fold with_precedence_of (named_precedences found.old) (level_precedences number (level_of level))) }
 {
+    let Level { kind, tokens } = level;
     let precedence = Precedence {
         level: number,
-        kind: level.kind,
+        kind,
     };
-    'tokens: for token in &level.tokens {
-        insert_precedence(found, precedence, &token.word)?;
+    'tokens: for token in tokens {
+        let syntax::Symbol { word, .. } = token;
+        insert_precedence(found, precedence, word)?;
     }
     Ok(())
 }
@@ -304,12 +292,12 @@ fn insert_level(
 /// The precedences: each line is a level, the first one 0, and a token's first one counts.
 pub(super) fn first_precedences(
     alloc: Global,
-    levels: &[Level],
+    levels: Vec<Level>,
 ) -> Result<IndexMap<String, (Precedence, Span)>, AllocError>
-    ensures { IfOk result (λ found. named_precedences found ≡ precedences_of (map level_of levels.now)) }
+    ensures { IfOk result (λ found. named_precedences found ≡ precedences_of (map level_of levels.items)) }
 {
     let mut found = IndexMap::with_capacity(alloc, levels.len())?;
-    'levels: for (number, level) in levels.iter().enumerate() {
+    'levels: for (number, level) in levels.into_iter().enumerate() {
         insert_level(&mut found, number as PrecedenceLevel, level)?;
     }
     Ok(found)

@@ -52,12 +52,15 @@ impl<'a> Scanner<'a> {
     {
         let mut items = Vec::new(alloc);
         let mut end = self.parse_line_ws(offset)?;
-        'items: while !self.token_kind_at(end).ends_line() {
-            let (item, after) = self.parse_token(alloc, end)?;
+        'items: loop {
+            let kind = self.token_kind_at(end);
+            if kind.ends_line() {
+                return Ok((items, end));
+            }
+            let (item, after) = self.token_of(alloc, kind, end)?;
             items.push(item)?;
             end = self.parse_line_ws(after)?;
         }
-        Ok((items, end))
     }
 
     /// Reads a list that runs to the line's end, and the gap behind it.

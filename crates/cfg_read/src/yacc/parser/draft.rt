@@ -1,11 +1,11 @@
 //! Alternatives as they are read.
 
-ghost use Rattle.std.specs.Prelude.{◌≡◌, ◌≤◌, ◌&&◌, not, OnOk};
+ghost use Rattle.std.specs.Prelude.{◌≡◌, ◌≤◌, ◌&&◌, not, option_map, OnOk, IfOk};
 ghost use Rattle.cfg_read.specs.SyntaxUpdates.{no_part, is_open, span_with, span_or, append_symbol, put_empty, put_precedence, put_action, alternative};
 ghost use Rattle.cfg_read.specs.Scanning.{StartsBy};
-ghost use Rattle.cfg_read.specs.SyntaxModels.{word_of, symbol_of, part_of, alternative_of};
+ghost use Rattle.cfg_read.specs.SyntaxModels.{word_of, symbol_of, part_of, is_empty_by, precedence_by, action_by, alternative_of};
 
-use crate::yacc::parser::syntax::{Alternative, Symbol, Word};
+use crate::yacc::parser::syntax::{Alternative, Extras, Symbol, Word};
 use cfg_base::span::Span;
 use std::alloc::{AllocError, Global};
 
@@ -39,6 +39,31 @@ fn span_or(span: Option<Span>, offset: usize) -> Span
         None => Span::new(offset, offset),
         Some(span) => span,
     }
+}
+
+/// What an alternative has beside its symbols, if it has something.
+fn extras_of(
+    alloc: Global,
+    is_empty: bool,
+    precedence: Option<Word>,
+    action: Option<Word>,
+) -> Result<Option<Box<Extras>>, AllocError>
+    ensures empty { IfOk result (λ e. is_empty_by e ≡ is_empty) }
+    ensures precedence { IfOk result (λ e. precedence_by e ≡ option_map word_of precedence) }
+    ensures action { IfOk result (λ e. action_by e ≡ option_map word_of action) }
+{
+    if !is_empty && precedence.is_none() && action.is_none() {
+        return Ok(None);
+    }
+    let extras = Box::new(
+        alloc,
+        Extras {
+            is_empty,
+            precedence,
+            action,
+        },
+    )?;
+    Ok(Some(extras))
 }
 
 impl Draft {
@@ -114,8 +139,8 @@ impl Draft {
     }
 
     /// Makes the alternative, which ends at this offset.
-    pub(crate) fn finish(self, offset: usize) -> Alternative
-        ensures { alternative_of result ≡ alternative (part_of self) offset }
+    pub(crate) fn finish(self, alloc: Global, offset: usize) -> Result<Alternative, AllocError>
+        ensures { IfOk result (λ a. alternative_of a ≡ alternative (part_of self) offset) }
     {
         let Draft {
             symbols,
@@ -124,12 +149,11 @@ impl Draft {
             action,
             span,
         } = self;
-        Alternative {
+        let extras = extras_of(alloc, is_empty, precedence, action)?;
+        Ok(Alternative {
             symbols,
-            is_empty,
-            precedence,
-            action,
+            extras,
             span: span_or(span, offset),
-        }
+        })
     }
 }

@@ -14,7 +14,7 @@ ghost use Rattle.cfg_read.specs.SyntaxUpdates.{word_at, word, trimmed_word, rest
 ghost use Rattle.cfg_read.specs.Reading.{Wanted, Spaced, InLine, At, IsToken, Steps};
 ghost use Rattle.cfg_read.specs.SyntaxErrors.{name_fault, token_fault, number_at, FailsFrom};
 ghost use Rattle.cfg_read.specs.SyntaxModels.{word_of, symbol_of, number_text, param_of};
-ghost use Rattle.cfg_read.specs.Scanning.{FitsPart, FitsDigits, IsNumber, IsString, IsFaultAt, IsFault, IsStringFault};
+ghost use Rattle.cfg_read.specs.Scanning.{FitsPart, FitsToken, FitsDigits, IsNumber, IsString, IsFaultAt, IsFault, IsStringFault};
 
 use crate::yacc::parser::bytes;
 use crate::yacc::parser::error::{ReadError, YaccGrammarErrorKind};
@@ -110,17 +110,20 @@ impl<'a> Scanner<'a> {
         }
     }
 
-    /// Reads a token.
-    pub(crate) fn parse_token(
+    /// Reads a token of the kind that stands here.
+    pub(crate) fn token_of(
         &self,
         alloc: Global,
+        kind: TokenKind,
         offset: usize,
     ) -> Result<(Symbol, usize), ReadError>
+        requires kind { token_kind_at self.now.text.now offset ≡ kind }
+        requires fits { FitsToken self.now.text.now offset kind }
         ensures ok { IfOk result (λ r. IsToken self.now.text.now offset (symbol_of r.0) r.1) }
         ensures within { IfOk result (λ r. (offset < r.1) × (r.1 ≤ length self.now.text.now)) }
         ensures err { IfErr result (λ e. IsFaultAt (token_fault (token_kind_at self.now.text.now offset)) offset e) }
     {
-        match self.token_kind_at(offset) {
+        match kind {
             TokenKind::Name(end) => {
                 let word = self.word(alloc, offset, end)?;
                 Ok((
@@ -149,6 +152,19 @@ impl<'a> Scanner<'a> {
             )),
             _ => Err(ReadError::Fault(YaccGrammarErrorKind::IllegalName, offset)),
         }
+    }
+
+    /// Reads a token.
+    pub(crate) fn parse_token(
+        &self,
+        alloc: Global,
+        offset: usize,
+    ) -> Result<(Symbol, usize), ReadError>
+        ensures ok { IfOk result (λ r. IsToken self.now.text.now offset (symbol_of r.0) r.1) }
+        ensures within { IfOk result (λ r. (offset < r.1) × (r.1 ≤ length self.now.text.now)) }
+        ensures err { IfErr result (λ e. IsFaultAt (token_fault (token_kind_at self.now.text.now offset)) offset e) }
+    {
+        self.token_of(alloc, self.token_kind_at(offset), offset)
     }
 
     /// Reads digits: answers where they end.

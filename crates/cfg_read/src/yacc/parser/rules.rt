@@ -1,6 +1,6 @@
 //! Reads the rules of a text.
 
-ghost use Rattle.std.specs.Prelude.{◌≡◌, ◌+◌, ◌≤◌, ◌<◌, ℕ, Option, None, Some, true, false, not, length, map, option_map, IfOk, IfErr, IsTrue};
+ghost use Rattle.std.specs.Prelude.{◌≡◌, ◌+◌, ◌≤◌, ◌<◌, ℕ, Option, None, Some, true, false, not, length, map, option_map, ◌++◌, ◌∷◌, [], IfOk, IfErr, OnOk, IsTrue};
 ghost use Rattle.std.specs.Bool.{Decides};
 ghost use Rattle.std.specs.Str.{IsCharBoundary};
 ghost use Rattle.cfg_read.specs.declared.yacc.parser.scan.TokenKind.TheVariants as tokens;
@@ -20,7 +20,50 @@ use crate::yacc::parser::error::{ReadError, YaccGrammarErrorKind};
 use crate::yacc::parser::scan::{Scanner, TokenKind};
 use crate::yacc::parser::syntax::{Alternative, Rule, Symbol, Syntax, Word};
 use cfg_base::span::Span;
-use std::alloc::Global;
+use std::alloc::{AllocError, Global};
+
+/// Puts the last alternative of a rule behind the others, with room for no further ones.
+fn push_last(
+    alternatives: &mut Vec<Alternative>,
+    alternative: Alternative,
+) -> Result<(), AllocError>
+    ensures { OnOk result (alternatives.new.items ≡ alternatives.old.items ++ alternative ∷ []) }
+{
+    alternatives.reserve_exact(1)?;
+    alternatives.push(alternative)?;
+    Ok(())
+}
+
+/// Puts an alternative of a rule behind the others.
+fn push_alternative(
+    alternatives: &mut Vec<Alternative>,
+    alternative: Alternative,
+    is_last: bool,
+) -> Result<(), AllocError>
+    ensures { OnOk result (alternatives.new.items ≡ alternatives.old.items ++ alternative ∷ []) }
+{
+    if is_last {
+        return push_last(alternatives, alternative);
+    }
+    alternatives.push(alternative)?;
+    Ok(())
+}
+
+/// Tells whether a token of this kind begins a part of an alternative; else it stands at the end of one.
+fn begins_part(kind: TokenKind, offset: usize) -> Result<bool, ReadError>
+    ensures ok { IfOk result (λ b. (is_part kind ≡ b) × (ends_alternative kind ≡ not b)) }
+    ensures err { IfErr result (λ e. IsFaultAt (alternative_fault kind) offset e) }
+{
+    match kind {
+        TokenKind::Name(_) | TokenKind::Quoted(_) | TokenKind::Percent | TokenKind::Brace => Ok(
+            true,
+        ),
+        TokenKind::Bar | TokenKind::Semicolon => Ok(false),
+        TokenKind::End => Err(ReadError::Fault(YaccGrammarErrorKind::IncompleteRule, offset)),
+        TokenKind::OpenQuote => Err(ReadError::Fault(YaccGrammarErrorKind::IllegalString, offset)),
+        _ => Err(ReadError::Fault(YaccGrammarErrorKind::ProductionNotTerminated, offset)),
+    }
+}
 
 impl<'a> Scanner<'a> {
     /// Reads the `?` behind a symbol, if one stands there: answers the symbol, and where it ends.
@@ -50,13 +93,16 @@ impl<'a> Scanner<'a> {
         (symbol, after)
     }
 
-    /// Reads a symbol of an alternative.
+    /// Reads a symbol of an alternative, a token of the kind that stands here.
     fn parse_symbol(
         &self,
         alloc: Global,
         draft: &mut Draft,
+        kind: TokenKind,
         offset: usize,
     ) -> Result<usize, ReadError>
+        requires kind { token_kind_at self.now.text.now offset ≡ kind }
+        requires fits { FitsToken self.now.text.now offset kind }
         requires token { token_fault (token_kind_at self.now.text.now offset) ≡ None }
         requires starts { StartsBy draft.old.span offset }
         ensures ok { IfOk result (λ b. (r : RuleText) (x : SyntaxText) → Steps self.now.kind self.now.text.now (At (More r (part_of draft.old)) x offset) (Spaced (More r (part_of draft.new)) x b)) }
@@ -64,7 +110,7 @@ impl<'a> Scanner<'a> {
         ensures more { IfOk result (λ b. offset < b) }
         ensures starts { IfOk result (λ b. StartsBy draft.new.span b) }
     {
-        let (symbol, end) = self.parse_token(alloc, offset)?;
+        let (symbol, end) = self.token_of(alloc, kind, offset)?;
         if draft.is_empty {
             return Err(ReadError::Fault(YaccGrammarErrorKind::NonEmptyProduction, offset));
         }
@@ -111,10 +157,11 @@ impl<'a> Scanner<'a> {
         ensures starts { IfOk result (λ b. StartsBy draft.new.span b) }
     {
         let start = self.parse_ws(offset + 5)?;
-        if !self.token_kind_at(start).begins_token() {
+        let kind = self.token_kind_at(start);
+        if !kind.begins_token() {
             return Err(ReadError::Fault(YaccGrammarErrorKind::PrecNotFollowedByToken, start));
         }
-        let (token, end) = self.parse_token(alloc, start)?;
+        let (token, end) = self.token_of(alloc, kind, start)?;
         let Symbol { word, .. } = token;
         draft.add_precedence(word, offset, end);
         Ok(end)
@@ -175,62 +222,48 @@ impl<'a> Scanner<'a> {
         Ok(end + 1)
     }
 
-    /// Tells whether a part of an alternative begins here; else its end stands here.
-    fn begins_part(&self, offset: usize) -> Result<bool, ReadError>
-        ensures ok { IfOk result (λ b. (is_part (token_kind_at self.now.text.now offset) ≡ b) × (ends_alternative (token_kind_at self.now.text.now offset) ≡ not b)) }
-        ensures err { IfErr result (λ e. IsFaultAt (alternative_fault (token_kind_at self.now.text.now offset)) offset e) }
-        ensures within { IfOk result (λ _. offset < length self.now.text.now) }
-    {
-        match self.token_kind_at(offset) {
-            TokenKind::Name(_) | TokenKind::Quoted(_) | TokenKind::Percent | TokenKind::Brace => Ok(
-                true,
-            ),
-            TokenKind::Bar | TokenKind::Semicolon => Ok(false),
-            TokenKind::End => Err(ReadError::Fault(YaccGrammarErrorKind::IncompleteRule, offset)),
-            TokenKind::OpenQuote => Err(ReadError::Fault(
-                YaccGrammarErrorKind::IllegalString,
-                offset,
-            )),
-            _ => Err(ReadError::Fault(YaccGrammarErrorKind::ProductionNotTerminated, offset)),
-        }
-    }
-
-    /// Reads a part of an alternative.
+    /// Reads a part of an alternative, which begins with a token of the kind that stands here.
     fn parse_part_alone(
         &self,
         alloc: Global,
         draft: &mut Draft,
+        kind: TokenKind,
         offset: usize,
     ) -> Result<usize, ReadError>
-        requires part { is_part (token_kind_at self.now.text.now offset) ≡ true }
+        requires kind { token_kind_at self.now.text.now offset ≡ kind }
+        requires fits { FitsToken self.now.text.now offset kind }
+        requires part { is_part kind ≡ true }
         requires starts { StartsBy draft.old.span offset }
         ensures ok { IfOk result (λ b. (r : RuleText) (x : SyntaxText) → Steps self.now.kind self.now.text.now (At (More r (part_of draft.old)) x offset) (Spaced (More r (part_of draft.new)) x b)) }
         ensures err { IfErr result (λ e. (r : RuleText) (x : SyntaxText) → FailsFrom self.now.kind self.now.text.now (At (More r (part_of draft.old)) x offset) e) }
         ensures more { IfOk result (λ b. offset < b) }
         ensures starts { IfOk result (λ b. StartsBy draft.new.span b) }
     {
-        match self.token_kind_at(offset) {
+        match kind {
             TokenKind::Percent => self.parse_percent_part(alloc, draft, offset),
             TokenKind::Brace => self.parse_action(alloc, draft, offset),
-            _ => self.parse_symbol(alloc, draft, offset),
+            _ => self.parse_symbol(alloc, draft, kind, offset),
         }
     }
 
-    /// Reads a part of an alternative, and the gap behind it.
+    /// Reads a part of an alternative, which begins with a token of the kind that stands here, and the gap behind it.
     fn parse_part(
         &self,
         alloc: Global,
         draft: &mut Draft,
+        kind: TokenKind,
         offset: usize,
     ) -> Result<usize, ReadError>
-        requires part { is_part (token_kind_at self.now.text.now offset) ≡ true }
+        requires kind { token_kind_at self.now.text.now offset ≡ kind }
+        requires fits { FitsToken self.now.text.now offset kind }
+        requires part { is_part kind ≡ true }
         requires starts { StartsBy draft.old.span offset }
         ensures ok { IfOk result (λ b. (r : RuleText) (x : SyntaxText) → Steps self.now.kind self.now.text.now (At (More r (part_of draft.old)) x offset) (At (More r (part_of draft.new)) x b)) }
         ensures err { IfErr result (λ e. (r : RuleText) (x : SyntaxText) → FailsFrom self.now.kind self.now.text.now (At (More r (part_of draft.old)) x offset) e) }
         ensures more { IfOk result (λ b. offset < b) }
         ensures starts { IfOk result (λ b. StartsBy draft.new.span b) }
     {
-        let end = self.parse_part_alone(alloc, draft, offset)?;
+        let end = self.parse_part_alone(alloc, draft, kind, offset)?;
         Ok(self.parse_ws(end)?)
     }
 
@@ -247,10 +280,13 @@ impl<'a> Scanner<'a> {
     {
         let mut draft = Draft::new(alloc);
         let mut end = self.parse_ws(offset)?;
-        'parts: while self.begins_part(end)? {
-            end = self.parse_part(alloc, &mut draft, end)?;
+        let mut kind = self.token_kind_at(end);
+        'parts: while begins_part(kind, end)? {
+            end = self.parse_part(alloc, &mut draft, kind, end)?;
+            kind = self.token_kind_at(end);
         }
-        Ok((draft.finish(end), end))
+        let alternative = draft.finish(alloc, end)?;
+        Ok((alternative, end))
     }
 
     /// Tells whether the `;` stands where an alternative ends; else the `|` does.
@@ -271,13 +307,14 @@ impl<'a> Scanner<'a> {
         ensures err { IfErr result (λ e. (n : WordText) (t : Option WordText) (x : SyntaxText) → FailsFrom self.now.kind self.now.text.now (Spaced (More (heading n t) no_part) x offset) e) }
         ensures more { IfOk result (λ f. offset < f.1) }
     {
-        let mut alternatives = Vec::with_capacity(alloc, 2)?;
+        let mut alternatives = Vec::new(alloc);
         let mut start = offset;
         'alternatives: loop {
             let (alternative, end) = self.parse_alternative(alloc, start)?;
-            alternatives.push(alternative)?;
+            let is_last = self.is_last(end);
+            push_alternative(&mut alternatives, alternative, is_last)?;
             start = end + 1;
-            if self.is_last(end) {
+            if is_last {
                 return Ok((alternatives, start));
             }
         }

@@ -25,15 +25,22 @@ pub struct Symbol {
     pub optional: Option<Span>,
 }
 
-/// An alternative of a rule.
+/// What an alternative may have beside its symbols.
 #[derive(Debug, Drop)]
-pub struct Alternative {
-    pub symbols: Vec<Symbol>,
+pub struct Extras {
     /// Whether `%empty` stands there.
     pub is_empty: bool,
     /// The token of `%prec`.
     pub precedence: Option<Word>,
     pub action: Option<Word>,
+}
+
+/// An alternative of a rule.
+#[derive(Debug, Drop)]
+pub struct Alternative {
+    pub symbols: Vec<Symbol>,
+    /// `None` where there is nothing beside the symbols, so that such an alternative is small.
+    pub extras: Option<Box<Extras>>,
     /// Symbols, `%empty` and `%prec` with its token; without these an empty one at the `|` or `;`.
     pub span: Span,
 }

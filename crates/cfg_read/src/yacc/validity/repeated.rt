@@ -2,14 +2,14 @@
 
 ghost use Rattle.std.specs.Prelude.{◌≡◌, ◌++◌, ◌≤◌, [], map, vec_len, true, OnOk, IfOk};
 ghost use Rattle.std.specs.List.{flat_map};
-ghost use Rattle.cfg_read.specs.Names.{level_tokens, avoided_tokens, implicit_tokens_of};
+ghost use Rattle.cfg_read.specs.Names.{distinct, texts, level_tokens, avoided_tokens, implicit_tokens_of};
 ghost use Rattle.cfg_read.specs.SyntaxModels.{words_of, number_text, syntax_of};
-ghost use Rattle.cfg_read.specs.NameModels.{words_at};
+ghost use Rattle.cfg_read.specs.NameModels.{words_at, names_in};
 ghost use Rattle.cfg_read.specs.ErrorModels.{failures_in, kind_of, repeated_failure, span_lists, with_span};
 ghost use Rattle.cfg_read.specs.Validity.{FailureKind, repeated, repeated_names, repeated_words, repeated_declarations, word_spans, number_spans, groups_of, epp_tokens, DuplicatePrecedence, DuplicateEPP, DuplicateAvoidInsertDeclaration, DuplicateImplicitTokensDeclaration};
 
 use super::YaccGrammarError;
-use crate::yacc::names;
+use crate::yacc::names::{self, Names};
 use crate::yacc::parser::error::YaccGrammarErrorKind;
 use crate::yacc::parser::syntax::{Number, Syntax, Word};
 use cfg_base::span::Span;
@@ -92,18 +92,11 @@ fn grouped(alloc: Global, words: &[&Word]) -> Result<Vec<Vec<Span>>, AllocError>
     Ok(groups)
 }
 
-/// Tells whether no name stands twice among these words, so that none is told as repeated.
-fn all_differ(alloc: Global, words: &[&Word]) -> Result<bool, AllocError>
-    ensures { IfOk result (λ b. b ≡ true → (k : FailureKind) → repeated_names k (words_at words.now) ≡ []) }
+/// Tells whether these words have as many names, if these are their names, so that none is told as repeated.
+fn all_differ(words: &[&Word], names: &IndexSet<&str>) -> bool
+    ensures { result ≡ true → names_in names.now ≡ texts (distinct (words_at words.now)) → (k : FailureKind) → repeated_names k (words_at words.now) ≡ [] }
 {
-    let mut names = IndexSet::with_capacity(alloc, words.len())?;
-    'words: for word in words {
-        let is_new = names.insert(word.text.as_str())?;
-        if !is_new {
-            return Ok(false);
-        }
-    }
-    Ok(true)
+    names.len() == words.len()
 }
 
 /// Puts a failure for each list of more than one span behind the others.
@@ -121,6 +114,25 @@ fn push_groups(
     Ok(())
 }
 
+/// Puts a failure for each name that stands more than once among these words behind the others, where these are their names.
+fn push_repeated_among(
+    alloc: Global,
+    errors: &mut Vec<YaccGrammarError>,
+    what: Repeated,
+    words: &[&Word],
+    names: &IndexSet<&str>,
+) -> Result<(), AllocError>
+    ensures { OnOk result (names_in names.now ≡ texts (distinct (words_at words.now)) → failures_in errors.new.items
+        ≡ failures_in errors.old.items ++ repeated_names (repeated_failure what) (words_at words.now)) }
+{
+    if all_differ(words, names) {
+        return Ok(());
+    }
+    let groups = grouped(alloc, words)?;
+    push_groups(errors, what, groups)?;
+    Ok(())
+}
+
 /// Puts a failure for each name that stands more than once among these words behind the others.
 fn push_repeated_names(
     alloc: Global,
@@ -131,12 +143,8 @@ fn push_repeated_names(
     ensures { OnOk result (failures_in errors.new.items
         ≡ failures_in errors.old.items ++ repeated_names (repeated_failure what) (words_at words.now)) }
 {
-    let differ = all_differ(alloc, words)?;
-    if differ {
-        return Ok(());
-    }
-    let groups = grouped(alloc, words)?;
-    push_groups(errors, what, groups)?;
+    let names = names::distinct_names(alloc, words)?;
+    push_repeated_among(alloc, errors, what, words, &names)?;
     Ok(())
 }
 
@@ -144,13 +152,18 @@ fn push_repeated_names(
 fn push_repeated_levels(
     alloc: Global,
     errors: &mut Vec<YaccGrammarError>,
-    x: &Syntax,
+    names: &Names,
 ) -> Result<(), AllocError>
     ensures { OnOk result (failures_in errors.new.items
-        ≡ failures_in errors.old.items ++ repeated_names DuplicatePrecedence (level_tokens (syntax_of x.now))) }
+        ≡ failures_in errors.old.items ++ repeated_names DuplicatePrecedence (level_tokens names.now)) }
 {
-    let words = names::level_words(alloc, &x.levels)?;
-    push_repeated_names(alloc, errors, Repeated::Precedence, &words)?;
+    push_repeated_among(
+        alloc,
+        errors,
+        Repeated::Precedence,
+        names.level_words(),
+        names.levels(),
+    )?;
     Ok(())
 }
 
@@ -200,12 +213,13 @@ fn push_repeated_implicit(
 pub(super) fn push_repeated_words(
     alloc: Global,
     errors: &mut Vec<YaccGrammarError>,
-    x: &Syntax,
+    names: &Names,
 ) -> Result<(), AllocError>
     ensures { OnOk result (failures_in errors.new.items
-        ≡ failures_in errors.old.items ++ repeated_words (syntax_of x.now)) }
+        ≡ failures_in errors.old.items ++ repeated_words names.now) }
 {
-    push_repeated_levels(alloc, errors, x)?;
+    let x = names.syntax();
+    push_repeated_levels(alloc, errors, names)?;
     push_repeated_epps(alloc, errors, x)?;
     push_repeated_avoided(alloc, errors, x)?;
     push_repeated_implicit(alloc, errors, x)?;

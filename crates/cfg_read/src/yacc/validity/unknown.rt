@@ -157,15 +157,14 @@ fn push_unknown_rules(
 fn push_unknown_precs(
     alloc: Global,
     errors: &mut Vec<YaccGrammarError>,
-    x: &Syntax,
+    names: &Names,
 ) -> Result<(), AllocError>
     ensures { OnOk result (failures_in errors.new.items
-        ≡ failures_in errors.old.items ++ unknown_precs (syntax_of x.now)) }
+        ≡ failures_in errors.old.items ++ unknown_precs names.now) }
 {
-    let levels = names::level_words(alloc, &x.levels)?;
-    let known = names::distinct_names(alloc, &levels)?;
+    let x = names.syntax();
     let words = names::prec_words(alloc, &x.rules)?;
-    push_unknown(alloc, errors, &words, &known, Unknown::Precedence)?;
+    push_unknown(alloc, errors, &words, names.levels(), Unknown::Precedence)?;
     Ok(())
 }
 
@@ -211,7 +210,7 @@ fn push_unknown_in_rules(
     let x = names.syntax();
     push_invalid_start(alloc, errors, &x.starts, names.rules())?;
     push_unknown_rules(alloc, errors, names)?;
-    push_unknown_precs(alloc, errors, x)?;
+    push_unknown_precs(alloc, errors, names)?;
     Ok(())
 }
 

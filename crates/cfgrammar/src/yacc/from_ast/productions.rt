@@ -1,6 +1,8 @@
 //! The productions of a grammar.
 
 ghost use Rattle.std.specs.Prelude.{◌≡◌, ℕ, suc, zero, ◌<◌, ◌≤◌, ◌++◌, ◌∷◌, [], Bool, true, length, map, slice_get, option_map, All, IfOk, IfSome, OnOk};
+ghost use Rattle.std.specs.Option.{option_and_then, option_copied, option_or};
+ghost use Rattle.std.specs.String.{string_bytes};
 ghost use Rattle.cfg_theory.specs.Grammar.{Production};
 ghost use Rattle.cfg_read.specs.AstModels.{ast_symbol_of};
 ghost use Rattle.cfg_read.specs.AstModels as views;
@@ -32,16 +34,28 @@ fn last_token(symbols: &[ast::Symbol]) -> Option<&str>
     found
 }
 
-fn precedence_of(ast: &GrammarAST, production: &Production) -> Option<Precedence>
-    ensures { result ≡ tree.production_precedence ast.now (views.production_of production.now) }
+/// The precedence of a production with this token of `%prec` and these symbols.
+fn precedence_by(
+    ast: &GrammarAST,
+    own: Option<&String>,
+    symbols: &[ast::Symbol],
+) -> Option<Precedence>
+    ensures { result ≡ option_and_then (tree.precedence_of ast.now)
+        (option_or (option_map string_bytes (option_copied own.entry)) (tree.last_token (map ast_symbol_of symbols.now))) }
 {
-    match &production.precedence {
+    match own {
         Some(name) => info::precedence_of(ast, name.as_str()),
-        None => match last_token(&production.symbols) {
+        None => match last_token(symbols) {
             Some(name) => info::precedence_of(ast, name),
             None => None,
         },
     }
+}
+
+fn precedence_of(ast: &GrammarAST, production: &Production) -> Option<Precedence>
+    ensures { result ≡ tree.production_precedence ast.now (views.production_of production.now) }
+{
+    precedence_by(ast, production.precedence(), &production.symbols)
 }
 
 /// A production of the file, of the rule at this index.
@@ -60,14 +74,14 @@ fn file_part<S: IndexStorage>(
     ensures facts { IfOk result (λ p. production_facts p ≡ tree.file_production_facts ast.now (views.production_of production.now)) }
 {
     let symbols = numbers::body(alloc, ast, implicit, &production.symbols)?;
-    let action = info::copy_of(production.action.as_ref())?;
+    let action = info::copy_of(production.action())?;
     Ok(ProductionInfo {
         rule: RIdx(index_of(index + 1)),
         symbols,
         span: production.prod_span,
         precedence: precedence_of(ast, production),
         action,
-        action_span: production.action_span,
+        action_span: production.action_span(),
     })
 }
 

@@ -18,7 +18,7 @@ stacks-init g c =
     let above = state_of number c.args.above in
     let first = c.in_ok-first_stack.field-0 in
     let start = chain_stack p above in
-    let items : c.push.new.self.items ≡ first ∷ [] = c.in_ok-push.ensures.items ∙ ap (λ (l : List (Vec (StIdx g.row.S.Denot) Global)). l ++ first ∷ []) c.new-stacks.ensures.items in
+    let items : c.push.new.self.items ≡ first ∷ [] = c.in_ok-push.ensures.items ∙ ap (λ (l : List (Vec (StIdx g.row.S.Denot) Global)). l ++ first ∷ []) c.clear.ensures.items in
     record {
       stacks = subst (λ (l : List (Vec (StIdx g.row.S.Denot) Global)). AllHoldStates number c.args.stable.now l) (sym items) (first_holds number p above first c.in_ok-first_stack.ensures c.args.stable.now c.requires.state c.requires.above);
       on = λ x t k h.

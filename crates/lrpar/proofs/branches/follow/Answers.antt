@@ -12,7 +12,7 @@ use Rattle.lrpar.proofs.StacksAhead.{stacked_more, stacked_last, hold_more}
 use Rattle.lrpar.proofs.branches.follow.Goals as goal
 
 pub reduced-requires-clause-production : goal.reduced-requires-clause-production
-reduced-requires-clause-production g c = c.requires.list _ (c.prods.index, c.prod_of_list.result, c.prod_of_list.ensures, refl)
+reduced-requires-clause-production g c = c.requires.list _ (c.prods.index, c.prod_of_list-pidx.result, c.prod_of_list-pidx.ensures, refl)
 
 pub prods-preserved-in_default : goal.prods-preserved-in_default
 prods-preserved-in_default g c =
@@ -25,7 +25,7 @@ prods-preserved-in_default g c =
         | inl less ↦ c.prods.invariant.put x k i ss less at e
         | inr ge ↦
             let s : k ≡ c.prods.index = omega (arith, lt, ge) in
-            let same : i ≡ c.prod_of_list.result = same_Some i c.prod_of_list.result (sym at ∙ ap (slice_get c.args.list.now) s ∙ c.prod_of_list.ensures) in
+            let same : i ≡ c.prod_of_list-pidx.result = same_Some i c.prod_of_list-pidx.result (sym at ∙ ap (slice_get c.args.list.now) s ∙ c.prod_of_list-pidx.ensures) in
             let none = rw c.in_default.is at (c.in_ok-next.ensures.value x) in
             let to = subst (λ (j : PIdx g.row.S.Denot). goto_from G (automaton_of x c.args.stable.now) (number j.0) (drop (length (body_of G (number j.0))) (stack_of number c.args.stack.now)) ≡ Some ss) same e in
             cc (none ∙ to)
@@ -47,7 +47,7 @@ prods-preserved g c =
         | inl less ↦ rw items (stacked_more number old next ss (c.prods.invariant.put x k i ss less at e))
         | inr ge ↦
             let s : k ≡ c.prods.index = omega (arith, lt, ge) in
-            let same : i ≡ c.prod_of_list.result = same_Some i c.prod_of_list.result (sym at ∙ ap (slice_get c.args.list.now) s ∙ c.prod_of_list.ensures) in
+            let same : i ≡ c.prod_of_list-pidx.result = same_Some i c.prod_of_list-pidx.result (sym at ∙ ap (slice_get c.args.list.now) s ∙ c.prod_of_list-pidx.ensures) in
             let some = rw c.in-Some.is at (c.in_ok-next.ensures.value x) in
             let to = subst (λ (j : PIdx g.row.S.Denot). goto_from G (automaton_of x v) (number j.0) (drop (length (body_of G (number j.0))) (stack_of number c.args.stack.now)) ≡ Some ss) same e in
             let is : stack_of number next.items ≡ ss = same_Some (stack_of number next.items) ss (some ∙ to) in

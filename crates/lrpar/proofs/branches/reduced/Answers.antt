@@ -47,7 +47,7 @@ returns-in_default-clause-value g c = λ x. sym (stepped g (goal.at.returns-in_d
 pub returns-clause-value : goal.returns-clause-value
 returns-clause-value g c = λ x.
     let number = g.S.IndexStorage.number in
-    sym (stepped g (goal.at.returns-clause-value g c).After-goto x ∙ rw (c.in-Some.is, c.in_ok-push.ensures.items, c.in_ok-next.ensures.items, states_pushed number, reverse-append) refl)
+    sym (stepped g (goal.at.returns-clause-value g c).After-goto x ∙ rw (c.in-Some.is, c.in_ok-push.ensures.items, c.in_ok-extend_from_slice.ensures.items, c.empty_stack-next.ensures, states_pushed number, reverse-append) refl)
 
 pub returns-clause-states : goal.returns-clause-states
 returns-clause-states g c =
@@ -56,4 +56,4 @@ returns-clause-states g c =
     let left = length c.args.stack.now - c.to_usize-count.result in
     let to : goto_at v (number c.index-stack-left.result.0) (number c.prod_to_rule.result.0) ≡ Some (number c.in-Some.target.0) = sym c.goto.ensures ∙ ap (state_of number) c.in-Some.is in
     let long = length_pushed c.args.stack.now left c.in-Some.target (omega arith) in
-    rw (c.in_ok-push.ensures.items, c.in_ok-next.ensures.items) (record { states = are_pushed number v c.args.stack.now left c.in-Some.target c.requires.states (c.requires.table.is_table.targets _ _ _ to); some = omega (arith, long) })
+    rw (c.in_ok-push.ensures.items, c.in_ok-extend_from_slice.ensures.items, c.empty_stack-next.ensures) (record { states = are_pushed number v c.args.stack.now left c.in-Some.target c.requires.states (c.requires.table.is_table.targets _ _ _ to); some = omega (arith, long) })

@@ -1,4 +1,4 @@
-use Rattle.std.proofs.Common.{◌≡◌, ◌<◌, ◌≤◌, ℕ, length, Some, refl, sym, ap, ◌∙◌, subst, arith}
+use Rattle.std.proofs.Common.{◌≡◌, ◌<◌, ◌≤◌, ℕ, length, Some, refl, ap, ◌∙◌, arith}
 use Rattle.std.proofs.lemmas.List.{length-map}
 use Rattle.lr_theory.specs.LongChains.{GoesPast}
 use Rattle.lrtable.specs.CellViews.{targets_of}
@@ -25,31 +25,22 @@ index_below-requires g c =
     let lt = goto_inside c.args.stable.now (number c.args.state.0) (targets_of number c.state_gotos-row.result.now) c.state_gotos-row.ensures.whole c.state_gotos-row.ensures.targets c.gotos.index c.goto_of_row-number.result.0 (number c.goto_of_row-number.result.1.0) c.goto_of_row-number.ensures in
     omega (arith, lt, c.rules_len.ensures)
 
-pub long_token-requires-clause-above : goal.long_token-requires-clause-above
-long_token-requires-clause-above g c = λ q e.
+pub is_quiet-requires-clause-above : goal.is_quiet-requires-clause-above
+is_quiet-requires-clause-above g c = c.requires.table.is_table.targets _ _ _ (there g (goal.at.is_quiet-requires-clause-above g c).After-above-1)
+
+pub least_long-requires-clause-above : goal.least_long-requires-clause-above
+least_long-requires-clause-above g c = λ q e.
     let number = g.S.IndexStorage.number in
     let same : Some (number c.goto_of_row-number.result.1.0) ≡ Some q = e in
-    c.requires.table.is_table.targets _ _ q (there g (goal.at.long_token-requires-clause-above g c).After-above-1 ∙ same)
+    c.requires.table.is_table.targets _ _ q (there g (goal.at.least_long-requires-clause-above g c).After-above-1 ∙ same)
 
 pub gotos-preserved-then-is_quiet : goal.gotos-preserved-then-is_quiet
 gotos-preserved-then-is_quiet g c = λ x.
     let number = g.S.IndexStorage.number in
-    row_more (targets_of number c.state_gotos-row.result.now) _ c.gotos.index c.goto_of_row-number.result.0 (number c.goto_of_row-number.result.1.0) (c.gotos.invariant x) c.goto_of_row-number.ensures
-    (λ u h. c.is_quiet.ensures c.if-is_quiet.true x u (subst (λ r. GoesPast c.args.grm.now.grammar (automaton_of x c.args.stable.now) c.args.limit (number c.args.state.0) (Some r) u) (sym c.index_below.ensures) h))
-
-pub ends_soon-requires-clause-above : goal.ends_soon-requires-clause-above
-ends_soon-requires-clause-above g c = λ q e.
-    let number = g.S.IndexStorage.number in
-    let same : Some (number c.goto_of_row-number.result.1.0) ≡ Some q = e in
-    c.requires.table.is_table.targets _ _ q (there g (goal.at.ends_soon-requires-clause-above g c).After-above-1 ∙ same)
-
-pub gotos-preserved-then-branch : goal.gotos-preserved-then-branch
-gotos-preserved-then-branch g c = λ x.
-    let number = g.S.IndexStorage.number in
     let p = number c.args.state.0 in
     let q = number c.goto_of_row-number.result.1.0 in
     row_more (targets_of number c.state_gotos-row.result.now) _ c.gotos.index c.goto_of_row-number.result.0 q (c.gotos.invariant x) c.goto_of_row-number.ensures
-    (λ u. at_rule c.args.grm.now.grammar x c.args.stable.now c.requires.table.is_table c.args.limit p c.goto_of_row-number.result.0 q u (there g (goal.at.gotos-preserved-then-branch g c).After-above-1) (c.in_ok-ends_soon.ensures c.if-branch.true x u))
+    (λ u. at_rule c.args.grm.now.grammar x c.args.stable.now c.requires.table.is_table c.args.limit p c.goto_of_row-number.result.0 q u (there g (goal.at.gotos-preserved-then-is_quiet g c).After-above-1) (c.is_quiet.ensures c.if-is_quiet.true x u))
 
 pub gotos-preserved : goal.gotos-preserved
 gotos-preserved g c = λ x.

@@ -1,17 +1,29 @@
-use Rattle.std.proofs.Common.{◌≡◌, of_calls}
-use Rattle.lr_theory.specs.Automaton.{Safe}
-use Rattle.lrtable.specs.Graphs.{GraphValue}
+use Rattle.std.proofs.Common.{ap, ◌∙◌, map}
 use Rattle.lrtable.specs.Tables.{automaton_of}
-use Rattle.lrpar.specs.declared.node.Node.TheVariants as nodes
-use Rattle.lrpar.proofs.FoldsOver.{results_nodes, ok_same}
+use Rattle.lrpar.specs.Made.{end_of, made_by}
+use Rattle.lrpar.specs.NodeValues.{HasNode}
+use Rattle.lrpar.specs.Parsing.{errors_of}
+use Rattle.lrpar.specs.Run.{token_by}
+use Rattle.lrpar.specs.Told.{as_told}
+use Rattle.lrpar.proofs.Valued.{parse_gives}
 use Rattle.lrpar.proofs.parse_generictree.parse_nodes.Goals as goal
 
-pub returns-clause-parsed : goal.returns-clause-parsed
-returns-clause-parsed g c =
+pub returns-in-Ok-tell_errors-clause-parsed : goal.returns-in-Ok-tell_errors-clause-parsed
+returns-in-Ok-tell_errors-clause-parsed g c = λ x safe start.
     let number = g.S.IndexStorage.number in
+    let lex = g.L.Lexeme.lex in
     let G = c.args.grm.now.grammar in
-    let v = c.args.stable.now in
-    results_nodes number g.L.Lexeme.lex g.L.Lexeme.faulty_of G v (g.R.Recoverer.answers c.args.recoverer.now) c.args.items.now (λ (x : GraphValue). Safe G (automaton_of x v)) (λ (x : GraphValue). v.start ≡ x.start)
-    _ _ c.parse_mapped.ensures.parsed
-    (λ x n k. let w = k.1 in ok_same n (nodes.Term x) (search of_calls))
-    (λ p r s ns n k. let w = k.1.4 in (k.1.0, k.1.1, k.1.2, k.1.3, ok_same n (nodes.Nonterm k.1.0 k.1.1) (search of_calls)))
+    let p = c.in-Parsed.parsed in
+    let lexemes = c.in-Parsed.lexemes.items in
+    let found = errors_of number p.errors.items in
+    let o = rw c.in-Parsed.is at (c.in_ok-fault.ensures.parsed x safe start) in
+    let told = c.in-Ok-tell_errors.ensures ∙ ap (λ xs. map (as_told xs) (errors_of number c.as_slice-in-Parsed.result.now)) c.as_slice.ensures.value ∙ ap (λ es. map (as_told lexemes) (errors_of number es)) c.as_slice-in-Parsed.ensures.value in
+    record {
+      lexemes = lexemes;
+      are_items = o.0;
+      are_lexemes = o.1;
+      found = found;
+      parse = parse_gives G (automaton_of x c.args.stable.now) (token_by lex) (made_by g.L.Lexeme.faulty_of lex (end_of lex lexemes)) (g.R.Recoverer.answers c.args.recoverer.now) _ (HasNode number G c.node_left-value.result) lexemes found
+          (λ tree h. c.node_left-value.ensures G tree h) o.2;
+      told = told;
+    }

@@ -1,4 +1,4 @@
-use Rattle.std.proofs.Common.{◌≡◌, ◌<◌, length, sym, subst, arith, rules}
+use Rattle.std.proofs.Common.{◌≡◌, ◌<◌, ℕ, length, get_or, sym, subst, arith, rules}
 use Rattle.std.proofs.lemmas.List.{length-map}
 use Rattle.cfg_numbered.specs.Symbols.{sym_of}
 use Rattle.lr_theory.specs.Itemset.{Goto, GotoLook}
@@ -26,7 +26,8 @@ move_one-requires-clause-production g c =
     let len : c.len-k-end.result ≡ length s.entries.items = search rules in
     let lt : c.items.k < length s.entries.items = omega (arith, test, len) in
     let x = c.index-entry.result.now in
-    let h = reads_item number G.tokens s c.items.k x c.index-looks.result.now c.requires.fits.good c.requires.within lt c.index-entry.ensures c.index-looks.ensures in
+    let found = subst (λ (n : ℕ). c.index-looks.result.now ≡ get_or s.sets.items n c.index-looks.result.now) c.get.ensures c.index-looks.ensures in
+    let h = reads_item number G.tokens s c.items.k x c.index-looks.result.now c.requires.fits.good c.requires.within lt c.index-entry.ensures found in
     let i : Item = record { production = number x.item.pidx.0; dot = number x.item.dot.0 } in
     subst (λ n. n < length G.productions) h.at.production (c.requires.fits.productions c.items.k i h.at.within)
 
@@ -38,7 +39,8 @@ move_one-requires-clause-core g c =
     let test = c.items-test.true in
     let len : c.len-k-end.result ≡ length s.entries.items = search rules in
     let lt : c.items.k < length s.entries.items = omega (arith, test, len) in
-    let h = reads_item number G.tokens s c.items.k c.index-entry.result.now c.index-looks.result.now c.requires.fits.good c.requires.within lt c.index-entry.ensures c.index-looks.ensures in
+    let found = subst (λ (n : ℕ). c.index-looks.result.now ≡ get_or s.sets.items n c.index-looks.result.now) c.get.ensures c.index-looks.ensures in
+    let h = reads_item number G.tokens s c.items.k c.index-entry.result.now c.index-looks.result.now c.requires.fits.good c.requires.within lt c.index-entry.ensures found in
     subst (λ n. IsCoreOf n (shared_core number c.items.moved)) (sym h.width) c.items.invariant.core
 
 pub items-preserved : goal.items-preserved
@@ -53,7 +55,8 @@ items-preserved g c =
     let x = c.index-entry.result.now in
     let bits = c.index-looks.result.now.bits in
     let p = number x.item.pidx.0 in
-    let h = reads_item number G.tokens s c.items.k x c.index-looks.result.now c.requires.fits.good c.requires.within lt c.index-entry.ensures c.index-looks.ensures in
+    let found = subst (λ (n : ℕ). c.index-looks.result.now ≡ get_or s.sets.items n c.index-looks.result.now) c.get.ensures c.index-looks.ensures in
+    let h = reads_item number G.tokens s c.items.k x c.index-looks.result.now c.requires.fits.good c.requires.within lt c.index-entry.ensures found in
     let m = subst (λ d. GrowsBy number (length bits) (Goto G (One p d) X) (GotoLook G (OneLooks p d bits) X) c.items.moved c.move_one.new.moved) c.to_usize-dot.ensures.value c.in_ok-move_one.ensures in
     moved_next number G (shared_core number s) X c.items.k p (number x.item.dot.0) bits c.empty-moved.result c.items.moved c.move_one.new.moved h.at h.bits h.width c.items.invariant m
 

@@ -1,4 +1,4 @@
-use Rattle.std.proofs.Common.{◌∷◌, [], sym, ap, ◌∙◌}
+use Rattle.std.proofs.Common.{◌≡◌, ℕ, ◌++◌, ◌∷◌, [], sym, ap, ◌∙◌, subst}
 use Rattle.std.proofs.lemmas.List.{map-append}
 use Rattle.table_theory.specs.Cells.{is_start_complete}
 use Rattle.lrtable.specs.CellViews.{reduction_of, reductions_of}
@@ -40,7 +40,7 @@ returns-clause-reductions g c = λ rows.
     let G = c.args.grm.now.grammar in
     let e = entry_in number rows c.args.entry in
     kept G e (reductions_of number rows c.args.reductions.now.items) (reductions_of number rows c.push.new.self.items) (whole_other G e (sym c.is_whole.ensures ∙ c.if-not-is_whole.false) (sym c.is_of_start.ensures ∙ c.if-is_of_start.false)).0
-    (ap (λ l. reductions_of number rows l) c.in_ok-push.ensures.items ∙ map-append (reduction_of number rows) c.args.reductions.now.items (record { pidx = c.args.entry.item.pidx; set = c.args.entry.set } ∷ []))
+    (ap (λ l. reductions_of number rows l) (subst (λ (n : ℕ). c.push.new.self.items ≡ c.args.reductions.now.items ++ record { pidx = c.args.entry.item.pidx; set = n } ∷ []) c.get.ensures c.in_ok-push.ensures.items) ∙ map-append (reduction_of number rows) c.args.reductions.now.items (record { pidx = c.args.entry.item.pidx; set = c.args.entry.set } ∷ []))
 
 pub returns-clause-accepts : goal.returns-clause-accepts
 returns-clause-accepts g c = λ rows.

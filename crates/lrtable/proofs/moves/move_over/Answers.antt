@@ -36,8 +36,8 @@ set-requires g c =
     let r = c.rank_of-number.ensures in
     omega (arith, lt, wide, r)
 
-pub returns-in_ok-put_moved-in-Some-clause-marks : goal.returns-in_ok-put_moved-in-Some-clause-marks
-returns-in_ok-put_moved-in-Some-clause-marks g c =
+pub returns-in_ok-insert_moved-in-Some-clause-marks : goal.returns-in_ok-insert_moved-in-Some-clause-marks
+returns-in_ok-insert_moved-in-Some-clause-marks g c =
     let number = g.S.IndexStorage.number in
     let G = c.args.grm.now.grammar in
     let seen = set_of_moved number c.args.rows.now in
@@ -48,10 +48,10 @@ returns-in_ok-put_moved-in-Some-clause-marks g c =
     let r = c.rank_of-number.ensures in
     let sets = c.args.sets.now.items in
     let k = c.rank_of-number.result in
-    keeps_one c.args.marks.now.bits c.set.new.self.bits (map seen sets) (map seen (set sets k c.put_moved.new.items)) k (seen c.put_moved.new.items) (omega (arith, lt, wide, r)) c.set.ensures.bits (map-set seen sets k c.put_moved.new.items)
+    keeps_one c.args.marks.now.bits c.set.new.self.bits (map seen sets) (map seen (set sets k c.insert_moved.new.items)) k (seen c.insert_moved.new.items) (omega (arith, lt, wide, r)) c.set.ensures.bits (map-set seen sets k c.insert_moved.new.items)
 
-pub put_moved-requires : goal.put_moved-requires
-put_moved-requires g c =
+pub insert_moved-requires : goal.insert_moved-requires
+insert_moved-requires g c =
     let number = g.S.IndexStorage.number in
     let G = c.args.grm.now.grammar in
     let n = c.in-Some.ensures in
@@ -59,16 +59,16 @@ put_moved-requires g c =
     let range = c.start_prod.ensures.well_formed.symbols (number c.args.pidx.0) c.args.dot X n in
     (fits_there number c.args.rows.now G c.args.sets.now.items c.rank_of-number.result c.index_mut-set.result.now (number c.args.pidx.0) c.args.dot X range n c.rank_of-number.ensures c.requires.count c.requires.good c.index_mut-set.ensures.value).ascends
 
-pub returns-in_ok-put_moved-in-Some-clause-gains : goal.returns-in_ok-put_moved-in-Some-clause-gains
-returns-in_ok-put_moved-in-Some-clause-gains g c =
+pub returns-in_ok-insert_moved-in-Some-clause-gains : goal.returns-in_ok-insert_moved-in-Some-clause-gains
+returns-in_ok-insert_moved-in-Some-clause-gains g c =
     let number = g.S.IndexStorage.number in
     let G = c.args.grm.now.grammar in
     let n = c.in-Some.ensures in
     let X = sym_of number c.in-Some.symbol in
     let range = c.start_prod.ensures.well_formed.symbols (number c.args.pidx.0) c.args.dot X n in
-    let put = c.in_ok-put_moved-in-Some.ensures in
+    let put = c.in_ok-insert_moved-in-Some.ensures in
     one_moved number c.args.rows.now G c.args.sets.now.items c.rank_of-number.result c.index_mut-set.result.now (number c.args.pidx.0) c.args.dot X range n c.rank_of-number.ensures c.requires.count c.requires.good c.index_mut-set.ensures.value
-    c.put_moved.new.items _ put.0 refl c.dot_behind.ensures c.requires.width c.requires.fresh put.1 put.2
+    c.insert_moved.new.items _ put.0 refl c.dot_behind.ensures c.requires.width c.requires.fresh put.1 put.2
 
 pub returns-in-None-clause-gains : goal.returns-in-None-clause-gains
 returns-in-None-clause-gains g c =

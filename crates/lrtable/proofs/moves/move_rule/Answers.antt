@@ -19,8 +19,8 @@ prods-init g c =
       marks = keeps_same c.args.marks.now.bits (map (set_of_moved number c.args.rows.now) c.args.sets.now.items);
     }
 
-pub move_over-requires : goal.move_over-requires
-move_over-requires g c =
+pub move_first-requires : goal.move_first-requires
+move_first-requires g c =
     let number = g.S.IndexStorage.number in
     let G = c.args.grm.now.grammar in
     let A = number c.args.ridx.0 in
@@ -46,8 +46,8 @@ prods-preserved g c =
     let A = number c.args.ridx.0 in
     let n = listed_prod number c.rule_to_prods-prods.result.now (productions_of G A) c.prods.k c.index-prods-k.result c.rule_to_prods-prods.ensures c.prods-test.true c.index-prods-k.is in
     record {
-      gains = listed_more G A c.prods.k (number c.index-prods-k.result.0) (row_from c.args.rows.now c.args.source) (map (set_of_moved number c.args.rows.now) c.args.sets.now.items) (map (set_of_moved number c.args.rows.now) c.prods.sets.items) (map (set_of_moved number c.args.rows.now) c.move_over.new.sets.items) n.0 c.prods.invariant.gains c.in_ok-move_over.ensures.gains;
-      marks = keeps_next c.args.marks.now.bits (map (set_of_moved number c.args.rows.now) c.args.sets.now.items) c.prods.marks.bits (map (set_of_moved number c.args.rows.now) c.prods.sets.items) c.move_over.new.marks.bits (map (set_of_moved number c.args.rows.now) c.move_over.new.sets.items) c.prods.invariant.marks c.in_ok-move_over.ensures.marks;
+      gains = listed_more G A c.prods.k (number c.index-prods-k.result.0) (row_from c.args.rows.now c.args.source) (map (set_of_moved number c.args.rows.now) c.args.sets.now.items) (map (set_of_moved number c.args.rows.now) c.prods.sets.items) (map (set_of_moved number c.args.rows.now) c.move_first.new.sets.items) n.0 c.prods.invariant.gains c.in_ok-move_first.ensures.gains;
+      marks = keeps_next c.args.marks.now.bits (map (set_of_moved number c.args.rows.now) c.args.sets.now.items) c.prods.marks.bits (map (set_of_moved number c.args.rows.now) c.prods.sets.items) c.move_first.new.marks.bits (map (set_of_moved number c.args.rows.now) c.move_first.new.sets.items) c.prods.invariant.marks c.in_ok-move_first.ensures.marks;
     }
 
 pub returns-clause-gains : goal.returns-clause-gains

@@ -1,4 +1,4 @@
-use Rattle.std.proofs.Common.{◌≡◌, ℕ, ◌<◌, Bool, false, List, length, map, sym, ap, ap₂, ◌∙◌, subst, arith, rules, length-set}
+use Rattle.std.proofs.Common.{◌≡◌, ℕ, ◌<◌, Bool, false, List, length, map, refl, sym, ap, ap₂, ◌∙◌, subst, arith, rules, length-set}
 use Rattle.std.proofs.lemmas.List.{length-map}
 use Rattle.std.specs.declared.alloc.Global.{Global}
 use Rattle.std.specs.declared.vec.Vec.{Vec}
@@ -12,6 +12,7 @@ use Rattle.lrtable.specs.States.{StateValue, no_state, state_at, AreStates, AreB
 use Rattle.lrtable.specs.StateViews.{value_of, core_of_set, edge_of_pair, edges_of}
 use Rattle.lrtable.specs.Stepping.{FitsCore, IsClosureOf}
 use Rattle.lrtable.specs.TakenAgain.{core_noted}
+use Rattle.lrtable.proofs.Copies.{first_copies}
 use Rattle.lrtable.proofs.CoreSteps.{map_at}
 use Rattle.lrtable.proofs.Quiet.{quiet_off}
 use Rattle.lrtable.proofs.Stepping.{reached_fits, reached_kernel, off_states, off_buckets, next_taken, none_handled, step_reached, step_less}
@@ -52,7 +53,7 @@ retake_all-requires g c =
     let at = map_at (value_of number) c.args.states.now.items c.args.number c.index-state.result.now no_state low c.index-state.ensures in
     let own = core_noted number c.note.new.self c.new-rows.result in
     let es = edges_of number c.note.new.self.edges.items in
-    let rows = ap (λ (r : LookRows). r.own) c.new-rows.ensures ∙ (ap rows_in c.as_slice-2.ensures.value ∙ (c.in_ok-own.ensures ∙ ap rows_in c.as_slice.ensures.value)) in
+    let rows = ap (λ (r : LookRows). r.own) c.new-rows.ensures ∙ (first_copies c.copy_looks.new.own.items c.deref.result.now c.as_slice.result.now c.len-count.result c.deref.ensures.value (c.len-count.ensures ∙ (c.index-state.result.now.core.looks.ok.0 ∙ sym (ap length c.as_slice.ensures.value))) c.in_ok-copy_looks.ensures.copied ∙ ap rows_in c.as_slice.ensures.value) in
     let noted : own ≡ core_of_set number c.index-state.result.now.core = ap₂ (λ (i : List Item) (r : List (List Bool)). record { items = i; rows = r }) c.in_ok-note.ensures.items rows in
     let same : own ≡ (state_at states c.args.number).core = noted ∙ sym (ap (λ (v : StateValue). v.core) at) in
     let alike = c.in_ok-note.ensures.edges ∙ sym (ap (λ (v : StateValue). v.edges) at) in
@@ -99,7 +100,7 @@ returns-in_err-retake_all-clause-many g c = λ e.
     let at = map_at (value_of number) c.args.states.now.items c.args.number c.index-state.result.now no_state low c.index-state.ensures in
     let own = core_noted number c.note.new.self c.new-rows.result in
     let es = edges_of number c.note.new.self.edges.items in
-    let rows = ap (λ (r : LookRows). r.own) c.new-rows.ensures ∙ (ap rows_in c.as_slice-2.ensures.value ∙ (c.in_ok-own.ensures ∙ ap rows_in c.as_slice.ensures.value)) in
+    let rows = ap (λ (r : LookRows). r.own) c.new-rows.ensures ∙ (first_copies c.copy_looks.new.own.items c.deref.result.now c.as_slice.result.now c.len-count.result c.deref.ensures.value (c.len-count.ensures ∙ (c.index-state.result.now.core.looks.ok.0 ∙ sym (ap length c.as_slice.ensures.value))) c.in_ok-copy_looks.ensures.copied ∙ ap rows_in c.as_slice.ensures.value) in
     let noted : own ≡ core_of_set number c.index-state.result.now.core = ap₂ (λ (i : List Item) (r : List (List Bool)). record { items = i; rows = r }) c.in_ok-note.ensures.items rows in
     let same : own ≡ (state_at states c.args.number).core = noted ∙ sym (ap (λ (v : StateValue). v.core) at) in
     let alike = c.in_ok-note.ensures.edges ∙ sym (ap (λ (v : StateValue). v.edges) at) in
@@ -119,7 +120,7 @@ returns-clause-reached g c =
     let at = map_at (value_of number) c.args.states.now.items c.args.number c.index-state.result.now no_state low c.index-state.ensures in
     let own = core_noted number c.note.new.self c.new-rows.result in
     let es = edges_of number c.note.new.self.edges.items in
-    let rows = ap (λ (r : LookRows). r.own) c.new-rows.ensures ∙ (ap rows_in c.as_slice-2.ensures.value ∙ (c.in_ok-own.ensures ∙ ap rows_in c.as_slice.ensures.value)) in
+    let rows = ap (λ (r : LookRows). r.own) c.new-rows.ensures ∙ (first_copies c.copy_looks.new.own.items c.deref.result.now c.as_slice.result.now c.len-count.result c.deref.ensures.value (c.len-count.ensures ∙ (c.index-state.result.now.core.looks.ok.0 ∙ sym (ap length c.as_slice.ensures.value))) c.in_ok-copy_looks.ensures.copied ∙ ap rows_in c.as_slice.ensures.value) in
     let noted : own ≡ core_of_set number c.index-state.result.now.core = ap₂ (λ (i : List Item) (r : List (List Bool)). record { items = i; rows = r }) c.in_ok-note.ensures.items rows in
     let same : own ≡ (state_at states c.args.number).core = noted ∙ sym (ap (λ (v : StateValue). v.core) at) in
     let alike = c.in_ok-note.ensures.edges ∙ sym (ap (λ (v : StateValue). v.edges) at) in
@@ -140,7 +141,7 @@ returns-clause-less g c =
     let at = map_at (value_of number) c.args.states.now.items c.args.number c.index-state.result.now no_state low c.index-state.ensures in
     let own = core_noted number c.note.new.self c.new-rows.result in
     let es = edges_of number c.note.new.self.edges.items in
-    let rows = ap (λ (r : LookRows). r.own) c.new-rows.ensures ∙ (ap rows_in c.as_slice-2.ensures.value ∙ (c.in_ok-own.ensures ∙ ap rows_in c.as_slice.ensures.value)) in
+    let rows = ap (λ (r : LookRows). r.own) c.new-rows.ensures ∙ (first_copies c.copy_looks.new.own.items c.deref.result.now c.as_slice.result.now c.len-count.result c.deref.ensures.value (c.len-count.ensures ∙ (c.index-state.result.now.core.looks.ok.0 ∙ sym (ap length c.as_slice.ensures.value))) c.in_ok-copy_looks.ensures.copied ∙ ap rows_in c.as_slice.ensures.value) in
     let noted : own ≡ core_of_set number c.index-state.result.now.core = ap₂ (λ (i : List Item) (r : List (List Bool)). record { items = i; rows = r }) c.in_ok-note.ensures.items rows in
     let same : own ≡ (state_at states c.args.number).core = noted ∙ sym (ap (λ (v : StateValue). v.core) at) in
     let alike = c.in_ok-note.ensures.edges ∙ sym (ap (λ (v : StateValue). v.edges) at) in

@@ -1,4 +1,4 @@
-use Rattle.std.proofs.Common.{◌≡◌, ◌∙◌, ℕ, Bool, List, false, length, map, sym, ap, subst, arith, rules, length-set}
+use Rattle.std.proofs.Common.{◌≡◌, ◌∙◌, ℕ, Bool, List, false, length, map, refl, sym, ap, subst, arith, rules, length-set}
 use Rattle.std.specs.Prelude.{IsErrOf}
 use Rattle.std.proofs.lemmas.List.{length-map}
 use Rattle.std.specs.declared.alloc.Global.{Global}
@@ -14,6 +14,7 @@ use Rattle.lrtable.specs.States.{StateValue, no_state, state_at, AreStates, AreB
 use Rattle.lrtable.proofs.Quiet.{quiet_off}
 use Rattle.lrtable.specs.StateViews.{value_of, core_of_set}
 use Rattle.lrtable.specs.Stepping.{FitsCore, AreGotos}
+use Rattle.lrtable.proofs.Copies.{first_copies}
 use Rattle.lrtable.proofs.CoreSteps.{map_at}
 use Rattle.lrtable.proofs.Stepping.{reached_fits, reached_kernel, off_states, off_buckets, all_fit, next_taken, gotos_of, none_handled, step_reached, step_less}
 use Rattle.lrtable.specs.declared.states.BuildError.TheVariants as faults
@@ -56,7 +57,7 @@ pub place_all-requires-clause-marked : goal.place_all-requires-clause-marked
 place_all-requires-clause-marked g c =
     let number = g.S.IndexStorage.number in
     let rules = c.gotos.new.closer.opening.rows in
-    let rows : c.new-rows.result ≡ record { own = rows_in c.index.result.now.core.looks.items; rules = rules } = c.new-rows.ensures ∙ ap (λ (l : List (List Bool)). record { own = l; rules = rules }) (ap rows_in c.as_slice-2.ensures.value ∙ (c.in_ok-own.ensures ∙ ap rows_in c.as_slice.ensures.value)) in
+    let rows : c.new-rows.result ≡ record { own = rows_in c.index.result.now.core.looks.items; rules = rules } = c.new-rows.ensures ∙ ap (λ (l : List (List Bool)). record { own = l; rules = rules }) (first_copies c.copy_looks.new.own.items c.deref.result.now c.as_slice.result.now c.len-count.result c.deref.ensures.value (c.len-count.ensures ∙ (c.index.result.now.core.looks.ok.0 ∙ sym (ap length c.as_slice.ensures.value))) c.in_ok-copy_looks.ensures.copied ∙ ap rows_in c.as_slice.ensures.value) in
     subst (λ (r : LookRows). AreMarked c.gotos.new.marks.bits (map (set_of_moved number r) c.gotos.new.sets.items)) (sym rows) c.in_ok-gotos.ensures.marked
 
 pub place_all-requires-clause-sets : goal.place_all-requires-clause-sets
@@ -65,7 +66,7 @@ place_all-requires-clause-sets g c =
     let G = c.args.grm.now.grammar in
     let core = map_of (core_of_set number c.index.result.now.core) in
     let rules = c.gotos.new.closer.opening.rows in
-    let rows : c.new-rows.result ≡ record { own = rows_in c.index.result.now.core.looks.items; rules = rules } = c.new-rows.ensures ∙ ap (λ (l : List (List Bool)). record { own = l; rules = rules }) (ap rows_in c.as_slice-2.ensures.value ∙ (c.in_ok-own.ensures ∙ ap rows_in c.as_slice.ensures.value)) in
+    let rows : c.new-rows.result ≡ record { own = rows_in c.index.result.now.core.looks.items; rules = rules } = c.new-rows.ensures ∙ ap (λ (l : List (List Bool)). record { own = l; rules = rules }) (first_copies c.copy_looks.new.own.items c.deref.result.now c.as_slice.result.now c.len-count.result c.deref.ensures.value (c.len-count.ensures ∙ (c.index.result.now.core.looks.ok.0 ∙ sym (ap length c.as_slice.ensures.value))) c.in_ok-copy_looks.ensures.copied ∙ ap rows_in c.as_slice.ensures.value) in
     all_fit G (Closure G (HasItem core)) (ClosureLook G (HasItem core) (HasLook core)) (map (set_of_moved number c.new-rows.result) c.gotos.new.sets.items)
     (subst (λ (r : LookRows). AreGotos G (Closure G (HasItem core)) (ClosureLook G (HasItem core) (HasLook core)) (map (set_of_moved number r) c.gotos.new.sets.items)) (sym rows) c.in_ok-gotos.ensures.gotos)
 
@@ -89,7 +90,7 @@ returns-in_err-place_all-clause-many g c = λ e.
     let at = map_at (value_of number) c.args.states.now.items c.args.number c.index.result.now no_state low c.index.ensures in
     let rules = c.gotos.new.closer.opening.rows in
     let taken = c.index.result.now.core in
-    let rows : c.new-rows.result ≡ record { own = rows_in taken.looks.items; rules = rules } = c.new-rows.ensures ∙ ap (λ (l : List (List Bool)). record { own = l; rules = rules }) (ap rows_in c.as_slice-2.ensures.value ∙ (c.in_ok-own.ensures ∙ ap rows_in c.as_slice.ensures.value)) in
+    let rows : c.new-rows.result ≡ record { own = rows_in taken.looks.items; rules = rules } = c.new-rows.ensures ∙ ap (λ (l : List (List Bool)). record { own = l; rules = rules }) (first_copies c.copy_looks.new.own.items c.deref.result.now c.as_slice.result.now c.len-count.result c.deref.ensures.value (c.len-count.ensures ∙ (c.index.result.now.core.looks.ok.0 ∙ sym (ap length c.as_slice.ensures.value))) c.in_ok-copy_looks.ensures.copied ∙ ap rows_in c.as_slice.ensures.value) in
     let sets = map (set_of_moved number c.new-rows.result) c.gotos.new.sets.items in
     let made = subst (λ (r : LookRows). AreGotos G (Closure G (HasItem (map_of (core_of_set number taken)))) (ClosureLook G (HasItem (map_of (core_of_set number taken))) (HasLook (map_of (core_of_set number taken)))) (map (set_of_moved number r) c.gotos.new.sets.items)) (sym rows) c.in_ok-gotos.ensures.gotos in
     let gotos = gotos_of G states h.building c.args.number sets h.matches (subst (λ (v : StateValue). AreGotos G (Closure G (HasItem (map_of v.core))) (ClosureLook G (HasItem (map_of v.core)) (HasLook (map_of v.core))) sets) (sym at) made) in
@@ -107,7 +108,7 @@ returns-clause-reached g c =
     let at = map_at (value_of number) c.args.states.now.items c.args.number c.index.result.now no_state low c.index.ensures in
     let rules = c.gotos.new.closer.opening.rows in
     let taken = c.index.result.now.core in
-    let rows : c.new-rows.result ≡ record { own = rows_in taken.looks.items; rules = rules } = c.new-rows.ensures ∙ ap (λ (l : List (List Bool)). record { own = l; rules = rules }) (ap rows_in c.as_slice-2.ensures.value ∙ (c.in_ok-own.ensures ∙ ap rows_in c.as_slice.ensures.value)) in
+    let rows : c.new-rows.result ≡ record { own = rows_in taken.looks.items; rules = rules } = c.new-rows.ensures ∙ ap (λ (l : List (List Bool)). record { own = l; rules = rules }) (first_copies c.copy_looks.new.own.items c.deref.result.now c.as_slice.result.now c.len-count.result c.deref.ensures.value (c.len-count.ensures ∙ (c.index.result.now.core.looks.ok.0 ∙ sym (ap length c.as_slice.ensures.value))) c.in_ok-copy_looks.ensures.copied ∙ ap rows_in c.as_slice.ensures.value) in
     let sets = map (set_of_moved number c.new-rows.result) c.gotos.new.sets.items in
     let made = subst (λ (r : LookRows). AreGotos G (Closure G (HasItem (map_of (core_of_set number taken)))) (ClosureLook G (HasItem (map_of (core_of_set number taken))) (HasLook (map_of (core_of_set number taken)))) (map (set_of_moved number r) c.gotos.new.sets.items)) (sym rows) c.in_ok-gotos.ensures.gotos in
     let gotos = gotos_of G states h.building c.args.number sets h.matches (subst (λ (v : StateValue). AreGotos G (Closure G (HasItem (map_of v.core))) (ClosureLook G (HasItem (map_of v.core)) (HasLook (map_of v.core))) sets) (sym at) made) in
@@ -125,7 +126,7 @@ returns-clause-less g c =
     let at = map_at (value_of number) c.args.states.now.items c.args.number c.index.result.now no_state low c.index.ensures in
     let rules = c.gotos.new.closer.opening.rows in
     let taken = c.index.result.now.core in
-    let rows : c.new-rows.result ≡ record { own = rows_in taken.looks.items; rules = rules } = c.new-rows.ensures ∙ ap (λ (l : List (List Bool)). record { own = l; rules = rules }) (ap rows_in c.as_slice-2.ensures.value ∙ (c.in_ok-own.ensures ∙ ap rows_in c.as_slice.ensures.value)) in
+    let rows : c.new-rows.result ≡ record { own = rows_in taken.looks.items; rules = rules } = c.new-rows.ensures ∙ ap (λ (l : List (List Bool)). record { own = l; rules = rules }) (first_copies c.copy_looks.new.own.items c.deref.result.now c.as_slice.result.now c.len-count.result c.deref.ensures.value (c.len-count.ensures ∙ (c.index.result.now.core.looks.ok.0 ∙ sym (ap length c.as_slice.ensures.value))) c.in_ok-copy_looks.ensures.copied ∙ ap rows_in c.as_slice.ensures.value) in
     let sets = map (set_of_moved number c.new-rows.result) c.gotos.new.sets.items in
     let made = subst (λ (r : LookRows). AreGotos G (Closure G (HasItem (map_of (core_of_set number taken)))) (ClosureLook G (HasItem (map_of (core_of_set number taken))) (HasLook (map_of (core_of_set number taken)))) (map (set_of_moved number r) c.gotos.new.sets.items)) (sym rows) c.in_ok-gotos.ensures.gotos in
     let gotos = gotos_of G states h.building c.args.number sets h.matches (subst (λ (v : StateValue). AreGotos G (Closure G (HasItem (map_of v.core))) (ClosureLook G (HasItem (map_of v.core)) (HasLook (map_of v.core))) sets) (sym at) made) in

@@ -1,4 +1,4 @@
-use Rattle.std.proofs.Common.{◌≡◌, [], refl, sym, subst, arith, rules}
+use Rattle.std.proofs.Common.{◌≡◌, [], sym, subst, arith, rules}
 use Rattle.std.proofs.lemmas.List.{length-map}
 use Rattle.lrtable.specs.OwnSets.{HaveOwn}
 use Rattle.lrtable.specs.StateViews.{item_of, items_of}
@@ -19,7 +19,7 @@ items-preserved g c =
     let xs = c.args.items.now in
     let k = c.items.set in
     let x = c.index-items-set.result in
-    let e : SharedItem g.row.S.Denot = record { item = x; set = k } in
+    let e : SharedItem g.row.S.Denot = record { item = x; set = c.of.result } in
     let test = c.items-test.true in
     let n = length-map xs (item_of number) in
-    own_next number (items_of number xs) k c.items.entries.items c.push.new.self.items e c.items.invariant (omega (arith, test, n)) refl (λ d. map_at (item_of number) xs k x d (omega (arith, test)) c.index-items-set.is) c.in_ok-push.ensures.items
+    own_next number (items_of number xs) k c.items.entries.items c.push.new.self.items e c.items.invariant (omega (arith, test, n)) c.of.ensures (λ d. map_at (item_of number) xs k x d (omega (arith, test)) c.index-items-set.is) c.in_ok-push.ensures.items

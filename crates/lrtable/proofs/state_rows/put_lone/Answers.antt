@@ -1,11 +1,11 @@
-use Rattle.std.proofs.Common.{◌≡◌, ℕ, ◌+◌, ◌<◌, ◌≤◌, ◌++◌, ◌∷◌, [], true, length, sym, ap, ◌∙◌, subst, arith}
+use Rattle.std.proofs.Common.{◌≡◌, ℕ, ◌+◌, true, ap, ◌∙◌, arith}
 use Rattle.std.specs.declared.ops.Bound.TheVariants.{Unbounded}
 use Rattle.std.proofs.lemmas.List.{map_push}
 use Rattle.lr_theory.specs.Automaton.{Action}
 use Rattle.vob.specs.Walk.{walk}
 use Rattle.lrtable.specs.declared.cells.Action.{Action as TableAction}
 use Rattle.lrtable.specs.declared.cells.Action.TheVariants as actions
-use Rattle.lrtable.specs.CellRows.{StandsAt, filled_row, lone_cells}
+use Rattle.lrtable.specs.CellRows.{filled_row, lone_cells}
 use Rattle.lrtable.specs.CellViews.{action_of, cells_of, targets_of}
 use Rattle.lrtable.proofs.Cursors.{at_start}
 use Rattle.lrtable.proofs.LoneRows.{lone_put, unset_shifts}
@@ -28,6 +28,18 @@ tokens-init g c =
         },
       ),
     )
+
+pub overflow_cast-at : goal.overflow_cast-at
+overflow_cast-at g c =
+    let number = g.S.IndexStorage.number in
+    let bits = c.args.tokens.now.bits in
+    let n = c.tokens.invariant.2.0 in
+    let v = c.tokens.invariant.2.1 in
+    let m : IsNextMark bits n c.in-Some.number c.next.new.self = next_mark bits n c.in-Some.number c.tokens.number-iterator c.next.new.self v.within v.left c.in-Some.ensures.steps in
+    let below = m.below in
+    let width = c.requires.width in
+    let fits = g.met.S.IndexStorage.max_fits in
+    omega (arith, below, width, fits)
 
 pub tokens-preserved : goal.tokens-preserved
 tokens-preserved g c =

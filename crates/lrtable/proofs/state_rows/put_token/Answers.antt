@@ -19,8 +19,7 @@ returns-in_ok-put_cell-in-Some-clause-row g c =
     let e : c.to_usize-number.result ≡ t = c.to_usize-number.ensures.value in
     let p = subst (λ (n : ℕ). IsPlain (reductions_on (reductions_of number sets c.args.parts.now.reductions.items) n) edge a) e c.in-Some.ensures.plain in
     c.in_ok-put_cell-in-Some.ensures
-    ∙ (ap (λ (n : ℕ). old ++ filled n a) e
-    ∙ ap (λ (x : Action). old ++ filled t x) (plain_cell parts t edge a c.requires.edge p c.args.grm.now.grammar (precedences_of c.args.grm.now) c.in-Some.ensures.quiet))
+    ∙ ap (λ (x : Action). old ++ filled t x) (plain_cell parts t edge a c.requires.edge p c.args.grm.now.grammar (precedences_of c.args.grm.now) c.in-Some.ensures.quiet)
 
 pub returns-in_ok-put_cell-in-Some-clause-pairs : goal.returns-in_ok-put_cell-in-Some-clause-pairs
 returns-in_ok-put_cell-in-Some-clause-pairs g c =

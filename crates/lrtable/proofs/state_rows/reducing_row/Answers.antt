@@ -7,6 +7,13 @@ use Rattle.lrtable.proofs.LoneRows.{lone, lone_no_pairs, lone_no_shifts, lone_ro
 use Rattle.lrtable.proofs.TokenReductions.{row_in}
 use Rattle.lrtable.proofs.state_rows.reducing_row.Goals as goal
 
+pub lone_row-requires-clause-width : goal.lone_row-requires-clause-width
+lone_row-requires-clause-width g c =
+    let a = c.len.ensures in
+    let d = c.to_usize.ensures.bound in
+    let u = c.if-len-to_usize.false in
+    omega (arith, a, d, u)
+
 pub returns-clause-row : goal.returns-clause-row
 returns-clause-row g c =
     let number = g.S.IndexStorage.number in

@@ -34,8 +34,7 @@ returns-clause-row g c =
     let edge = state_of number c.args.edge in
     let cell = action_of number c.cell_on-cell.result in
     c.in_ok-put_cell.ensures
-    ∙ (ap (λ (n : ℕ). old ++ filled n cell) c.to_usize.ensures.value
-    ∙ ap (λ (a : Action). old ++ filled t a) (token_cell G (precedences_of c.args.grm.now) parts t c.accepts_on-accepts.result first edge cell c.accepts_on-accepts.ensures (c.in_ok-first.ensures.first ∙ ap (λ l. first_of (reductions_on (reductions_of number sets l) t)) c.as_slice.ensures.value) c.requires.edge c.cell_on-cell.ensures))
+    ∙ ap (λ (a : Action). old ++ filled t a) (token_cell G (precedences_of c.args.grm.now) parts t c.accepts_on-accepts.result first edge cell c.accepts_on-accepts.ensures (c.in_ok-first.ensures.first ∙ ap (λ l. first_of (reductions_on (reductions_of number sets l) t)) c.as_slice.ensures.value) c.requires.edge c.cell_on-cell.ensures)
 
 pub returns-clause-pairs : goal.returns-clause-pairs
 returns-clause-pairs g c =

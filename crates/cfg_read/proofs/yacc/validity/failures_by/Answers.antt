@@ -20,8 +20,7 @@ returns c =
     ∙ ap (λ ws. no_start_rule (words_of ws) (map rule_of c.deref-2.result.now)) c.deref.ensures.value
     ∙ ap (λ rs. no_start_rule (syntax_of c.syntax-x.result.now).starts (map rule_of rs)) c.deref-2.ensures.value
     ∙ ap (λ (s : SyntaxText). no_start_rule s.starts s.rules) same in
-    let words : three ≡ two ++ repeated_words x = c.in_ok-push_repeated_words.ensures ∙ ap (λ (s : SyntaxText). two ++ repeated_words s) same in
     let declarations : four ≡ three ++ repeated_declarations x = c.in_ok-push_repeated_declarations.ensures ∙ ap (λ (s : SyntaxText). three ++ repeated_declarations s) same in
     joined [] one four (no_start_rule x.starts x.rules) (unknown_names x ++ (repeated_words x ++ repeated_declarations x)) start
     (joined one two four (unknown_names x) (repeated_words x ++ repeated_declarations x) c.in_ok-push_unknown_names.ensures
-    (joined two three four (repeated_words x) (repeated_declarations x) words declarations))
+    (joined two three four (repeated_words x) (repeated_declarations x) c.in_ok-push_repeated_words.ensures declarations))

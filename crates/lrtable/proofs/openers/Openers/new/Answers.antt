@@ -1,4 +1,4 @@
-use Rattle.std.proofs.Common.{◌≡◌, ℕ, ◌+◌, ◌<◌, ◌≤◌, List, [], ◌∷◌, ◌++◌, length, get_or, map, sym, ap, ◌∙◌, subst, arith, length-append}
+use Rattle.std.proofs.Common.{List, [], ◌∷◌, length, map, ap, ◌∙◌, subst, arith, length-append}
 use Rattle.std.proofs.lemmas.List.{length-map, map_push}
 use Rattle.std.specs.declared.alloc.Global.{Global}
 use Rattle.std.specs.declared.vec.Vec.{Vec}
@@ -40,3 +40,9 @@ returns g c =
     let auto = c.rules.auto.number-end in
     let end = c.to_usize-number-end.ensures.value ∙ c.rules_len.ensures in
     fronts_all G _ c.start_prod.ensures.well_formed (listed G) (alone G) (omega (arith, m, count, done, auto, end)) (λ A lt. c.rules.invariant.each A (omega (arith, lt, done, end)))
+
+pub invariant_of-result : goal.invariant_of-result
+invariant_of-result g c = λ A lt.
+    let n = length-map c.new.result.items (λ (v : Vec Opener Global). map front_of v.items) in
+    let e = ap length c.new.ensures.items in
+    absurd (omega (arith, lt, n, e))

@@ -7,7 +7,8 @@ use Rattle.lrtable.specs.StateViews.{core_of_set}
 use Rattle.lrtable.specs.Stepping.{IsClosureOf}
 use Rattle.lrtable.proofs.Closing.{sized_on, fronts_fit, look_open}
 use Rattle.lrtable.proofs.OpenLaws.{seeded}
-use Rattle.lrtable.proofs.Seeding.{are_seeds}
+use Rattle.lrtable.proofs.Reaching.{comes_tidy}
+use Rattle.lrtable.proofs.Seeding.{are_seeds, seeds_named}
 use Rattle.lrtable.proofs.opening.Closer.close.Goals as goal
 
 pub seed-requires-clause-sizes : goal.seed-requires-clause-sizes
@@ -18,6 +19,12 @@ close-requires-clause-fit g c =
     let G = c.args.grm.now.grammar in
     let empty = sized_on G c.args.self.now.opening c.clear.new.self c.requires.ready.sizes c.clear.ensures.sizes in
     fronts_fit G c.args.openers.now c.seed.new.self c.requires.openers (sized_on G c.clear.new.self c.seed.new.self empty c.in_ok-seed.ensures.follows.comes.sizes)
+
+pub close-requires-clause-tidy : goal.close-requires-clause-tidy
+close-requires-clause-tidy g c =
+    let G = c.args.grm.now.grammar in
+    let s = map_of (core_of_set g.S.IndexStorage.number c.args.set.now) in
+    comes_tidy (Seeds G (HasItem s)) (SeedsLook G (HasItem s) (HasLook s)) c.clear.new.self c.seed.new.self (seeds_named G s) (λ A t x. absurd (c.clear.ensures.no_look A t x)) c.in_ok-seed.ensures.follows.comes
 
 pub close-requires-clause-waiting : goal.close-requires-clause-waiting
 close-requires-clause-waiting g c =

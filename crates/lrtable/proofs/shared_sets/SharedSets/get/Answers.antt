@@ -1,4 +1,4 @@
-use Rattle.std.proofs.Common.{List, refl, sym, subst}
+use Rattle.std.proofs.Common.{◌≡◌, ℕ, List, get_or, refl, sym, subst}
 use Rattle.lrtable.specs.ItemRows.{IsAt}
 use Rattle.lrtable.specs.Sharing.{keys_of, shared_map}
 use Rattle.lrtable.specs.StateViews.{item_of}
@@ -19,4 +19,5 @@ pub returns : goal.returns
 returns g c =
     let number = g.S.IndexStorage.number in
     let s = c.args.self.now in
-    sym (shared_at number s (shared_map number s) refl c.requires c.index_in-index.result (number c.args.item.now.pidx.0) (number c.args.item.now.dot.0) c.index.result.now c.index-2.result.now (subst (λ (l : List (SharedItem g.row.S.Denot)). IsAt (keys_of number l) c.index_in-index.result (number c.args.item.now.pidx.0) (number c.args.item.now.dot.0)) c.as_slice-2.ensures.value (c.is_at.ensures.here c.if-not-is_at.false)) c.index.ensures c.index-2.ensures)
+    let found = subst (λ (n : ℕ). c.index-2.result.now ≡ get_or s.sets.items n c.index-2.result.now) c.get.ensures c.index-2.ensures in
+    sym (shared_at number s (shared_map number s) refl c.requires c.index_in-index.result (number c.args.item.now.pidx.0) (number c.args.item.now.dot.0) c.index.result.now c.index-2.result.now (subst (λ (l : List (SharedItem g.row.S.Denot)). IsAt (keys_of number l) c.index_in-index.result (number c.args.item.now.pidx.0) (number c.args.item.now.dot.0)) c.as_slice-2.ensures.value (c.is_at.ensures.here c.if-not-is_at.false)) c.index.ensures found)

@@ -1,4 +1,5 @@
-use Rattle.std.proofs.Common.{◌≡◌, ◌≤◌, length, refl, arith, rules}
+use Rattle.std.proofs.Common.{◌≡◌, ◌≤◌, ℕ, length, refl, subst, arith, rules}
+use Rattle.std.specs.List.{insert}
 use Rattle.std.proofs.lemmas.List.{length-map}
 use Rattle.std.proofs.lemmas.Result.{err_from_is_err_and}
 use Rattle.lrtable.specs.StateViews.{item_of}
@@ -36,7 +37,8 @@ returns-clause-added g c =
     put_takes number old new c.args.index e bits c.requires.core c.requires.within c.requires.belongs
     (pushed_keeps vs new.sets.items c.in_ok-own.own bits c.len-set.result pushed c.in_ok-own.ensures.cases last)
     (pushed_lt vs new.sets.items c.in_ok-own.own bits c.len-set.result pushed c.in_ok-own.ensures.cases last)
-    (pushed_row vs new.sets.items c.in_ok-own.own bits c.len-set.result pushed c.in_ok-own.ensures.cases last) c.in_ok-insert.ensures.items
+    (pushed_row vs new.sets.items c.in_ok-own.own bits c.len-set.result pushed c.in_ok-own.ensures.cases last)
+    (subst (λ (n : ℕ). new.entries.items ≡ insert old.entries.items c.args.index (record { item = c.args.item; set = n })) c.of.ensures c.in_ok-insert.ensures.items)
 
 pub returns-clause-grew : goal.returns-clause-grew
 returns-clause-grew g c =

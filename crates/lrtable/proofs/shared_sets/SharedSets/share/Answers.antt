@@ -1,4 +1,4 @@
-use Rattle.std.proofs.Common.{◌≡◌, ℕ, length, rules, refl, sym, ap, ◌∙◌, subst}
+use Rattle.std.proofs.Common.{◌≡◌, ℕ, [], ◌∷◌, ◌++◌, length, rules, refl, sym, ap, ◌∙◌, subst}
 use Rattle.std.specs.List.{insert}
 use Rattle.std.proofs.lemmas.List.Edits.{insert_end}
 use Rattle.lrtable.specs.Meeting.{rows_in, row}
@@ -26,7 +26,8 @@ returns-then-index-len g c =
     let len : c.index_in-index.result ≡ length s.entries.items = c.if-index-len.true ∙ search rules in
     let at = belongs (λ (e : SharedItem g.row.S.Denot). item_of number e.item) s.entries.items c.as_slice.result.now c.as_slice-2.result.now c.index_in-index.result (item_of number c.args.item) c.requires.core.ascends
     c.as_slice.ensures.value c.as_slice-2.ensures.value c.index_in-index.ensures.within c.index_in-index.ensures.below c.index_in-index.ensures.above (c.is_at.ensures.other c.if-is_at.false) in
-    put_shares number s new c.index_in-index.result e c.requires.core c.requires.within at c.requires.set refl (c.in_ok-push.ensures.items ∙ sym (insert_end s.entries.items e) ∙ ap (λ (k : ℕ). insert s.entries.items k e) (sym len))
+    let pushed = subst (λ (n : ℕ). new.entries.items ≡ s.entries.items ++ record { item = c.args.item; set = n } ∷ []) c.of.ensures c.in_ok-push.ensures.items in
+    put_shares number s new c.index_in-index.result e c.requires.core c.requires.within at c.requires.set refl (pushed ∙ sym (insert_end s.entries.items e) ∙ ap (λ (k : ℕ). insert s.entries.items k e) (sym len))
 
 pub returns : goal.returns
 returns g c =
@@ -36,4 +37,5 @@ returns g c =
     let new : SharedSets g.row.S.Denot = record { entries = c.insert.new.self; sets = s.sets } in
     let at = belongs (λ (e : SharedItem g.row.S.Denot). item_of number e.item) s.entries.items c.as_slice.result.now c.as_slice-2.result.now c.index_in-index.result (item_of number c.args.item) c.requires.core.ascends
     c.as_slice.ensures.value c.as_slice-2.ensures.value c.index_in-index.ensures.within c.index_in-index.ensures.below c.index_in-index.ensures.above (c.is_at.ensures.other c.if-is_at.false) in
-    put_shares number s new c.index_in-index.result e c.requires.core c.requires.within at c.requires.set refl c.in_ok-insert.ensures.items
+    put_shares number s new c.index_in-index.result e c.requires.core c.requires.within at c.requires.set refl
+    (subst (λ (n : ℕ). new.entries.items ≡ insert s.entries.items c.index_in-index.result (record { item = c.args.item; set = n })) c.of.ensures c.in_ok-insert.ensures.items)

@@ -23,6 +23,5 @@ returns c =
     ∙ ap (λ ws. base ++ invalid_start_rule (has_name c.rules.result.now) (words_of ws)) c.deref.ensures.value
     ∙ ap (λ (p : List ℕ → Bool). base ++ invalid_start_rule p (syntax_of c.syntax-x.result.now).starts) c.rules.ensures
     ∙ ap (λ (s : SyntaxText). base ++ invalid_start_rule (is_rule x) s.starts) same in
-    let precs : three ≡ two ++ unknown_precs x = c.in_ok-push_unknown_precs.ensures ∙ ap (λ (s : SyntaxText). two ++ unknown_precs s) same in
     joined base one three a (b ++ unknown_precs x) start
-    (joined one two three b (unknown_precs x) c.in_ok-push_unknown_rules.ensures precs)
+    (joined one two three b (unknown_precs x) c.in_ok-push_unknown_rules.ensures c.in_ok-push_unknown_precs.ensures)

@@ -15,7 +15,7 @@ returns-in_err-end-clause-err c =
 pub returns-in_err-item-clause-err : goal.returns-in_err-item-clause-err
 returns-in_err-item-clause-err c =
     let p = err_from_is_err_and c.from_residual-in_err-item.result c.from_residual-in_err-item.ensures.1 in
-    rw (p.1, p.2) (λ l x. fails_at _ _ _ (c.items.invariant.steps l x) (λ k e. no_line_item (ap ends_line (sym c.token_kind_at.ensures.value) ∙ sym c.ends_line.ensures ∙ c.items-test.true) e) c.in_err-item.ensures.err)
+    rw (p.1, p.2) (λ l x. fails_at _ _ _ (c.items.invariant.steps l x) (λ k e. no_line_item (ap ends_line (sym c.token_kind_at-kind.ensures.value) ∙ sym c.ends_line.ensures ∙ c.if-ends_line.false) e) c.in_err-item.ensures.err)
 
 pub returns-in_err-end-2-clause-err : goal.returns-in_err-end-2-clause-err
 returns-in_err-end-2-clause-err c =
@@ -32,5 +32,5 @@ items-preserved c =
       steps = rw pushed (λ l x. join (and_then (c.items.invariant.steps l x) (line_item c.in_ok-item.ensures.ok)) (c.in_ok-end-2.ensures.ok _ _));
     }
 
-pub returns-clause-ok : goal.returns-clause-ok
-returns-clause-ok c = λ l x. and_then (c.items.invariant.steps l x) (list_end (ap ends_line (sym c.token_kind_at.ensures.value) ∙ sym c.ends_line.ensures ∙ c.items-test.false))
+pub returns-then-ends_line-clause-ok : goal.returns-then-ends_line-clause-ok
+returns-then-ends_line-clause-ok c = λ l x. and_then (c.items.invariant.steps l x) (list_end (ap ends_line (sym c.token_kind_at-kind.ensures.value) ∙ sym c.ends_line.ensures ∙ c.if-ends_line.true))

@@ -1,0 +1,23 @@
+use Rattle.std.proofs.Common.{arith}
+use Rattle.lrpar.specs.Fitting.{GoesFrom}
+use Rattle.lrpar.proofs.ItemLists.{below_none, below_more, each_item, item_here}
+use Rattle.lrpar.proofs.parserdata.cells.begin_all.Goals as goal
+
+pub items-init : goal.items-init
+items-init g c = λ A. below_none _ _
+
+pub begun_near-requires-clause-production : goal.begun_near-requires-clause-production
+begun_near-requires-clause-production g c =
+    let number = g.S.IndexStorage.number in
+    c.requires.items (number c.item_at.result.0.0) (number c.item_at.result.1.0) (item_here c.args.items.now c.items.index (number c.item_at.result.0.0) (number c.item_at.result.1.0) (omega arith) c.item_at.ensures.production c.item_at.ensures.dot)
+
+pub items-preserved : goal.items-preserved
+items-preserved g c = λ A.
+    let number = g.S.IndexStorage.number in
+    let here = rw c.in-Some.is at c.begun_near.ensures in
+    below_more c.args.items.now (GoesFrom c.args.grm.now.grammar c.args.stable.now (number c.args.state.0) A) c.items.index (number c.item_at.result.0.0) (number c.item_at.result.1.0) (c.items.invariant A) c.item_at.ensures.production c.item_at.ensures.dot (here A)
+
+pub returns : goal.returns
+returns g c = λ _ A p d h.
+    let number = g.S.IndexStorage.number in
+    each_item c.args.items.now (GoesFrom c.args.grm.now.grammar c.args.stable.now (number c.args.state.0) A) c.items.index (omega arith) (c.items.invariant A) p d h

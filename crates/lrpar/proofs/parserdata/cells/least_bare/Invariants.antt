@@ -1,7 +1,0 @@
-use Rattle.lrpar.specs.Fitting.{LeastNot}
-use Rattle.lrpar.specs.Reducing.{rule_number}
-use Rattle.lrpar.proofs.LeastNumbers.{GoesBelow}
-use Rattle.lrpar.proofs.parserdata.cells.least_bare.Given as goal
-
-abbrev pub invariant-items : goal.invariant-items
-invariant-items g l = LeastNot (GoesBelow l.grm.grammar l.items l.stable (g.S.IndexStorage.number l.state.0) l.index) (rule_number g.S.IndexStorage.number l.least)

@@ -1,0 +1,76 @@
+use Rattle.std.proofs.Common.{map, set, refl, arith}
+use Rattle.std.proofs.lemmas.List.{map-set}
+use Rattle.cfg_numbered.specs.Symbols.{sym_of}
+use Rattle.lrtable.specs.MovedItems.{set_of_moved}
+use Rattle.lrtable.proofs.Exact.{dot_within}
+use Rattle.lrtable.proofs.FreshSets.{fits_there, one_moved}
+use Rattle.lrtable.proofs.MarkedSets.{keeps_one}
+use Rattle.lrtable.proofs.Moving.{no_move}
+use Rattle.lrtable.proofs.Ranks.{rank_below}
+use Rattle.lrtable.proofs.moves.move_first.Goals as goal
+
+pub dot_behind-requires-clause-dot : goal.dot_behind-requires-clause-dot
+dot_behind-requires-clause-dot g c =
+    let number = g.S.IndexStorage.number in
+    dot_within c.args.grm.now.grammar (number c.args.pidx.0) 0 (sym_of number c.in-Some.symbol) c.in-Some.ensures
+
+pub index_mut-set-requires : goal.index_mut-set-requires
+index_mut-set-requires g c =
+    let number = g.S.IndexStorage.number in
+    let G = c.args.grm.now.grammar in
+    let n = c.in-Some.ensures in
+    let range = c.start_prod.ensures.well_formed.symbols (number c.args.pidx.0) 0 (sym_of number c.in-Some.symbol) n in
+    let lt = rank_below G (sym_of number c.in-Some.symbol) range in
+    let count = c.requires.count in
+    let r = c.rank_of-rank.ensures in
+    omega (arith, lt, count, r)
+
+pub set-requires : goal.set-requires
+set-requires g c =
+    let number = g.S.IndexStorage.number in
+    let G = c.args.grm.now.grammar in
+    let n = c.in-Some.ensures in
+    let range = c.start_prod.ensures.well_formed.symbols (number c.args.pidx.0) 0 (sym_of number c.in-Some.symbol) n in
+    let lt = rank_below G (sym_of number c.in-Some.symbol) range in
+    let wide = c.requires.wide in
+    let r = c.rank_of-rank.ensures in
+    omega (arith, lt, wide, r)
+
+pub returns-in_ok-put_moved-in-Some-clause-marks : goal.returns-in_ok-put_moved-in-Some-clause-marks
+returns-in_ok-put_moved-in-Some-clause-marks g c =
+    let number = g.S.IndexStorage.number in
+    let G = c.args.grm.now.grammar in
+    let seen = set_of_moved number c.args.rows.now in
+    let n = c.in-Some.ensures in
+    let range = c.start_prod.ensures.well_formed.symbols (number c.args.pidx.0) 0 (sym_of number c.in-Some.symbol) n in
+    let lt = rank_below G (sym_of number c.in-Some.symbol) range in
+    let wide = c.requires.wide in
+    let r = c.rank_of-rank.ensures in
+    let sets = c.args.sets.now.items in
+    let k = c.rank_of-rank.result in
+    keeps_one c.args.marks.now.bits c.set.new.self.bits (map seen sets) (map seen (set sets k c.put_moved.new.items)) k (seen c.put_moved.new.items) (omega (arith, lt, wide, r)) c.set.ensures.bits (map-set seen sets k c.put_moved.new.items)
+
+pub put_moved-requires : goal.put_moved-requires
+put_moved-requires g c =
+    let number = g.S.IndexStorage.number in
+    let G = c.args.grm.now.grammar in
+    let n = c.in-Some.ensures in
+    let X = sym_of number c.in-Some.symbol in
+    let range = c.start_prod.ensures.well_formed.symbols (number c.args.pidx.0) 0 X n in
+    (fits_there number c.args.rows.now G c.args.sets.now.items c.rank_of-rank.result c.index_mut-set.result.now (number c.args.pidx.0) 0 X range n c.rank_of-rank.ensures c.requires.count c.requires.good c.index_mut-set.ensures.value).ascends
+
+pub returns-in_ok-put_moved-in-Some-clause-gains : goal.returns-in_ok-put_moved-in-Some-clause-gains
+returns-in_ok-put_moved-in-Some-clause-gains g c =
+    let number = g.S.IndexStorage.number in
+    let G = c.args.grm.now.grammar in
+    let n = c.in-Some.ensures in
+    let X = sym_of number c.in-Some.symbol in
+    let range = c.start_prod.ensures.well_formed.symbols (number c.args.pidx.0) 0 X n in
+    let put = c.in_ok-put_moved-in-Some.ensures in
+    one_moved number c.args.rows.now G c.args.sets.now.items c.rank_of-rank.result c.index_mut-set.result.now (number c.args.pidx.0) 0 X range n c.rank_of-rank.ensures c.requires.count c.requires.good c.index_mut-set.ensures.value
+    c.put_moved.new.items _ put.0 refl c.dot_behind.ensures c.requires.width c.requires.fresh put.1 put.2
+
+pub returns-in-None-clause-gains : goal.returns-in-None-clause-gains
+returns-in-None-clause-gains g c =
+    let number = g.S.IndexStorage.number in
+    no_move c.args.grm.now.grammar (number c.args.pidx.0) 0 _ (map (set_of_moved number c.args.rows.now) c.args.sets.now.items) c.requires.good c.in-None.ensures

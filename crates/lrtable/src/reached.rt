@@ -1,0 +1,167 @@
+//! What each rule leads to by the rules that stand first in productions: closed once, so that the closing of a core takes
+//! each rule behind a dot alone.
+
+ghost use Rattle.std.specs.Prelude.{◌≡◌, ◌<◌, ◌↔◌, ◌∷◌, ℕ, length, map, get_or, [], IfOk, IsTrue, OnOk};
+ghost use Rattle.std.specs.List.{Contains};
+ghost use Rattle.cfg_numbered.specs.Sets.{is_set};
+ghost use Rattle.lrtable.specs.Fronts.{front_of};
+ghost use Rattle.lrtable.specs.Opening.{Front, AllFit, HasFront, IsTidy, SameSizes};
+ghost use Rattle.lrtable.specs.Pruning.{Marks};
+ghost use Rattle.lrtable.specs.Reaching.{IsReachedBy, MayBeReachedBy, PassedIn, PassesTo};
+
+use crate::openers::{Opener, Openers};
+use crate::opening::Opening;
+use crate::pruning::mark;
+use std::alloc::{AllocError, Global};
+use vob::Vob;
+
+/// Marks the rule of an opener, if what follows the rule is nullable.
+fn mark_passed(
+    opener: &Opener,
+    passed: &mut Vob,
+    waiting: &mut Vec<usize>,
+) -> Result<(), AllocError>
+    requires { opener.now.rule < length passed.old.bits }
+    ensures { OnOk result (Marks (PassedIn (front_of opener.now ∷ [])) passed.old.bits passed.new.bits waiting.old.items waiting.new.items) }
+{
+    if opener.rest.nullable {
+        mark(passed, waiting, opener.rule)?;
+    }
+    Ok(())
+}
+
+/// The same of all openers of a rule.
+fn mark_all_passed(
+    openers: &[Opener],
+    passed: &mut Vob,
+    waiting: &mut Vec<usize>,
+) -> Result<(), AllocError>
+    requires { (e : Front) → Contains (map front_of openers.now) e → e.rule < length passed.old.bits }
+    ensures { OnOk result (Marks (PassedIn (map front_of openers.now)) passed.old.bits passed.new.bits waiting.old.items waiting.new.items) }
+{
+    'openers: for opener in openers {
+        mark_passed(opener, passed, waiting)?;
+    }
+    Ok(())
+}
+
+/// Marks the rules to which a rule passes its lookaheads on, itself among them.
+fn mark_reached(
+    openers: &Openers,
+    passed: &mut Vob,
+    waiting: &mut Vec<usize>,
+    rule: usize,
+) -> Result<(), AllocError>
+    requires rule { rule < length openers.now }
+    requires width { length passed.old.bits ≡ length openers.now }
+    requires fit { (A : ℕ) (e : Front) → HasFront openers.now A e → e.rule < length openers.now }
+    requires none_waits { waiting.old.items ≡ [] }
+    ensures width { OnOk result (length passed.new.bits ≡ length openers.now) }
+    ensures passed { OnOk result ((B : ℕ) → IsTrue (is_set passed.new.bits B) ↔ PassesTo openers.now rule B) }
+    ensures none_waits { OnOk result (waiting.new.items ≡ []) }
+{
+    passed.set_all(false);
+    mark(passed, waiting, rule)?;
+    'waiting: while let Some(number) = waiting.pop() {
+        mark_all_passed(openers.of_rule(number), passed, waiting)?;
+    }
+    Ok(())
+}
+
+/// What a rule leads to.
+fn reached_by(
+    alloc: Global,
+    openers: &Openers,
+    opening: &mut Opening,
+    passed: &mut Vob,
+    looks: &mut Vob,
+    waiting: &mut Vec<usize>,
+    rule: usize,
+) -> Result<Vec<Opener>, AllocError>
+    requires rule { rule < length openers.now }
+    requires tidy { IsTidy opening.old }
+    requires opened { length opening.old.opened ≡ length openers.now }
+    requires rows { length opening.old.rows ≡ length openers.now }
+    requires passed { length passed.old.bits ≡ length openers.now }
+    requires looks { length looks.old.bits ≡ opening.old.tokens }
+    requires fit { (A : ℕ) → AllFit (length openers.now) opening.old.tokens (get_or openers.now A []) }
+    requires none_waits { waiting.old.items ≡ [] }
+    ensures reached { IfOk result (λ v. IsReachedBy openers.now opening.old.tokens rule (map front_of v.items)) }
+    ensures tidy { OnOk result (IsTidy opening.new) }
+    ensures sizes { OnOk result (SameSizes opening.old opening.new) }
+    ensures passed { OnOk result (length passed.new.bits ≡ length openers.now) }
+    ensures looks { OnOk result (length looks.new.bits ≡ opening.old.tokens) }
+    ensures none_waits { OnOk result (waiting.new.items ≡ []) }
+{
+    mark_reached(openers, passed, waiting, rule)?;
+    opening.open_from(openers, looks, waiting, rule)?;
+    let list = opening.listed(alloc, passed)?;
+    Ok(list)
+}
+
+/// The same if the rule is marked, and else no list.
+fn reached_if_marked(
+    alloc: Global,
+    openers: &Openers,
+    opening: &mut Opening,
+    passed: &mut Vob,
+    looks: &mut Vob,
+    waiting: &mut Vec<usize>,
+    marks: &Vob,
+    rule: usize,
+) -> Result<Vec<Opener>, AllocError>
+    requires rule { rule < length openers.now }
+    requires tidy { IsTidy opening.old }
+    requires opened { length opening.old.opened ≡ length openers.now }
+    requires rows { length opening.old.rows ≡ length openers.now }
+    requires passed { length passed.old.bits ≡ length openers.now }
+    requires looks { length looks.old.bits ≡ opening.old.tokens }
+    requires fit { (A : ℕ) → AllFit (length openers.now) opening.old.tokens (get_or openers.now A []) }
+    requires none_waits { waiting.old.items ≡ [] }
+    ensures reached { IfOk result (λ v. MayBeReachedBy openers.now opening.old.tokens rule (map front_of v.items)) }
+    ensures tidy { OnOk result (IsTidy opening.new) }
+    ensures sizes { OnOk result (SameSizes opening.old opening.new) }
+    ensures passed { OnOk result (length passed.new.bits ≡ length openers.now) }
+    ensures looks { OnOk result (length looks.new.bits ≡ opening.old.tokens) }
+    ensures none_waits { OnOk result (waiting.new.items ≡ []) }
+{
+    match marks.get(rule) {
+        Some(true) => {
+            let list = reached_by(alloc, openers, opening, passed, looks, waiting, rule)?;
+            Ok(list)
+        }
+        _ => Ok(Vec::new(alloc)),
+    }
+}
+
+/// Openers with what each marked rule leads to.
+pub(crate) fn with_reached(
+    alloc: Global,
+    openers: Openers,
+    marks: &Vob,
+    tokens: usize,
+) -> Result<Openers, AllocError>
+    requires { (A : ℕ) → AllFit (length openers) tokens (get_or openers A []) }
+    ensures { IfOk result (λ o. o ≡ openers) }
+{
+    let rules = openers.len();
+    let mut opening = Opening::empty(alloc, rules, tokens)?;
+    let mut passed = Vob::from_elem(alloc, false, rules)?;
+    let mut looks = Vob::from_elem(alloc, false, tokens)?;
+    let mut waiting = Vec::new(alloc);
+    let mut reached = Vec::with_capacity(alloc, rules)?;
+    'rules: for rule in 0..rules {
+        let list = reached_if_marked(
+            alloc,
+            &openers,
+            &mut opening,
+            &mut passed,
+            &mut looks,
+            &mut waiting,
+            marks,
+            rule,
+        )?;
+        reached.push(list)?;
+    }
+    Ok(openers.with_reached(reached, tokens))
+}

@@ -1,6 +1,5 @@
 -- What is told of a lexer's list.
-use Rattle.std.specs.Prelude.{◌≡◌, ℕ, List, Vec, Result, Ok, Err, Option, None, Some, slice_get, ◌≤◌}
-use Rattle.std.specs.declared.alloc.Global.{Global}
+use Rattle.std.specs.Prelude.{◌≡◌, ℕ, List, Result, Ok, Err, Option, None, Some, slice_get, ◌≤◌}
 use Rattle.cfg_theory.specs.Grammar.{Grammar, end_token}
 use Rattle.lrpar.specs.Lex.{Lex}
 use Rattle.lrpar.specs.Lexemes.{AreItems, IsFirstLexError, IsOutsideAt, DecreasesAt, IsGoodAt, Misfit, IsMisfit}
@@ -8,8 +7,8 @@ use Rattle.lrpar.specs.Run.{AreLexemes}
 use Rattle.lrpar.specs.declared.lexemes.LexemeMisfit.{LexemeMisfit}
 use Rattle.lrpar.specs.declared.lexemes.LexemeMisfit.TheVariants as misfits
 
-abbrev pub ReadsAs : {L E : Type 0} → List (Result L E) → Result (Vec L Global) E → Type 0
-ReadsAs items (Ok lexemes) = AreItems items lexemes.items
+abbrev pub ReadsAs : {L E : Type 0} → List (Result L E) → Result (List L) E → Type 0
+ReadsAs items (Ok lexemes) = AreItems items lexemes
 ReadsAs items (Err e) = IsFirstLexError items e
 
 -- it ends no earlier than it starts

@@ -1,6 +1,12 @@
 -- The list of a lexer: its lexemes, or the first fault, and lexemes that no run takes.
-use Rattle.std.specs.Prelude.{◌≡◌, ℕ, suc, ◌<◌, ◌≤◌, List, ◌∷◌, ◌++◌, map, Result, Ok, Err, slice_get, Some}
+use Rattle.std.specs.Prelude.{◌≡◌, ℕ, suc, ◌<◌, ◌≤◌, List, [], ◌∷◌, ◌++◌, map, Result, Ok, Err, slice_get, Some}
 use Rattle.lrpar.specs.Lex.{Lex}
+
+-- the items that are lexemes
+abbrev pub lexemes_of : {L E : Type 0} → List (Result L E) → List L
+lexemes_of [] = []
+lexemes_of (Ok x ∷ items) = x ∷ lexemes_of items
+lexemes_of (Err e ∷ items) = lexemes_of items
 
 -- each item is a lexeme
 abbrev pub AreItems : {L E : Type 0} → List (Result L E) → List L → Type 0

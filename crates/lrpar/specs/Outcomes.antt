@@ -18,8 +18,8 @@ use Rattle.lrpar.specs.declared.parser.Outcome.TheVariants as outcomes
 -- the first fault of the list, or the parse of its lexemes, which are kept
 abbrev pub IsOutcome : {S L E V : Type 0} → (S → ℕ) → (L → Lex) → (ℕ → ℕ → ℕ → L) → Grammar → GraphValue → TableValue → (V → List (Tree L) → Type 0) → (ℕ → ℕ → L → List (List Edit) → Type 0) → List (Result L E) → Outcome S L E V → Type 0
 IsOutcome number lex faulty G g v holds answers items (outcomes.Fault e) = IsFirstLexError items e
-IsOutcome number lex faulty G g v holds answers items (outcomes.Parsed lexemes p) = AreItems items lexemes.items × AreLexemes G lex lexemes.items ×
-    IsParse G (automaton_of g v) (token_by lex) (made_by faulty lex (end_of lex lexemes.items)) answers (HoldsValue (holds p.values) p.accepted) lexemes.items (errors_of number p.errors.items)
+IsOutcome number lex faulty G g v holds answers items (outcomes.Parsed lexemes p) = AreItems items lexemes × AreLexemes G lex lexemes ×
+    IsParse G (automaton_of g v) (token_by lex) (made_by faulty lex (end_of lex lexemes)) answers (HoldsValue (holds p.values) p.accepted) lexemes (errors_of number p.errors.items)
 
 -- what no call changes of a stack of values, the one handed out has too
 abbrev pub OutcomeKeeps : {S L E V : Type 0} → (V → Type 0) → Outcome S L E V → Type 0

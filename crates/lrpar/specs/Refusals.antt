@@ -1,6 +1,5 @@
 -- What is parsed of a lexer's list, and why it isn't.
-use Rattle.std.specs.Prelude.{List, Vec, Result, Ok, Err}
-use Rattle.std.specs.declared.alloc.Global.{Global}
+use Rattle.std.specs.Prelude.{List, Result, Ok, Err}
 use Rattle.cfg_theory.specs.Grammar.{Grammar, end_token}
 use Rattle.lrpar.specs.Lex.{Lex}
 use Rattle.lrpar.specs.Lexemes.{AreItems, IsFirstLexError, Misfit, IsMisfit}
@@ -9,8 +8,8 @@ use Rattle.lrpar.specs.declared.lexemes.ParseRefusal.{ParseRefusal}
 use Rattle.lrpar.specs.declared.lexemes.ParseRefusal.TheVariants as refusals
 
 -- all are lexemes that a run takes, or the first fault stands there
-abbrev pub Admits : {L E : Type 0} → Grammar → (L → Lex) → List (Result L E) → Result (Vec L Global) E → Type 0
-Admits G lex items (Ok lexemes) = AreItems items lexemes.items × AreLexemes G lex lexemes.items
+abbrev pub Admits : {L E : Type 0} → Grammar → (L → Lex) → List (Result L E) → Result (List L) E → Type 0
+Admits G lex items (Ok lexemes) = AreItems items lexemes × AreLexemes G lex lexemes
 Admits G lex items (Err e) = IsFirstLexError items e
 
 -- all are lexemes, and one of them no run takes

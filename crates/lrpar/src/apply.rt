@@ -17,6 +17,7 @@ ghost use Rattle.lrpar.specs.Applied.{FailsPast, OnWay, GoesOnWay, IsApplied};
 
 use crate::full_table::FullTable;
 use crate::lex_api::Lexeme;
+use crate::lexeme_list::LexemeList;
 use crate::recoverer::RepairStep;
 use crate::run::{Advance, advance_to};
 use crate::stacks::Stacks;
@@ -27,7 +28,11 @@ use cfg_numbered::yacc::grammar::NumberedGrammar;
 use std::alloc::{AllocError, Global};
 
 /// Where a lexeme begins that is made up before the one at the index, `end` being the end of all.
-fn start_before<S: IndexStorage, L: Lexeme<S>>(lexemes: &[L], index: usize, end: usize) -> usize
+fn start_before<S: IndexStorage, L: Lexeme<S>, E: Copy>(
+    lexemes: &LexemeList<'_, L, E>,
+    index: usize,
+    end: usize,
+) -> usize
     ensures { result ≡ next_start L.lex end (drop index lexemes.now) }
 {
     match lexemes.get(index) {
@@ -37,8 +42,8 @@ fn start_before<S: IndexStorage, L: Lexeme<S>>(lexemes: &[L], index: usize, end:
 }
 
 /// The lexeme of a token that is made up before the one at the index.
-fn made_before<S: IndexStorage, L: Lexeme<S>>(
-    lexemes: &[L],
+fn made_before<S: IndexStorage, L: Lexeme<S>, E: Copy>(
+    lexemes: &LexemeList<'_, L, E>,
     index: usize,
     end: usize,
     tidx: TIdx<S>,
@@ -82,13 +87,13 @@ fn put_on<S: IndexStorage, L: Lexeme<S>, V: ValueStack<S, L>>(
 }
 
 /// Applies one step before the lexeme at the index, and answers the index of the next one that is left.
-fn apply_step<S: IndexStorage, L: Lexeme<S>, V: ValueStack<S, L>>(
+fn apply_step<S: IndexStorage, L: Lexeme<S>, E: Copy, V: ValueStack<S, L>>(
     alloc: Global,
     grm: &NumberedGrammar<S>,
     stable: &FullTable<S>,
     limit: u16,
     stacks: &mut Stacks<S, V>,
-    lexemes: &[L],
+    lexemes: &LexemeList<'_, L, E>,
     index: usize,
     end: usize,
     step: RepairStep<S>,
@@ -118,7 +123,7 @@ fn apply_step<S: IndexStorage, L: Lexeme<S>, V: ValueStack<S, L>>(
             Ok(index)
         }
         RepairStep::Shift => {
-            put_on(alloc, grm, stable, limit, stacks, lexemes[index])?;
+            put_on(alloc, grm, stable, limit, stacks, lexemes.at(index))?;
             Ok(index + 1)
         }
         RepairStep::Delete => Ok(index + 1),
@@ -135,13 +140,13 @@ fn step_at<S: IndexStorage>(steps: &[RepairStep<S>], number: usize) -> RepairSte
 
 /// Applies a sequence that can be taken before the lexeme at the index, and answers the index of the next one that is
 /// left. `end` is the end of all lexemes: there lexemes begin that are made up behind the last one.
-pub(crate) fn apply_steps<S: IndexStorage, L: Lexeme<S>, V: ValueStack<S, L>>(
+pub(crate) fn apply_steps<S: IndexStorage, L: Lexeme<S>, E: Copy, V: ValueStack<S, L>>(
     alloc: Global,
     grm: &NumberedGrammar<S>,
     stable: &FullTable<S>,
     limit: u16,
     stacks: &mut Stacks<S, V>,
-    lexemes: &[L],
+    lexemes: &LexemeList<'_, L, E>,
     at: usize,
     end: usize,
     steps: &[RepairStep<S>],

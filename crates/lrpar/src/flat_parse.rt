@@ -75,7 +75,7 @@ pub(crate) fn parse_flat<S: IndexStorage, L: Lexeme<S>, E: Copy, R: Recoverer<S,
                 errors,
             } = parsed;
             let tree = tree_left(values, accepted);
-            match tell_errors(alloc, lexemes.as_slice(), errors.as_slice()) {
+            match tell_errors(alloc, &lexemes, errors.as_slice()) {
                 Ok(errors) => Ok(Ok((tree, errors))),
                 Err(e) => Err(ParseRefusal::Memory(e)),
             }

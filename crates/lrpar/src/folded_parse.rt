@@ -18,6 +18,7 @@ ghost use Rattle.lrpar.specs.Told.{told_of, as_told, IsFoldedOutcome};
 use crate::folded::{FoldedValues, folded_value, no_folds};
 use crate::full_table::FullTable;
 use crate::lex_api::Lexeme;
+use crate::lexeme_list::LexemeList;
 use crate::lexemes::ParseRefusal;
 use crate::parse::{ErrorFound, Parsed};
 use crate::parse_error::ParseError;
@@ -40,9 +41,9 @@ pub enum FoldedOutcome<S: IndexStorage, L, E, V> {
 }
 
 /// The errors of a parse of these lexemes, with the lexemes that their sequences delete or keep.
-pub(crate) fn tell_errors<S: IndexStorage, L: Lexeme<S>>(
+pub(crate) fn tell_errors<S: IndexStorage, L: Lexeme<S>, E: Copy>(
     alloc: Global,
-    lexemes: &[L],
+    lexemes: &LexemeList<'_, L, E>,
     found: &[ErrorFound<S, L>],
 ) -> Result<Vec<ParseError<L, S>>, AllocError>
     ensures { IfOk result (λ r. map (told_of S.number) r.items ≡ map (as_told lexemes.now) (errors_of S.number found.now)) }
@@ -118,7 +119,7 @@ where
                 errors,
             } = parsed;
             let value = value_left::<S, L, V, F, H>(values, accepted);
-            match tell_errors(alloc, lexemes.as_slice(), errors.as_slice()) {
+            match tell_errors(alloc, &lexemes, errors.as_slice()) {
                 Ok(errors) => Ok(FoldedOutcome::Parsed(value, errors)),
                 Err(e) => Err(ParseRefusal::Memory(e)),
             }

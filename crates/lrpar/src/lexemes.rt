@@ -1,13 +1,14 @@
 //! The list of a lexer before a run: its lexemes or the first fault, and whether a run takes them.
 
 ghost use Rattle.std.specs.Prelude.{◌<◌, IfOk, IfErr, length};
-ghost use Rattle.lrpar.specs.LexemeViews.{ReadsAs, TellsLexemeMisfit, TellsAt};
+ghost use Rattle.lrpar.specs.LexemeViews.{TellsLexemeMisfit, TellsAt};
 ghost use Rattle.lrpar.specs.Refusals.{Admits, IsParseRefusal};
 
 use crate::lex_api::Lexeme;
+use crate::lexeme_list::{LexemeList, read_list};
 use cfg_base::index::IndexStorage;
 use cfg_numbered::yacc::grammar::NumberedGrammar;
-use std::alloc::{AllocError, Global};
+use std::alloc::AllocError;
 use thiserror::Error;
 
 /// Why nothing is parsed. The data of the parser are as they were.
@@ -33,33 +34,16 @@ pub(crate) enum LexemeMisfit {
     Decreases(usize),
 }
 
-/// Gathers the lexemes of a lexer's list, or answers the first fault.
-pub(crate) fn gather<L: Copy, E: Copy>(
-    alloc: Global,
-    items: &[Result<L, E>],
-) -> Result<Result<Vec<L>, E>, AllocError>
-    ensures { IfOk result (ReadsAs items.now) }
-{
-    let mut lexemes = Vec::with_capacity(alloc, items.len())?;
-    'items: for index in 0..items.len() {
-        match items[index] {
-            Ok(lexeme) => lexemes.push(lexeme)?,
-            Err(e) => return Ok(Err(e)),
-        }
-    }
-    Ok(Ok(lexemes))
-}
-
 /// Tells what is wrong with the lexeme at an index.
-fn misfit_at<S: IndexStorage, L: Lexeme<S>>(
+fn misfit_at<S: IndexStorage, L: Lexeme<S>, E: Copy>(
     end: usize,
-    lexemes: &[L],
+    lexemes: &LexemeList<'_, L, E>,
     index: usize,
 ) -> Option<LexemeMisfit>
     requires { index < length lexemes.now }
     ensures { TellsAt end L.lex lexemes.now index result }
 {
-    let lexeme = lexemes[index];
+    let lexeme = lexemes.at(index);
     let start = lexeme.span().start();
     if lexeme.tok_id().to_usize() >= end {
         return Some(LexemeMisfit::Outside(index));
@@ -67,7 +51,7 @@ fn misfit_at<S: IndexStorage, L: Lexeme<S>>(
     if index == 0 {
         return None;
     }
-    let front = lexemes[index - 1];
+    let front = lexemes.at(index - 1);
     if start < front.span().start() {
         return Some(LexemeMisfit::Decreases(index));
     }
@@ -75,9 +59,9 @@ fn misfit_at<S: IndexStorage, L: Lexeme<S>>(
 }
 
 /// Tells why a run doesn't take these lexemes.
-pub(crate) fn misfit_of<S: IndexStorage, L: Lexeme<S>>(
+pub(crate) fn misfit_of<S: IndexStorage, L: Lexeme<S>, E: Copy>(
     grm: &NumberedGrammar<S>,
-    lexemes: &[L],
+    lexemes: &LexemeList<'_, L, E>,
 ) -> Option<LexemeMisfit>
     ensures { TellsLexemeMisfit grm.now.grammar L.lex lexemes.now result }
 {
@@ -91,20 +75,18 @@ pub(crate) fn misfit_of<S: IndexStorage, L: Lexeme<S>>(
 }
 
 /// The lexemes of a lexer's list, which a run takes, or the first fault.
-pub(crate) fn admit<S: IndexStorage, L: Lexeme<S>, E: Copy>(
-    alloc: Global,
+pub(crate) fn admit<'a, S: IndexStorage, L: Lexeme<S>, E: Copy>(
     grm: &NumberedGrammar<S>,
-    items: &[Result<L, E>],
-) -> Result<Result<Vec<L>, E>, ParseRefusal>
+    items: &'a [Result<L, E>],
+) -> Result<Result<LexemeList<'a, L, E>, E>, ParseRefusal>
     ensures admitted { IfOk result (Admits grm.now.grammar L.lex items.now) }
     ensures refused { IfErr result (IsParseRefusal grm.now.grammar L.lex items.now) }
 {
-    let lexemes = match gather(alloc, items) {
-        Ok(Ok(lexemes)) => lexemes,
-        Ok(Err(fault)) => return Ok(Err(fault)),
-        Err(e) => return Err(ParseRefusal::Memory(e)),
+    let lexemes = match read_list(items) {
+        Ok(lexemes) => lexemes,
+        Err(fault) => return Ok(Err(fault)),
     };
-    match misfit_of(grm, lexemes.as_slice()) {
+    match misfit_of(grm, &lexemes) {
         Some(LexemeMisfit::Outside(index)) => Err(ParseRefusal::LexemeOutside(index)),
         Some(LexemeMisfit::Decreases(index)) => Err(ParseRefusal::StartDecreases(index)),
         None => Ok(Ok(lexemes)),

@@ -17,6 +17,7 @@ ghost use Rattle.lrpar.specs.Run.{AreLexemes, StartsByNext, StandFor, AreStacks,
 use crate::apply::apply_steps;
 use crate::full_table::FullTable;
 use crate::lex_api::Lexeme;
+use crate::lexeme_list::LexemeList;
 use crate::recoverer::{Recoverer, RepairStep};
 use crate::repair::taken_of;
 use crate::run::{Ending, run_from};
@@ -53,38 +54,41 @@ pub(crate) struct Parsed<S: IndexStorage, L, V> {
 }
 
 /// The offset at which the last lexeme ends, 0 where there is none.
-pub(crate) fn end_offset<S: IndexStorage, L: Lexeme<S>>(lexemes: &[L]) -> usize
+pub(crate) fn end_offset<S: IndexStorage, L: Lexeme<S>, E: Copy>(
+    lexemes: &LexemeList<'_, L, E>,
+) -> usize
     ensures { result ≡ end_of L.lex lexemes.now }
 {
-    match lexemes.last() {
-        Some(lexeme) => lexeme.span().end(),
-        None => 0,
+    let count = lexemes.len();
+    if count == 0 {
+        return 0;
     }
+    lexemes.at(count - 1).span().end()
 }
 
 /// The lexeme at the index, or past the last one a faulty lexeme of the end token.
-fn lexeme_or_end<S: IndexStorage, L: Lexeme<S>>(
+fn lexeme_or_end<S: IndexStorage, L: Lexeme<S>, E: Copy>(
     grm: &NumberedGrammar<S>,
-    lexemes: &[L],
+    lexemes: &LexemeList<'_, L, E>,
     index: usize,
     end: usize,
 ) -> L
     ensures { result ≡ next_lexeme grm.now.grammar (made_by L.faulty_of L.lex end) (drop index lexemes.now) }
 {
     match lexemes.get(index) {
-        Some(lexeme) => *lexeme,
+        Some(lexeme) => lexeme,
         None => L::new_faulty(grm.eof_token_idx().0, end, 0),
     }
 }
 
 /// The error of a run that failed at the index: asks the recoverer, and lists what can be taken.
-fn find_error<S: IndexStorage, L: Lexeme<S>, R: Recoverer<S, L>>(
+fn find_error<S: IndexStorage, L: Lexeme<S>, E: Copy, R: Recoverer<S, L>>(
     alloc: Global,
     grm: &NumberedGrammar<S>,
     stable: &FullTable<S>,
     limit: u16,
     states: &[StIdx<S>],
-    lexemes: &[L],
+    lexemes: &LexemeList<'_, L, E>,
     index: usize,
     end: usize,
     recoverer: &R,
@@ -112,13 +116,13 @@ fn find_error<S: IndexStorage, L: Lexeme<S>, R: Recoverer<S, L>>(
 }
 
 /// Finds the error of a run that failed at the index, and applies the first sequence that can be taken there.
-fn mend<S: IndexStorage, L: Lexeme<S>, V: ValueStack<S, L>, R: Recoverer<S, L>>(
+fn mend<S: IndexStorage, L: Lexeme<S>, E: Copy, V: ValueStack<S, L>, R: Recoverer<S, L>>(
     alloc: Global,
     grm: &NumberedGrammar<S>,
     stable: &FullTable<S>,
     limit: u16,
     stacks: &mut Stacks<S, V>,
-    lexemes: &[L],
+    lexemes: &LexemeList<'_, L, E>,
     index: usize,
     end: usize,
     recoverer: &R,
@@ -175,6 +179,7 @@ fn mend<S: IndexStorage, L: Lexeme<S>, V: ValueStack<S, L>, R: Recoverer<S, L>>(
 pub(crate) fn parse_lexemes<
     S: IndexStorage,
     L: Lexeme<S>,
+    E: Copy,
     V: ValueStack<S, L> + Drop,
     R: Recoverer<S, L>,
 >(
@@ -182,7 +187,7 @@ pub(crate) fn parse_lexemes<
     grm: &NumberedGrammar<S>,
     stable: &FullTable<S>,
     limit: u16,
-    lexemes: &[L],
+    lexemes: &LexemeList<'_, L, E>,
     recoverer: &R,
     values: V,
 ) -> Result<Parsed<S, L, V>, AllocError>

@@ -68,7 +68,7 @@ pub(crate) fn parse_nodes<S: IndexStorage, L: Lexeme<S>, E: Copy, R: Recoverer<S
                 errors,
             } = parsed;
             let value = node_left(values, accepted);
-            match tell_errors(alloc, lexemes.as_slice(), errors.as_slice()) {
+            match tell_errors(alloc, &lexemes, errors.as_slice()) {
                 Ok(errors) => Ok(FoldedOutcome::Parsed(value, errors)),
                 Err(e) => Err(ParseRefusal::Memory(e)),
             }

@@ -39,7 +39,7 @@ pub(crate) fn parse_unvalued<S: IndexStorage, L: Lexeme<S>, E: Copy, R: Recovere
     match parse_items(alloc, grm, stable, limit, items, recoverer, NoValues)? {
         Outcome::Fault(fault) => Ok(FoldedOutcome::Fault(fault)),
         Outcome::Parsed(lexemes, parsed) => {
-            match tell_errors(alloc, lexemes.as_slice(), parsed.errors.as_slice()) {
+            match tell_errors(alloc, &lexemes, parsed.errors.as_slice()) {
                 Ok(errors) => Ok(FoldedOutcome::Parsed(None, errors)),
                 Err(e) => Err(ParseRefusal::Memory(e)),
             }

@@ -4,6 +4,7 @@ ghost use Rattle.std.specs.Prelude.{◌≡◌, drop, map, IfOk};
 ghost use Rattle.lrpar.specs.Taking.{edit_of, edits_of, sequences_of};
 ghost use Rattle.lrpar.specs.Shown.{shown, shown_of, shown_lists, ShowsStep};
 
+use crate::lexeme_list::LexemeList;
 use crate::recoverer::RepairStep;
 use crate::repair::step_at;
 use cfg_base::index::IndexStorage;
@@ -23,8 +24,8 @@ pub enum ParseRepair<L, S> {
 
 /// What a step does where the lexeme at an index is next, and the index of the next lexeme behind it; None where a lexeme is
 /// wanted and none is left.
-fn show_step<S: IndexStorage, L: Copy>(
-    lexemes: &[L],
+fn show_step<S: IndexStorage, L: Copy, E: Copy>(
+    lexemes: &LexemeList<'_, L, E>,
     index: usize,
     step: RepairStep<S>,
 ) -> Option<(ParseRepair<L, S>, usize)>
@@ -37,21 +38,21 @@ fn show_step<S: IndexStorage, L: Copy>(
             if index >= count {
                 return None;
             }
-            Some((ParseRepair::Delete(lexemes[index]), index + 1))
+            Some((ParseRepair::Delete(lexemes.at(index)), index + 1))
         }
         RepairStep::Shift => {
             if index >= count {
                 return None;
             }
-            Some((ParseRepair::Shift(lexemes[index]), index + 1))
+            Some((ParseRepair::Shift(lexemes.at(index)), index + 1))
         }
     }
 }
 
 /// What a sequence does where the lexeme at an index is next.
-fn show_steps<S: IndexStorage, L: Copy>(
+fn show_steps<S: IndexStorage, L: Copy, E: Copy>(
     alloc: Global,
-    lexemes: &[L],
+    lexemes: &LexemeList<'_, L, E>,
     index: usize,
     steps: &[RepairStep<S>],
 ) -> Result<Vec<ParseRepair<L, S>>, AllocError>
@@ -71,9 +72,9 @@ fn show_steps<S: IndexStorage, L: Copy>(
 }
 
 /// What each of these sequences does where the lexeme at an index is next.
-pub(crate) fn show_sequences<S: IndexStorage, L: Copy>(
+pub(crate) fn show_sequences<S: IndexStorage, L: Copy, E: Copy>(
     alloc: Global,
-    lexemes: &[L],
+    lexemes: &LexemeList<'_, L, E>,
     index: usize,
     sequences: &[Vec<RepairStep<S>>],
 ) -> Result<Vec<Vec<ParseRepair<L, S>>>, AllocError>

@@ -11,6 +11,7 @@ ghost use Rattle.lrpar.specs.Outcomes.{IsOutcome, OutcomeKeeps};
 
 use crate::full_table::FullTable;
 use crate::lex_api::Lexeme;
+use crate::lexeme_list::LexemeList;
 use crate::lexemes::{ParseRefusal, admit};
 use crate::parse::{Parsed, parse_lexemes};
 use crate::recoverer::Recoverer;
@@ -21,13 +22,14 @@ use std::alloc::Global;
 
 /// What the list of a lexer comes to: its first fault, or its lexemes with their parse.
 #[derive(Drop)]
-pub(crate) enum Outcome<S: IndexStorage, L, E, V> {
+pub(crate) enum Outcome<'a, S: IndexStorage, L, E, V> {
     Fault(E),
-    Parsed(Vec<L>, Parsed<S, L, V>),
+    Parsed(LexemeList<'a, L, E>, Parsed<S, L, V>),
 }
 
 /// What the list of a lexer comes to. `values` is a stack without entries.
 pub(crate) fn parse_items<
+    'a,
     S: IndexStorage,
     L: Lexeme<S>,
     E: Copy,
@@ -38,10 +40,10 @@ pub(crate) fn parse_items<
     grm: &NumberedGrammar<S>,
     stable: &FullTable<S>,
     limit: u16,
-    items: &[Result<L, E>],
+    items: &'a [Result<L, E>],
     recoverer: &R,
     values: V,
-) -> Result<Outcome<S, L, E, V>, ParseRefusal>
+) -> Result<Outcome<'a, S, L, E, V>, ParseRefusal>
     requires table { IsTableFor grm.now.grammar stable.now }
     requires chains { (g : GraphValue) → ChainsWithin grm.now.grammar (automaton_of g stable.now) limit }
     requires safe { (g : GraphValue) × Safe grm.now.grammar (automaton_of g stable.now) × (stable.now.start ≡ g.start) }
@@ -52,19 +54,11 @@ pub(crate) fn parse_items<
     ensures keeps { IfOk result (OutcomeKeeps (V.keeps values)) }
     ensures refused { IfErr result (IsParseRefusal grm.now.grammar L.lex items.now) }
 {
-    let lexemes = match admit(alloc, grm, items)? {
+    let lexemes = match admit(grm, items)? {
         Ok(lexemes) => lexemes,
         Err(fault) => return Ok(Outcome::Fault(fault)),
     };
-    match parse_lexemes(
-        alloc,
-        grm,
-        stable,
-        limit,
-        lexemes.as_slice(),
-        recoverer,
-        values,
-    ) {
+    match parse_lexemes(alloc, grm, stable, limit, &lexemes, recoverer, values) {
         Ok(parsed) => Ok(Outcome::Parsed(lexemes, parsed)),
         Err(e) => Err(ParseRefusal::Memory(e)),
     }

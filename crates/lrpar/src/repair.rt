@@ -12,6 +12,7 @@ ghost use Rattle.lr_theory.specs.Repair.{insert, keep};
 
 use crate::full_table::FullTable;
 use crate::lex_api::Lexeme;
+use crate::lexeme_list::LexemeList;
 use crate::overlay::{Overlay, accepts_on, shift_on};
 use crate::recoverer::RepairStep;
 use cfg_base::index::IndexStorage;
@@ -21,13 +22,13 @@ use lrtable::StIdx;
 use std::alloc::{AllocError, Global};
 
 /// The index of the next lexeme after an insertion, where it can be made.
-fn take_insert<S: IndexStorage, L: Lexeme<S>>(
+fn take_insert<S: IndexStorage, L: Lexeme<S>, E: Copy>(
     grm: &NumberedGrammar<S>,
     stable: &FullTable<S>,
     limit: u16,
     base: &[StIdx<S>],
     overlay: &mut Overlay<S>,
-    lexemes: &[L],
+    lexemes: &LexemeList<'_, L, E>,
     index: usize,
     tidx: TIdx<S>,
 ) -> Result<Option<usize>, AllocError>
@@ -51,13 +52,13 @@ fn take_insert<S: IndexStorage, L: Lexeme<S>>(
 }
 
 /// The index of the next lexeme after the one at an index is kept, where it can be.
-fn take_shift<S: IndexStorage, L: Lexeme<S>>(
+fn take_shift<S: IndexStorage, L: Lexeme<S>, E: Copy>(
     grm: &NumberedGrammar<S>,
     stable: &FullTable<S>,
     limit: u16,
     base: &[StIdx<S>],
     overlay: &mut Overlay<S>,
-    lexemes: &[L],
+    lexemes: &LexemeList<'_, L, E>,
     index: usize,
 ) -> Result<Option<usize>, AllocError>
     requires table { IsTableFor grm.now.grammar stable.now }
@@ -74,7 +75,7 @@ fn take_shift<S: IndexStorage, L: Lexeme<S>>(
     if index >= count {
         return Ok(None);
     }
-    let tidx = TIdx(lexemes[index].tok_id());
+    let tidx = TIdx(lexemes.at(index).tok_id());
     if !shift_on(grm, stable, limit, base, overlay, tidx)? {
         return Ok(None);
     }
@@ -82,13 +83,13 @@ fn take_shift<S: IndexStorage, L: Lexeme<S>>(
 }
 
 /// The index of the next lexeme after a step, where it can be made.
-fn take_step<S: IndexStorage, L: Lexeme<S>>(
+fn take_step<S: IndexStorage, L: Lexeme<S>, E: Copy>(
     grm: &NumberedGrammar<S>,
     stable: &FullTable<S>,
     limit: u16,
     base: &[StIdx<S>],
     overlay: &mut Overlay<S>,
-    lexemes: &[L],
+    lexemes: &LexemeList<'_, L, E>,
     index: usize,
     step: RepairStep<S>,
 ) -> Result<Option<usize>, AllocError>
@@ -119,13 +120,13 @@ fn take_step<S: IndexStorage, L: Lexeme<S>>(
 }
 
 /// Whether the next lexeme is shifted, or past the last one the run accepts.
-fn gets_past<S: IndexStorage, L: Lexeme<S>>(
+fn gets_past<S: IndexStorage, L: Lexeme<S>, E: Copy>(
     grm: &NumberedGrammar<S>,
     stable: &FullTable<S>,
     limit: u16,
     base: &[StIdx<S>],
     overlay: &mut Overlay<S>,
-    lexemes: &[L],
+    lexemes: &LexemeList<'_, L, E>,
     index: usize,
 ) -> Result<bool, AllocError>
     requires table { IsTableFor grm.now.grammar stable.now }
@@ -140,7 +141,7 @@ fn gets_past<S: IndexStorage, L: Lexeme<S>>(
         let past = accepts_on(grm, stable, limit, base, overlay)?;
         return Ok(past);
     }
-    let tidx = TIdx(lexemes[index].tok_id());
+    let tidx = TIdx(lexemes.at(index).tok_id());
     let past = shift_on(grm, stable, limit, base, overlay, tidx)?;
     Ok(past)
 }
@@ -155,13 +156,13 @@ pub(crate) fn step_at<S: IndexStorage>(steps: &[RepairStep<S>], number: usize) -
 
 /// Whether the sequence can be taken where the lexeme at an index is next: its steps can be made, and the next lexeme behind
 /// them is shifted, or the run accepts where none is left.
-fn is_taken<S: IndexStorage, L: Lexeme<S>>(
+fn is_taken<S: IndexStorage, L: Lexeme<S>, E: Copy>(
     grm: &NumberedGrammar<S>,
     stable: &FullTable<S>,
     limit: u16,
     base: &[StIdx<S>],
     overlay: &mut Overlay<S>,
-    lexemes: &[L],
+    lexemes: &LexemeList<'_, L, E>,
     index: usize,
     steps: &[RepairStep<S>],
 ) -> Result<bool, AllocError>
@@ -188,13 +189,13 @@ fn is_taken<S: IndexStorage, L: Lexeme<S>>(
 }
 
 /// Those of the sequences that are handed in which can be taken where the lexeme at an index is next, in their order.
-pub(crate) fn taken_of<S: IndexStorage, L: Lexeme<S>>(
+pub(crate) fn taken_of<S: IndexStorage, L: Lexeme<S>, E: Copy>(
     alloc: Global,
     grm: &NumberedGrammar<S>,
     stable: &FullTable<S>,
     limit: u16,
     base: &[StIdx<S>],
-    lexemes: &[L],
+    lexemes: &LexemeList<'_, L, E>,
     index: usize,
     offered: Vec<Vec<RepairStep<S>>>,
 ) -> Result<Vec<Vec<RepairStep<S>>>, AllocError>

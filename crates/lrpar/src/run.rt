@@ -12,6 +12,7 @@ ghost use Rattle.cfg_theory.specs.Grammar.{end_token};
 
 use crate::full_table::FullTable;
 use crate::lex_api::Lexeme;
+use crate::lexeme_list::LexemeList;
 use crate::stacks::{Stacks, reduce_onto, shift_onto};
 use crate::values::ValueStack;
 use cfg_base::index::IndexStorage;
@@ -39,13 +40,6 @@ pub(crate) enum Advance {
 pub(crate) enum Ending {
     Accepted,
     Failed(usize),
-}
-
-/// The lexeme at the index, or none past the last one.
-pub(crate) fn lexeme_at<S: IndexStorage, L: Lexeme<S>>(lexemes: &[L], index: usize) -> Option<L>
-    ensures { result ≡ slice_get lexemes.now index }
-{
-    lexemes.get(index).copied()
 }
 
 /// The token of the next lexeme, or the end token where there is none.
@@ -133,13 +127,13 @@ pub(crate) fn advance_to<S: IndexStorage, L: Lexeme<S>, V: ValueStack<S, L>>(
 }
 
 /// Runs from an index on until the run accepts or fails.
-pub(crate) fn run_from<S: IndexStorage, L: Lexeme<S>, V: ValueStack<S, L>>(
+pub(crate) fn run_from<S: IndexStorage, L: Lexeme<S>, E: Copy, V: ValueStack<S, L>>(
     alloc: Global,
     grm: &NumberedGrammar<S>,
     stable: &FullTable<S>,
     limit: u16,
     stacks: &mut Stacks<S, V>,
-    lexemes: &[L],
+    lexemes: &LexemeList<'_, L, E>,
     index: usize,
 ) -> Result<Ending, AllocError>
     requires table { IsTableFor grm.now.grammar stable.now }
@@ -159,7 +153,7 @@ pub(crate) fn run_from<S: IndexStorage, L: Lexeme<S>, V: ValueStack<S, L>>(
     let _count = lexemes.len();
     let mut at = index;
     'lexemes: loop {
-        let next = lexeme_at(lexemes, at);
+        let next = lexemes.get(at);
         match advance_to(alloc, grm, stable, limit, stacks, next)? {
             Advance::Shifted => at += 1,
             Advance::Accepted => return Ok(Ending::Accepted),

@@ -1,11 +1,11 @@
 -- What a lexer's list reads as, one item after another, and lexemes that fit.
-use Rattle.std.proofs.Common.{◌≡◌, ℕ, zero, suc, ◌<◌, ◌≤◌, ◌+◌, List, [], ◌∷◌, ◌++◌, length, map, take, drop, get_or, Some, Ok, Err, refl, sym, ap, ◌∙◌, ⊎_elim, subst, arith}
+use Rattle.std.proofs.Common.{◌≡◌, ℕ, zero, suc, ◌<◌, ◌≤◌, ◌+◌, List, [], ◌∷◌, ◌++◌, length, map, take, drop, get_or, None, Some, Ok, Err, refl, sym, ap, ◌∙◌, ⊎_elim, subst, arith}
 use Rattle.std.specs.Prelude.{slice_get, Result}
 use Rattle.std.proofs.lemmas.Bool.{cases_lt}
-use Rattle.std.proofs.lemmas.List.{take-append-drop}
+use Rattle.std.proofs.lemmas.List.{take-append-drop, take_all}
 use Rattle.cfg_theory.specs.Grammar.{Grammar, end_token}
 use Rattle.lrpar.specs.Lex.{Lex}
-use Rattle.lrpar.specs.Lexemes.{IsFirstLexError, AreGoodBelow}
+use Rattle.lrpar.specs.Lexemes.{IsFirstLexError, AreGoodBelow, AreItems, lexemes_of}
 use Rattle.lrpar.specs.LexemeViews.{IsOrderedAt}
 use Rattle.lrpar.specs.Run.{AreLexemes}
 
@@ -27,6 +27,31 @@ first_fault items k before e d read lt at = record {
   after = drop (k + 1) items;
   is = sym (take-append-drop k items) ∙ ap (λ xs. xs ++ drop k items) read ∙ ap (λ ys. map Ok before ++ ys) (drop_at items k d (Err e) lt at);
 }
+
+fault_is_none : {L E : Type 0} (f : E) (items : List (Result L E)) (xs : List L) → Err f ∷ items ≡ map Ok xs → ⊥
+fault_is_none f items [] e = cc
+fault_is_none f items (x ∷ xs) e = cc
+
+-- one more item is a lexeme
+pub one_more : {L E : Type 0} (items : List (Result L E)) (k : ℕ) (x : L) (d : Result L E) → AreItems (take k items) (lexemes_of (take k items)) → k < length items → get_or items k d ≡ Ok x → AreItems (take (k + 1) items) (lexemes_of (take (k + 1) items))
+one_more [] k x d read lt e = absurd (omega (arith, lt))
+one_more (Ok y ∷ items) zero x d read lt e = refl
+one_more (Err f ∷ items) zero x d read lt e = absurd cc
+one_more (Ok y ∷ items) (suc k) x d read lt e =
+    let h : AreItems (take k items) (lexemes_of (take k items)) = ap (λ l. drop 1 l) read in
+    let n : suc k + 1 ≡ suc (k + 1) = omega arith in
+    subst (λ j. AreItems (take j (Ok y ∷ items)) (lexemes_of (take j (Ok y ∷ items)))) (sym n) (ap (λ l. Ok y ∷ l) (one_more items k x d h (omega (arith, lt)) e))
+one_more (Err f ∷ items) (suc k) x d read lt e = absurd (fault_is_none f (take k items) (lexemes_of (take k items)) read)
+
+-- no item is left
+pub all_are : {L E : Type 0} (items : List (Result L E)) (k : ℕ) → AreItems (take k items) (lexemes_of (take k items)) → length items ≤ k → AreItems items (lexemes_of items)
+all_are items k read le = subst (λ l. AreItems l (lexemes_of l)) (take_all k items le) read
+
+-- an index before the end isn't past it
+pub not_past : {X : Type 0} (xs : List X) (k : ℕ) → slice_get xs k ≡ None → k < length xs → ⊥
+not_past [] k e lt = omega (arith, lt)
+not_past (x ∷ xs) zero e lt = cc
+not_past (x ∷ xs) (suc k) e lt = not_past xs k e (omega (arith, lt))
 
 module _ {L : Type 0} (G : Grammar) (lex : L → Lex) (xs : List L) (good : AreGoodBelow (end_token G) lex xs (length xs)) (ordered : (j : ℕ) → j < length xs → IsOrderedAt lex xs j) where
   within : (xs : List L) (k : ℕ) (x : L) → slice_get xs k ≡ Some x → k < length xs

@@ -41,6 +41,11 @@ end_is lex (y ∷ ys) x is =
     let n : length (y ∷ ys) - 1 ≡ length ys = omega arith in
     end_last lex (y ∷ ys) (length ys) 0 x refl (is ∙ ap (slice_get (y ∷ ys)) n)
 
+-- that of no lexemes
+pub end_is_nought : {L : Type 0} (lex : L → Lex) (xs : List L) → length xs ≡ 0 → 0 ≡ end_of lex xs
+end_is_nought lex [] e = refl
+end_is_nought lex (x ∷ xs) e = absurd (omega (arith, e))
+
 -- the last state is the top
 pub top_is : {S : Type 0} (number : S → ℕ) (ss : List (StIdx S)) (q : StIdx S) → 0 < length ss → q ≡ get_or ss (length ss - 1) q → number q.0 ≡ get_or (stack_of number ss) 0 0
 top_is {S} number ss q lt is =

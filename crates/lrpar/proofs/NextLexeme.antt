@@ -44,6 +44,10 @@ some_within (y ∷ xs) (suc k) x e = let lt = some_within xs k x e in omega (ari
 pub at_next : {L : Type 0} (next : Option L) (xs ys : List L) (k : ℕ) → next ≡ slice_get xs k → ys ≡ drop k xs → NextOf next ys
 at_next next xs ys k e h = subst (NextOf next) (sym h) (subst (λ o. NextOf o (drop k xs)) (sym e) (at_place xs k))
 
+-- the lexeme at a place begins what is left there
+pub drop_from : {L : Type 0} (xs : List L) (k : ℕ) (x : L) → slice_get xs k ≡ Some x → drop k xs ≡ x ∷ drop (k + 1) xs
+drop_from xs k x e = at_next (Some x) xs (drop k xs) k (sym e) refl ∙ ap (λ l. x ∷ l) (drop_one xs k)
+
 pub inside_at : {L : Type 0} (G : Grammar) (lex : L → Lex) (xs : List L) → AreLexemes G lex xs → (next : Option L) (k : ℕ) → next ≡ slice_get xs k → NextInside G lex next
 inside_at G lex xs are None k e = tt
 inside_at G lex xs are (Some x) k e = are.inside k x (sym e)

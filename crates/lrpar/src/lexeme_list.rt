@@ -58,9 +58,9 @@ impl<'a, L: Copy, E: Copy> LexemeList<'a, L, E> {
         requires { index < length self.now }
         ensures { slice_get self.now index ≡ Some result }
     {
-        match self.items[index] {
-            Ok(lexeme) => lexeme,
-            Err(_) => unreachable!(),
+        match self.get(index) {
+            Some(lexeme) => lexeme,
+            None => unreachable!(),
         }
     }
 }

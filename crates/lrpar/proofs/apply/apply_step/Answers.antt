@@ -1,11 +1,9 @@
-use Rattle.std.proofs.Common.{◌≡◌, ◌∷◌, ◌+◌, ◌<◌, length, drop, Some, sym}
-use Rattle.std.specs.Prelude.{slice_get}
+use Rattle.std.proofs.Common.{◌+◌, ◌<◌, length, drop, Some, sym}
 use Rattle.lrpar.specs.Made.{made_by}
-use Rattle.lrpar.proofs.Turning.{drop_read, slice_read}
-use Rattle.lrpar.proofs.NextLexeme.{starts_behind, starts_here}
+use Rattle.lrpar.proofs.NextLexeme.{drop_from, starts_behind, starts_here}
 use Rattle.lrpar.proofs.Applying.{keeps_one, deletes_one, lexeme_in, ahead_made, ahead_kept, way_deleted, next_is_it, past_it, way_put, it_is_inside}
 use Rattle.lrpar.proofs.apply.apply_step.Goals as goal
-use Rattle.lrpar.proofs.apply.apply_step.Goals.{After-index-lexemes-index, In-Delete}
+use Rattle.lrpar.proofs.apply.apply_step.Goals.{In-Delete}
 
 pub put_on-requires-clause-inside : goal.put_on-requires-clause-inside
 put_on-requires-clause-inside g c =
@@ -31,49 +29,37 @@ returns-in_ok-put_on-in-Insert-clause-on g c = λ x input d es left safe way.
     way_put g.S.IndexStorage.number g.L.Lexeme.lex c.args.grm.now.grammar x c.args.stable.now (g.V.ValueStack.stands c.args.grm.now.grammar) (made_by g.L.Lexeme.faulty_of g.L.Lexeme.lex c.args.end) input d y (drop c.args.index c.args.lexemes.now) es left a c.put_on.new.stacks w.past (c.in_ok-put_on-in-Insert.ensures.goes x input d safe w.stand (next_is_it g.S.IndexStorage.number g.L.Lexeme.lex c.args.grm.now.grammar x c.args.stable.now (g.V.ValueStack.stands c.args.grm.now.grammar) (made_by g.L.Lexeme.faulty_of g.L.Lexeme.lex c.args.end) input d y (drop c.args.index c.args.lexemes.now) es left a))
 
 -- a lexeme that is kept or deleted is there
-pub bounds-lexemes-index : goal.bounds-lexemes-index
-bounds-lexemes-index g c =
+pub at-requires : goal.at-requires
+at-requires g c =
     let h = c.requires.on in
     let w = rw c.in-Shift.is at h.6 in
     keeps_one (made_by g.L.Lexeme.faulty_of g.L.Lexeme.lex c.args.end) h.3 c.args.lexemes.now c.args.index (w.put, h.4) w.applied
 
-kept_at : (g : _) (c : After-index-lexemes-index g) → slice_get c.args.lexemes.now c.args.index ≡ Some c.index-lexemes-index.result
-kept_at g c =
-    let h = c.requires.on in
-    let w = rw c.in-Shift.is at h.6 in
-    slice_read c.args.lexemes.now c.args.index c.index-lexemes-index.result (keeps_one (made_by g.L.Lexeme.faulty_of g.L.Lexeme.lex c.args.end) h.3 c.args.lexemes.now c.args.index (w.put, h.4) w.applied) c.index-lexemes-index.is
-
-kept_before : (g : _) (c : After-index-lexemes-index g) → drop c.args.index c.args.lexemes.now ≡ c.index-lexemes-index.result ∷ (drop (c.args.index + 1) c.args.lexemes.now)
-kept_before g c =
-    let h = c.requires.on in
-    let w = rw c.in-Shift.is at h.6 in
-    drop_read c.args.lexemes.now c.args.index c.index-lexemes-index.result (keeps_one (made_by g.L.Lexeme.faulty_of g.L.Lexeme.lex c.args.end) h.3 c.args.lexemes.now c.args.index (w.put, h.4) w.applied) c.index-lexemes-index.is
-
 pub put_on-requires-in-Shift-clause-inside : goal.put_on-requires-in-Shift-clause-inside
-put_on-requires-in-Shift-clause-inside g c = c.requires.lexemes.inside c.args.index c.index-lexemes-index.result (kept_at g (goal.at.put_on-requires-in-Shift-clause-inside g c).After-index-lexemes-index)
+put_on-requires-in-Shift-clause-inside g c = c.requires.lexemes.inside c.args.index c.at.result c.at.ensures
 
 pub put_on-requires-in-Shift-clause-start : goal.put_on-requires-in-Shift-clause-start
 put_on-requires-in-Shift-clause-start g c =
-    starts_here g.L.Lexeme.lex (g.V.ValueStack.starts_by c.args.stacks.now.values) c.args.lexemes.now c.args.index c.index-lexemes-index.result (kept_at g (goal.at.put_on-requires-in-Shift-clause-start g c).After-index-lexemes-index) c.requires.starts
+    starts_here g.L.Lexeme.lex (g.V.ValueStack.starts_by c.args.stacks.now.values) c.args.lexemes.now c.args.index c.at.result c.at.ensures c.requires.starts
 
 pub put_on-requires-in-Shift-clause-stand : goal.put_on-requires-in-Shift-clause-stand
 put_on-requires-in-Shift-clause-stand g c =
     let h = c.requires.on in
     let w = rw c.in-Shift.is at h.6 in
-    let y = c.index-lexemes-index.result in
-    let a = ahead_kept g.S.IndexStorage.number g.L.Lexeme.lex c.args.grm.now.grammar h.0 c.args.stable.now (g.V.ValueStack.stands c.args.grm.now.grammar) (made_by g.L.Lexeme.faulty_of g.L.Lexeme.lex c.args.end) h.1 h.2 c.args.stacks.now (drop c.args.index c.args.lexemes.now) h.4 y (drop (c.args.index + 1) c.args.lexemes.now) h.3 (kept_before g (goal.at.put_on-requires-in-Shift-clause-stand g c).After-index-lexemes-index) w in
+    let y = c.at.result in
+    let a = ahead_kept g.S.IndexStorage.number g.L.Lexeme.lex c.args.grm.now.grammar h.0 c.args.stable.now (g.V.ValueStack.stands c.args.grm.now.grammar) (made_by g.L.Lexeme.faulty_of g.L.Lexeme.lex c.args.end) h.1 h.2 c.args.stacks.now (drop c.args.index c.args.lexemes.now) h.4 y (drop (c.args.index + 1) c.args.lexemes.now) h.3 (drop_from c.args.lexemes.now c.args.index c.at.result c.at.ensures) w in
     (h.0, h.1, h.2, h.5, w.stand, next_is_it g.S.IndexStorage.number g.L.Lexeme.lex c.args.grm.now.grammar h.0 c.args.stable.now (g.V.ValueStack.stands c.args.grm.now.grammar) (made_by g.L.Lexeme.faulty_of g.L.Lexeme.lex c.args.end) h.1 h.2 y (drop (c.args.index + 1) c.args.lexemes.now) h.3 h.4 a, past_it g.S.IndexStorage.number g.L.Lexeme.lex c.args.grm.now.grammar h.0 c.args.stable.now (g.V.ValueStack.stands c.args.grm.now.grammar) (made_by g.L.Lexeme.faulty_of g.L.Lexeme.lex c.args.end) h.1 h.2 y (drop (c.args.index + 1) c.args.lexemes.now) h.3 h.4 a w.past)
 
 pub returns-in_ok-put_on-in-Shift-clause-on : goal.returns-in_ok-put_on-in-Shift-clause-on
 returns-in_ok-put_on-in-Shift-clause-on g c = λ x input d es left safe way.
     let w = rw c.in-Shift.is at way in
-    let y = c.index-lexemes-index.result in
-    let a = ahead_kept g.S.IndexStorage.number g.L.Lexeme.lex c.args.grm.now.grammar x c.args.stable.now (g.V.ValueStack.stands c.args.grm.now.grammar) (made_by g.L.Lexeme.faulty_of g.L.Lexeme.lex c.args.end) input d c.args.stacks.now (drop c.args.index c.args.lexemes.now) left y (drop (c.args.index + 1) c.args.lexemes.now) es (kept_before g (goal.at.returns-in_ok-put_on-in-Shift-clause-on g c).After-index-lexemes-index) w in
+    let y = c.at.result in
+    let a = ahead_kept g.S.IndexStorage.number g.L.Lexeme.lex c.args.grm.now.grammar x c.args.stable.now (g.V.ValueStack.stands c.args.grm.now.grammar) (made_by g.L.Lexeme.faulty_of g.L.Lexeme.lex c.args.end) input d c.args.stacks.now (drop c.args.index c.args.lexemes.now) left y (drop (c.args.index + 1) c.args.lexemes.now) es (drop_from c.args.lexemes.now c.args.index c.at.result c.at.ensures) w in
     way_put g.S.IndexStorage.number g.L.Lexeme.lex c.args.grm.now.grammar x c.args.stable.now (g.V.ValueStack.stands c.args.grm.now.grammar) (made_by g.L.Lexeme.faulty_of g.L.Lexeme.lex c.args.end) input d y (drop (c.args.index + 1) c.args.lexemes.now) es left a c.put_on-in-Shift.new.stacks w.past (c.in_ok-put_on-in-Shift.ensures.goes x input d safe w.stand (next_is_it g.S.IndexStorage.number g.L.Lexeme.lex c.args.grm.now.grammar x c.args.stable.now (g.V.ValueStack.stands c.args.grm.now.grammar) (made_by g.L.Lexeme.faulty_of g.L.Lexeme.lex c.args.end) input d y (drop (c.args.index + 1) c.args.lexemes.now) es left a))
 
 pub returns-in_ok-put_on-in-Shift-clause-starts : goal.returns-in_ok-put_on-in-Shift-clause-starts
 returns-in_ok-put_on-in-Shift-clause-starts g c =
-    starts_behind c.args.grm.now.grammar g.L.Lexeme.lex (g.V.ValueStack.starts_by c.put_on-in-Shift.new.stacks.values) (g.V.ValueStack.starts_later c.put_on-in-Shift.new.stacks.values) c.args.lexemes.now c.requires.lexemes c.args.index (Some c.index-lexemes-index.result) (sym (kept_at g (goal.at.returns-in_ok-put_on-in-Shift-clause-starts g c).After-index-lexemes-index)) c.in_ok-put_on-in-Shift.ensures.start
+    starts_behind c.args.grm.now.grammar g.L.Lexeme.lex (g.V.ValueStack.starts_by c.put_on-in-Shift.new.stacks.values) (g.V.ValueStack.starts_later c.put_on-in-Shift.new.stacks.values) c.args.lexemes.now c.requires.lexemes c.args.index (Some c.at.result) (sym c.at.ensures) c.in_ok-put_on-in-Shift.ensures.start
 
 -- a lexeme that is deleted is there
 deleted_within : (g : _) (c : In-Delete g) → c.args.index < length c.args.lexemes.now

@@ -13,10 +13,10 @@ returns-in-Ok-clause-parsed g c = λ x safe start.
     let lex = g.L.Lexeme.lex in
     let G = c.args.grm.now.grammar in
     let p = c.in-Parsed.parsed in
-    let lexemes = c.in-Parsed.lexemes.items in
+    let lexemes = c.in-Parsed.lexemes in
     let found = errors_of number p.errors.items in
     let o = rw c.in-Parsed.is at (c.in_ok-fault.ensures.parsed x safe start) in
-    let told = c.in-Ok.ensures ∙ ap (λ xs. map (as_told xs) (errors_of number c.as_slice-in-Parsed.result.now)) c.as_slice.ensures.value ∙ ap (λ es. map (as_told lexemes) (errors_of number es)) c.as_slice-in-Parsed.ensures.value in
+    let told = c.in-Ok.ensures ∙ ap (λ es. map (as_told lexemes) (errors_of number es)) c.as_slice.ensures.value in
     record {
       lexemes = lexemes;
       are_items = o.0;

@@ -2,25 +2,25 @@ use Rattle.std.proofs.Common.{◌+◌, drop, arith}
 use Rattle.std.proofs.lemmas.List.{drop_all}
 use Rattle.lrpar.specs.Replay.{overlaid}
 use Rattle.lrpar.specs.Run.{token_by}
-use Rattle.lrpar.proofs.Turning.{drop_read, slice_read}
+use Rattle.lrpar.proofs.NextLexeme.{drop_from}
 use Rattle.lrpar.proofs.Tested.{past_tells, end_tells}
 use Rattle.lrpar.proofs.repair.gets_past.Goals as goal
 
 pub shift_on-requires-clause-token : goal.shift_on-requires-clause-token
 shift_on-requires-clause-token g c =
-    let y = c.index-lexemes-index.result in
-    let lt = c.requires.lexemes.inside c.args.index y (slice_read c.args.lexemes.now c.args.index y (omega arith) c.index-lexemes-index.is) in
+    let y = c.at.result in
+    let lt = c.requires.lexemes.inside c.args.index y c.at.ensures in
     let same = c.requires.table.tokens in
     let is = c.tok_id.ensures in
     omega (arith, lt, same, is)
 
-pub returns-then-index-lexemes : goal.returns-then-index-lexemes
-returns-then-index-lexemes g c =
+pub returns-then-len : goal.returns-then-len
+returns-then-len g c =
     let number = g.S.IndexStorage.number in
     end_tells g.S.IndexStorage.MAX c.args.grm.now.grammar c.args.stable.now (token_by g.L.Lexeme.lex) c.requires.table (overlaid number c.args.base.now c.args.overlay.now) (drop c.args.index c.args.lexemes.now) c.in_ok-past.past (drop_all c.args.index c.args.lexemes.now (omega arith)) c.in_ok-past.ensures
 
 pub returns : goal.returns
 returns g c =
     let number = g.S.IndexStorage.number in
-    let y = c.index-lexemes-index.result in
-    past_tells g.S.IndexStorage.MAX c.args.grm.now.grammar c.args.stable.now (token_by g.L.Lexeme.lex) c.requires.table y (drop (c.args.index + 1) c.args.lexemes.now) (number c.tok_id.result) (overlaid number c.args.base.now c.args.overlay.now) (overlaid number c.args.base.now c.shift_on.new.overlay) (drop c.args.index c.args.lexemes.now) c.in_ok-past-2.past c.tok_id.ensures (drop_read c.args.lexemes.now c.args.index y (omega arith) c.index-lexemes-index.is) c.in_ok-past-2.ensures.shifts
+    let y = c.at.result in
+    past_tells g.S.IndexStorage.MAX c.args.grm.now.grammar c.args.stable.now (token_by g.L.Lexeme.lex) c.requires.table y (drop (c.args.index + 1) c.args.lexemes.now) (number c.tok_id.result) (overlaid number c.args.base.now c.args.overlay.now) (overlaid number c.args.base.now c.shift_on.new.overlay) (drop c.args.index c.args.lexemes.now) c.in_ok-past-2.past c.tok_id.ensures (drop_from c.args.lexemes.now c.args.index y c.at.ensures) c.in_ok-past-2.ensures.shifts

@@ -48,6 +48,10 @@ at_next next xs ys k e h = subst (NextOf next) (sym h) (subst (λ o. NextOf o (d
 pub drop_from : {L : Type 0} (xs : List L) (k : ℕ) (x : L) → slice_get xs k ≡ Some x → drop k xs ≡ x ∷ drop (k + 1) xs
 drop_from xs k x e = at_next (Some x) xs (drop k xs) k (sym e) refl ∙ ap (λ l. x ∷ l) (drop_one xs k)
 
+-- past the end nothing is left
+pub drop_past : {L : Type 0} (xs : List L) (k : ℕ) → slice_get xs k ≡ None → drop k xs ≡ []
+drop_past xs k e = at_next None xs (drop k xs) k (sym e) refl
+
 pub inside_at : {L : Type 0} (G : Grammar) (lex : L → Lex) (xs : List L) → AreLexemes G lex xs → (next : Option L) (k : ℕ) → next ≡ slice_get xs k → NextInside G lex next
 inside_at G lex xs are None k e = tt
 inside_at G lex xs are (Some x) k e = are.inside k x (sym e)

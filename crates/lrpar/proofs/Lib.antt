@@ -30,6 +30,7 @@ pub mod NodeLines
 pub mod NodeLists
 pub mod NodeStacks
 pub mod OnlyTree
+pub mod FlatReading
 pub mod FlatLines
 pub mod Valued
 pub mod ItemLists

@@ -1,6 +1,7 @@
 -- Trees as one list of nodes, each behind its children.
 use Rattle.std.specs.Prelude.{◌≡◌, ℕ, ◌+◌, List, [], ◌∷◌, ◌++◌, map, reverse, length, drop, ◌-◌}
-use Rattle.cfg_theory.specs.Tree.{Tree, leaf, node, Forest, none, before}
+use Rattle.cfg_theory.specs.Grammar.{Grammar}
+use Rattle.cfg_theory.specs.Tree.{Tree, leaf, node, Forest, none, before, IsTree}
 use Rattle.cfg_theory.specs.Fold.{Span, no_span, span_of, span_over}
 use Rattle.lr_theory.specs.StackValues.{top_span}
 use Rattle.lrpar.specs.Stacks.{span_of_places}
@@ -104,3 +105,7 @@ pub record FlatValue (L : Type 0) : Type 0 where
 -- the nodes are those of some tree
 abbrev pub IsSomeTree : {L : Type 0} → (L → Span) → FlatValue L → Type 0
 IsSomeTree {L} at v = (t : Tree L) × IsFlat at t v.pieces
+
+-- the nodes are those of a tree of the grammar
+abbrev pub IsFlatTree : {L : Type 0} → Grammar → (L → ℕ) → (L → Span) → FlatValue L → Type 0
+IsFlatTree {L} G tok at v = (t : Tree L) × IsFlat at t v.pieces × IsTree G tok t

@@ -18,6 +18,7 @@ pub mod Applied
 pub mod Parsing
 pub mod Outcomes
 pub mod FlatTrees
+pub mod FlatReading
 pub mod FlatValues
 pub mod Shapes
 pub mod NodeLists

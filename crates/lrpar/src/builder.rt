@@ -1,13 +1,14 @@
 //! Parsers: checked data, with who is asked for repairs at errors.
 
-ghost use Rattle.std.specs.Prelude.{◌≡◌, Option, IfOk, IfErr};
+ghost use Rattle.std.specs.Prelude.{◌≡◌, Option, IfOk, IfErr, IfSome};
 ghost use Rattle.lrpar.specs.Acting.{HasAction};
 ghost use Rattle.lrpar.specs.FlatParses.{IsFlatParse};
+ghost use Rattle.lrpar.specs.FlatTrees.{IsFlatTree};
 ghost use Rattle.lrpar.specs.Lexemes.{IsFirstLexError};
 ghost use Rattle.lrpar.specs.NodeValues.{HasNode};
 ghost use Rattle.lrpar.specs.Parses.{HasValue};
 ghost use Rattle.lrpar.specs.Refusals.{IsParseRefusal};
-ghost use Rattle.lrpar.specs.Run.{span_by};
+ghost use Rattle.lrpar.specs.Run.{span_by, token_by};
 ghost use Rattle.lrpar.specs.Stacks.{mapped_by, values_by};
 ghost use Rattle.lrpar.specs.Told.{IsFoldedOutcome, IsHandedOut};
 ghost use Rattle.lrpar.specs.declared.parse_error.LexParseError.TheVariants as errors;
@@ -128,6 +129,7 @@ impl<'a, T: LexerTypes, R: Recoverer<T::StorageT, T::LexemeT>> RTParserBuilder<'
     >
         ensures fault { IfOk result (λ r. IfErr r (IsFirstLexError (X.lexed lexer.now))) }
         ensures parsed { IfOk result (λ r. IfOk r (λ p. IsFlatParse T.StorageT.number T.LexemeT.lex T.LexemeT.faulty_of self.now.checked.now.grammar.grammar self.now.checked.now.graph self.now.checked.now.table (R.answers self.now.recoverer.now) (X.lexed lexer.now) p.0 p.1.items)) }
+        ensures tree { IfOk result (λ r. IfOk r (λ p. IfSome p.0 (IsFlatTree self.now.checked.now.grammar.grammar (token_by T.LexemeT.lex) (span_by T.LexemeT.lex)))) }
         ensures refused { IfErr result (IsParseRefusal self.now.checked.now.grammar.grammar T.LexemeT.lex (X.lexed lexer.now)) }
     {
         self.checked.facts();

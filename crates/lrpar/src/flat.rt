@@ -3,17 +3,18 @@
 ghost use Rattle.std.specs.Prelude.{◌≡◌, ◌<◌, ◌+◌, ◌∷◌, ◌++◌, [], ℕ, List, length, reverse, Some, OnOk, IfOk, slice_get, option_map, string_bytes};
 ghost use Rattle.std.specs.List.{flat_map};
 ghost use Rattle.lrpar.specs.FlatLines.{CanShowTree, CanShowPiece, CanVisit, visit_line};
-ghost use Rattle.lrpar.specs.Shapes.{tree_text, shape};
+ghost use Rattle.lrpar.specs.Shapes.{tree_text, shape, shape_of};
 ghost use Rattle.cfg_theory.specs.Tree.{Tree, leaf, node, Forest, none};
 ghost use Rattle.cfg_theory.specs.Fold.{span_over};
 ghost use Rattle.lr_theory.specs.Machine.{pop};
 ghost use Rattle.lr_theory.specs.StackValues.{top_span};
-ghost use Rattle.lrpar.specs.Run.{span_by};
+ghost use Rattle.lrpar.specs.Run.{span_by, token_by};
 ghost use Rattle.lrpar.specs.Stacks.{span_of_places};
-ghost use Rattle.lrpar.specs.FlatTrees.{term, nonterm, IsFlatStack, IsFlat, IsSomeTree, FlatValue, StandsAt, pieces_of, piece_span, nodes_below, size, below, preorder, root_visits};
+ghost use Rattle.lrpar.specs.FlatTrees.{term, nonterm, IsFlatStack, IsFlat, IsFlatTree, IsSomeTree, FlatValue, StandsAt, pieces_of, piece_span, nodes_below, size, below, preorder, root_visits};
 
+use crate::flat_nodes::node_of;
 use crate::lex_api::Lexeme;
-use crate::node::{push_lexeme_line, push_rule_line};
+use crate::node::{Node, push_lexeme_line, push_rule_line};
 use crate::tops::put_above;
 use cfg_base::index::IndexStorage;
 use cfg_base::span::Span;
@@ -60,7 +61,10 @@ impl<S: IndexStorage, L: Lexeme<S>> Model for FlatTree<S, L> {
 }
 
 /// Answers the node of an index.
-fn node_at<S: IndexStorage, L: Lexeme<S>>(nodes: &[FlatNode<S, L>], index: usize) -> FlatNode<S, L>
+pub(crate) fn node_at<S: IndexStorage, L: Lexeme<S>>(
+    nodes: &[FlatNode<S, L>],
+    index: usize,
+) -> FlatNode<S, L>
     requires { index < length nodes.now }
     ensures { slice_get nodes.now index ≡ Some result }
 {
@@ -129,6 +133,15 @@ impl<S: IndexStorage, L: Lexeme<S>> FlatTree<S, L> {
         ensures only { (t u : Tree L) → IsFlat (span_by L.lex) t self.now.pieces → IsFlat (span_by L.lex) u self.now.pieces → t ≡ u }
     {
         self.nodes.as_slice()
+    }
+
+    /// Answers the tree by rules. It is one of the grammar, as each that `parse_flat` answers is.
+    pub fn to_node(&self, alloc: Global, grm: &NumberedGrammar<S>) -> Result<Node<L, S>, AllocError>
+        requires { IsFlatTree grm.now.grammar (token_by L.lex) (span_by L.lex) self.now }
+        ensures { (t : Tree L) → IsFlat (span_by L.lex) t self.now.pieces → IfOk result (λ node. shape_of S.number node ≡ shape grm.now.grammar t) }
+    {
+        let node = node_of(alloc, grm, self.nodes())?;
+        Ok(node)
     }
 
     /// Answers all nodes, each before its children, these from left to right.

@@ -35,6 +35,7 @@ pub mod builder;
 mod chains;
 mod error_texts;
 pub mod flat;
+mod flat_nodes;
 mod flat_parse;
 mod flat_values;
 mod folded;

@@ -1,10 +1,14 @@
-//! A node as a text.
+//! A node as a text, and the node of a flat tree.
 
-use crate::lexer::Mark;
+ghost use Rattle.lrpar.specs.FlatTrees.{IsFlatTree};
+ghost use Rattle.lrpar.specs.Run.{span_by, token_by};
+
+use crate::lexer::{Mark, MarkTypes, Marks, marks_of};
 use crate::make::data;
 use crate::shown::pair_shown;
 use cfg_base::symbol::RIdx;
-use lrpar::Lexeme;
+use lrpar::{FlatTree, Lexeme, NoRecovery, ParseRefusal, ParserData, RTParserBuilder};
+use std::alloc::Global;
 use std::test::*;
 
 #[test]
@@ -14,5 +18,57 @@ fn nodes_are_shown(rt: HostRuntime) -> Result<(), Fail> {
     let text = pair_shown(rt.alloc(), data.grm(), "x\u{E9}", RIdx(1), lexemes);
     drop(data);
     assert_eq!(rt; text?.as_str(), "S\n a x\n b \u{E9}\n");
+    Ok(())
+}
+
+/// Whether the node of a flat tree is the one of the generic parse.
+fn is_same(
+    alloc: Global,
+    parser: &RTParserBuilder<'_, MarkTypes, NoRecovery>,
+    lexer: &Marks,
+    flat: &FlatTree<u8, Mark>,
+) -> Result<bool, Fail>
+    requires { IsFlatTree parser.now.checked.now.grammar.grammar (token_by Mark.lex) (span_by Mark.lex) flat.now }
+{
+    let node = flat.to_node(alloc, parser.checked.grm())?;
+    match &parser.parse_generictree(alloc, lexer) {
+        Ok((Some(other), _)) => Ok(node.equals(alloc, other)?),
+        Err(ParseRefusal::Memory(e)) => Err((*e).into()),
+        _ => Err("no tree".into()),
+    }
+}
+
+/// Whether both parses of these lexemes give one node.
+fn gives_one_node(
+    alloc: Global,
+    data: &ParserData<u8>,
+    lexemes: &[(u8, u8, u8)],
+) -> Result<bool, Fail> {
+    let lexer = marks_of(alloc, lexemes)?;
+    let parser = RTParserBuilder::<MarkTypes, _>::new(data);
+    match &parser.parse_flat(alloc, &lexer) {
+        Ok(Ok((Some(flat), _))) => is_same(alloc, &parser, &lexer, flat),
+        Err(ParseRefusal::Memory(e)) => Err((*e).into()),
+        _ => Err("no tree".into()),
+    }
+}
+
+#[test]
+fn flat_trees_give_nodes(rt: HostRuntime) -> Result<(), Fail> {
+    let data = data(
+        rt.alloc(),
+        "%start S %% S: 'a' E S 'b' | E T E; E: ; T: 'c' | T 'c';",
+    )?;
+    let lexemes = &[
+        (0, 0, 1),
+        (0, 1, 1),
+        (2, 2, 1),
+        (2, 3, 1),
+        (1, 4, 1),
+        (1, 5, 1),
+    ];
+    let same = gives_one_node(rt.alloc(), &data, lexemes);
+    drop(data);
+    assert!(rt; same?);
     Ok(())
 }

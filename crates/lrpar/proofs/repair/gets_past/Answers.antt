@@ -14,10 +14,11 @@ shift_on-requires-clause-token g c =
     let is = c.tok_id.ensures in
     omega (arith, lt, same, is)
 
-pub returns-then-len : goal.returns-then-len
-returns-then-len g c =
+pub returns-then-index-len : goal.returns-then-index-len
+returns-then-index-len g c =
     let number = g.S.IndexStorage.number in
-    end_tells g.S.IndexStorage.MAX c.args.grm.now.grammar c.args.stable.now (token_by g.L.Lexeme.lex) c.requires.table (overlaid number c.args.base.now c.args.overlay.now) (drop c.args.index c.args.lexemes.now) c.in_ok-past.past (drop_all c.args.index c.args.lexemes.now (omega arith)) c.in_ok-past.ensures
+    let n = c.len.ensures in
+    end_tells g.S.IndexStorage.MAX c.args.grm.now.grammar c.args.stable.now (token_by g.L.Lexeme.lex) c.requires.table (overlaid number c.args.base.now c.args.overlay.now) (drop c.args.index c.args.lexemes.now) c.in_ok-past.past (drop_all c.args.index c.args.lexemes.now (omega (arith, n))) c.in_ok-past.ensures
 
 pub returns : goal.returns
 returns g c =

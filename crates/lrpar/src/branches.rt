@@ -1,6 +1,6 @@
 //! A test without tokens that no chain is long: it follows each production by which a state reduces.
 
-ghost use Rattle.std.specs.Prelude.{◌≡◌, ◌<◌, ◌≤◌, ◌+◌, ℕ, List, true, Some, drop, length, option_map, IfOk, IfSome, OnOk};
+ghost use Rattle.std.specs.Prelude.{◌≡◌, ◌<◌, ◌≤◌, ◌+◌, [], ℕ, List, true, Some, drop, length, option_map, IfOk, IfSome, OnOk};
 ghost use Rattle.cfg_theory.specs.Grammar.{body_of};
 ghost use Rattle.lr_theory.specs.Chains.{goto_from, reduction};
 ghost use Rattle.lrtable.specs.CellViews.{state_of};

@@ -30,4 +30,4 @@ returns-clause-tree g c =
     let faulty = g.T.LexemeT.Lexeme.faulty_of in
     let answers = g.R.Recoverer.answers c.args.self.now.recoverer.now in
     let items = g.X.Lexer.lexed c.args.lexer.now in
-    within_weaker (λ p. IsFlatParse number lex faulty G checked.graph checked.table answers items p.0 p.1.items) (λ p. IfSome p.0 (IsFlatTree G (token_by lex) (span_by lex))) (λ p is. tree_of number lex faulty G checked.graph checked.table answers items p.0 p.1.items is) _ (returns-clause-parsed g c)
+    within_weaker {X = Option (FlatValue g.row.T-LexemeT.Denot) × Vec (ParseError g.row.T-LexemeT.Denot g.row.T-StorageT.Denot) Global} (λ p. IsFlatParse number lex faulty G checked.graph checked.table answers items p.0 p.1.items) (λ p. IfSome p.0 (IsFlatTree G (token_by lex) (span_by lex))) (λ p is. tree_of number lex faulty G checked.graph checked.table answers items p.0 p.1.items is) _ (returns-clause-parsed g c)

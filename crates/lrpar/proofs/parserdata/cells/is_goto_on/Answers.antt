@@ -1,4 +1,5 @@
 use Rattle.std.proofs.Common.{◌≡◌, ap, ◌∙◌, sym, arith}
+use Rattle.std.proofs.lemmas.Bool.{eqb-true}
 use Rattle.lrtable.specs.CellViews.{targets_of}
 use Rattle.lrtable.specs.TableValues.{goto_at}
 use Rattle.lrpar.proofs.RowWalks.{goto_there}
@@ -10,5 +11,6 @@ returns g c = λ yes.
     let n = c.goto_of_row-number.result.0 in
     let q = number c.goto_of_row-number.result.1.0 in
     let there = goto_there c.args.stable.now (number c.args.state.0) (targets_of number c.state_gotos-row.result.now) c.state_gotos-row.ensures.whole c.state_gotos-row.ensures.targets c.args.index n q c.goto_of_row-number.ensures in
-    let e : n ≡ number c.args.ridx.0 = omega (arith, yes, c.to_usize.ensures.value) in
+    let same = eqb-true n c.to_usize.result yes in
+    let e : n ≡ number c.args.ridx.0 = omega (arith, same, c.to_usize.ensures.value) in
     (q, ap (goto_at c.args.stable.now (number c.args.state.0)) (sym e) ∙ there)

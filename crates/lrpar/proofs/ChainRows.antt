@@ -4,7 +4,7 @@ use Rattle.std.proofs.lemmas.List.{drop_all}
 use Rattle.std.proofs.lemmas.Option.{slice_get_within}
 use Rattle.cfg_base.specs.declared.symbol.PIdx.{PIdx}
 use Rattle.cfg_theory.specs.Grammar.{Grammar, body_of}
-use Rattle.lr_theory.specs.Automaton.{Action, shift, reduce, accept, error, Automaton}
+use Rattle.lr_theory.specs.Automaton.{Action, shift, reduce, accept, error}
 use Rattle.lr_theory.specs.Chains.{goto_from, reduce_by, reduction, Reductions}
 use Rattle.lrtable.specs.Graphs.{GraphValue}
 use Rattle.lrtable.specs.TableValues.{TableValue, action_at}

@@ -12,7 +12,7 @@ use Rattle.lr_theory.specs.Repair.{Edit}
 use Rattle.lrtable.specs.Graphs.{GraphValue}
 use Rattle.lrtable.specs.TableValues.{TableValue}
 use Rattle.lrpar.specs.FlatParses.{HasFlat, IsFlatParse}
-use Rattle.lrpar.specs.FlatTrees.{Piece, term, nonterm, flat, flats, IsFlat, IsFlatTree, FlatValue}
+use Rattle.lrpar.specs.FlatTrees.{Piece, nonterm, flat, flats, IsFlat, IsFlatTree, FlatValue}
 use Rattle.lrpar.specs.Lex.{Lex}
 use Rattle.lrpar.specs.Run.{token_by, span_by}
 use Rattle.lrpar.specs.declared.parse_error.ParseError.{ParseError}

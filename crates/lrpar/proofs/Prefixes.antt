@@ -5,7 +5,7 @@ use Rattle.std.proofs.lemmas.Option.{same_Some}
 use Rattle.std.proofs.lemmas.List.{append-nil, map-append, map-id, reverse-append, take-map}
 use Rattle.cfg_theory.specs.Derivation.{AllProductive, BeginsSentence, IsSentence}
 use Rattle.cfg_theory.specs.Grammar.{Sym, Grammar, HasStart, end_token, start_symbol}
-use Rattle.cfg_theory.specs.Tree.{Tree, leaf}
+use Rattle.cfg_theory.specs.Tree.{leaf}
 use Rattle.cfg_theory.proofs.Start.{well_formed_start}
 use Rattle.lr_theory.specs.Automaton.{Automaton, Complete, Safe}
 use Rattle.lr_theory.specs.ErrorPlaces.{IsReady}
@@ -13,7 +13,6 @@ use Rattle.lr_theory.specs.Machine.{Config, going, run, start_config}
 use Rattle.lr_theory.specs.Repair.{with_rest}
 use Rattle.lr_theory.specs.Stack.{Stands, stack_yield}
 use Rattle.lr_theory.specs.Table.{IsAutomatonOf}
-use Rattle.lr_theory.specs.ViablePrefix.{HasPresent}
 use Rattle.lr_theory.proofs.RunTermination.{run_append}
 use Rattle.lr_theory.proofs.TableLaws.{automaton_is_safe}
 use Rattle.lr_theory.proofs.ViablePrefix.{is_prefix_correct}

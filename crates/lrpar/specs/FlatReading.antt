@@ -1,5 +1,5 @@
 -- A tree of a grammar is put together again from its list of nodes, front to back.
-use Rattle.std.specs.Prelude.{ℕ, suc, nat_le, List, [], ◌∷◌, length, Option, None, Some, option_map, option_and_then, if◌then◌else◌}
+use Rattle.std.specs.Prelude.{suc, nat_le, List, [], ◌∷◌, length, Option, None, Some, option_map, option_and_then, if◌then◌else◌}
 use Rattle.cfg_theory.specs.Grammar.{Grammar, body_of}
 use Rattle.cfg_theory.specs.Tree.{Tree, leaf, node, Forest, none}
 use Rattle.lr_theory.specs.Machine.{pop}

@@ -1,5 +1,5 @@
 -- The places of a list that are set, walked over, and sets of rules that are emptied on the way.
-use Rattle.std.proofs.Common.{◌≡◌, ℕ, ◌<◌, ◌≤◌, min, inl, inr, Bool, true, false, List, [], ◌∷◌, length, set, replicate, refl, sym, ◌∙◌, subst, arith}
+use Rattle.std.proofs.Common.{◌≡◌, ℕ, ◌<◌, min, inl, inr, Bool, true, false, List, [], ◌∷◌, length, set, replicate, refl, sym, ◌∙◌, subst, arith}
 use Rattle.std.specs.Prelude.{IsTrue, ◌↔◌}
 use Rattle.std.specs.List.{Contains}
 use Rattle.std.specs.declared.ops.Bound.TheVariants.{Unbounded}

@@ -1,14 +1,10 @@
 -- The sizes of a closure's sets, and where it begins.
-use Rattle.std.proofs.Common.{◌≡◌, ℕ, ◌<◌, ◌⊎◌, inl, inr, Bool, true, false, List, [], length, get_or, replicate, refl, sym, ap, ◌∙◌, subst, arith}
-use Rattle.std.specs.Prelude.{IsTrue}
-use Rattle.std.specs.List.{Contains}
+use Rattle.std.proofs.Common.{◌≡◌, ℕ, inl, inr, false, List, [], length, get_or, replicate, refl, sym, ap, ◌∙◌, subst, arith}
 use Rattle.std.proofs.lemmas.List.{length-replicate}
-use Rattle.cfg_theory.specs.Grammar.{Grammar, rule, IsOf, IsNext, WellFormed, head_of}
-use Rattle.cfg_numbered.specs.Sets.{is_set, is_set_in}
-use Rattle.lr_theory.specs.Itemset.{HasItem, HasLook}
-use Rattle.lrtable.specs.ItemRows.{Core, map_of}
-use Rattle.lrtable.specs.Opening.{Front, RuleSets, IsOpen, HasRuleLook, HasFront, AllFit, FitsIn, SameSizes, Opened, OpenedLook, AreOpened, Follows}
-use Rattle.lrtable.specs.Closes.{AreFronts, AreSeeds, Seeds}
+use Rattle.cfg_theory.specs.Grammar.{Grammar, rule, IsNext, WellFormed}
+use Rattle.lrtable.specs.ItemRows.{Core}
+use Rattle.lrtable.specs.Opening.{Front, RuleSets, IsOpen, HasRuleLook, AllFit, SameSizes, Opened, OpenedLook}
+use Rattle.lrtable.specs.Closes.{AreFronts}
 use Rattle.lrtable.specs.Stepping.{IsSized, IsClosureOf}
 use Rattle.cfg_numbered.proofs.Bits.{none_set, none_in}
 

@@ -5,7 +5,6 @@ use Rattle.std.proofs.lemmas.Bool.{cases_lt}
 use Rattle.std.proofs.lemmas.List.{length-map, drop-map}
 use Rattle.std.proofs.lemmas.Option.{slice_get-get_or, slice_get-map}
 use Rattle.cfg_theory.specs.Grammar.{Sym, rule, token, Grammar, WellFormed, IsNext, body_of}
-use Rattle.cfg_theory.specs.Derivation.{Nullable, IsFirst}
 use Rattle.cfg_theory.specs.First.{AllOf, FirstIsExact}
 use Rattle.cfg_theory.proofs.Derivation.{derives_rule, nullable_of, first_of_list, first_table_exact}
 use Rattle.lr_theory.specs.Canonical.{from_dot}

@@ -1,8 +1,8 @@
 -- Items that move into the sets of symbols, one after another.
-use Rattle.std.proofs.Common.{◌≡◌, ℕ, zero, suc, ◌+◌, ◌<◌, ◌⊎◌, inl, inr, ◌↔◌, Bool, List, [], length, get_or, set, Some, refl, sym, ap, ◌∙◌, subst, subst₂, arith, length-set, get_or-set_same, get_or-set_other}
+use Rattle.std.proofs.Common.{◌≡◌, ℕ, suc, ◌+◌, ◌<◌, ◌⊎◌, inl, inr, ◌↔◌, Bool, List, length, set, Some, refl, sym, ap, ◌∙◌, subst, subst₂, arith, length-set, get_or-set_same, get_or-set_other}
 use Rattle.std.specs.Prelude.{IsTrue}
 use Rattle.std.proofs.lemmas.Bool.{cases_eq}
-use Rattle.cfg_theory.specs.Grammar.{Sym, Grammar, InRange, IsNext, WellFormed}
+use Rattle.cfg_theory.specs.Grammar.{Sym, Grammar, InRange, IsNext}
 use Rattle.cfg_numbered.specs.Sets.{is_set}
 use Rattle.lr_theory.specs.Itemset.{Items, Lookaheads, HasItem, HasLook, SameItems, SameLooks, Goto, GotoLook}
 use Rattle.lrtable.specs.ItemRows.{Core, IsCoreOf, map_of}

@@ -1,7 +1,7 @@
 -- State graphs as texts.
-use Rattle.std.proofs.Common.{◌≡◌, ℕ, zero, suc, ◌+◌, ◌-◌, ◌<◌, ◌≤◌, Bool, true, false, cond, List, [], ◌∷◌, ◌++◌, length, get_or, map, take, drop, replicate, min, Some, slice_get, refl, sym, ap, ◌∙◌, subst, arith, append_assoc, append-nil, ◌⊎◌, inl, inr}
+use Rattle.std.proofs.Common.{◌≡◌, ℕ, zero, suc, ◌+◌, ◌-◌, ◌<◌, ◌≤◌, Bool, true, false, cond, List, [], ◌∷◌, ◌++◌, length, get_or, map, take, drop, replicate, min, Some, refl, sym, ap, ◌∙◌, subst, arith, append_assoc, append-nil, ◌⊎◌, inl, inr}
 use Rattle.std.specs.Prelude.{codes, All}
-use Rattle.std.specs.List.{filter, flat_map, join_by, range_with_len, repeat, IsFirstAndRest}
+use Rattle.std.specs.List.{filter, flat_map, join_by, range_with_len, repeat}
 use Rattle.std.specs.Fmt.{decimal}
 use Rattle.std.proofs.lemmas.List.{flat_map_more, get_or-map, length-map, length-append, length-replicate, map-append, map-id, map_more, map_push, take-map, drop-map, nil_from_length}
 use Rattle.std.proofs.lemmas.List.Elements.{All-drop, All-take, All-get_or, All-filter, All-head, All-tail, All-push, All-weaker, filter-append}
@@ -10,7 +10,7 @@ use Rattle.std.proofs.lemmas.List.FromFn.{length-range_with_len, get_or-range_wi
 use Rattle.std.proofs.lemmas.Option.{slice_get-get_or}
 use Rattle.std.specs.declared.ops.Bound.TheVariants.{Unbounded}
 use Rattle.vob.specs.Walk.{has_item, indices, indices_of, walk}
-use Rattle.cfg_theory.specs.Grammar.{Sym, Grammar, InRange, IsNext, WellFormed, body_of}
+use Rattle.cfg_theory.specs.Grammar.{Sym, Grammar, InRange, WellFormed, body_of}
 use Rattle.cfg_numbered.specs.Value.{GrammarValue}
 use Rattle.lr_theory.specs.Building.{same_symbol}
 use Rattle.lr_theory.specs.Itemset.{Entry, ItemSet, entry_at, FitsGrammar}

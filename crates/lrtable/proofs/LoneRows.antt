@@ -5,7 +5,7 @@ use Rattle.std.proofs.lemmas.List.{get_or_default}
 use Rattle.cfg_theory.specs.Grammar.{Grammar, end_token}
 use Rattle.cfg_numbered.specs.Sets.{is_set}
 use Rattle.lr_theory.specs.Automaton.{Action}
-use Rattle.table_theory.specs.Cells.{Precedences, cell_by, gathered, pairs_at, shifts_at}
+use Rattle.table_theory.specs.Cells.{Precedences, cell_by, pairs_at, shifts_at}
 use Rattle.lrtable.specs.CellRows.{AreApart, HasOnlyShifts, OfProduction, OfToken, PartsValue, ReductionValue, StandsAt, cells_by, filled, filled_row, lone_cells, pairs_in, pairs_on, reductions_on, shift_to, shifts_in, shifts_on}
 use Rattle.lrtable.specs.Cursors.{IsCursor}
 use Rattle.lrtable.specs.Rows.{Rises, at_of}

@@ -1,5 +1,5 @@
 -- What a rule brings to itself before its fronts are followed.
-use Rattle.std.proofs.Common.{◌≡◌, ℕ, ◌<◌, ◌≤◌, ◌⊎◌, inl, inr, Bool, true, false, List, [], ◌∷◌, ◌++◌, length, get_or, refl, sym, ap, ◌∙◌, subst, arith, length-set}
+use Rattle.std.proofs.Common.{◌≡◌, ℕ, ◌<◌, ◌≤◌, inl, inr, Bool, true, false, List, [], ◌∷◌, ◌++◌, length, get_or, refl, sym, ap, ◌∙◌, subst, arith, length-set}
 use Rattle.std.specs.Prelude.{IsTrue}
 use Rattle.std.specs.List.{Contains}
 use Rattle.std.proofs.lemmas.Bool.{cases_eq}
@@ -8,7 +8,7 @@ use Rattle.table_theory.proofs.CellLists.{contains_head, contains_nil, contains_
 use Rattle.cfg_numbered.specs.Sets.{is_set, joined_to, HasAllOf}
 use Rattle.cfg_numbered.specs.Passes.{PassStep}
 use Rattle.cfg_numbered.proofs.Bits.{join}
-use Rattle.lrtable.specs.Opening.{Front, RuleSets, IsOpen, HasRuleLook, OpenedLook, room, GainsOwn, IsClosedAt, Underway}
+use Rattle.lrtable.specs.Opening.{Front, RuleSets, IsOpen, OpenedLook, room, GainsOwn, IsClosedAt, Underway}
 use Rattle.lrtable.proofs.OpenLaws.{no_change, sizes_on, grows_on}
 use Rattle.lrtable.proofs.OpenSteps.{joined_in}
 

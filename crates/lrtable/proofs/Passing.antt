@@ -1,5 +1,5 @@
 -- Marking the rules to which a rule passes its lookaheads on.
-use Rattle.std.proofs.Common.{◌≡◌, ℕ, ◌+◌, ◌<◌, ◌⊎◌, inl, inr, ◌↔◌, Bool, true, false, List, [], ◌∷◌, ◌++◌, length, get_or, replicate, refl, sym, ap, ◌∙◌, subst, arith}
+use Rattle.std.proofs.Common.{◌≡◌, ℕ, ◌+◌, ◌<◌, ◌⊎◌, inl, inr, ◌↔◌, Bool, true, false, List, [], ◌∷◌, ◌++◌, length, get_or, replicate, refl, sym, ap, ◌∙◌, subst}
 use Rattle.std.specs.Prelude.{map, take, IsTrue}
 use Rattle.std.specs.List.{Contains}
 use Rattle.std.proofs.lemmas.List.{length-replicate}
@@ -7,7 +7,7 @@ use Rattle.std.proofs.lemmas.List.Elements.{Contains-append_left, Contains-push,
 use Rattle.table_theory.proofs.CellLists.{contains_nil, contains_head, contains_cases}
 use Rattle.cfg_numbered.specs.Sets.{is_set}
 use Rattle.cfg_numbered.proofs.Bits.{none_set}
-use Rattle.lrtable.specs.Opening.{Front, HasFront}
+use Rattle.lrtable.specs.Opening.{Front}
 use Rattle.lrtable.specs.Pruning.{Marks}
 use Rattle.lrtable.specs.Reaching.{PassesTo, PassedIn}
 use Rattle.lrtable.proofs.Marking.{marks_none, marks_on}

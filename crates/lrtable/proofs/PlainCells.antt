@@ -1,5 +1,5 @@
 -- Cells in which one thing alone may stand.
-use Rattle.std.proofs.Common.{◌≡◌, ℕ, inl, inr, Bool, true, false, ◌&&◌, nat_eq, List, [], ◌∷◌, Option, Some, None, refl, ap, ◌∙◌}
+use Rattle.std.proofs.Common.{◌≡◌, ℕ, inl, inr, Bool, true, false, ◌&&◌, nat_eq, List, [], ◌∷◌, Option, refl, ap, ◌∙◌}
 use Rattle.cfg_theory.specs.Grammar.{Grammar, end_token}
 use Rattle.lr_theory.specs.Automaton.{Action}
 use Rattle.table_theory.specs.Cells.{Precedences, cell_by, pairs_at, shifts_at}

@@ -8,8 +8,8 @@ use Rattle.std.proofs.lemmas.List.Elements.{Contains-append_left, Contains-push,
 use Rattle.table_theory.proofs.CellLists.{contains_nil, contains_head, contains_tail, contains_cases}
 use Rattle.cfg_numbered.specs.Sets.{is_set, is_set_in}
 use Rattle.cfg_numbered.proofs.Bits.{put_in}
-use Rattle.lrtable.specs.Opening.{Front, RuleSets, IsTidy, IsOpen, HasRuleLook, HasFront, Brings, Opened, OpenedLook, AreOpened, AllFit, room, SameSizes, Grows, Comes, FrontComes, FrontStep, NamedIn, BroughtBy, GainsOwn, IsClosedAt, Underway}
-use Rattle.lrtable.specs.Reaching.{LeadsTo, PassesTo, BringsTo, IsReachedBy, MayBeReachedBy, PassedIn, IsAlone, AreListed}
+use Rattle.lrtable.specs.Opening.{Front, RuleSets, IsTidy, IsOpen, HasRuleLook, HasFront, Brings, Opened, OpenedLook, AreOpened, room, Comes, FrontComes, FrontStep, NamedIn, BroughtBy, GainsOwn, IsClosedAt, Underway}
+use Rattle.lrtable.specs.Reaching.{LeadsTo, PassesTo, BringsTo, IsReachedBy, MayBeReachedBy, IsAlone, AreListed}
 use Rattle.lrtable.proofs.Clearing.{set_below}
 use Rattle.lrtable.proofs.OpenLaws.{no_change, sizes_on, grows_on, fronts_none, map_next}
 

@@ -1,9 +1,9 @@
 -- What the items of a core open, one after another.
-use Rattle.std.proofs.Common.{◌≡◌, ℕ, suc, ◌+◌, ◌<◌, ◌≤◌, ◌⊎◌, inl, inr, ◌↔◌, Bool, List, [], length, get_or, refl, sym, ap, ◌∙◌, subst, subst₂, arith}
+use Rattle.std.proofs.Common.{◌≡◌, ℕ, suc, ◌+◌, ◌≤◌, ◌⊎◌, inl, inr, ◌↔◌, Bool, List, length, refl, sym, ap, ◌∙◌, subst, subst₂, arith}
 use Rattle.std.specs.Prelude.{IsTrue}
 use Rattle.std.proofs.lemmas.Bool.{cases_eq}
 use Rattle.std.proofs.lemmas.List.{get_or_default}
-use Rattle.cfg_theory.specs.Grammar.{Sym, rule, token, Grammar, IsNext, WellFormed}
+use Rattle.cfg_theory.specs.Grammar.{rule, Grammar, IsNext}
 use Rattle.cfg_theory.specs.Derivation.{Nullable, IsFirst}
 use Rattle.lr_theory.specs.Canonical.{from_dot}
 use Rattle.lr_theory.specs.Itemset.{Items, Lookaheads, ItemSet, HasItem, HasLook, SameItems, SameLooks}
@@ -11,8 +11,8 @@ use Rattle.cfg_numbered.specs.Sets.{is_set}
 use Rattle.lrtable.specs.Adding.{One, OneLooks}
 use Rattle.lrtable.specs.ItemRows.{Item, IsAt, Core, IsCoreOf, map_of}
 use Rattle.lrtable.specs.Meeting.{row}
-use Rattle.lrtable.specs.Opening.{Front, RuleSets, IsOpen, HasRuleLook, Brings, Follows, AreOpened, Opened}
-use Rattle.lrtable.specs.Closes.{Seeds, SeedsLook, AreSeeds, IsRest, AreFronts}
+use Rattle.lrtable.specs.Opening.{Front, RuleSets, IsOpen, HasRuleLook, Brings, Follows}
+use Rattle.lrtable.specs.Closes.{Seeds, SeedsLook, AreSeeds, IsRest}
 use Rattle.lrtable.specs.Stepping.{ItemsBelow, LooksBelow}
 use Rattle.lrtable.proofs.OpenLaws.{none_follow, follow_on, follow_as}
 use Rattle.lrtable.proofs.ItemSets.{has_item, has_look}

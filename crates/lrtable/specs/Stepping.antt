@@ -1,8 +1,8 @@
 -- A step of the building over the states: the closed state's items, moved into a set for each symbol, and their placing.
-use Rattle.std.specs.Prelude.{◌≡◌, ℕ, ◌+◌, ◌<◌, ◌≤◌, ◌⊎◌, false, IsTrue, List, length, get_or, slice_set}
+use Rattle.std.specs.Prelude.{◌≡◌, ℕ, ◌+◌, ◌<◌, false, IsTrue, List, length, get_or, slice_set}
 use Rattle.cfg_theory.specs.Grammar.{Sym, Grammar, InRange, IsOf, head_of}
 use Rattle.cfg_numbered.specs.Sets.{is_set}
-use Rattle.lr_theory.specs.Itemset.{Items, Lookaheads, ItemSet, HasItem, HasLook, Closure, ClosureLook, Goto, GotoLook, Is}
+use Rattle.lr_theory.specs.Itemset.{Items, Lookaheads, HasItem, HasLook, Closure, ClosureLook, Goto, GotoLook, Is}
 use Rattle.lr_theory.specs.Graph.{core_of}
 use Rattle.lr_theory.specs.Building.{Building, Reached, IsTodo}
 use Rattle.lrtable.specs.ItemRows.{Item, IsAt, Core, IsCoreOf, map_of}

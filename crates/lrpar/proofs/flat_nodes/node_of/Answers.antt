@@ -1,8 +1,7 @@
-use Rattle.std.proofs.Common.{◌≡◌, ◌≤◌, [], ◌∷◌, List, length, map, ap, ◌∙◌, arith}
+use Rattle.std.proofs.Common.{◌≤◌, [], ◌∷◌, length, map, ap, ◌∙◌, arith}
 use Rattle.std.specs.Prelude.{option_map}
 use Rattle.std.proofs.lemmas.List.{length-map}
 use Rattle.std.proofs.lemmas.Option.{slice_get-map}
-use Rattle.cfg_theory.specs.Tree.{Tree}
 use Rattle.lrpar.specs.FlatTrees.{piece_of, pieces_of}
 use Rattle.lrpar.specs.Run.{span_by, token_by}
 use Rattle.lrpar.specs.Shapes.{shape}

@@ -1,4 +1,4 @@
-use Rattle.std.proofs.Common.{◌≡◌, ℕ, subst, sym, ◌∙◌}
+use Rattle.std.proofs.Common.{subst, sym, ◌∙◌}
 use Rattle.lrtable.specs.CellViews.{action_of}
 use Rattle.lrtable.specs.Rows.{Below}
 use Rattle.lrtable.specs.declared.cells.Action.TheVariants as actions

@@ -1,4 +1,4 @@
-use Rattle.std.proofs.Common.{◌≡◌, ◌<◌, ◌≤◌, ℕ, length, get_or, ap, sym, ◌∙◌, arith}
+use Rattle.std.proofs.Common.{ℕ, ap, arith}
 use Rattle.lrpar.proofs.FullSteps.{full_start, full_more, full_all}
 use Rattle.lrpar.proofs.full_table.full_row.Goals as goal
 

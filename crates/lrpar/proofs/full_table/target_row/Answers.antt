@@ -1,4 +1,4 @@
-use Rattle.std.proofs.Common.{◌≡◌, ◌⊎◌, [], ℕ, subst, sym, ◌∙◌}
+use Rattle.std.proofs.Common.{◌≡◌, ◌⊎◌, [], subst, ◌∙◌}
 use Rattle.lrtable.specs.declared.stidx.StIdx.{StIdx}
 use Rattle.lrtable.proofs.FullRows.{rises_under}
 use Rattle.lrpar.proofs.FullSteps.{below_under, below_places, are_targets}

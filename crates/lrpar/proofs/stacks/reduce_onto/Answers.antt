@@ -1,6 +1,5 @@
-use Rattle.std.proofs.Common.{◌≡◌, ◌<◌, ◌-◌, length, get_or, take, drop, reverse, Some, refl, sym, ap, ◌∙◌, arith}
+use Rattle.std.proofs.Common.{◌<◌, ◌-◌, length, refl, ◌∙◌, arith}
 use Rattle.std.proofs.lemmas.List.{reverse-append}
-use Rattle.lrpar.specs.Reducing.{states_of, stack_of}
 use Rattle.lrpar.proofs.Reduced.{number_at, state_in, are_pushed, states_pushed, reduces_to, goes_to, within}
 use Rattle.lrpar.proofs.stacks.reduce_onto.Goals as goal
 use Rattle.lrpar.proofs.stacks.reduce_onto.Goals.{After-prod_to_rule-ridx}

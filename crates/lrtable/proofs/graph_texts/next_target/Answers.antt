@@ -1,4 +1,4 @@
-use Rattle.std.proofs.Common.{◌≡◌, ℕ, ◌<◌, ◌≤◌, ◌⊎◌, length, map, take, subst, arith}
+use Rattle.std.proofs.Common.{ℕ, ◌<◌, ◌≤◌, ◌⊎◌, length, map, subst, arith}
 use Rattle.std.proofs.lemmas.List.{take_all}
 use Rattle.lrtable.specs.GraphTexts.{NoneLead}
 use Rattle.lrtable.specs.GraphViews.{edge_seen}

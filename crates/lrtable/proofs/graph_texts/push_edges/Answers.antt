@@ -1,4 +1,4 @@
-use Rattle.std.proofs.Common.{◌≡◌, ◌≤◌, ◌++◌, map, subst, arith}
+use Rattle.std.proofs.Common.{◌≡◌, ◌++◌, map, subst, arith}
 use Rattle.std.specs.String.{string_bytes}
 use Rattle.lrtable.specs.GraphTexts.{edge_text, by_target}
 use Rattle.lrtable.specs.GraphViews.{edges_seen}

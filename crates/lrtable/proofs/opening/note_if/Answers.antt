@@ -1,4 +1,4 @@
-use Rattle.std.proofs.Common.{true, inl, refl}
+use Rattle.std.proofs.Common.{inl, refl}
 use Rattle.lrtable.proofs.Noting.{flag_was, noted_still}
 use Rattle.lrtable.proofs.opening.note_if.Goals as goal
 

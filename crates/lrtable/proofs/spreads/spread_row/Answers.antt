@@ -1,5 +1,5 @@
-use Rattle.std.proofs.Common.{◌≡◌, ◌<◌, ◌≤◌, ℕ, length, get_or, ap, sym, ◌∙◌, arith}
-use Rattle.lrtable.proofs.SpreadSteps.{spread_start, spread_more, spread_all}
+use Rattle.std.proofs.Common.{ℕ, ap, arith}
+use Rattle.lrtable.proofs.SpreadSteps.{spread_more, spread_all}
 use Rattle.lrtable.proofs.spreads.spread_row.Goals as goal
 
 pub put-requires : goal.put-requires

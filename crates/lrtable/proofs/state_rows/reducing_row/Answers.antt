@@ -1,6 +1,6 @@
-use Rattle.std.proofs.Common.{◌≡◌, ◌<◌, ◌++◌, ◌∷◌, [], Bool, List, length, get_or, sym, ap, ◌∙◌, subst, arith, append-nil}
+use Rattle.std.proofs.Common.{◌≡◌, ◌<◌, ◌++◌, ◌∷◌, [], List, length, get_or, sym, ap, ◌∙◌, subst, arith, append-nil}
 use Rattle.table_theory.specs.Cells.{ReduceReduce, ShiftReduce}
-use Rattle.lrtable.specs.CellRows.{AreApart, cells_by, filled_row, lone_cells}
+use Rattle.lrtable.specs.CellRows.{AreApart, filled_row, lone_cells}
 use Rattle.lrtable.specs.CellViews.{pairs_of, parts_of, precedences_of, reductions_of, shifts_of, targets_of}
 use Rattle.lrtable.specs.Meeting.{rows_in}
 use Rattle.lrtable.proofs.LoneRows.{lone, lone_no_pairs, lone_no_shifts, lone_row, single}

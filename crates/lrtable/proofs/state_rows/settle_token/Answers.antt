@@ -1,4 +1,4 @@
-use Rattle.std.proofs.Common.{◌++◌, ℕ, ap, ◌∙◌, List}
+use Rattle.std.proofs.Common.{◌++◌, ap, ◌∙◌, List}
 use Rattle.lr_theory.specs.Automaton.{Action}
 use Rattle.table_theory.specs.Cells.{ShiftReduce, pairs_at}
 use Rattle.lrtable.specs.CellRows.{filled, first_of, reductions_on}

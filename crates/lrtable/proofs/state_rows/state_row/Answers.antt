@@ -1,6 +1,6 @@
 use Rattle.std.proofs.Common.{◌≡◌, ◌++◌, [], List, sym, ap, ◌∙◌, arith, append-nil}
 use Rattle.table_theory.specs.Cells.{ReduceReduce, ShiftReduce}
-use Rattle.lrtable.specs.CellRows.{cells_by, filled_row, shift_to}
+use Rattle.lrtable.specs.CellRows.{filled_row, shift_to}
 use Rattle.lrtable.specs.CellViews.{pairs_of, parts_of, precedences_of, reductions_of, shifts_of, targets_of}
 use Rattle.lrtable.specs.Meeting.{rows_in}
 use Rattle.lrtable.specs.Rows.{at_of}

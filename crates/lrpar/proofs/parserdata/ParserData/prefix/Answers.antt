@@ -1,4 +1,4 @@
-use Rattle.std.proofs.Common.{◌≡◌, ◌<◌, [], ◌∷◌, ap, ◌∙◌}
+use Rattle.std.proofs.Common.{◌≡◌, [], ◌∷◌, ap, ◌∙◌}
 use Rattle.lrpar.specs.Reducing.{stack_of}
 use Rattle.lrpar.proofs.Prefixes.{prefix_first}
 use Rattle.lrpar.proofs.parserdata.ParserData.prefix.Goals as goal

@@ -1,4 +1,4 @@
-use Rattle.std.proofs.Common.{◌≡◌, sym, subst}
+use Rattle.std.proofs.Common.{subst}
 use Rattle.lrtable.specs.CellViews.{targets_of}
 use Rattle.lrtable.specs.GraphViews.{edges_seen}
 use Rattle.lrpar.specs.Fitting.{AreEdges}

@@ -1,4 +1,4 @@
-use Rattle.std.proofs.Common.{◌≡◌, ◌<◌, ◌↔◌, ℕ, [], ◌∷◌, ◌++◌, subst}
+use Rattle.std.proofs.Common.{◌<◌, ◌↔◌, ℕ, [], ◌∷◌, ◌++◌, subst}
 use Rattle.std.specs.Prelude.{IfOk}
 use Rattle.std.proofs.lemmas.Result.{IfOk-weaker}
 use Rattle.cfg_theory.specs.Derivation.{AllProductive, BeginsSentence, IsSentence}

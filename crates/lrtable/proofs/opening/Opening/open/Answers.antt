@@ -1,4 +1,4 @@
-use Rattle.std.proofs.Common.{Bool, true, List, length, set, sym, ap, ◌∙◌, subst, arith, length-set}
+use Rattle.std.proofs.Common.{Bool, true, List, length, sym, ap, ◌∙◌, subst, arith, length-set}
 use Rattle.lrtable.specs.Opening.{AreNoted, RuleSets}
 use Rattle.lrtable.proofs.opening.Opening.open.Goals as goal
 

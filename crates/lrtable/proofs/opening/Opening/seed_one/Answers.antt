@@ -1,8 +1,8 @@
-use Rattle.std.proofs.Common.{◌≡◌, ◌<◌, ℕ, List, Bool, sym, ap, ◌∙◌, subst, arith, length}
+use Rattle.std.proofs.Common.{sym, ◌∙◌, subst, arith}
 use Rattle.cfg_theory.specs.Grammar.{rule, IsNext}
 use Rattle.lrtable.specs.Adding.{One, OneLooks}
-use Rattle.lrtable.specs.Closes.{Seeds, SeedsLook, IsRest}
-use Rattle.lrtable.specs.Opening.{RuleSets, Follows, Brings}
+use Rattle.lrtable.specs.Closes.{Seeds, SeedsLook}
+use Rattle.lrtable.specs.Opening.{Follows}
 use Rattle.lrtable.proofs.Exact.{dot_within}
 use Rattle.lrtable.proofs.Seeding.{seeds_one, seeds_none}
 use Rattle.lrtable.proofs.opening.Opening.seed_one.Goals as goal

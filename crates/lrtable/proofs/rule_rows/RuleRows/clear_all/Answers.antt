@@ -2,7 +2,7 @@ use Rattle.std.proofs.Common.{◌≡◌}
 use Rattle.std.specs.Prelude.{true}
 use Rattle.std.specs.declared.ops.Bound.TheVariants.{Unbounded}
 use Rattle.vob.specs.Walk.{walk}
-use Rattle.lrtable.proofs.Clearing.{emptied_begin, emptied_at, emptied_next, all_emptied}
+use Rattle.lrtable.proofs.Clearing.{emptied_begin, emptied_at, emptied_next}
 use Rattle.lrtable.proofs.rule_rows.RuleRows.clear_all.Goals as goal
 
 pub rules-init : goal.rules-init

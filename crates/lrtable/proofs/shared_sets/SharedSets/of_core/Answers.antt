@@ -1,7 +1,7 @@
 use Rattle.std.proofs.Common.{◌≡◌, ◌<◌, ◌++◌, ◌∷◌, ◌∙◌, ℕ, [], List, length, ap, subst, arith, rules}
 use Rattle.std.proofs.lemmas.List.{length-map}
 use Rattle.vob.specs.Packed.{Contents}
-use Rattle.lrtable.specs.Meeting.{rows_in, row}
+use Rattle.lrtable.specs.Meeting.{rows_in}
 use Rattle.lrtable.specs.StateViews.{item_of, core_of_set}
 use Rattle.lrtable.specs.declared.shared_sets.SharedItem.{SharedItem}
 use Rattle.lrtable.proofs.CoreSteps.{map_at, row_at}

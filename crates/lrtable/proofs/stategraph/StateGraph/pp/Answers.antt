@@ -1,4 +1,4 @@
-use Rattle.std.proofs.Common.{◌++◌, replicate, ap, ◌∙◌}
+use Rattle.std.proofs.Common.{replicate, ap, ◌∙◌}
 use Rattle.lrtable.specs.GraphTexts.{front_width}
 use Rattle.lrtable.proofs.stategraph.StateGraph.pp.Goals as goal
 

@@ -1,4 +1,4 @@
-use Rattle.std.proofs.Common.{◌≡◌, ◌<◌, sym, ap, ◌∙◌, subst, arith, refl}
+use Rattle.std.proofs.Common.{◌<◌, sym, ap, ◌∙◌, subst, arith, refl}
 use Rattle.lrtable.specs.SpreadRows.{AreSpread, TellsAt}
 use Rattle.lrtable.specs.TableValues.{TableValue, action_at}
 use Rattle.lrtable.specs.TableViews.{sparse_of}

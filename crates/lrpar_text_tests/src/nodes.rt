@@ -1,13 +1,10 @@
 //! A node as a text, and the node of a flat tree.
 
-ghost use Rattle.lrpar.specs.FlatTrees.{IsFlatTree};
-ghost use Rattle.lrpar.specs.Run.{span_by, token_by};
-
 use crate::lexer::{Mark, MarkTypes, Marks, marks_of};
 use crate::make::data;
 use crate::shown::pair_shown;
 use cfg_base::symbol::RIdx;
-use lrpar::{FlatTree, Lexeme, NoRecovery, ParseRefusal, ParserData, RTParserBuilder};
+use lrpar::{Lexeme, NoRecovery, Node, ParseRefusal, ParserData, RTParserBuilder};
 use std::alloc::Global;
 use std::test::*;
 
@@ -21,16 +18,13 @@ fn nodes_are_shown(rt: HostRuntime) -> Result<(), Fail> {
     Ok(())
 }
 
-/// Whether the node of a flat tree is the one of the generic parse.
-fn is_same(
+/// Whether the generic parse gives this node.
+fn is_parsed(
     alloc: Global,
     parser: &RTParserBuilder<'_, MarkTypes, NoRecovery>,
     lexer: &Marks,
-    flat: &FlatTree<u8, Mark>,
-) -> Result<bool, Fail>
-    requires { IsFlatTree parser.now.checked.now.grammar.grammar (token_by Mark.lex) (span_by Mark.lex) flat.now }
-{
-    let node = flat.to_node(alloc, parser.checked.grm())?;
+    node: &Node<Mark, u8>,
+) -> Result<bool, Fail> {
     match &parser.parse_generictree(alloc, lexer) {
         Ok((Some(other), _)) => Ok(node.equals(alloc, other)?),
         Err(ParseRefusal::Memory(e)) => Err((*e).into()),
@@ -38,7 +32,7 @@ fn is_same(
     }
 }
 
-/// Whether both parses of these lexemes give one node.
+/// Whether the node of the flat tree of these lexemes is the one of the generic parse.
 fn gives_one_node(
     alloc: Global,
     data: &ParserData<u8>,
@@ -47,7 +41,10 @@ fn gives_one_node(
     let lexer = marks_of(alloc, lexemes)?;
     let parser = RTParserBuilder::<MarkTypes, _>::new(data);
     match &parser.parse_flat(alloc, &lexer) {
-        Ok(Ok((Some(flat), _))) => is_same(alloc, &parser, &lexer, flat),
+        Ok(Ok((Some(tree), _))) => {
+            let node = tree.to_node(alloc, data.grm())?;
+            is_parsed(alloc, &parser, &lexer, &node)
+        }
         Err(ParseRefusal::Memory(e)) => Err((*e).into()),
         _ => Err("no tree".into()),
     }

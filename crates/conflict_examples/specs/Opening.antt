@@ -1,17 +1,21 @@
 -- What is open while an example is put together.
-use Rattle.std.specs.Prelude.{◌≡◌, ℕ, List, [], ◌∷◌, ◌++◌, map, reverse, IfSome}
+use Rattle.std.specs.Prelude.{◌≡◌, ℕ, suc, List, [], ◌∷◌, ◌++◌, map, reverse, IfSome}
 use Rattle.cfg_base.specs.declared.symbol.PIdx.{PIdx}
 use Rattle.cfg_base.specs.declared.symbol.SIdx.{SIdx}
-use Rattle.cfg_theory.specs.Grammar.{Sym, Grammar}
+use Rattle.cfg_theory.specs.Grammar.{Sym, rule, Grammar, IsNext}
 use Rattle.cfg_theory.specs.Derivation.{Replaces}
-use Rattle.lr_theory.specs.Canonical.{Act}
+use Rattle.lr_theory.specs.Canonical.{Act, from_dot}
+use Rattle.lr_theory.specs.Graph.{Graph, Leads}
 use Rattle.cfg_numbered.specs.Symbols.{syms_of}
 use Rattle.conflict_examples.specs.Spines.{Item, IsSpine, before_dots, around, AreForms, Begins, ShowsAct}
 use Rattle.conflict_examples.specs.ExampleViews.{spine_of, shown_of}
 use Rattle.conflict_examples.specs.declared.opened.Opened.{Opened}
 use Rattle.conflict_examples.specs.declared.checked.Spines.{Spines}
 use Rattle.conflict_examples.specs.declared.forms.Forms.{Forms}
+use Rattle.conflict_examples.specs.declared.led.Led.{Led}
 use Rattle.conflict_examples.specs.declared.shown.Part.{Part}
+use Rattle.conflict_examples.specs.declared.whole.Inner.{Inner}
+use Rattle.conflict_examples.specs.declared.whole.Whole.{Whole}
 
 -- the list is a spine, with the string before its dots and the list behind its innermost production
 pub record IsOpened (G : Grammar) (spine : List Item) (w others : List Sym) : Type 0 where
@@ -23,9 +27,30 @@ pub record IsOpened (G : Grammar) (spine : List Item) (w others : List Sym) : Ty
 abbrev pub IsOpen : {S : Type 0} → (S → ℕ) → Grammar → Opened S → Type 0
 IsOpen number G o = IsOpened G (spine_of number o.items.items) (reverse (syms_of number o.symbols.items)) (reverse (syms_of number o.rest.items))
 
--- what is open is, for both actions
-abbrev pub AreOpen : {S : Type 0} → (S → ℕ) → Grammar → Spines S → Type 0
-AreOpen number G o = IfSome o.first (IsOpen number G) × IfSome o.second (IsOpen number G)
+-- within others, which have their own string and list
+abbrev pub IsOpenIn : {S : Type 0} → (S → ℕ) → Grammar → List Item → List Sym → List Sym → Opened S → Type 0
+IsOpenIn number G js w others o = IsOpened G (spine_of number o.items.items ++ js) (reverse (syms_of number o.symbols.items) ++ w) (reverse (syms_of number o.rest.items) ++ others)
+
+-- within whatever the one is open, the other is too
+abbrev pub StaysOpen : {S : Type 0} → (S → ℕ) → Grammar → Opened S → Opened S → Type 0
+StaysOpen number G old new = (js : List Item) (w others : List Sym) → IsOpenIn number G js w others old → IsOpenIn number G js w others new
+
+-- it is open within any productions of which the innermost waits for its rule
+abbrev pub IsInner : {S : Type 0} → (S → ℕ) → Grammar → Inner S → Type 0
+IsInner number G p = (x : Item) (js : List Item) (w others : List Sym) → IsOpened G (x ∷ js) w others → IsNext G x.production x.dot (rule (number p.ridx.0)) →
+    IsOpenIn number G (x ∷ js) w (from_dot G x.production (suc x.dot) ++ others) p.part
+
+-- both parts are open
+abbrev pub IsWhole : {S : Type 0} → (S → ℕ) → Grammar → Whole S → Type 0
+IsWhole number G x = IsOpen number G x.outer × IfSome x.inner (λ b. IsInner number G b.value)
+
+-- the symbols lead to the state
+abbrev pub IsLed : {S : Type 0} → (S → ℕ) → Graph → Led S → Type 0
+IsLed number g l = Leads g (reverse (syms_of number l.symbols.items)) (number l.stidx.0)
+
+-- what is open is, for both actions, and the symbols that are kept lead to their state
+abbrev pub AreOpen : {S : Type 0} → (S → ℕ) → Grammar → Graph → Spines S → Type 0
+AreOpen number G g o = IfSome o.first (IsWhole number G) × IfSome o.second (IsWhole number G) × IfSome o.led (IsLed number g)
 
 -- the last one of a list, the innermost of its productions
 pub record IsInnermost {S : Type 0} (x : PIdx S × SIdx S) (items : List (PIdx S × SIdx S)) : Type 0 where

@@ -3,28 +3,31 @@
 ghost use Rattle.std.specs.Prelude.{◌≡◌, ◌≢◌, IfOk, IfSome};
 ghost use Rattle.cfg_theory.specs.Grammar.{Grammar};
 ghost use Rattle.lr_theory.specs.Canonical.{Act, shift, reduce};
-ghost use Rattle.lr_theory.specs.Graph.{Leads};
+ghost use Rattle.lr_theory.specs.Graph.{Graph, Leads};
 ghost use Rattle.lrtable.specs.Graphs.{graph_of};
 ghost use Rattle.conflict_examples.specs.ExampleViews.{example_of};
-ghost use Rattle.conflict_examples.specs.Opening.{IsOpen, AreOpen, PartShows};
+ghost use Rattle.conflict_examples.specs.Opening.{IsOpen, IsWhole, IsLed, AreOpen, PartShows};
 ghost use Rattle.conflict_examples.specs.Spines.{IsExample};
 
 use crate::examples::ConflictExample;
 use crate::kept::Path;
-use crate::opened::{Opened, reopened};
-use crate::shown::{Part, joined, shown_reduce, shown_shift};
+use crate::led::{Led, Walked, leads_to};
+use crate::opened::Opened;
+use crate::shown::{Part, paired, shown_reduce, shown_shift};
 use crate::source::Source;
 use crate::steps::steps_behind;
+use crate::whole::{Whole, joined, reopened};
 use cfg_base::index::IndexStorage;
 use cfg_base::symbol::PIdx;
 use lrtable::stidx::StIdx;
 use std::alloc::{AllocError, Global};
 
-/// What is open after the string of the last example, for the first action and for the second.
+/// What is open after the string of the last example, for the first action and for the second, and where that string leads.
 #[derive(Drop)]
 pub(crate) struct Spines<S> {
-    pub first: Option<Opened<S>>,
-    pub second: Option<Opened<S>>,
+    pub first: Option<Whole<S>>,
+    pub second: Option<Whole<S>>,
+    pub led: Option<Led<S>>,
 }
 
 /// What is open after a search, and what it found, if it found it.
@@ -34,45 +37,115 @@ pub(crate) struct Found<S> {
     pub example: Option<ConflictExample<S>>,
 }
 
-/// What is open for one action, and what is shown of it, if that is.
+/// What is open for one action, and what is shown of it, if that is; and how many of the first symbols may be those of the last
+/// string.
 #[derive(Drop)]
 struct Side<S> {
-    opened: Option<Opened<S>>,
+    opened: Option<Whole<S>>,
     part: Option<Part<S>>,
+    same: usize,
+}
+
+/// Where the string of an example leads, and the example, if it is one.
+#[derive(Drop)]
+struct Joined<S> {
+    led: Option<Led<S>>,
+    example: Option<ConflictExample<S>>,
 }
 
 /// Nothing.
 pub(crate) fn no_spines<S: IndexStorage>() -> Spines<S>
-    ensures { (G : Grammar) → AreOpen S.number G result }
+    ensures { (G : Grammar) (g : Graph) → AreOpen S.number G g result }
 {
     Spines {
         first: None,
         second: None,
+        led: None,
     }
+}
+
+/// What is shown of a shift of the token by what is open.
+fn shift_part<'a, S: IndexStorage>(
+    alloc: Global,
+    source: &Source<'a, S>,
+    whole: &Whole<S>,
+) -> Result<Option<Part<S>>, AllocError>
+    requires { IsWhole S.number source.now.grm.now.grammar whole.now }
+    ensures { IfOk result (λ o. IfSome o (PartShows S.number source.now.grm.now.grammar (S.number source.now.token.0) shift)) }
+{
+    let Some(inner) = &whole.inner else {
+        return shown_shift(alloc, source.grm, &whole.outer, source.token);
+    };
+    let Some(opened) = joined(alloc, source.grm, &whole.outer, inner)? else {
+        return Ok(None);
+    };
+    shown_shift(alloc, source.grm, &opened, source.token)
+}
+
+/// What is shown of a reduction on the token by what is open in one part.
+fn reduce_opened<'a, S: IndexStorage>(
+    alloc: Global,
+    source: &Source<'a, S>,
+    opened: &Opened<S>,
+    production: PIdx<S>,
+) -> Result<Option<Part<S>>, AllocError>
+    requires { IsOpen S.number source.now.grm.now.grammar opened.now }
+    ensures { IfOk result (λ o. IfSome o (PartShows S.number source.now.grm.now.grammar (S.number source.now.token.0) (reduce (S.number production.0)))) }
+{
+    let steps = steps_behind(alloc, source, opened.rest.as_slice())?;
+    shown_reduce(
+        alloc,
+        source.grm,
+        opened,
+        steps.as_slice(),
+        source.token,
+        production,
+    )
+}
+
+/// What is shown of a reduction on the token by what is open.
+fn reduce_part<'a, S: IndexStorage>(
+    alloc: Global,
+    source: &Source<'a, S>,
+    whole: &Whole<S>,
+    production: PIdx<S>,
+) -> Result<Option<Part<S>>, AllocError>
+    requires { IsWhole S.number source.now.grm.now.grammar whole.now }
+    ensures { IfOk result (λ o. IfSome o (PartShows S.number source.now.grm.now.grammar (S.number source.now.token.0) (reduce (S.number production.0)))) }
+{
+    let Some(inner) = &whole.inner else {
+        return reduce_opened(alloc, source, &whole.outer, production);
+    };
+    let Some(opened) = joined(alloc, source.grm, &whole.outer, inner)? else {
+        return Ok(None);
+    };
+    reduce_opened(alloc, source, &opened, production)
 }
 
 /// What is shown of a shift of the token by the productions of a path.
 fn shift_side<'a, S: IndexStorage>(
     alloc: Global,
     source: &Source<'a, S>,
-    opened: Option<Opened<S>>,
+    opened: Option<Whole<S>>,
     path: &Path<S>,
 ) -> Result<Side<S>, AllocError>
-    requires { IfSome opened (IsOpen S.number source.now.grm.now.grammar) }
-    ensures spines { IfOk result (λ r. IfSome r.opened (IsOpen S.number source.now.grm.now.grammar)) }
+    requires { IfSome opened (IsWhole S.number source.now.grm.now.grammar) }
+    ensures spines { IfOk result (λ r. IfSome r.opened (IsWhole S.number source.now.grm.now.grammar)) }
     ensures part { IfOk result (λ r. IfSome r.part (PartShows S.number source.now.grm.now.grammar (S.number source.now.token.0) shift)) }
 {
-    let items = path.items.as_slice();
-    let Some(opened) = reopened(alloc, source.grm, opened, path.around, items)? else {
+    let Some(opened) = reopened(alloc, source.grm, opened, path)? else {
         return Ok(Side {
             opened: None,
             part: None,
+            same: 0,
         });
     };
-    let part = shown_shift(alloc, source.grm, &opened, source.token)?;
+    let part = shift_part(alloc, source, &opened)?;
+    let same = opened.same(path.stays);
     Ok(Side {
         opened: Some(opened),
         part,
+        same,
     })
 }
 
@@ -80,54 +153,59 @@ fn shift_side<'a, S: IndexStorage>(
 fn reduce_side<'a, S: IndexStorage>(
     alloc: Global,
     source: &Source<'a, S>,
-    opened: Option<Opened<S>>,
+    opened: Option<Whole<S>>,
     path: &Path<S>,
     production: PIdx<S>,
 ) -> Result<Side<S>, AllocError>
-    requires { IfSome opened (IsOpen S.number source.now.grm.now.grammar) }
-    ensures spines { IfOk result (λ r. IfSome r.opened (IsOpen S.number source.now.grm.now.grammar)) }
+    requires { IfSome opened (IsWhole S.number source.now.grm.now.grammar) }
+    ensures spines { IfOk result (λ r. IfSome r.opened (IsWhole S.number source.now.grm.now.grammar)) }
     ensures part { IfOk result (λ r. IfSome r.part (PartShows S.number source.now.grm.now.grammar (S.number source.now.token.0) (reduce (S.number production.0)))) }
 {
-    let items = path.items.as_slice();
-    let Some(opened) = reopened(alloc, source.grm, opened, path.around, items)? else {
+    let Some(opened) = reopened(alloc, source.grm, opened, path)? else {
         return Ok(Side {
             opened: None,
             part: None,
+            same: 0,
         });
     };
-    let steps = steps_behind(alloc, source, opened.rest.as_slice())?;
-    let part = shown_reduce(
-        alloc,
-        source.grm,
-        &opened,
-        steps.as_slice(),
-        source.token,
-        production,
-    )?;
+    let part = reduce_part(alloc, source, &opened, production)?;
+    let same = opened.same(path.stays);
     Ok(Side {
         opened: Some(opened),
         part,
+        same,
     })
 }
 
-/// The example of two actions in a state, if both are shown.
+/// The example of two actions in a state, if both are shown, and where its string leads.
 fn joined_parts<'a, S: IndexStorage>(
+    alloc: Global,
     source: &Source<'a, S>,
     stidx: StIdx<S>,
+    led: Option<Led<S>>,
+    same: usize,
     first: Option<Part<S>>,
     second: Option<Part<S>>,
-) -> Option<ConflictExample<S>>
-    ensures token { IfSome result (λ x. x.token ≡ source.now.token) }
-    ensures state { IfSome result (λ x. Leads (graph_of source.now.graph.now) (example_of S.number x).string (S.number stidx.0)) }
-    ensures example { IfSome result (λ x. (G : Grammar) (a b : Act) → a ≢ b → IfSome first (PartShows S.number G (S.number source.now.token.0) a) → IfSome second (PartShows S.number G (S.number source.now.token.0) b) → IsExample G (example_of S.number x) a b) }
+) -> Result<Joined<S>, AllocError>
+    requires { IfSome led (IsLed S.number (graph_of source.now.graph.now)) }
+    ensures led { IfOk result (λ r. IfSome r.led (IsLed S.number (graph_of source.now.graph.now))) }
+    ensures token { IfOk result (λ r. IfSome r.example (λ x. x.token ≡ source.now.token)) }
+    ensures state { IfOk result (λ r. IfSome r.example (λ x. Leads (graph_of source.now.graph.now) (example_of S.number x).string (S.number stidx.0))) }
+    ensures example { IfOk result (λ r. IfSome r.example (λ x. (G : Grammar) (a b : Act) → a ≢ b → IfSome first (PartShows S.number G (S.number source.now.token.0) a) → IfSome second (PartShows S.number G (S.number source.now.token.0) b) → IsExample G (example_of S.number x) a b)) }
 {
     let Some(first) = first else {
-        return None;
+        return Ok(Joined { led, example: None });
     };
     let Some(second) = second else {
-        return None;
+        return Ok(Joined { led, example: None });
     };
-    joined(source.graph, source.token, stidx, first, second)
+    let symbols = first.symbols.as_slice();
+    let Walked { leads, led } = leads_to(alloc, source.graph, led, same, symbols, stidx)?;
+    if !leads {
+        return Ok(Joined { led, example: None });
+    }
+    let example = paired(source.token, first, second);
+    Ok(Joined { led, example })
 }
 
 /// The example of a shift against a reduction by the productions of these paths.
@@ -139,20 +217,23 @@ pub(crate) fn shift_example<'a, S: IndexStorage>(
     production: PIdx<S>,
     stidx: StIdx<S>,
 ) -> Result<Found<S>, AllocError>
-    requires { AreOpen S.number source.now.grm.now.grammar spines }
-    ensures spines { IfOk result (λ r. AreOpen S.number source.now.grm.now.grammar r.spines) }
+    requires { AreOpen S.number source.now.grm.now.grammar (graph_of source.now.graph.now) spines }
+    ensures spines { IfOk result (λ r. AreOpen S.number source.now.grm.now.grammar (graph_of source.now.graph.now) r.spines) }
     ensures example { IfOk result (λ r. IfSome r.example (λ x. IsExample source.now.grm.now.grammar (example_of S.number x) shift (reduce (S.number production.0)))) }
     ensures token { IfOk result (λ r. IfSome r.example (λ x. x.token ≡ source.now.token)) }
     ensures state { IfOk result (λ r. IfSome r.example (λ x. Leads (graph_of source.now.graph.now) (example_of S.number x).string (S.number stidx.0))) }
 {
-    let Spines { first, second } = spines;
+    let Spines { first, second, led } = spines;
     let one = shift_side(alloc, source, first, &paths.0)?;
     let other = reduce_side(alloc, source, second, &paths.1, production)?;
-    let example = joined_parts(source, stidx, one.part, other.part);
+    let same = one.same;
+    let joined = joined_parts(alloc, source, stidx, led, same, one.part, other.part)?;
     let spines = Spines {
         first: one.opened,
         second: other.opened,
+        led: joined.led,
     };
+    let example = joined.example;
     Ok(Found { spines, example })
 }
 
@@ -166,8 +247,8 @@ pub(crate) fn pair_example<'a, S: IndexStorage>(
     other_production: PIdx<S>,
     stidx: StIdx<S>,
 ) -> Result<Found<S>, AllocError>
-    requires { AreOpen S.number source.now.grm.now.grammar spines }
-    ensures spines { IfOk result (λ r. AreOpen S.number source.now.grm.now.grammar r.spines) }
+    requires { AreOpen S.number source.now.grm.now.grammar (graph_of source.now.graph.now) spines }
+    ensures spines { IfOk result (λ r. AreOpen S.number source.now.grm.now.grammar (graph_of source.now.graph.now) r.spines) }
     ensures example { IfOk result (λ r. IfSome r.example (λ x. IsExample source.now.grm.now.grammar (example_of S.number x) (reduce (S.number production.0)) (reduce (S.number other_production.0)))) }
     ensures state { IfOk result (λ r. IfSome r.example (λ x. Leads (graph_of source.now.graph.now) (example_of S.number x).string (S.number stidx.0))) }
 {
@@ -177,13 +258,16 @@ pub(crate) fn pair_example<'a, S: IndexStorage>(
             example: None,
         });
     }
-    let Spines { first, second } = spines;
+    let Spines { first, second, led } = spines;
     let one = reduce_side(alloc, source, first, &paths.0, production)?;
     let other = reduce_side(alloc, source, second, &paths.1, other_production)?;
-    let example = joined_parts(source, stidx, one.part, other.part);
+    let same = one.same;
+    let joined = joined_parts(alloc, source, stidx, led, same, one.part, other.part)?;
     let spines = Spines {
         first: one.opened,
         second: other.opened,
+        led: joined.led,
     };
+    let example = joined.example;
     Ok(Found { spines, example })
 }

@@ -11,7 +11,8 @@ ghost use Rattle.conflict_examples.specs.Spines.{IsExample};
 use crate::checked::{Found, Spines, no_spines, pair_example, shift_example};
 use crate::examples::ConflictExample;
 use crate::kept::Kept;
-use crate::source::Source;
+use crate::reading::has_production;
+use crate::source::{Source, looks_in};
 use crate::tables::Tables;
 use crate::traces::{pair_paths, shift_paths};
 use cfg_base::index::IndexStorage;
@@ -22,6 +23,7 @@ use lrtable::stidx::StIdx;
 use std::alloc::{AllocError, Global};
 use std::marker::Model;
 use std::mem;
+use vob::Vob;
 
 /// Finds examples of the conflicts in the states of a grammar's graph. Contracts see the grammar and the graph. It keeps what
 /// the last search left, from which the next one goes on; what it finds doesn't hang on what was asked before.
@@ -37,12 +39,13 @@ pub struct ExampleFinder<'a, S: IndexStorage> {
 impl<'a, S: IndexStorage> Model for ExampleFinder<'a, S> {
     ghost use Rattle.conflict_examples.specs.ExampleViews.{FinderValue};
     ghost use Rattle.conflict_examples.specs.Opening.{AreOpen};
+    ghost use Rattle.lrtable.specs.Graphs.{graph_of};
 
     ghost Value = { FinderValue };
 
     ghost view = { λ f. record { grammar = f.grm.now; graph = f.graph.now } };
 
-    ghost invariant = { λ f. AreOpen S.number f.grm.now.grammar f.spines };
+    ghost invariant = { λ f. AreOpen S.number f.grm.now.grammar (graph_of f.graph.now) f.spines };
 }
 
 impl<'a, S: IndexStorage> ExampleFinder<'a, S> {
@@ -115,8 +118,9 @@ impl<'a, S: IndexStorage> ExampleFinder<'a, S> {
         if found.is_some() {
             return Ok(found);
         }
-        'tokens: for number in 0..self.grm.tokens_len().0.to_usize() {
-            let token = self.grm.token_at(number);
+        let tokens = tokens_of_both(alloc, self.grm, self.graph, first, second, stidx)?;
+        'tokens: for k in 0..tokens.len() {
+            let token = tokens[k];
             let found = self.pair_on(alloc, token, first, second, stidx)?;
             if found.is_some() {
                 return Ok(found);
@@ -162,6 +166,44 @@ impl<'a, S: IndexStorage> ExampleFinder<'a, S> {
     }
 }
 
+/// The lookaheads of a production in a state with its dot at the end.
+fn looks_at_end<'a, S: IndexStorage>(
+    grm: &NumberedGrammar<S>,
+    graph: &'a StateGraph<S>,
+    pidx: PIdx<S>,
+    stidx: StIdx<S>,
+) -> Option<&'a Vob> {
+    if !has_production(grm, pidx) {
+        return None;
+    }
+    looks_in(graph, stidx, pidx, grm.prod_len(pidx))
+}
+
+/// The tokens on which both productions may be reduced in the state.
+fn tokens_of_both<S: IndexStorage>(
+    alloc: Global,
+    grm: &NumberedGrammar<S>,
+    graph: &StateGraph<S>,
+    first: PIdx<S>,
+    second: PIdx<S>,
+    stidx: StIdx<S>,
+) -> Result<Vec<TIdx<S>>, AllocError> {
+    let mut tokens = Vec::new(alloc);
+    let Some(one) = looks_at_end(grm, graph, first, stidx) else {
+        return Ok(tokens);
+    };
+    let Some(other) = looks_at_end(grm, graph, second, stidx) else {
+        return Ok(tokens);
+    };
+    let count = grm.tokens_len().0.to_usize();
+    'tokens: for number in one.iter_set_bits(..) {
+        if number < count && other.get(number).unwrap_or(false) {
+            tokens.push(grm.token_at(number))?;
+        }
+    }
+    Ok(tokens)
+}
+
 /// An example of a shift of the token against a reduction in a state.
 fn shift_found<'a, S: IndexStorage>(
     alloc: Global,
@@ -171,8 +213,8 @@ fn shift_found<'a, S: IndexStorage>(
     production: PIdx<S>,
     stidx: StIdx<S>,
 ) -> Result<Found<S>, AllocError>
-    requires { AreOpen S.number source.now.grm.now.grammar spines }
-    ensures spines { IfOk result (λ r. AreOpen S.number source.now.grm.now.grammar r.spines) }
+    requires { AreOpen S.number source.now.grm.now.grammar (graph_of source.now.graph.now) spines }
+    ensures spines { IfOk result (λ r. AreOpen S.number source.now.grm.now.grammar (graph_of source.now.graph.now) r.spines) }
     ensures example { IfOk result (λ r. IfSome r.example (λ x. IsExample source.now.grm.now.grammar (example_of S.number x) shift (reduce (S.number production.0)))) }
     ensures token { IfOk result (λ r. IfSome r.example (λ x. x.token ≡ source.now.token)) }
     ensures state { IfOk result (λ r. IfSome r.example (λ x. Leads (graph_of source.now.graph.now) (example_of S.number x).string (S.number stidx.0))) }
@@ -198,8 +240,8 @@ fn pair_found<'a, S: IndexStorage>(
     second: PIdx<S>,
     stidx: StIdx<S>,
 ) -> Result<Found<S>, AllocError>
-    requires { AreOpen S.number source.now.grm.now.grammar spines }
-    ensures spines { IfOk result (λ r. AreOpen S.number source.now.grm.now.grammar r.spines) }
+    requires { AreOpen S.number source.now.grm.now.grammar (graph_of source.now.graph.now) spines }
+    ensures spines { IfOk result (λ r. AreOpen S.number source.now.grm.now.grammar (graph_of source.now.graph.now) r.spines) }
     ensures example { IfOk result (λ r. IfSome r.example (λ x. IsExample source.now.grm.now.grammar (example_of S.number x) (reduce (S.number first.0)) (reduce (S.number second.0)))) }
     ensures state { IfOk result (λ r. IfSome r.example (λ x. Leads (graph_of source.now.graph.now) (example_of S.number x).string (S.number stidx.0))) }
 {

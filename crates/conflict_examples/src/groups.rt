@@ -2,16 +2,16 @@
 //! of it: the item by which a string to the state goes out soonest, its place on the way of the last search, and how far it is
 //! from the ends of searches.
 
+use crate::needs::Need;
 use crate::reading::has_production;
 use crate::source::{Outer, Source};
-use crate::strings::Need;
 use cfg_base::index::IndexStorage;
 use cfg_base::symbol::{PIdx, RIdx, SIdx, Symbol};
 use lrtable::stidx::StIdx;
 use std::alloc::{AllocError, Global};
 
 /// The items of a state before a rule: where they begin and end in the list; the way out, which is one of them, once it is known;
-/// the number of the last search that met the group, and its index when it was last on a way; and how many steps away the end
+/// the number by which the last search met the group, and its index when it was last on a way; and how many steps away the end
 /// of a search for the token is at least, with the number of the token for which that was noted.
 #[derive(Clone, Copy)]
 struct Group<S> {
@@ -28,15 +28,27 @@ struct Group<S> {
 
 /// The groups, and their items, one group's behind another's. The slots hold the numbers of groups, each in the first one that
 /// was free from that on which its state and its rule give; `usize::MAX` in a free one. Searches are counted, and so are
-/// changes of the token.
+/// changes of the token; a search that is watched has several numbers. The groups that a search met have numbers from `since`
+/// on, or those of the search from which it goes on.
 #[derive(Drop)]
 pub(crate) struct Groups<S> {
     list: Vec<Group<S>>,
     outers: Vec<Outer<S>>,
     slots: Vec<usize>,
     searches: usize,
+    since: usize,
+    before: Numbers,
     tokens: usize,
 }
+
+/// The numbers of a search from its beginning to where another goes on from it.
+#[derive(Clone, Copy)]
+pub(crate) struct Numbers {
+    pub begin: usize,
+    pub end: usize,
+}
+
+const NO_NUMBERS: Numbers = Numbers { begin: 0, end: 0 };
 
 /// A group that was come to on a way out, by an item of another one.
 #[derive(Clone, Copy)]
@@ -66,6 +78,8 @@ impl<S: IndexStorage> Groups<S> {
             outers: Vec::new(alloc),
             slots: free_slots(alloc, 256)?,
             searches: 0,
+            since: 0,
+            before: NO_NUMBERS,
             tokens: 0,
         })
     }
@@ -179,12 +193,29 @@ impl<S: IndexStorage> Groups<S> {
 
     /// Begins a search: no group was met by it.
     pub(crate) fn begin(&mut self) {
+        self.since = self.next();
+        self.before = NO_NUMBERS;
+    }
+
+    /// Begins a search that goes on from another one: the groups were met that have its numbers.
+    pub(crate) fn begin_from(&mut self, before: Numbers) {
+        self.begin();
+        self.before = before;
+    }
+
+    /// Gives the search another number, by which those groups are known that it meets from here on.
+    pub(crate) fn next(&mut self) -> usize {
         self.searches = self.searches.wrapping_add(1);
+        self.searches
     }
 
     /// Whether the group wasn't met by the search, which it is from here on.
     pub(crate) fn meet(&mut self, number: usize) -> bool {
-        if number >= self.list.len() || self.list[number].met_by == self.searches {
+        if number >= self.list.len() {
+            return false;
+        }
+        let by = self.list[number].met_by;
+        if by >= self.since || (by >= self.before.begin && by < self.before.end) {
             return false;
         }
         self.list[number].met_by = self.searches;

@@ -10,6 +10,7 @@ use crate::reading::has_production;
 use crate::source::Source;
 use crate::strings::{End, Met, Visit, Visits};
 use crate::way::{Mark, Way};
+use crate::whole::Whole;
 use cfg_base::index::IndexStorage;
 use cfg_base::symbol::{PIdx, SIdx};
 use lrtable::stidx::StIdx;
@@ -17,12 +18,15 @@ use std::alloc::{AllocError, Global};
 use std::mem;
 
 /// Productions that are open for a need with their dots, the innermost first; behind how many symbols of the string the dot of
-/// the outermost one stands; and how many of those that are open already are around it, if it is within these.
+/// the outermost one stands; how many of those that are open already are around it, if it is within these; and the inner
+/// part that is open within these: whether it stays, or those of which it is.
 #[derive(Drop)]
 pub(crate) struct Chain<S> {
     pub items: Vec<(PIdx<S>, SIdx<S>)>,
     pub place: usize,
     pub around: Option<usize>,
+    pub stays: bool,
+    pub within: Option<Vec<(PIdx<S>, SIdx<S>)>>,
 }
 
 /// The items that are open for each need, as far as they were read; how many steps the search took, and the visit that is read
@@ -38,13 +42,16 @@ pub(crate) struct Ends<S> {
 /// What the searches for all conflicts keep: the items before rules; the last search and the way that it came on; the states
 /// that its string goes through, of which the first `shortest` are those of a shortest string and the first `common` those of
 /// the one before too; how many of the productions that are open after it for either action, from that of the start in, are the
-/// way out from the next one; and whether all that is whole.
+/// way out from the next one; and whether all that is whole. Where the last search is one from which others go on, those states
+/// come last that belong to the visits which they share, from the one at the index `shared` in.
 #[derive(Drop)]
 pub(crate) struct Kept<S> {
     groups: Groups<S>,
     visits: Visits<S>,
     way: Way,
     states: Vec<StIdx<S>>,
+    last_states: Vec<StIdx<S>>,
+    shared: usize,
     shortest: usize,
     common: usize,
     first_free: usize,
@@ -52,23 +59,27 @@ pub(crate) struct Kept<S> {
     pub whole: bool,
 }
 
-/// The productions that are to be open: so many of those that are, and these within them, the innermost first. Those of the
-/// way out are so many from that of the start in.
+/// The productions that are to be open: so many of those that are, and these within them, the innermost first; within these the
+/// inner part that is open, if it stays, or those of which it is to be. Those of the way out are so many from that of the start in.
 #[derive(Drop)]
 pub(crate) struct Path<S> {
     pub around: usize,
     pub items: Vec<(PIdx<S>, SIdx<S>)>,
     pub free: usize,
+    pub stays: bool,
+    pub within: Option<Vec<(PIdx<S>, SIdx<S>)>>,
 }
 
 /// The items so far from the innermost one out, the outermost of them and where its dot stands, and the index of the open
-/// production that is looked at next.
+/// production that is looked at next; and the inner part.
 #[derive(Drop)]
 struct Out<S> {
     items: Vec<(PIdx<S>, SIdx<S>)>,
     item: (PIdx<S>, SIdx<S>),
     place: usize,
     index: usize,
+    stays: bool,
+    within: Option<Vec<(PIdx<S>, SIdx<S>)>>,
 }
 
 /// Whether two productions are of one rule.
@@ -90,7 +101,17 @@ impl<S: IndexStorage> Chain<S> {
             items: Vec::new(alloc),
             place: 0,
             around,
+            stays: false,
+            within: None,
         }
+    }
+
+    /// Parts the items from an index on from the others, as the inner part, if that is asked.
+    fn part(&mut self, asked: bool, index: usize) -> Result<(), AllocError> {
+        if asked {
+            self.within = Some(cut(&mut self.items, index)?);
+        }
+        Ok(())
     }
 
     /// Puts an item behind the others, if that is asked and there is one.
@@ -120,7 +141,12 @@ impl<S: IndexStorage> Chain<S> {
         kept: &Kept<S>,
         item: (PIdx<S>, SIdx<S>),
     ) -> Result<Chain<S>, AllocError> {
-        self.put(true, Some(item), kept.states.len().saturating_sub(1))?;
+        if let Some(within) = &mut self.within {
+            within.push(item)?;
+            within.as_mut_slice().reverse();
+        } else if !self.stays {
+            self.put(true, Some(item), kept.length().saturating_sub(1))?;
+        }
         self.items.as_mut_slice().reverse();
         Ok(self)
     }
@@ -133,6 +159,8 @@ impl<S: IndexStorage> Kept<S> {
             visits: Visits::new(alloc),
             way: Way::new(alloc),
             states: Vec::new(alloc),
+            last_states: Vec::new(alloc),
+            shared: usize::MAX,
             shortest: 0,
             common: 0,
             first_free: 0,
@@ -141,16 +169,37 @@ impl<S: IndexStorage> Kept<S> {
         })
     }
 
-    /// Begins a search for a token. What the last one left goes if it isn't whole.
-    fn begin(&mut self, token: usize) {
+    /// Begins a search for a token, and tells whether the last one was for another. What that one left goes if it isn't whole.
+    fn begin(&mut self, token: usize) -> bool {
         if !self.whole {
             self.way.clear();
+            self.visits.forget();
             self.shortest = 0;
+            self.shared = usize::MAX;
         }
         self.whole = false;
-        if self.way.begin(token) {
+        let other = self.way.begin(token);
+        if other {
             self.groups.forget();
         }
+        other
+    }
+
+    /// How many states the string goes through.
+    fn length(&self) -> usize {
+        self.states.len().saturating_add(self.last_states.len())
+    }
+
+    /// The state behind so many symbols of the string.
+    fn state_at(&self, place: usize) -> Option<StIdx<S>> {
+        if place < self.states.len() {
+            return Some(self.states[place]);
+        }
+        let index = place - self.states.len();
+        if index >= self.last_states.len() {
+            return None;
+        }
+        Some(self.last_states[index])
     }
 
     /// Searches for a string to the state, which is kept, and tells the items that are open for each need; None where there is
@@ -161,20 +210,26 @@ impl<S: IndexStorage> Kept<S> {
         source: &Source<'a, S>,
         start: Visit<S>,
     ) -> Result<Option<Ends<S>>, AllocError> {
-        self.begin(source.token.0.to_usize());
+        let other = self.begin(source.token.0.to_usize());
         let found = self
             .visits
-            .search(alloc, source, &mut self.groups, &self.way, start)?;
+            .search(alloc, source, &mut self.groups, &self.way, start, other)?;
+        if !self.visits.is_resumed() {
+            self.shared = usize::MAX;
+        }
         let Some(end) = found else {
             self.whole = true;
             return Ok(None);
         };
         self.visits.bound(&mut self.groups, end);
         match end.mark {
-            Some(mark) => self.stay_to(mark, end.in_first, end.in_second),
+            Some(mark) => {
+                self.states.append(&mut self.last_states)?;
+                self.stay_to(mark, end.in_first, end.in_second);
+            }
             None => self.lead_to(alloc, source, end.index)?,
         }
-        let ends = self.read(alloc, end)?;
+        let ends = self.read(alloc, end, start.needs())?;
         Ok(Some(ends))
     }
 
@@ -189,12 +244,51 @@ impl<S: IndexStorage> Kept<S> {
     }
 
     /// Reads what the search came to, from its end: adds the states behind that one's to the string and the groups to the way.
-    fn read(&mut self, alloc: Global, end: End) -> Result<Ends<S>, AllocError> {
+    fn read(
+        &mut self,
+        alloc: Global,
+        end: End,
+        needs: (bool, bool),
+    ) -> Result<Ends<S>, AllocError> {
         let mut ends = ends_at(alloc, end);
-        'visits: for _ in 0..self.visits.len() {
-            self.read_one(&mut ends)?;
+        let shared = self.visits.shared();
+        self.read_to(&mut ends, shared)?;
+        if ends.next < shared && ends.are_around(needs) {
+            self.read_shared(&mut ends, needs)?;
+            return Ok(ends);
         }
+        self.shared = usize::MAX;
+        self.last_states.clear();
+        self.read_to(&mut ends, 0)?;
         Ok(ends)
+    }
+
+    /// Reads the visits up to the first ones, which are so many.
+    fn read_to(&mut self, ends: &mut Ends<S>, count: usize) -> Result<(), AllocError> {
+        'visits: for _ in 0..self.visits.len() {
+            if ends.next < count {
+                return Ok(());
+            }
+            self.read_one(ends)?;
+        }
+        Ok(())
+    }
+
+    /// Reads the visits that searches for other tokens share, unless that is done.
+    fn read_shared(&mut self, ends: &mut Ends<S>, needs: (bool, bool)) -> Result<(), AllocError> {
+        if self.shared == ends.next {
+            ends.first.stays = needs.0;
+            ends.second.stays = needs.1;
+            return Ok(());
+        }
+        self.shared = ends.next;
+        let states = self.states.len();
+        let first = ends.first.items.len();
+        let second = ends.second.items.len();
+        self.read_to(ends, 0)?;
+        self.last_states = cut(&mut self.states, states)?;
+        ends.first.part(needs.0, first)?;
+        ends.second.part(needs.1, second)
     }
 
     /// Reads the next visit, if there is one.
@@ -324,7 +418,7 @@ impl<S: IndexStorage> Kept<S> {
         &mut self,
         alloc: Global,
         source: &Source<'a, S>,
-        opened: &Option<Opened<S>>,
+        opened: &Option<Whole<S>>,
         free: usize,
         chain: Chain<S>,
     ) -> Result<Option<Path<S>>, AllocError> {
@@ -332,12 +426,16 @@ impl<S: IndexStorage> Kept<S> {
             items,
             place,
             around,
+            stays,
+            within,
         } = chain;
         if let Some(around) = around {
             return Ok(Some(Path {
                 around,
                 items,
                 free,
+                stays,
+                within,
             }));
         }
         if items.is_empty() {
@@ -350,6 +448,8 @@ impl<S: IndexStorage> Kept<S> {
             item,
             place,
             index,
+            stays,
+            within,
         };
         self.way_out(alloc, source, opened, out)
     }
@@ -359,7 +459,7 @@ impl<S: IndexStorage> Kept<S> {
         &mut self,
         alloc: Global,
         source: &Source<'a, S>,
-        opened: &Option<Opened<S>>,
+        opened: &Option<Whole<S>>,
         out: Out<S>,
     ) -> Result<Option<Path<S>>, AllocError> {
         let mut out = out;
@@ -377,6 +477,8 @@ impl<S: IndexStorage> Kept<S> {
                 around,
                 items,
                 free,
+                stays: out.stays,
+                within: out.within,
             }));
         }
         Ok(None)
@@ -388,28 +490,30 @@ impl<S: IndexStorage> Kept<S> {
         &mut self,
         alloc: Global,
         source: &Source<'a, S>,
-        opened: &Option<Opened<S>>,
+        opened: &Option<Whole<S>>,
         out: &mut Out<S>,
     ) -> Result<Option<usize>, AllocError> {
         let (pidx, dot) = out.item;
         let Some(place) = out.place.checked_sub(dot.0.to_usize()) else {
             return Ok(Some(usize::MAX));
         };
-        if place >= self.states.len() || !has_production(source.grm, pidx) {
+        let Some(stidx) = self.state_at(place) else {
+            return Ok(Some(usize::MAX));
+        };
+        if !has_production(source.grm, pidx) {
             return Ok(Some(usize::MAX));
         }
         if source.is_start(pidx) {
             return Ok(Some(0));
         }
-        if let Some(opened) = opened {
-            out.index = opened.last_at(out.index, place);
-            let around = self.around(source, opened, pidx, place, out.index);
+        if let Some(whole) = opened {
+            out.index = whole.outer.last_at(out.index, place);
+            let around = self.around(source, &whole.outer, pidx, place, out.index);
             if around.is_some() {
                 return Ok(around);
             }
         }
         let ridx = source.grm.prod_to_rule(pidx);
-        let stidx = self.states[place];
         let Some(item) = self.groups.way_out(alloc, source, stidx, ridx)? else {
             return Ok(Some(usize::MAX));
         };
@@ -442,6 +546,19 @@ impl<S: IndexStorage> Kept<S> {
             .settle(first.unwrap_or(one.free), second.unwrap_or(other.free));
         Ok(Some((one, other)))
     }
+}
+
+impl<S: IndexStorage> Ends<S> {
+    /// Whether something was read for each need that there is.
+    fn are_around(&self, needs: (bool, bool)) -> bool {
+        (!needs.0 || !self.first.items.is_empty()) && (!needs.1 || !self.second.items.is_empty())
+    }
+}
+
+/// Takes what stands in a list from an index on.
+fn cut<T: Copy>(list: &mut Vec<T>, index: usize) -> Result<Vec<T>, AllocError> {
+    let index = index.min(list.len());
+    list.split_off(index)
 }
 
 /// Where a search ended, of which nothing is read.

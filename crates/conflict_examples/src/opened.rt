@@ -4,7 +4,7 @@ ghost use Rattle.std.specs.Prelude.{◌≡◌, ◌<◌, ◌≤◌, ◌++◌, ℕ
 ghost use Rattle.cfg_theory.specs.Grammar.{rule, IsNext, IsOf};
 ghost use Rattle.lr_theory.specs.Canonical.{from_dot};
 ghost use Rattle.cfg_numbered.specs.Symbols.{syms_of};
-ghost use Rattle.conflict_examples.specs.Opening.{IsOpen, IsInnermost};
+ghost use Rattle.conflict_examples.specs.Opening.{IsOpen, StaysOpen, IsInnermost};
 
 use crate::reading::{has_production, is_of, symbol_after, symbols_before, symbols_behind};
 use cfg_base::index::IndexStorage;
@@ -13,13 +13,15 @@ use cfg_numbered::yacc::NumberedGrammar;
 use std::alloc::{AllocError, Global};
 
 /// The productions that are open with their dots, from the outermost in; behind how many symbols each begins; the symbols before
-/// the dots, and those that stand behind the innermost production, the first of these last.
+/// the dots, and those that stand behind the innermost production, the first of these last. Of the symbols so many first ones
+/// are those that were there for the last example.
 #[derive(Drop)]
 pub(crate) struct Opened<S> {
     pub items: Vec<(PIdx<S>, SIdx<S>)>,
     pub places: Vec<usize>,
     pub symbols: Vec<Symbol<S>>,
     pub rest: Vec<Symbol<S>>,
+    pub same: usize,
 }
 
 /// Opens the start production.
@@ -46,6 +48,7 @@ pub(crate) fn open_start<S: IndexStorage>(
         places,
         symbols,
         rest: Vec::new(alloc),
+        same: 0,
     }))
 }
 
@@ -115,8 +118,7 @@ impl<S: IndexStorage> Opened<S> {
         pidx: PIdx<S>,
         dot: SIdx<S>,
     ) -> Result<bool, AllocError>
-        requires { IsOpen S.number grm.now.grammar self.old }
-        ensures { IfOk result (λ b. IsTrue b → IsOpen S.number grm.now.grammar self.new) }
+        ensures { IfOk result (λ b. IsTrue b → StaysOpen S.number grm.now.grammar self.old self.new) }
     {
         let Some((outer, at)) = innermost(self.items.as_slice()) else {
             return Ok(false);
@@ -160,7 +162,7 @@ impl<S: IndexStorage> Opened<S> {
     }
 
     /// Closes all but so many productions.
-    fn close_to(&mut self, grm: &NumberedGrammar<S>, count: usize) -> bool
+    pub(crate) fn close_to(&mut self, grm: &NumberedGrammar<S>, count: usize) -> bool
         requires { IsOpen S.number grm.now.grammar self.old }
         ensures { IsTrue result → IsOpen S.number grm.now.grammar self.new }
     {
@@ -173,13 +175,12 @@ impl<S: IndexStorage> Opened<S> {
     }
 
     /// Opens productions, of which the last is the outermost one.
-    fn open_each(
+    pub(crate) fn open_each(
         &mut self,
         grm: &NumberedGrammar<S>,
         items: &[(PIdx<S>, SIdx<S>)],
     ) -> Result<bool, AllocError>
-        requires { IsOpen S.number grm.now.grammar self.old }
-        ensures { IfOk result (λ b. IsTrue b → IsOpen S.number grm.now.grammar self.new) }
+        ensures { IfOk result (λ b. IsTrue b → StaysOpen S.number grm.now.grammar self.old self.new) }
     {
         'items: for back in 0..items.len() {
             let (pidx, dot) = items[items.len() - 1 - back];
@@ -191,7 +192,7 @@ impl<S: IndexStorage> Opened<S> {
     }
 
     /// Of productions, of which the last is the outermost one, how many are open already within so many.
-    fn agree(&self, around: usize, items: &[(PIdx<S>, SIdx<S>)]) -> usize
+    pub(crate) fn agree(&self, around: usize, items: &[(PIdx<S>, SIdx<S>)]) -> usize
         ensures { result ≤ length items.now }
     {
         'items: for back in 0..items.len() {
@@ -214,6 +215,7 @@ impl<S: IndexStorage> Opened<S> {
 
 /// Opens productions, of which the last is the outermost one and is to be that of the start. None where one is not of the rule
 /// after the dot of the one around it, or has no such dot.
+#[tactic(auto, using(crate::proofs::Openings::still_open))]
 pub(crate) fn open_all<S: IndexStorage>(
     alloc: Global,
     grm: &NumberedGrammar<S>,
@@ -229,36 +231,6 @@ pub(crate) fn open_all<S: IndexStorage>(
         return Ok(None);
     };
     if !opened.open_each(grm, &items[..items.len() - 1])? {
-        return Ok(None);
-    }
-    Ok(Some(opened))
-}
-
-/// Goes from the productions that are open to so many of them with these within, of which the last is the outermost one. None
-/// where one is not of the rule after the dot of the one around it, or has no such dot.
-pub(crate) fn reopened<S: IndexStorage>(
-    alloc: Global,
-    grm: &NumberedGrammar<S>,
-    opened: Option<Opened<S>>,
-    around: usize,
-    items: &[(PIdx<S>, SIdx<S>)],
-) -> Result<Option<Opened<S>>, AllocError>
-    requires { IfSome opened (IsOpen S.number grm.now.grammar) }
-    ensures { IfOk result (λ o. IfSome o (IsOpen S.number grm.now.grammar)) }
-{
-    let Some(mut opened) = opened else {
-        return open_all(alloc, grm, items);
-    };
-    let agree = opened.agree(around, items);
-    let stay = around.saturating_add(agree);
-    if stay == 0 {
-        drop(opened);
-        return open_all(alloc, grm, items);
-    }
-    if !opened.close_to(grm, stay) {
-        return Ok(None);
-    }
-    if !opened.open_each(grm, &items[..items.len() - agree])? {
         return Ok(None);
     }
     Ok(Some(opened))

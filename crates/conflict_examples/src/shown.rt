@@ -3,9 +3,7 @@
 ghost use Rattle.std.specs.Prelude.{◌≡◌, ◌≢◌, ◌∷◌, ℕ, length, reverse, IsTrue, IfOk, IfSome};
 ghost use Rattle.cfg_theory.specs.Grammar.{token, Grammar, body_of, end_token, IsNext};
 ghost use Rattle.lr_theory.specs.Canonical.{Act, shift, reduce, accept};
-ghost use Rattle.lr_theory.specs.Graph.{Leads};
 ghost use Rattle.cfg_numbered.specs.Symbols.{sym_of, syms_of};
-ghost use Rattle.lrtable.specs.Graphs.{graph_of};
 ghost use Rattle.conflict_examples.specs.ExampleViews.{example_of};
 ghost use Rattle.conflict_examples.specs.Opening.{IsOpen, PartShows};
 ghost use Rattle.conflict_examples.specs.Spines.{IsExample};
@@ -17,8 +15,6 @@ use crate::reading::{has_production, symbol_after};
 use cfg_base::index::IndexStorage;
 use cfg_base::symbol::{PIdx, SIdx, Symbol, TIdx};
 use cfg_numbered::yacc::NumberedGrammar;
-use lrtable::stategraph::StateGraph;
-use lrtable::stidx::StIdx;
 use std::alloc::{AllocError, Global};
 
 /// What is shown of an action, and the symbols before the dots.
@@ -200,40 +196,13 @@ fn same_each<S: IndexStorage>(a: &[Symbol<S>], b: &[Symbol<S>]) -> bool
 }
 
 /// Whether two lists of symbols are one.
-fn same_symbols<S: IndexStorage>(a: &[Symbol<S>], b: &[Symbol<S>]) -> bool
+pub(crate) fn same_symbols<S: IndexStorage>(a: &[Symbol<S>], b: &[Symbol<S>]) -> bool
     ensures { IsTrue result → syms_of S.number a.now ≡ syms_of S.number b.now }
 {
     if a.len() != b.len() {
         return false;
     }
     same_each(a, b)
-}
-
-/// The state that the symbols lead to, if there is one.
-pub(crate) fn state_after<S: IndexStorage>(
-    graph: &StateGraph<S>,
-    symbols: &[Symbol<S>],
-) -> Option<StIdx<S>>
-    ensures { IfSome result (λ s. Leads (graph_of graph.now) (reverse (syms_of S.number symbols.now)) (S.number s.0)) }
-{
-    let mut state = graph.start_state();
-    'symbols: for k in 0..symbols.len() {
-        let Some(next) = graph.edge(state, symbols[k]) else {
-            return None;
-        };
-        state = next;
-    }
-    Some(state)
-}
-
-/// Whether the symbols lead to the state.
-fn leads_to<S: IndexStorage>(graph: &StateGraph<S>, symbols: &[Symbol<S>], stidx: StIdx<S>) -> bool
-    ensures { IsTrue result → Leads (graph_of graph.now) (reverse (syms_of S.number symbols.now)) (S.number stidx.0) }
-{
-    match state_after(graph, symbols) {
-        Some(state) => state.0.to_usize() == stidx.0.to_usize(),
-        None => false,
-    }
 }
 
 /// The example of two actions. None where they are shown after different symbols.
@@ -255,22 +224,4 @@ pub(crate) fn paired<S: IndexStorage>(
         first: first.shown,
         second: second.shown,
     })
-}
-
-/// The example of two actions in a state. None where they are shown after different symbols, or the symbols don't lead there.
-pub(crate) fn joined<S: IndexStorage>(
-    graph: &StateGraph<S>,
-    token: TIdx<S>,
-    stidx: StIdx<S>,
-    first: Part<S>,
-    second: Part<S>,
-) -> Option<ConflictExample<S>>
-    ensures token { IfSome result (λ x. x.token ≡ token) }
-    ensures state { IfSome result (λ x. Leads (graph_of graph.now) (example_of S.number x).string (S.number stidx.0)) }
-    ensures example { IfSome result (λ x. (G : Grammar) (a b : Act) → a ≢ b → PartShows S.number G (S.number token.0) a first → PartShows S.number G (S.number token.0) b second → IsExample G (example_of S.number x) a b) }
-{
-    if !leads_to(graph, first.symbols.as_slice(), stidx) {
-        return None;
-    }
-    paired(token, first, second)
 }

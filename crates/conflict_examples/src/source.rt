@@ -14,6 +14,7 @@ use lrtable::stategraph::StateGraph;
 use lrtable::stidx::StIdx;
 use std::alloc::{AllocError, Global};
 use std::cmp::Ordering;
+use vob::Vob;
 
 /// The grammar, its graph, and the token.
 #[derive(Drop)]
@@ -43,20 +44,36 @@ fn index_of<S: IndexStorage>(set: &Itemset<S>, pidx: PIdx<S>, dot: SIdx<S>) -> O
     None
 }
 
+/// The lookaheads of an item in a state, if it is there.
+pub(crate) fn looks_in<S: IndexStorage>(
+    graph: &StateGraph<S>,
+    stidx: StIdx<S>,
+    pidx: PIdx<S>,
+    dot: SIdx<S>,
+) -> Option<&Vob> {
+    if !graph.has_state(stidx) {
+        return None;
+    }
+    let set = graph.closed_state(stidx);
+    let index = index_of(set, pidx, dot)?;
+    Some(set.looks_at(index))
+}
+
 /// An item before a rule: its index in its state, and what stands behind the rule.
 #[derive(Clone, Copy)]
 pub(crate) struct Outer<S> {
     pub pidx: PIdx<S>,
     pub dot: SIdx<S>,
     pub index: usize,
-    pub rest: Rest,
+    pub rest: Rest<S>,
 }
 
-/// Nothing, symbols that may all vanish, or others.
+/// Nothing, symbols that may all vanish, a token and others, or a rule and others that don't all vanish.
 #[derive(Clone, Copy)]
-pub(crate) enum Rest {
+pub(crate) enum Rest<S> {
     Empty,
     Vanishes,
+    Begins(TIdx<S>),
     Stays,
 }
 
@@ -82,15 +99,27 @@ impl<'a, S: IndexStorage> Source<'a, S> {
 
     /// Whether the token is among the lookaheads of the item at an index of the state.
     fn has_look_at(&self, stidx: StIdx<S>, index: usize) -> bool {
+        match self.looks_at(stidx, index) {
+            Some(looks) => looks.get(self.token.0.to_usize()).unwrap_or(false),
+            None => false,
+        }
+    }
+
+    /// The lookaheads of the item at an index of the state, if there is one.
+    pub(crate) fn looks_at(&self, stidx: StIdx<S>, index: usize) -> Option<&Vob> {
         if !self.graph.has_state(stidx) {
-            return false;
+            return None;
         }
         let set = self.graph.closed_state(stidx);
         if index >= set.len() {
-            return false;
+            return None;
         }
-        let looks = set.looks_at(index);
-        looks.get(self.token.0.to_usize()).unwrap_or(false)
+        Some(set.looks_at(index))
+    }
+
+    /// The lookaheads of the item in the state, if it is there.
+    pub(crate) fn looks(&self, stidx: StIdx<S>, pidx: PIdx<S>, dot: SIdx<S>) -> Option<&Vob> {
+        looks_in(self.graph, stidx, pidx, dot)
     }
 
     /// How what stands behind the rule after the dot of an item of the state goes on, and whether the token may stand behind
@@ -106,10 +135,18 @@ impl<'a, S: IndexStorage> Source<'a, S> {
                 let vanishes = !has && self.has_look_at(stidx, outer.index);
                 Start { has, vanishes }
             }
-            Rest::Stays => Start {
+            _ => Start {
                 has: self.follows(outer),
                 vanishes: false,
             },
+        }
+    }
+
+    /// Whether another token stands behind the rule after the dot.
+    pub(crate) fn is_before_other(&self, outer: &Outer<S>) -> bool {
+        match outer.rest {
+            Rest::Begins(tidx) => tidx.0.to_usize() != self.token.0.to_usize(),
+            _ => false,
         }
     }
 
@@ -117,22 +154,35 @@ impl<'a, S: IndexStorage> Source<'a, S> {
     pub(crate) fn follows(&self, outer: &Outer<S>) -> bool {
         match outer.rest {
             Rest::Empty => false,
+            Rest::Begins(tidx) => tidx.0.to_usize() == self.token.0.to_usize(),
             _ => self.rest_start(outer.pidx, outer.dot).has,
         }
     }
 
     /// What stands behind the symbol after the dot.
-    fn rest_of(&self, pidx: PIdx<S>, dot: SIdx<S>) -> Rest {
+    fn rest_of(&self, pidx: PIdx<S>, dot: SIdx<S>) -> Rest<S> {
         if !has_production(self.grm, pidx) {
             return Rest::Stays;
         }
         let rest = symbols_behind(self.grm.prod(pidx), dot.0.to_usize());
         if rest.is_empty() {
-            Rest::Empty
-        } else if self.tables.all_vanish(rest) {
-            Rest::Vanishes
-        } else {
-            Rest::Stays
+            return Rest::Empty;
+        }
+        match rest[0] {
+            Symbol::Token(tidx) => Rest::Begins(tidx),
+            Symbol::Rule(_) if self.tables.all_vanish(rest) => Rest::Vanishes,
+            Symbol::Rule(_) => Rest::Stays,
+        }
+    }
+
+    /// Whether one of the tokens may follow the rule after the dot at once.
+    pub(crate) fn one_follows(&self, outer: &Outer<S>, tokens: &Vob) -> bool {
+        match outer.rest {
+            Rest::Empty => false,
+            Rest::Begins(tidx) => tokens.get(tidx.0.to_usize()).unwrap_or(false),
+            _ => self
+                .tables
+                .one_begins(self.grm, outer.pidx, outer.dot.0.to_usize(), tokens),
         }
     }
 

@@ -5,21 +5,23 @@
 //! more a shortest string to the state is put before. The items that came in the place of others are the productions that are
 //! open around them. Steps are saved, and what is found stays the same: a visit waits for as many steps as there are edges to
 //! go back to dot nought, and goes back over all of them then; one that comes to the way of the last search for the token
-//! waits for the steps that are left there, and ends the search; and one that would come behind such an end is dropped.
+//! waits for the steps that are left there, and ends the search; and one that would come behind such an end is dropped. A search
+//! that comes behind a long one for another token is watched: which tokens would take it the same way until a test tells them apart.
+//! For these the next one that begins so goes on from there.
 
-use crate::groups::{Groups, is_later};
-use crate::reading::has_production;
+use crate::alike::Alike;
+use crate::groups::{Groups, Numbers, is_later};
+use crate::needs::{
+    Need, are_of_one_rule, are_same, edges_to_nought, is_held, moved_back, rule_at_nought,
+};
 use crate::source::{Outer, Source};
 use crate::way::{Mark, Way};
 use cfg_base::index::IndexStorage;
-use cfg_base::symbol::{PIdx, RIdx, SIdx};
+use cfg_base::symbol::{PIdx, RIdx};
 use lrtable::stidx::StIdx;
 use std::alloc::{AllocError, Global};
 use std::collections::BTreeSet;
 use std::mem;
-
-/// An item that needs the token.
-pub type Need<S> = Option<(PIdx<S>, SIdx<S>)>;
 
 /// The number of a group whose items were replaced, and the numbers of the item that needs the token beside it. The last tells
 /// whether the replaced one is the first of the two.
@@ -89,10 +91,27 @@ struct Place<S> {
     beside: Need<S>,
 }
 
+/// Where the searches for several tokens part that begin with one visit: at the beginning of a step, with what waited for it and
+/// how many steps were passed over; how many visits there were, which step it is, and the numbers of groups until there; and
+/// what was replaced beside another need from there on. No visits where there is no such place.
+#[derive(Drop)]
+struct Fork {
+    waits: Vec<Wait>,
+    passed: usize,
+    visits: usize,
+    step: usize,
+    numbers: Numbers,
+    late: Vec<Key>,
+}
+
+/// How many visits a search has that is worth to be gone on from.
+const MANY_VISITS: usize = 32;
+
 /// The visits so far; those that are gone on with, those that wait for later steps and the fewest steps that one of these
 /// waits for; the edges that are gone back over from a visit; what was replaced beside another need; how many steps were gone;
 /// the step at which one that waits on the way of the last search ends this one, and whether that one stands before the one
-/// that is gone on with; and the end, if there is one.
+/// that is gone on with; the end, if there is one; for which tokens the search would go the same way and where these part; and
+/// whether it went on from there.
 #[derive(Drop)]
 pub(crate) struct Visits<S> {
     list: Vec<Visit<S>>,
@@ -105,14 +124,9 @@ pub(crate) struct Visits<S> {
     nearest_end: usize,
     end_passed: bool,
     done: Option<End>,
-}
-
-/// How many edges are to be gone back to dot nought; `usize::MAX` where nothing is needed.
-fn edges_to_nought<S: IndexStorage>(need: Need<S>) -> usize {
-    match need {
-        Some((_, dot)) => dot.0.to_usize(),
-        None => usize::MAX,
-    }
+    alike: Alike,
+    fork: Fork,
+    resumed: bool,
 }
 
 /// How many edges are to be gone back until one of the items is at dot nought.
@@ -120,47 +134,9 @@ fn edges_back<S: IndexStorage>(visit: &Visit<S>) -> usize {
     edges_to_nought(visit.first).min(edges_to_nought(visit.second))
 }
 
-/// The item with its dot moved back.
-fn moved_back<S: IndexStorage>(need: Need<S>) -> Need<S> {
-    let (pidx, dot) = need?;
-    let number = S::from_usize(dot.0.to_usize().saturating_sub(1))?;
-    Some((pidx, SIdx(number)))
-}
-
-/// Whether nothing is needed, or an item that has the token in the state.
-fn is_held<'a, S: IndexStorage>(source: &Source<'a, S>, stidx: StIdx<S>, need: Need<S>) -> bool {
-    match need {
-        Some((pidx, dot)) => source.has_look(stidx, pidx, dot),
-        None => true,
-    }
-}
-
 /// Whether the state has both items with the token.
 fn are_held<'a, S: IndexStorage>(source: &Source<'a, S>, visit: &Visit<S>) -> bool {
     is_held(source, visit.stidx, visit.first) && is_held(source, visit.stidx, visit.second)
-}
-
-/// The rule of an item, if that is at dot nought.
-fn rule_at_nought<'a, S: IndexStorage>(
-    source: &Source<'a, S>,
-    need: Need<S>,
-) -> Option<(PIdx<S>, RIdx<S>)> {
-    let (pidx, dot) = need?;
-    if dot.0.to_usize() > 0 || !has_production(source.grm, pidx) {
-        return None;
-    }
-    Some((pidx, source.grm.prod_to_rule(pidx)))
-}
-
-/// Whether both are there and of one rule.
-fn are_of_one_rule<S: IndexStorage>(
-    first: Option<(PIdx<S>, RIdx<S>)>,
-    second: Option<(PIdx<S>, RIdx<S>)>,
-) -> bool {
-    match (first, second) {
-        (Some((_, one)), Some((_, other))) => one.0.to_usize() == other.0.to_usize(),
-        _ => false,
-    }
 }
 
 /// What is replaced at a visit: the item at dot nought; if both are, both where they are of one rule, or else the first, unless
@@ -212,10 +188,28 @@ fn replaced<S: IndexStorage>(
     }
 }
 
+/// The visit of a state from which an edge leads to that of another visit, at the index.
+fn moved_over<S: IndexStorage>(visit: &Visit<S>, index: usize, stidx: StIdx<S>) -> Visit<S> {
+    Visit {
+        stidx,
+        first: moved_back(visit.first),
+        second: moved_back(visit.second),
+        from: index,
+        over: true,
+        in_first: false,
+        in_second: false,
+        outer: None,
+        met: NOT_MET,
+    }
+}
+
 /// Of the items that the token follows at once the first of those with the largest dot.
 fn first_before<'a, S: IndexStorage>(source: &Source<'a, S>, items: &[Outer<S>]) -> Need<S> {
     let mut best: Need<S> = None;
     'items: for k in 0..items.len() {
+        if source.is_before_other(&items[k]) {
+            continue 'items;
+        }
         let Outer { pidx, dot, .. } = items[k];
         if source.follows(&items[k]) && is_later(best, dot) {
             best = Some((pidx, dot));
@@ -260,10 +254,12 @@ impl<S: IndexStorage> Visits<S> {
         end > self.nearest_end || (end == self.nearest_end && self.end_passed)
     }
 
-    /// Notes how far the end is from the groups that the search came to, at least.
+    /// Notes how far the end is from the groups that the search came to, at least; where it went on from another one, from those
+    /// that it came to itself.
     pub(crate) fn bound(&self, groups: &mut Groups<S>, end: End) {
-        'visits: for visit in &self.list {
-            let Met { group, step } = visit.met;
+        let from = if self.resumed { self.fork.visits } else { 0 };
+        'visits: for k in from..self.list.len() {
+            let Met { group, step } = self.list[k].met;
             groups.put_bound(group, end.step.saturating_sub(step));
         }
     }
@@ -303,18 +299,19 @@ impl<S: IndexStorage> Visits<S> {
             index,
             next: next.saturating_add(1),
         })?;
-        let before = Visit {
-            stidx: edges[next],
-            first: moved_back(visit.first),
-            second: moved_back(visit.second),
-            from: index,
-            over: true,
-            in_first: false,
-            in_second: false,
-            outer: None,
-            met: NOT_MET,
-        };
-        if !are_held(source, &before) {
+        let before = moved_over(&visit, index, edges[next]);
+        let held = are_held(source, &before);
+        if self.alike.watched {
+            let Visit {
+                stidx,
+                first,
+                second,
+                ..
+            } = before;
+            let stay = self.alike.hold(source, stidx, first, second, held);
+            self.part_unless(stay)?;
+        }
+        if !held {
             return Ok(());
         }
         let index = self.list.len();
@@ -379,6 +376,7 @@ impl<S: IndexStorage> Visits<S> {
             return Ok(());
         }
         if source.is_start(place.pidx) {
+            self.part_unless(false)?;
             if source.is_end() {
                 self.put(replaced(&visit, &place, None, None))?;
             }
@@ -399,6 +397,9 @@ impl<S: IndexStorage> Visits<S> {
         };
         let key = (group, pidx.0.to_usize(), dot.0.to_usize(), place.in_first);
         let added = self.seen.insert(key)?;
+        if added && self.fork.visits > 0 {
+            self.fork.late.push(key)?;
+        }
         Ok(added)
     }
 
@@ -437,10 +438,17 @@ impl<S: IndexStorage> Visits<S> {
     ) -> Result<(), AllocError> {
         let mut follows = false;
         'outer: for k in 0..outer.len() {
+            if !self.alike.watched && source.is_before_other(&outer[k]) {
+                continue 'outer;
+            }
             let start = source.start_behind(visit.stidx, &outer[k]);
+            if self.alike.watched {
+                let stay = self.alike.follow(source, visit.stidx, &outer[k], start);
+                self.part_unless(stay)?;
+            }
             if start.has {
                 if !follows {
-                    let item = first_before(source, outer);
+                    let item = first_before(source, &outer[k..]);
                     self.put(replaced(visit, place, None, item))?;
                 }
                 follows = true;
@@ -487,8 +495,23 @@ impl<S: IndexStorage> Visits<S> {
         mem::swap(&mut self.now, &mut self.later);
         self.later.clear();
         let passed = self.least;
-        self.least = usize::MAX;
         self.step = self.step.saturating_add(passed).saturating_add(1);
+        if self.alike.watched {
+            self.note_step(groups, passed);
+        }
+        self.go_on_each(alloc, source, groups, last, passed)
+    }
+
+    /// Goes on with those that waited for a step, where so many steps are passed over.
+    fn go_on_each<'a>(
+        &mut self,
+        alloc: Global,
+        source: &Source<'a, S>,
+        groups: &mut Groups<S>,
+        last: &Way,
+        passed: usize,
+    ) -> Result<(), AllocError> {
+        self.least = usize::MAX;
         self.end_passed = false;
         'waits: for k in 0..self.now.len() {
             if k < self.now.len() {
@@ -514,11 +537,28 @@ impl<S: IndexStorage> Visits<S> {
             nearest_end: usize::MAX,
             end_passed: false,
             done: None,
+            alike: Alike::new(alloc),
+            fork: Fork {
+                waits: Vec::new(alloc),
+                passed: 0,
+                visits: 0,
+                step: 0,
+                numbers: Numbers { begin: 0, end: 0 },
+                late: Vec::new(alloc),
+            },
+            resumed: false,
         }
     }
 
-    fn clear(&mut self, alloc: Global) {
+    /// Lets the last search go.
+    pub(crate) fn forget(&mut self) {
         self.list.clear();
+        self.fork.visits = 0;
+        self.alike.watched = false;
+    }
+
+    fn clear(&mut self, alloc: Global) {
+        self.forget();
         self.now.clear();
         self.later.clear();
         self.least = usize::MAX;
@@ -527,6 +567,123 @@ impl<S: IndexStorage> Visits<S> {
         self.nearest_end = usize::MAX;
         self.end_passed = false;
         self.done = None;
+        self.resumed = false;
+    }
+
+    /// How many visits the search shares with those for other tokens, if it is one from which they may go on.
+    pub(crate) fn shared(&self) -> usize {
+        if self.alike.watched {
+            return 0;
+        }
+        self.fork.visits
+    }
+
+    /// Whether the search went on from that for another token.
+    pub(crate) fn is_resumed(&self) -> bool {
+        self.resumed
+    }
+
+    /// Whether the last search began with this visit.
+    fn began_with(&self, start: &Visit<S>) -> bool {
+        if self.list.is_empty() {
+            return false;
+        }
+        let last = &self.list[0];
+        last.stidx.0.to_usize() == start.stidx.0.to_usize()
+            && are_same(last.first, start.first)
+            && are_same(last.second, start.second)
+    }
+
+    /// Begins a search with a visit, which is watched where that is asked.
+    fn begin<'a>(
+        &mut self,
+        alloc: Global,
+        source: &Source<'a, S>,
+        groups: &mut Groups<S>,
+        start: Visit<S>,
+        watched: bool,
+    ) -> Result<(), AllocError> {
+        self.clear(alloc);
+        groups.begin();
+        if watched {
+            let Visit {
+                stidx,
+                first,
+                second,
+                ..
+            } = start;
+            self.alike.begin(source, stidx, first, second)?;
+            self.fork.numbers.begin = groups.next();
+        }
+        self.put(start)
+    }
+
+    /// Notes the beginning of a step of a search that is watched.
+    fn note_step(&mut self, groups: &mut Groups<S>, passed: usize) {
+        self.fork.passed = passed;
+        self.fork.visits = self.list.len();
+        self.fork.step = self.step;
+        self.fork.numbers.end = groups.next();
+        self.fork.late.clear();
+        self.alike.whole = self.list.len() >= MANY_VISITS;
+    }
+
+    /// Ends the watch, unless the tokens stay together: they part at the step that is gone.
+    fn part_unless(&mut self, stay: bool) -> Result<(), AllocError> {
+        if stay || !self.alike.watched {
+            return Ok(());
+        }
+        self.alike.watched = false;
+        self.fork.waits.clear();
+        self.fork.waits.extend_from_slice(self.now.as_slice())?;
+        if self.fork.visits < MANY_VISITS {
+            self.fork.visits = 0;
+        }
+        Ok(())
+    }
+
+    /// Lets go what was come to behind the place where the searches part.
+    fn take_back(&mut self, groups: &mut Groups<S>) -> Result<(), AllocError> {
+        groups.begin_from(self.fork.numbers);
+        self.list.truncate(self.fork.visits);
+        self.now.clear();
+        self.now.extend_from_slice(self.fork.waits.as_slice())?;
+        self.later.clear();
+        self.step = self.fork.step;
+        self.nearest_end = usize::MAX;
+        self.done = None;
+        self.resumed = true;
+        'keys: for k in 0..self.fork.late.len() {
+            if k < self.fork.late.len() {
+                self.seen.remove(&self.fork.late[k]);
+            }
+        }
+        self.fork.late.clear();
+        Ok(())
+    }
+
+    /// Lets go of which group the items at a visit are.
+    fn unmeet(&mut self, index: usize) {
+        if index < self.list.len() {
+            self.list[index].met = NOT_MET;
+        }
+    }
+
+    /// Goes on for another token from where the searches part.
+    fn go_again<'a>(
+        &mut self,
+        alloc: Global,
+        source: &Source<'a, S>,
+        groups: &mut Groups<S>,
+        last: &Way,
+    ) -> Result<(), AllocError> {
+        self.take_back(groups)?;
+        'waits: for k in 0..self.now.len() {
+            if k < self.now.len() {
+                self.unmeet(self.now[k].index);
+            }
+        }
+        self.go_on_each(alloc, source, groups, last, self.fork.passed)
     }
 
     /// The visit at an index.
@@ -542,7 +699,7 @@ impl<S: IndexStorage> Visits<S> {
     }
 
     /// Searches for a string to the state after which the items there have the token for a lookahead, and tells where that
-    /// ended.
+    /// ended. Where the last search was for another token it may go on from that one.
     pub(crate) fn search<'a>(
         &mut self,
         alloc: Global,
@@ -550,10 +707,15 @@ impl<S: IndexStorage> Visits<S> {
         groups: &mut Groups<S>,
         last: &Way,
         start: Visit<S>,
+        other: bool,
     ) -> Result<Option<End>, AllocError> {
-        self.clear(alloc);
-        groups.begin();
-        self.put(start)?;
+        let again = other && self.began_with(&start);
+        if again && self.shared() > 0 && self.alike.has(source.token.0.to_usize()) {
+            self.go_again(alloc, source, groups, last)?;
+        } else {
+            let watched = other && self.list.len() >= MANY_VISITS;
+            self.begin(alloc, source, groups, start, watched)?;
+        }
         'steps: for _ in 0..usize::MAX {
             if self.done.is_some() || self.later.is_empty() {
                 return Ok(self.done);
@@ -561,6 +723,13 @@ impl<S: IndexStorage> Visits<S> {
             self.go_on(alloc, source, groups, last)?;
         }
         Ok(None)
+    }
+}
+
+impl<S: IndexStorage> Visit<S> {
+    /// Whether there is a first need, and a second one.
+    pub(crate) fn needs(&self) -> (bool, bool) {
+        (self.first.is_some(), self.second.is_some())
     }
 }
 

@@ -1,5 +1,6 @@
 //! What the searches for all conflicts of a graph share. What it tells need not be right: an example is checked.
 
+use crate::lists::Lists;
 use crate::places::Places;
 use crate::reading::{has_production, symbols_behind};
 use cfg_base::index::IndexStorage;
@@ -17,7 +18,7 @@ pub(crate) struct Tables<S> {
     pub places: Places<S>,
     firsts: Vec<Vob>,
     vanishing: Vec<Option<PIdx<S>>>,
-    back: Vec<Vec<StIdx<S>>>,
+    back: Lists<StIdx<S>>,
     shortest: Shortest<S>,
 }
 
@@ -119,38 +120,52 @@ pub(crate) fn vanishing_by<S: IndexStorage>(
     Ok(vanishing)
 }
 
-/// Lists a state with those that its edges lead to.
-fn list_back<S: IndexStorage>(
-    graph: &StateGraph<S>,
-    from: StIdx<S>,
-    back: &mut Vec<Vec<StIdx<S>>>,
-) -> Result<(), AllocError> {
+/// Counts a state for each of those that its edges lead to.
+fn count_back<S: IndexStorage>(graph: &StateGraph<S>, from: StIdx<S>, back: &mut Lists<StIdx<S>>) {
     if !graph.has_state(from) {
-        return Ok(());
+        return;
     }
     let edges = graph.edges(from);
     'edges: for k in 0..edges.len() {
         let (_, target) = edges[k];
-        let target = target.0.to_usize();
-        if target < back.len() {
-            back[target].push(from)?;
-        }
+        back.count(target.0.to_usize());
     }
-    Ok(())
+}
+
+/// Lists a state with those that its edges lead to.
+fn list_back<S: IndexStorage>(graph: &StateGraph<S>, from: StIdx<S>, back: &mut Lists<StIdx<S>>) {
+    if !graph.has_state(from) {
+        return;
+    }
+    let edges = graph.edges(from);
+    'edges: for k in 0..edges.len() {
+        let (_, target) = edges[k];
+        back.put(target.0.to_usize(), from);
+    }
+}
+
+/// For each state room for those from which an edge leads to it.
+fn room_back<S: IndexStorage>(
+    alloc: Global,
+    graph: &StateGraph<S>,
+) -> Result<Lists<StIdx<S>>, AllocError> {
+    let states = graph.all_states_len().0.to_usize();
+    let mut back = Lists::new(alloc, states)?;
+    'states: for number in 0..states {
+        count_back(graph, graph.state_at(number), &mut back);
+    }
+    back.make_room(graph.start_state())?;
+    Ok(back)
 }
 
 /// For each state those from which an edge leads to it.
 fn states_back<S: IndexStorage>(
     alloc: Global,
     graph: &StateGraph<S>,
-) -> Result<Vec<Vec<StIdx<S>>>, AllocError> {
-    let states = graph.all_states_len().0.to_usize();
-    let mut back = Vec::new(alloc);
-    'lists: for _ in 0..states {
-        back.push(Vec::new(alloc))?;
-    }
-    'states: for number in 0..states {
-        list_back(graph, graph.state_at(number), &mut back)?;
+) -> Result<Lists<StIdx<S>>, AllocError> {
+    let mut back = room_back(alloc, graph)?;
+    'states: for number in 0..graph.all_states_len().0.to_usize() {
+        list_back(graph, graph.state_at(number), &mut back);
     }
     Ok(back)
 }
@@ -296,13 +311,50 @@ impl<S: IndexStorage> Tables<S> {
         rest
     }
 
+    /// Whether a symbol begins with one of the tokens.
+    fn meets(&self, symbol: Symbol<S>, tokens: &Vob) -> bool {
+        match symbol {
+            Symbol::Rule(ridx) => {
+                let number = ridx.0.to_usize();
+                if number >= self.firsts.len() || self.firsts[number].len() != tokens.len() {
+                    return true;
+                }
+                self.firsts[number].meets(tokens)
+            }
+            Symbol::Token(tidx) => tokens.get(tidx.0.to_usize()).unwrap_or(false),
+        }
+    }
+
+    /// Whether the symbols behind the one after the dot may begin with one of the tokens.
+    pub(crate) fn one_begins(
+        &self,
+        grm: &NumberedGrammar<S>,
+        pidx: PIdx<S>,
+        dot: usize,
+        tokens: &Vob,
+    ) -> bool {
+        if !has_production(grm, pidx) {
+            return false;
+        }
+        let symbols = symbols_behind(grm.prod(pidx), dot);
+        'symbols: for k in 0..symbols.len() {
+            if self.meets(symbols[k], tokens) {
+                return true;
+            }
+            let vanishes = match symbols[k] {
+                Symbol::Rule(ridx) => self.vanishing(ridx).is_some(),
+                Symbol::Token(_) => false,
+            };
+            if !vanishes {
+                return false;
+            }
+        }
+        false
+    }
+
     /// The states from which an edge leads to a state.
     pub(crate) fn back(&self, stidx: StIdx<S>) -> Option<&[StIdx<S>]> {
-        let number = stidx.0.to_usize();
-        if number >= self.back.len() {
-            return None;
-        }
-        Some(self.back[number].as_slice())
+        self.back.of(stidx.0.to_usize())
     }
 
     /// The last but one of the states that a shortest string to the state goes through.

@@ -1,0 +1,20 @@
+use Rattle.std.proofs.Common.{◌≡◌, ℕ, sym, ap, ◌∙◌}
+use Rattle.std.specs.Prelude.{option_map}
+use Rattle.lr_theory.specs.Graph.{Leads}
+use Rattle.lrtable.specs.Graphs.{graph_of}
+use Rattle.cfg_numbered.specs.Symbols.{sym_of, syms_of}
+use Rattle.conflict_examples.proofs.SymbolLists.{leads_more, leads_all}
+use Rattle.conflict_examples.proofs.led.state_after.Goals as goal
+
+pub symbols-init : goal.symbols-init
+symbols-init g c = λ w l. l
+
+pub symbols-preserved : goal.symbols-preserved
+symbols-preserved g c = λ w l.
+    let number = g.S.IndexStorage.number in
+    leads_more (sym_of number) (graph_of c.args.graph.now) w c.args.symbols.now c.symbols.k c.index-symbols-k.result (number c.symbols.state.0) (number c.in-Some.next.0) c.symbols-test.true c.index-symbols-k.is (sym c.edge.ensures ∙ ap (option_map (λ s. number s.0)) c.in-Some.is) (c.symbols.invariant w l)
+
+pub returns : goal.returns
+returns g c = λ w l.
+    let number = g.S.IndexStorage.number in
+    leads_all (sym_of number) (graph_of c.args.graph.now) w c.args.symbols.now c.symbols.k (number c.symbols.state.0) c.symbols-test.false (c.symbols.invariant w l)

@@ -7,6 +7,8 @@ use Rattle.cfg_read.specs.declared.yacc.parser.scan.TokenKind.{TokenKind}
 use Rattle.cfg_read.specs.declared.yacc.parser.scan.TokenKind.TheVariants as tokens
 use Rattle.cfg_read.specs.declared.yacc.parser.error.YaccGrammarErrorKind.{YaccGrammarErrorKind}
 use Rattle.cfg_read.specs.declared.yacc.parser.error.YaccGrammarErrorKind.TheVariants as faults
+use Rattle.cfg_read.specs.SyntaxTexts.{WordText, SymbolText}
+use Rattle.cfg_read.specs.SyntaxUpdates.{no_part}
 use Rattle.cfg_read.specs.SyntaxErrors.{name_fault, token_fault}
 use Rattle.cfg_read.specs.Scanning.{StartsBy, begins_token, begins_name}
 
@@ -17,6 +19,15 @@ map_is_none f (Some x) = refl
 pub map_nil : {A B : Type 0} (f : A → B) (xs : List A) → length xs ≡ 0 → map f xs ≡ []
 map_nil f [] h = refl
 map_nil f (x ∷ xs) h = absurd (omega arith)
+
+pub blank : (ss : List SymbolText) (e : Bool) (p a : Option WordText) (s : Option SpanModel) → ss ≡ [] → is_none s ≡ true → (not e && (is_none p && is_none a)) ≡ true
+    → record { symbols = ss; is_empty = e; precedence = p; action = a; span = s } ≡ no_part
+blank [] false None None None h i j = refl
+blank (x ∷ ss) e p a s h i j = absurd cc
+blank [] true p a s h i j = absurd cc
+blank [] false (Some w) a s h i j = absurd cc
+blank [] false None (Some w) s h i j = absurd cc
+blank [] false None None (Some x) h i j = absurd cc
 
 pub map_cons : {A B : Type 0} (f : A → B) (xs : List A) → 0 < length xs → map f xs ≢ []
 map_cons f [] h e = absurd (omega arith)

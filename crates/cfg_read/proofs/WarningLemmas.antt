@@ -208,13 +208,13 @@ text_of_either x t (inr h) = ap (λ y. (ast_symbol_of y).word.text) (sym h.1)
 
 -- the symbols of a production that is looked up
 pub symbols_found : (items : List Production) (ps : List ProductionAst) (n : ℕ) (o : Option Production) → map production_of items ≡ ps → slice_get items n ≡ o
-    → option_map_or (λ (p : Production). map ast_symbol_of p.symbols.items) o [] ≡ production_symbols ps n
+    → option_map_or (λ (p : Production). (production_of p).symbols) o [] ≡ production_symbols ps n
 symbols_found items ps n o same at =
     by o
     ∙ ap (λ v. option_map_or (λ (p : ProductionAst). p.symbols) v []) (sym (slice_get-map production_of items n ∙ ap (option_map production_of) at))
     ∙ ap (λ qs. production_symbols qs n) same
   where
-    by : (o : Option Production) → option_map_or (λ (p : Production). map ast_symbol_of p.symbols.items) o [] ≡ option_map_or (λ (p : ProductionAst). p.symbols) (option_map production_of o) []
+    by : (o : Option Production) → option_map_or (λ (p : Production). (production_of p).symbols) o [] ≡ option_map_or (λ (p : ProductionAst). p.symbols) (option_map production_of o) []
     by None = refl
     by (Some p) = refl
 

@@ -4,12 +4,15 @@ use Rattle.std.specs.Borrow.{Bor}
 use Rattle.std.specs.List.{list_any}
 use Rattle.std.specs.Option.{option_or}
 use Rattle.std.specs.Str.{bytes_eq}
+use Rattle.std.specs.String.{string_bytes}
+use Rattle.std.specs.declared.alloc.Global.{Global}
+use Rattle.std.specs.declared.string.String.{String}
 use Rattle.cfg_read.specs.SyntaxTexts.{WordText, RuleText, SyntaxText}
 use Rattle.cfg_read.specs.Asts.{Ast, no_ast, RuleAst, text_of, last_text, numbers_from}
 
 -- what these point to
-abbrev pub names_at : List (Bor (List ℕ)) → List (List ℕ)
-names_at ns = map (λ (n : Bor (List ℕ)). n.now) ns
+abbrev pub names_at : List (Bor (String Global)) → List (List ℕ)
+names_at ns = map (λ (n : Bor (String Global)). string_bytes n.now) ns
 
 -- the rule of a heading, where `shared` is the type of rules without one
 abbrev pub headed : Option (List ℕ) → RuleText → RuleAst

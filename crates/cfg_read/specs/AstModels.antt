@@ -1,5 +1,5 @@
 -- What the parts of a syntax tree say, without where they lie in memory.
-use Rattle.std.specs.Prelude.{ℕ, true, false, List, map, option_map}
+use Rattle.std.specs.Prelude.{ℕ, true, false, List, [], Option, None, Vec, map, option_map}
 use Rattle.std.specs.String.{string_bytes}
 use Rattle.indexmap.specs.IndexMap.{IndexMap}
 use Rattle.cfg_base.specs.SpanModel.{SpanModel}
@@ -8,24 +8,40 @@ use Rattle.std.specs.declared.string.String.{String}
 use Rattle.cfg_read.specs.declared.yacc.ast.Symbol.{Symbol}
 use Rattle.cfg_read.specs.declared.yacc.ast.Symbol.TheVariants.{Rule, Token}
 use Rattle.cfg_read.specs.declared.yacc.ast.Production.{Production}
+use Rattle.cfg_read.specs.declared.yacc.parser.syntax.Word.{Word}
+use Rattle.cfg_read.specs.declared.yacc.parser.syntax.Body.{Body}
+use Rattle.cfg_read.specs.declared.yacc.parser.syntax.Alternative.{Alternative}
+use Rattle.cfg_read.specs.declared.yacc.parser.syntax.Alternative.TheVariants as alternatives
 use Rattle.cfg_read.specs.declared.yacc.ast.Rule.{Rule as RuleEntry}
 use Rattle.cfg_base.specs.declared.precedence.Precedence.{Precedence}
 use Rattle.cfg_read.specs.SyntaxTexts.{WordText, NumberText, EppText}
 use Rattle.cfg_read.specs.Asts.{SymbolAst, RuleAst, ProductionAst, PrecedenceAst, text_of, span_of}
-use Rattle.cfg_read.specs.SyntaxModels.{precedence_by, action_by}
+use Rattle.cfg_read.specs.SyntaxModels.{word_of}
 
 abbrev pub ast_symbol_of : Symbol → SymbolAst
 ast_symbol_of (Rule text span) = record { is_token = false; word = record { text = string_bytes text; span = span } }
 ast_symbol_of (Token text span) = record { is_token = true; word = record { text = string_bytes text; span = span } }
 
-abbrev pub production_of : Production → ProductionAst
-production_of p = record {
-  symbols = map ast_symbol_of p.symbols.items;
-  precedence = text_of (precedence_by p.extras);
-  action = text_of (action_by p.extras);
-  action_span = span_of (action_by p.extras);
-  span = p.prod_span;
+-- a production with these symbols, the token of `%prec`, the action and the span; one in which
+-- this stands, that of an alternative with symbols of the tree, and any one
+abbrev pub production_with : Vec Symbol Global → Option Word → Option Word → SpanModel → ProductionAst
+production_with symbols precedence action span = record {
+  symbols = map ast_symbol_of symbols.items;
+  precedence = text_of (option_map word_of precedence);
+  action = text_of (option_map word_of action);
+  action_span = span_of (option_map word_of action);
+  span = span;
 }
+
+abbrev pub body_of : Body → ProductionAst
+body_of p = production_with p.made p.precedence p.action p.span
+
+abbrev pub kept_of : Alternative → ProductionAst
+kept_of (alternatives.Blank a) = record { symbols = []; precedence = None; action = None; action_span = None; span = record { start = a; end = a } }
+kept_of (alternatives.Body b) = body_of b.value
+
+abbrev pub production_of : Production → ProductionAst
+production_of p = kept_of p.kept
 
 -- the names of a map with their spans, in its order
 abbrev pub named_span : String Global × SpanModel → WordText

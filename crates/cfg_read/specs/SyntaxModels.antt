@@ -1,11 +1,12 @@
 -- What a syntax value of the program says, without where it lies in memory.
-use Rattle.std.specs.Prelude.{Bool, false, map, option_map, List, Option, None, Some, Box}
+use Rattle.std.specs.Prelude.{map, option_map, List, Box}
 use Rattle.std.specs.String.{string_bytes}
 use Rattle.cfg_read.specs.declared.yacc.parser.syntax.Word.{Word}
 use Rattle.cfg_read.specs.declared.yacc.parser.syntax.Symbol.{Symbol}
 use Rattle.std.specs.declared.alloc.Global.{Global}
-use Rattle.cfg_read.specs.declared.yacc.parser.syntax.Extras.{Extras}
+use Rattle.cfg_read.specs.declared.yacc.parser.syntax.Body.{Body}
 use Rattle.cfg_read.specs.declared.yacc.parser.syntax.Alternative.{Alternative}
+use Rattle.cfg_read.specs.declared.yacc.parser.syntax.Alternative.TheVariants as alternatives
 use Rattle.cfg_read.specs.declared.yacc.parser.draft.Draft.{Draft}
 use Rattle.cfg_read.specs.declared.yacc.parser.syntax.Rule.{Rule}
 use Rattle.cfg_read.specs.declared.yacc.parser.syntax.Level.{Level}
@@ -15,10 +16,13 @@ use Rattle.cfg_read.specs.declared.yacc.parser.syntax.Epp.{Epp}
 use Rattle.cfg_read.specs.declared.yacc.parser.syntax.Param.{Param}
 use Rattle.cfg_read.specs.declared.yacc.parser.syntax.Syntax.{Syntax}
 use Rattle.cfg_read.specs.SyntaxTexts.{WordText, SymbolText, AlternativeText, RuleText, LevelText, NumberText, EppText, ParamText, SyntaxText}
-use Rattle.cfg_read.specs.SyntaxUpdates.{Part}
+use Rattle.cfg_read.specs.SyntaxUpdates.{Part, no_part, alternative}
 
 abbrev pub word_of : Word → WordText
 word_of w = record { text = string_bytes w.text; span = w.span }
+
+abbrev pub boxed_word : Box Word Global → WordText
+boxed_word b = word_of b.value
 
 abbrev pub words_of : List Word → List WordText
 words_of ws = map word_of ws
@@ -32,28 +36,20 @@ symbols_of ss = map symbol_of ss
 abbrev pub line_of : Line → List SymbolText
 line_of l = symbols_of l.items.items
 
--- what stands in an alternative beside its symbols
-abbrev pub is_empty_by : Option (Box Extras Global) → Bool
-is_empty_by None = false
-is_empty_by (Some e) = e.value.is_empty
+-- an alternative in which this stands, and any one
+abbrev pub body_text : Body → AlternativeText
+body_text p = record { symbols = symbols_of p.symbols.items; is_empty = p.is_empty; precedence = option_map word_of p.precedence; action = option_map word_of p.action; span = p.span }
 
-abbrev pub precedence_by : Option (Box Extras Global) → Option WordText
-precedence_by None = None
-precedence_by (Some e) = option_map word_of e.value.precedence
-
-abbrev pub action_by : Option (Box Extras Global) → Option WordText
-action_by None = None
-action_by (Some e) = option_map word_of e.value.action
-
--- an alternative, and what it stands in
 abbrev pub alternative_of : Alternative → AlternativeText
-alternative_of a = record { symbols = symbols_of a.symbols.items; is_empty = is_empty_by a.extras; precedence = precedence_by a.extras; action = action_by a.extras; span = a.span }
+alternative_of (alternatives.Blank a) = alternative no_part a
+alternative_of (alternatives.Body b) = body_text b.value
 
+-- what an alternative is read into, and what it stands in
 abbrev pub part_of : Draft → Part
 part_of d = record { symbols = symbols_of d.symbols.items; is_empty = d.is_empty; precedence = option_map word_of d.precedence; action = option_map word_of d.action; span = d.span }
 
 abbrev pub rule_of : Rule → RuleText
-rule_of r = record { name = word_of r.name; action_type = option_map word_of r.action_type; alternatives = map alternative_of r.alternatives.items }
+rule_of r = record { name = word_of r.name; action_type = option_map boxed_word r.action_type; alternatives = map alternative_of r.alternatives.items }
 
 abbrev pub level_of : Level → LevelText
 level_of l = record { kind = l.kind; tokens = symbols_of l.tokens.items }

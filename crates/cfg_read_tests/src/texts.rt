@@ -1,9 +1,10 @@
 //! What texts say or the faults that they have, as texts.
 
+use cfg_base::span::Span;
 use cfg_read::yacc::parser::error::{ReadError, YaccGrammarErrorKind};
 use cfg_read::yacc::parser::read_syntax;
 use cfg_read::yacc::parser::syntax::{
-    Alternative, Epp, Extras, Level, Line, Number, Param, Rule, Symbol, Syntax, Word,
+    Alternative, Body, Epp, Level, Line, Number, Param, Rule, Symbol, Syntax, Word,
 };
 use cfg_read::yacc::{YaccKind, YaccOriginalActionKind};
 use std::alloc::{AllocError, Global};
@@ -89,7 +90,15 @@ fn spell_option(
     Ok(())
 }
 
-fn spell_extras(alloc: Global, out: &mut String, x: &Extras) -> Result<(), AllocError> {
+fn spell_at(alloc: Global, out: &mut String, span: Span) -> Result<(), AllocError> {
+    let start = span.start();
+    let end = span.end();
+    out.push_str(format!(in alloc; "|{start}-{end} ")?.as_str())
+}
+
+fn spell_body(alloc: Global, out: &mut String, x: &Body) -> Result<(), AllocError> {
+    spell_at(alloc, out, x.span)?;
+    spell_symbols(alloc, out, x.symbols.as_slice())?;
     if x.is_empty {
         out.push_str("%")?;
     }
@@ -98,13 +107,9 @@ fn spell_extras(alloc: Global, out: &mut String, x: &Extras) -> Result<(), Alloc
 }
 
 fn spell_alternative(alloc: Global, out: &mut String, x: &Alternative) -> Result<(), AllocError> {
-    let start = x.span.start();
-    let end = x.span.end();
-    out.push_str(format!(in alloc; "|{start}-{end} ")?.as_str())?;
-    spell_symbols(alloc, out, x.symbols.as_slice())?;
-    match &x.extras {
-        Some(extras) => spell_extras(alloc, out, extras),
-        None => Ok(()),
+    match x {
+        Alternative::Blank(offset) => spell_at(alloc, out, Span::new(*offset, *offset)),
+        Alternative::Body(body) => spell_body(alloc, out, body),
     }
 }
 
@@ -123,7 +128,10 @@ fn spell_rules(alloc: Global, out: &mut String, rules: &[Rule]) -> Result<(), Al
     for rule in rules {
         out.push_str(" rule")?;
         spell_word(alloc, out, &rule.name)?;
-        spell_option(alloc, out, "->", &rule.action_type)?;
+        if let Some(word) = &rule.action_type {
+            out.push_str("->")?;
+            spell_word(alloc, out, word)?;
+        }
         spell_alternatives(alloc, out, rule.alternatives.as_slice())?;
     }
     Ok(())

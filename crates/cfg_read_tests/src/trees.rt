@@ -105,11 +105,7 @@ fn empty_tree(alloc: Global) -> Result<GrammarAST, AllocError> {
 
 /// Adds a production without symbols, where the rule is there.
 fn add_production(alloc: Global, ast: &mut GrammarAST, rule: &str) -> Result<(), AllocError> {
-    let production = Production {
-        symbols: Vec::new(alloc),
-        extras: None,
-        prod_span: span_of(5),
-    };
+    let production = Production::new(alloc, Vec::new(alloc), None, None, span_of(5))?;
     if ast.get_rule(rule).is_some() {
         ast.add_prod(rule, production)?;
     }

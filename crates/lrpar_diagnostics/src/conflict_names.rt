@@ -100,9 +100,9 @@ fn spans_of_symbols(alloc: Global, symbols: &[Symbol]) -> Result<Vec<Span>, Allo
 fn spans_of(alloc: Global, production: &Production) -> Result<Vec<Span>, AllocError>
     ensures { IfOk result (λ spans. spans.items ≡ spans_of (production_of production.now)) }
 {
-    let mut spans = spans_of_symbols(alloc, production.symbols.as_slice())?;
+    let mut spans = spans_of_symbols(alloc, production.symbols())?;
     if spans.is_empty() {
-        spans.push(production.prod_span)?;
+        spans.push(production.prod_span())?;
     }
     Ok(spans)
 }

@@ -40,9 +40,9 @@ fn push_option(out: &mut String, label: &str, text: Option<&String>) -> Result<(
 /// A production's span, symbols, `%prec`, and action with its span.
 fn push_production(alloc: Global, out: &mut String, made: &Production) -> Result<(), AllocError> {
     out.push_str("prod")?;
-    push_span(alloc, out, &made.prod_span)?;
+    push_span(alloc, out, &made.prod_span())?;
     out.push(':')?;
-    push_symbols(alloc, out, made.symbols.as_slice())?;
+    push_symbols(alloc, out, made.symbols())?;
     push_option(out, " %prec ", made.precedence())?;
     push_option(out, " action ", made.action())?;
     if let Some(span) = made.action_span() {

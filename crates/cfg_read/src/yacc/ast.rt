@@ -1,20 +1,20 @@
 //! The syntax tree of a grammar text.
 
-ghost use Rattle.std.specs.Prelude.{◌≡◌, Some, map, option_map, slice_get};
+ghost use Rattle.std.specs.Prelude.{◌≡◌, Some, map, option_map, slice_get, IfOk};
 ghost use Rattle.std.specs.Option.{option_copied};
 ghost use Rattle.std.specs.String.{string_bytes};
 ghost use Rattle.cfg_read.specs.Asts as asts;
 ghost use Rattle.cfg_read.specs.SyntaxModels.{word_of};
 ghost use Rattle.cfg_read.specs.AstChanges.{with_start};
 ghost use Rattle.cfg_read.specs.AstBuild.{empty_ast};
-ghost use Rattle.cfg_read.specs.AstModels.{ast_symbol_of, production_of, named_span, named_spans, named_rules, named_epps, named_precedences, rule_keys, own_names, number_with_span, param_pair};
+ghost use Rattle.cfg_read.specs.AstModels.{ast_symbol_of, production_with, production_of, named_span, named_spans, named_rules, named_epps, named_precedences, rule_keys, own_names, number_with_span, param_pair};
 
 use crate::yacc::Precedence;
-use crate::yacc::parser::syntax::{Extras, Word};
+use crate::yacc::parser::syntax::{Alternative, Body, Word};
 pub use crate::yacc::validity_info::ASTWithValidityInfo;
 use cfg_base::span::Span;
 use indexmap::IndexMap;
-use std::alloc::Global;
+use std::alloc::{AllocError, Global};
 use std::fmt;
 use std::marker::Model;
 
@@ -47,25 +47,54 @@ impl fmt::Display for Symbol {
 }
 
 /// One alternative of a rule, or one of the two productions of a fresh rule.
+/// It keeps the alternative that it was made of, with the symbols of the tree.
 #[derive(Debug, Drop)]
 pub struct Production {
-    pub symbols: Vec<Symbol>,
-    /// `%empty`, `%prec` with its token and the action: `None` where none of them stands there, so that such a production is
-    /// small.
-    pub extras: Option<Box<Extras>>,
-    /// The span of symbols, `%empty` and `%prec` with its token; without these an empty one at the `|` or `;`. In a fresh
-    /// rule that of the rule's name.
-    pub prod_span: Span,
+    pub(crate) kept: Alternative,
 }
 
 impl Production {
+    /// Makes a production with these symbols, the token of `%prec`, the action and the span.
+    pub fn new(
+        alloc: Global,
+        symbols: Vec<Symbol>,
+        precedence: Option<Word>,
+        action: Option<Word>,
+        prod_span: Span,
+    ) -> Result<Production, AllocError>
+        ensures { IfOk result (λ p. production_of p ≡ production_with symbols precedence action prod_span) }
+    {
+        let body = Body {
+            symbols: Vec::new(alloc),
+            made: symbols,
+            is_empty: false,
+            precedence,
+            action,
+            span: prod_span,
+        };
+        let boxed = Box::new(alloc, body)?;
+        Ok(Production {
+            kept: Alternative::Body(boxed),
+        })
+    }
+
+    /// The symbols.
+    pub fn symbols(&self) -> &[Symbol]
+        ensures { map ast_symbol_of result.now ≡ (production_of self.now).symbols }
+    {
+        match &self.kept {
+            Alternative::Blank(_) => &[],
+            Alternative::Body(body) => body.made.as_slice(),
+        }
+    }
+
     /// The token of `%prec`.
     pub fn precedence(&self) -> Option<&String>
         ensures { option_map string_bytes (option_copied result) ≡ (production_of self.now).precedence }
     {
-        match &self.extras {
-            Some(extras) => text_of(&extras.precedence),
-            None => None,
+        match &self.kept {
+            Alternative::Blank(_) => None,
+            Alternative::Body(body) => text_of(&body.precedence),
         }
     }
 
@@ -73,9 +102,9 @@ impl Production {
     pub fn action(&self) -> Option<&String>
         ensures { option_map string_bytes (option_copied result) ≡ (production_of self.now).action }
     {
-        match &self.extras {
-            Some(extras) => text_of(&extras.action),
-            None => None,
+        match &self.kept {
+            Alternative::Blank(_) => None,
+            Alternative::Body(body) => text_of(&body.action),
         }
     }
 
@@ -83,9 +112,20 @@ impl Production {
     pub fn action_span(&self) -> Option<Span>
         ensures { result ≡ (production_of self.now).action_span }
     {
-        match &self.extras {
-            Some(extras) => span_of(&extras.action),
-            None => None,
+        match &self.kept {
+            Alternative::Blank(_) => None,
+            Alternative::Body(body) => span_of(&body.action),
+        }
+    }
+
+    /// The span of symbols, `%empty` and `%prec` with its token; without these an empty one at the `|` or `;`. In a fresh
+    /// rule that of the rule's name.
+    pub fn prod_span(&self) -> Span
+        ensures { result ≡ (production_of self.now).span }
+    {
+        match &self.kept {
+            Alternative::Blank(offset) => Span::new(*offset, *offset),
+            Alternative::Body(body) => body.span,
         }
     }
 }

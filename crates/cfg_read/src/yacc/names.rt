@@ -118,9 +118,9 @@ fn push_prec<'a>(found: &mut Vec<&'a Word>, alternative: &'a Alternative) -> Res
     ensures { OnOk result (words_at found.new.items
         ≡ words_at found.old.items ++ option_to_list (alternative_of alternative.now).precedence) }
 {
-    match &alternative.extras {
-        Some(extras) => push_option(found, &extras.precedence),
-        None => Ok(()),
+    match alternative {
+        Alternative::Blank(_) => Ok(()),
+        Alternative::Body(body) => push_option(found, &body.precedence),
     }
 }
 
@@ -168,7 +168,7 @@ fn push_symbols_in<'a>(
         ≡ symbols_at found.old.items ++ flat_map (λ a. a.symbols) (map alternative_of alternatives.now)) }
 {
     'alternatives: for alternative in alternatives {
-        push_symbols(found, &alternative.symbols)?;
+        push_symbols(found, alternative.symbols())?;
     }
     Ok(())
 }

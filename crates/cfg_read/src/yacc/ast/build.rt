@@ -8,7 +8,7 @@ ghost use Rattle.cfg_read.specs.Asts.{first_item, last_text, text_of, param_text
 ghost use Rattle.cfg_read.specs.AstModels.{ast_symbol_of, production_of, named_span, named_spans, named_rules, rule_entry_of, rule_keys, own_names, number_with_span, param_pair};
 ghost use Rattle.cfg_read.specs.Names.{is_among, declared_tokens, tokens_of};
 ghost use Rattle.cfg_read.specs.Validity.{expected_symbols};
-ghost use Rattle.cfg_read.specs.SyntaxModels.{word_of, words_of, symbol_of, param_of, rule_of, number_text, syntax_of};
+ghost use Rattle.cfg_read.specs.SyntaxModels.{word_of, boxed_word, words_of, symbol_of, param_of, rule_of, number_text, syntax_of};
 ghost use Rattle.cfg_read.specs.NameModels.{symbols_at, named_fresh};
 ghost use Rattle.cfg_read.specs.FreshRules.{fresh_of, rule_words};
 ghost use Rattle.cfg_read.specs.AstBuild.{headed, blank_headings, fresh_rule, with_first, with_numbers, names_at, with_heads_of, with_spans_of, with_parts_of, with_words_of, with_expected_of};
@@ -137,9 +137,9 @@ fn take_prods(alloc: Global, mut x: Syntax) -> Result<Vec<Production>, AllocErro
 }
 
 /// The type of a rule's actions: its own, else the one for all rules.
-fn to_type(own: &Option<Word>, shared: Option<&Word>) -> Result<Option<String>, AllocError>
+fn to_type(own: &Option<Box<Word>>, shared: Option<&Word>) -> Result<Option<String>, AllocError>
     ensures { IfOk result (λ made. option_map string_bytes made
-        ≡ option_or (text_of (option_map word_of own.now)) (text_of (option_map (λ w. word_of w.now) shared.entry))) }
+        ≡ option_or (text_of (option_map boxed_word own.now)) (text_of (option_map (λ w. word_of w.now) shared.entry))) }
 {
     match own {
         Some(word) => Ok(Some(word.text.clone()?)),
@@ -191,17 +191,18 @@ fn insert_heading(
     Ok(())
 }
 
-/// The rules of these headings, without productions.
+/// The rules of these headings, without productions, in a map with room for so many.
 fn headed_rules(
     alloc: Global,
     headings: &[syntax::Rule],
     shared: Option<&Word>,
+    room: usize,
 ) -> Result<IndexMap<String, Rule>, AllocError>
     ensures rules { IfOk result (λ rules. named_rules rules
         ≡ fold with_first [] (map (headed (text_of (option_map (λ w. word_of w.now) shared.entry))) (map rule_of headings.now))) }
     ensures names { IfOk result (λ rules. own_names rules ≡ rule_keys rules) }
 {
-    let mut rules = IndexMap::with_capacity(alloc, headings.len())?;
+    let mut rules = IndexMap::with_capacity(alloc, room)?;
     'headings: for rule in headings {
         insert_heading(alloc, &mut rules, rule, shared)?;
     }
@@ -209,20 +210,20 @@ fn headed_rules(
 }
 
 /// Puts the rule's name behind the others, once for each alternative.
-fn push_heads<'a>(heads: &mut Vec<&'a str>, rule: &'a syntax::Rule) -> Result<(), AllocError>
+fn push_heads<'a>(heads: &mut Vec<&'a String>, rule: &'a syntax::Rule) -> Result<(), AllocError>
     ensures { OnOk result (names_at heads.new.items ≡ names_at heads.old.items ++ heads_in (rule_of rule.now)) }
 {
     'alternatives: for _alternative in &rule.alternatives {
-        heads.push(rule.name.text.as_str())?;
+        heads.push(&rule.name.text)?;
     }
     Ok(())
 }
 
 /// For each production the name of its rule.
-fn heads<'a>(alloc: Global, rules: &'a [syntax::Rule]) -> Result<Vec<&'a str>, AllocError>
+fn heads<'a>(alloc: Global, rules: &'a [syntax::Rule]) -> Result<Vec<&'a String>, AllocError>
     ensures { IfOk result (λ heads. names_at heads.items ≡ flat_map heads_in (map rule_of rules.now)) }
 {
-    let mut heads = Vec::with_capacity(alloc, rules.len())?;
+    let mut heads = Vec::with_capacity(alloc, parts::room_for(rules))?;
     'rules: for rule in rules {
         push_heads(&mut heads, rule)?;
     }
@@ -234,7 +235,7 @@ fn all_heads<'a>(
     alloc: Global,
     rules: &'a [syntax::Rule],
     fresh: &'a IndexMap<String, (Span, &syntax::Symbol)>,
-) -> Result<Vec<&'a str>, AllocError>
+) -> Result<Vec<&'a String>, AllocError>
     ensures { IfOk result (λ heads. names_at heads.items
         ≡ flat_map heads_in (map rule_of rules.now) ++ flat_map fresh_heads (named_fresh fresh.now)) }
 {
@@ -264,29 +265,33 @@ pub(super) fn push_number(
 }
 
 /// Gives the rules the numbers of their productions.
-fn number_rules(rules: &mut IndexMap<String, Rule>, heads: &[&str]) -> Result<(), AllocError>
+fn number_rules(rules: &mut IndexMap<String, Rule>, heads: &[&String]) -> Result<(), AllocError>
     requires { own_names rules.old ≡ rule_keys rules.old }
     ensures rules { OnOk result (named_rules rules.new ≡ map (with_numbers (names_at heads.now)) (named_rules rules.old)) }
     ensures names { own_names rules.new ≡ rule_keys rules.new }
 {
-    'heads: for (number, name) in heads.iter().enumerate() {
-        push_number(rules, name, number)?;
+    let mut number = 0usize;
+    'heads: for name in heads {
+        push_number(rules, name.as_str(), number)?;
+        number += 1;
     }
     Ok(())
 }
 
-/// The rules of a text without their productions, the fresh ones behind those of headings.
+/// The rules of a text without their productions, the fresh ones behind those of headings, in a map with room for so many of
+/// headings.
 fn blank_rules(
     alloc: Global,
     x: &Syntax,
     fresh: &IndexMap<String, (Span, &syntax::Symbol)>,
+    room: usize,
 ) -> Result<IndexMap<String, Rule>, AllocError>
     ensures rules { IfOk result (λ rules. named_rules rules
         ≡ fold with_first (blank_headings (syntax_of x.now)) (map fresh_rule (map (λ f. f.word) (named_fresh fresh.now)))) }
     ensures names { IfOk result (λ rules. own_names rules ≡ rule_keys rules) }
 {
     let shared = shared_type(&x.action_types);
-    let mut rules = headed_rules(alloc, &x.rules, shared)?;
+    let mut rules = headed_rules(alloc, &x.rules, shared, room)?;
     fresh::insert_fresh_rules(alloc, &mut rules, fresh)?;
     Ok(rules)
 }
@@ -308,27 +313,29 @@ fn number_all(
     Ok(())
 }
 
-/// The rules of a text and these fresh ones, each with the numbers of its productions.
+/// The rules of a text and these fresh ones, each with the numbers of its productions, in a map with room for so many of
+/// headings.
 fn numbered_rules(
     alloc: Global,
     x: &Syntax,
     fresh: &IndexMap<String, (Span, &syntax::Symbol)>,
+    room: usize,
 ) -> Result<IndexMap<String, Rule>, AllocError>
     ensures rules { IfOk result (λ rules. named_fresh fresh.now ≡ fresh_of (syntax_of x.now) → named_rules rules ≡ map (rule_ast (syntax_of x.now)) (rule_words (syntax_of x.now))) }
     ensures names { IfOk result (λ rules. own_names rules ≡ rule_keys rules) }
 {
-    let mut rules = blank_rules(alloc, x, fresh)?;
+    let mut rules = blank_rules(alloc, x, fresh, room)?;
     number_all(alloc, &mut rules, &x.rules, fresh)?;
     Ok(rules)
 }
 
-/// The rules, each with the numbers of its productions.
-fn rules(alloc: Global, x: &Syntax) -> Result<IndexMap<String, Rule>, AllocError>
+/// The rules, each with the numbers of its productions, in a map with room for so many of headings.
+fn rules(alloc: Global, x: &Syntax, room: usize) -> Result<IndexMap<String, Rule>, AllocError>
     ensures rules { IfOk result (λ rules. named_rules rules ≡ map (rule_ast (syntax_of x.now)) (rule_words (syntax_of x.now))) }
     ensures names { IfOk result (λ rules. own_names rules ≡ rule_keys rules) }
 {
     let fresh = fresh::fresh_of(alloc, x)?;
-    let rules = numbered_rules(alloc, x, &fresh)?;
+    let rules = numbered_rules(alloc, x, &fresh, room)?;
     Ok(rules)
 }
 
@@ -339,7 +346,7 @@ impl GrammarAST {
     {
         let x = names.syntax();
         let start = to_named(start_word(x))?;
-        let rules = rules(alloc, x)?;
+        let rules = rules(alloc, x, names.rules().len())?;
         self.start = start;
         self.rules = rules;
         Ok(())

@@ -2,13 +2,13 @@
 
 ghost use Rattle.std.specs.Prelude.{◌≡◌, map, option_map, IfOk, OnOk};
 ghost use Rattle.std.specs.String.{string_bytes};
-ghost use Rattle.cfg_read.specs.AstModels.{ast_symbol_of, production_of, named_span, param_pair, named_spans, named_rules, named_epps, named_precedences, rule_keys, own_names};
-ghost use Rattle.cfg_read.specs.SyntaxModels.{word_of, precedence_by, action_by};
+ghost use Rattle.cfg_read.specs.AstModels.{ast_symbol_of, body_of, production_of, named_span, param_pair, named_spans, named_rules, named_epps, named_precedences, rule_keys, own_names};
+ghost use Rattle.cfg_read.specs.SyntaxModels.{word_of};
 ghost use Rattle.cfg_read.specs.AstBuild.{with_rules_of, with_tokens_of, with_texts_of, with_expected_of};
 
 use super::{GrammarAST, Production, Rule, Symbol};
 use crate::yacc::Precedence;
-use crate::yacc::parser::syntax::{Extras, Word};
+use crate::yacc::parser::syntax::{Alternative, Body, Word};
 use cfg_base::span::Span;
 use indexmap::IndexMap;
 use std::alloc::{AllocError, Global};
@@ -53,30 +53,16 @@ fn copy_word(word: &Option<Word>) -> Result<Option<Word>, AllocError>
     }
 }
 
-/// Copies what stands beside the symbols of a production, if something does.
-fn copy_extras(
-    alloc: Global,
-    extras: &Option<Box<Extras>>,
-) -> Result<Option<Box<Extras>>, AllocError>
-    ensures precedence { IfOk result (λ copy. precedence_by copy ≡ precedence_by extras.now) }
-    ensures action { IfOk result (λ copy. action_by copy ≡ action_by extras.now) }
+/// Copies a production in which this stands.
+fn copy_body(body: &Body) -> Result<Production, AllocError>
+    ensures { IfOk result (λ copy. production_of copy ≡ body_of body.now) }
 {
-    match extras {
-        Some(extras) => {
-            let precedence = copy_word(&extras.precedence)?;
-            let action = copy_word(&extras.action)?;
-            let copy = Box::new(
-                alloc,
-                Extras {
-                    is_empty: extras.is_empty,
-                    precedence,
-                    action,
-                },
-            )?;
-            Ok(Some(copy))
-        }
-        None => Ok(None),
-    }
+    let alloc = *body.made.allocator();
+    let symbols = body.made.clone()?;
+    let precedence = copy_word(&body.precedence)?;
+    let action = copy_word(&body.action)?;
+    let copy = Production::new(alloc, symbols, precedence, action, body.span)?;
+    Ok(copy)
 }
 
 impl Clone for Production {
@@ -86,13 +72,15 @@ impl Clone for Production {
     ghost is_clone = { λ p q. production_of q ≡ production_of p };
 
     fn clone(&self) -> Result<Production, AllocError> {
-        let symbols = self.symbols.clone()?;
-        let extras = copy_extras(*self.symbols.allocator(), &self.extras)?;
-        Ok(Production {
-            symbols,
-            extras,
-            prod_span: self.prod_span,
-        })
+        match &self.kept {
+            Alternative::Blank(offset) => Ok(Production {
+                kept: Alternative::Blank(*offset),
+            }),
+            Alternative::Body(body) => {
+                let copy = copy_body(body)?;
+                Ok(copy)
+            }
+        }
     }
 }
 

@@ -142,14 +142,14 @@ pub(super) fn insert_fresh_rules(
 
 /// Puts the name of each fresh rule behind the others, once for each of its two productions.
 pub(super) fn push_fresh_heads<'a>(
-    heads: &mut Vec<&'a str>,
+    heads: &mut Vec<&'a String>,
     fresh: &'a IndexMap<String, (Span, &syntax::Symbol)>,
 ) -> Result<(), AllocError>
     ensures { OnOk result (names_at heads.new.items ≡ names_at heads.old.items ++ flat_map fresh_heads (named_fresh fresh.now)) }
 {
     'fresh: for (name, _entry) in fresh {
-        heads.push(name.as_str())?;
-        heads.push(name.as_str())?;
+        heads.push(name)?;
+        heads.push(name)?;
     }
     Ok(())
 }
@@ -168,14 +168,11 @@ fn to_inner(symbol: &syntax::Symbol, declared: &IndexSet<&str>) -> Result<Symbol
 }
 
 /// A production of a fresh rule at this span.
-fn to_production(symbols: Vec<Symbol>, span: Span) -> Production
-    ensures { production_of result ≡ fresh_production span (map ast_symbol_of symbols.items) }
+fn to_production(alloc: Global, symbols: Vec<Symbol>, span: Span) -> Result<Production, AllocError>
+    ensures { IfOk result (λ p. production_of p ≡ fresh_production span (map ast_symbol_of symbols.items)) }
 {
-    Production {
-        symbols,
-        extras: None,
-        prod_span: span,
-    }
+    let made = Production::new(alloc, symbols, None, None, span)?;
+    Ok(made)
 }
 
 /// Puts the two productions of the fresh rule of a symbol behind the others.
@@ -191,8 +188,10 @@ fn push_both(
 {
     let inner = to_inner(symbol, declared)?;
     let symbols = vec![in alloc; inner]?;
-    made.push(to_production(symbols, span))?;
-    made.push(to_production(Vec::new(alloc), span))?;
+    let full = to_production(alloc, symbols, span)?;
+    let empty = to_production(alloc, Vec::new(alloc), span)?;
+    made.push(full)?;
+    made.push(empty)?;
     Ok(())
 }
 

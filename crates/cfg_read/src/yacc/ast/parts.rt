@@ -4,17 +4,18 @@ ghost use Rattle.std.specs.Prelude.{◌≡◌, ◌++◌, ◌∷◌, [], map, fol
 ghost use Rattle.std.specs.List.{flat_map};
 ghost use Rattle.std.specs.String.{string_bytes};
 ghost use Rattle.cfg_read.specs.Asts.{plain_symbol_ast, symbol_ast, text_of, production_ast, productions_in, with_epp_of, with_precedence_of, precedence_ast, level_precedences, precedences_of};
-ghost use Rattle.cfg_read.specs.AstModels.{ast_symbol_of, production_of, named_spans, named_epps, named_precedences};
+ghost use Rattle.cfg_read.specs.AstModels.{ast_symbol_of, body_of, production_of, named_spans, named_epps, named_precedences};
 ghost use Rattle.cfg_read.specs.Names.{with_distinct, distinct, words_in};
-ghost use Rattle.cfg_read.specs.SyntaxModels.{word_of, symbol_of, symbols_of, alternative_of, rule_of, line_of, epp_of, level_of};
+ghost use Rattle.cfg_read.specs.SyntaxModels.{word_of, symbol_of, symbols_of, body_text, alternative_of, rule_of, line_of, epp_of, level_of};
 ghost use Rattle.cfg_read.specs.NameModels.{has_name, words_at};
 
 use super::{Production, Symbol, fresh};
-use crate::yacc::parser::syntax::{self, Alternative, Epp, Level, Line, Word};
+use crate::yacc::parser::syntax::{self, Alternative, Body, Epp, Level, Line, Word};
 use crate::yacc::{Precedence, PrecedenceLevel, names};
 use cfg_base::span::Span;
 use indexmap::{IndexMap, IndexSet};
 use std::alloc::{AllocError, Global};
+use std::mem;
 
 /// A symbol of a production that isn't optional: a token or a rule, where these names are declared as tokens.
 fn to_plain_symbol(symbol: syntax::Symbol, declared: &IndexSet<&str>) -> Symbol
@@ -74,6 +75,16 @@ pub(super) fn to_text(word: &Option<Word>) -> Result<Option<String>, AllocError>
     }
 }
 
+/// Makes the symbols of a production of those that were read, in what stands in an alternative.
+fn make_symbols(alloc: Global, body: &mut Body, declared: &IndexSet<&str>) -> Result<(), AllocError>
+    ensures { OnOk result (body_of body.new ≡ production_ast (has_name declared.now) (body_text body.old)) }
+{
+    let symbols = mem::replace(&mut body.symbols, Vec::new(alloc));
+    let made = to_symbols(alloc, symbols, declared)?;
+    body.made = made;
+    Ok(())
+}
+
 /// The production of an alternative.
 fn to_production(
     alloc: Global,
@@ -82,17 +93,17 @@ fn to_production(
 ) -> Result<Production, AllocError>
     ensures { IfOk result (λ p. production_of p ≡ production_ast (has_name declared.now) (alternative_of alternative)) }
 {
-    let Alternative {
-        symbols,
-        extras,
-        span,
-    } = alternative;
-    let symbols = to_symbols(alloc, symbols, declared)?;
-    Ok(Production {
-        symbols,
-        extras,
-        prod_span: span,
-    })
+    match alternative {
+        Alternative::Blank(offset) => Ok(Production {
+            kept: Alternative::Blank(offset),
+        }),
+        Alternative::Body(mut body) => {
+            make_symbols(alloc, &mut *body, declared)?;
+            Ok(Production {
+                kept: Alternative::Body(body),
+            })
+        }
+    }
 }
 
 /// Puts the productions of these alternatives behind the others.
@@ -126,6 +137,15 @@ pub(super) fn push_all(
     Ok(())
 }
 
+/// How much room the productions of these rules take, for a list that is filled with them.
+pub(super) fn room_for(rules: &[syntax::Rule]) -> usize {
+    let mut room = 0usize;
+    'rules: for rule in rules {
+        room = room.saturating_add(rule.alternatives.len());
+    }
+    room
+}
+
 /// The productions of these rules, in the order of the text.
 pub(super) fn productions(
     alloc: Global,
@@ -135,7 +155,7 @@ pub(super) fn productions(
     ensures { IfOk result (λ made. map production_of made.items
         ≡ flat_map (productions_in (has_name declared.now)) (map rule_of rules.items)) }
 {
-    let mut made = Vec::with_capacity(alloc, rules.len())?;
+    let mut made = Vec::with_capacity(alloc, room_for(&rules))?;
     'rules: for rule in rules {
         let syntax::Rule {
             name: _,

@@ -218,7 +218,7 @@ impl GrammarAST {
     {
         'pidxs: for number in numbers {
             if let Some(production) = self.prods.get(*number) {
-                insert_rules(names, &production.symbols)?;
+                insert_rules(names, production.symbols())?;
             }
         }
         Ok(())
@@ -235,7 +235,7 @@ impl GrammarAST {
     {
         'pidxs: for number in numbers {
             if let Some(production) = self.prods.get(*number) {
-                insert_tokens(names, &production.symbols)?;
+                insert_tokens(names, production.symbols())?;
             }
         }
         Ok(())

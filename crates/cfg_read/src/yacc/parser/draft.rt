@@ -1,11 +1,11 @@
 //! Alternatives as they are read.
 
-ghost use Rattle.std.specs.Prelude.{◌≡◌, ◌≤◌, ◌&&◌, not, option_map, OnOk, IfOk};
+ghost use Rattle.std.specs.Prelude.{◌≡◌, ◌≤◌, ◌&&◌, not, true, OnOk, IfOk};
 ghost use Rattle.cfg_read.specs.SyntaxUpdates.{no_part, is_open, span_with, span_or, append_symbol, put_empty, put_precedence, put_action, alternative};
 ghost use Rattle.cfg_read.specs.Scanning.{StartsBy};
-ghost use Rattle.cfg_read.specs.SyntaxModels.{word_of, symbol_of, part_of, is_empty_by, precedence_by, action_by, alternative_of};
+ghost use Rattle.cfg_read.specs.SyntaxModels.{word_of, symbol_of, part_of, alternative_of};
 
-use crate::yacc::parser::syntax::{Alternative, Extras, Symbol, Word};
+use crate::yacc::parser::syntax::{Alternative, Body, Symbol, Word};
 use cfg_base::span::Span;
 use std::alloc::{AllocError, Global};
 
@@ -39,31 +39,6 @@ fn span_or(span: Option<Span>, offset: usize) -> Span
         None => Span::new(offset, offset),
         Some(span) => span,
     }
-}
-
-/// What an alternative has beside its symbols, if it has something.
-fn extras_of(
-    alloc: Global,
-    is_empty: bool,
-    precedence: Option<Word>,
-    action: Option<Word>,
-) -> Result<Option<Box<Extras>>, AllocError>
-    ensures empty { IfOk result (λ e. is_empty_by e ≡ is_empty) }
-    ensures precedence { IfOk result (λ e. precedence_by e ≡ option_map word_of precedence) }
-    ensures action { IfOk result (λ e. action_by e ≡ option_map word_of action) }
-{
-    if !is_empty && precedence.is_none() && action.is_none() {
-        return Ok(None);
-    }
-    let extras = Box::new(
-        alloc,
-        Extras {
-            is_empty,
-            precedence,
-            action,
-        },
-    )?;
-    Ok(Some(extras))
 }
 
 impl Draft {
@@ -138,8 +113,15 @@ impl Draft {
         self.action = Some(word);
     }
 
-    /// Makes the alternative, which ends at this offset.
-    pub(crate) fn finish(self, alloc: Global, offset: usize) -> Result<Alternative, AllocError>
+    /// Tells whether nothing was read.
+    fn is_blank(&self) -> bool
+        ensures { result ≡ true → part_of self.now ≡ no_part }
+    {
+        self.span.is_none() && self.symbols.is_empty() && self.takes_empty()
+    }
+
+    /// Makes the alternative of what was read, which ends at this offset.
+    fn filled(self, alloc: Global, offset: usize) -> Result<Alternative, AllocError>
         ensures { IfOk result (λ a. alternative_of a ≡ alternative (part_of self) offset) }
     {
         let Draft {
@@ -149,11 +131,26 @@ impl Draft {
             action,
             span,
         } = self;
-        let extras = extras_of(alloc, is_empty, precedence, action)?;
-        Ok(Alternative {
+        let body = Body {
             symbols,
-            extras,
+            made: Vec::new(alloc),
+            is_empty,
+            precedence,
+            action,
             span: span_or(span, offset),
-        })
+        };
+        let boxed = Box::new(alloc, body)?;
+        Ok(Alternative::Body(boxed))
+    }
+
+    /// Makes the alternative, which ends at this offset.
+    pub(crate) fn finish(self, alloc: Global, offset: usize) -> Result<Alternative, AllocError>
+        ensures { IfOk result (λ a. alternative_of a ≡ alternative (part_of self) offset) }
+    {
+        if self.is_blank() {
+            return Ok(Alternative::Blank(offset));
+        }
+        let alternative = self.filled(alloc, offset)?;
+        Ok(alternative)
     }
 }

@@ -11,7 +11,7 @@ ghost use Rattle.cfg_read.specs.SyntaxUpdates.{word, mark_end, marked, Part, no_
 ghost use Rattle.cfg_read.specs.Declarations.{is_grmtools};
 ghost use Rattle.cfg_read.specs.Reading.{RuleName, RuleColon, More, PrecToken, Nothing, Spaced, At, IsLiteral, Steps, Reads};
 ghost use Rattle.cfg_read.specs.SyntaxErrors.{token_fault, rule_fault, alternative_fault, FailsFrom, IsErrorOf};
-ghost use Rattle.cfg_read.specs.SyntaxModels.{word_of, symbol_of, alternative_of, rule_of, part_of, syntax_of};
+ghost use Rattle.cfg_read.specs.SyntaxModels.{word_of, boxed_word, symbol_of, alternative_of, rule_of, part_of, syntax_of};
 ghost use Rattle.cfg_read.specs.Scanning.{IsMemory, StartsBy, FitsToken, IsFaultAt, is_part, ends_alternative, bar_or_semicolon, rule_text, ends_rules, end_or_separator, begins_name};
 
 use crate::yacc::YaccKind;
@@ -363,15 +363,16 @@ impl<'a> Scanner<'a> {
         &self,
         alloc: Global,
         offset: usize,
-    ) -> Result<(Option<Word>, usize), ReadError>
-        ensures ok { IfOk result (λ f. (r : WordText) (x : SyntaxText) → Steps self.now.kind self.now.text.now (At (RuleColon r) x offset) (Spaced (More (heading r (option_map word_of f.0)) no_part) x f.1)) }
+    ) -> Result<(Option<Box<Word>>, usize), ReadError>
+        ensures ok { IfOk result (λ f. (r : WordText) (x : SyntaxText) → Steps self.now.kind self.now.text.now (At (RuleColon r) x offset) (Spaced (More (heading r (option_map boxed_word f.0)) no_part) x f.1)) }
         ensures err { IfErr result (λ e. (r : WordText) (x : SyntaxText) → FailsFrom self.now.kind self.now.text.now (At (RuleColon r) x offset) e) }
         ensures more { IfOk result (λ f. offset < f.1) }
     {
         match self.kind {
             YaccKind::Grmtools => {
                 let (word, end) = self.parse_typed_colon(alloc, offset)?;
-                Ok((Some(word), end))
+                let boxed = Box::new(alloc, word)?;
+                Ok((Some(boxed), end))
             }
             _ => {
                 let end = self.parse_colon(offset)?;

@@ -2,10 +2,10 @@
 
 ghost use Rattle.std.specs.Prelude.{◌≡◌, OnOk};
 ghost use Rattle.cfg_read.specs.SyntaxUpdates.{no_syntax, append_list, append_number};
-ghost use Rattle.cfg_read.specs.SyntaxModels.{symbols_of, number_text, syntax_of};
+ghost use Rattle.cfg_read.specs.SyntaxModels.{symbols_of, alternative_of, number_text, syntax_of};
 
-use crate::yacc::AssocKind;
 use crate::yacc::parser::declaration::{Count, LineList};
+use crate::yacc::{AssocKind, ast};
 use cfg_base::span::Span;
 use std::alloc::{AllocError, Global};
 
@@ -25,24 +25,39 @@ pub struct Symbol {
     pub optional: Option<Span>,
 }
 
-/// What an alternative may have beside its symbols.
+/// What stands in an alternative. A production keeps it.
 #[derive(Debug, Drop)]
-pub struct Extras {
+pub struct Body {
+    pub symbols: Vec<Symbol>,
+    /// What the symbols stand for, in a production, which takes their words over: then `symbols` is empty, else this.
+    pub(crate) made: Vec<ast::Symbol>,
     /// Whether `%empty` stands there.
     pub is_empty: bool,
     /// The token of `%prec`.
     pub precedence: Option<Word>,
     pub action: Option<Word>,
-}
-
-/// An alternative of a rule.
-#[derive(Debug, Drop)]
-pub struct Alternative {
-    pub symbols: Vec<Symbol>,
-    /// `None` where there is nothing beside the symbols, so that such an alternative is small.
-    pub extras: Option<Box<Extras>>,
     /// Symbols, `%empty` and `%prec` with its token; without these an empty one at the `|` or `;`.
     pub span: Span,
+}
+
+/// An alternative of a rule. One in which nothing stands is small, since a text may have one for each of its bytes.
+#[derive(Debug, Drop)]
+pub enum Alternative {
+    /// Nothing stands there, up to the `|` or `;` at this offset.
+    Blank(usize),
+    Body(Box<Body>),
+}
+
+impl Alternative {
+    /// The symbols.
+    pub fn symbols(&self) -> &[Symbol]
+        ensures { symbols_of result.now ≡ (alternative_of self.now).symbols }
+    {
+        match self {
+            Alternative::Blank(_) => &[],
+            Alternative::Body(body) => body.symbols.as_slice(),
+        }
+    }
 }
 
 /// One heading of a rule with its alternatives.
@@ -50,7 +65,7 @@ pub struct Alternative {
 pub struct Rule {
     pub name: Word,
     /// The type behind `->`, in Grmtools.
-    pub action_type: Option<Word>,
+    pub action_type: Option<Box<Word>>,
     pub alternatives: Vec<Alternative>,
 }
 

@@ -67,7 +67,7 @@ fn longest(ast: &GrammarAST, implicit: bool) -> usize
 {
     let mut most = if implicit { 2 } else { 1 };
     'prods: for prod in ast.prods() {
-        most = most.max(count_symbols(&prod.symbols, implicit));
+        most = most.max(count_symbols(prod.symbols(), implicit));
     }
     most
 }

@@ -55,7 +55,7 @@ fn precedence_by(
 fn precedence_of(ast: &GrammarAST, production: &Production) -> Option<Precedence>
     ensures { result ≡ tree.production_precedence ast.now (views.production_of production.now) }
 {
-    precedence_by(ast, production.precedence(), &production.symbols)
+    precedence_by(ast, production.precedence(), production.symbols())
 }
 
 /// A production of the file, of the rule at this index.
@@ -66,19 +66,19 @@ fn file_part<S: IndexStorage>(
     index: usize,
     production: &Production,
 ) -> Result<ProductionInfo<S>, AllocError>
-    requires known { All (NamesOne ast.now) (map ast_symbol_of production.now.symbols.items) }
+    requires known { All (NamesOne ast.now) (views.production_of production.now).symbols }
     requires index { index < length ast.now.rules }
     requires rules { length (tree.rules_of implicit ast.now) ≤ S.MAX }
     requires tokens { length ast.now.tokens ≤ S.MAX }
     ensures production { IfOk result (λ p. production_of S.number p ≡ record { head = suc index; body = tree.file_body implicit ast.now (views.production_of production.now) }) }
     ensures facts { IfOk result (λ p. production_facts p ≡ tree.file_production_facts ast.now (views.production_of production.now)) }
 {
-    let symbols = numbers::body(alloc, ast, implicit, &production.symbols)?;
+    let symbols = numbers::body(alloc, ast, implicit, production.symbols())?;
     let action = info::copy_of(production.action())?;
     Ok(ProductionInfo {
         rule: RIdx(index_of(index + 1)),
         symbols,
-        span: production.prod_span,
+        span: production.prod_span(),
         precedence: precedence_of(ast, production),
         action,
         action_span: production.action_span(),

@@ -23,8 +23,8 @@ pidxs-preserved c =
           let found = symbols_found c.self.inside.prods.items ps n (Some w.in-Some.production.now) view (ap (λ xs. slice_get xs n) (sym c.deref.ensures.value) ∙ is) in
           ap names_in w.names-is
           ∙ w.in_ok-insert_rules.ensures
-          ∙ ap (λ ns. with_symbol_names is_rule_symbol ns (map ast_symbol_of w.deref-in-Some.result.now)) c.pidxs.invariant
-          ∙ ap (λ xs. with_symbol_names is_rule_symbol names (map ast_symbol_of xs)) w.deref-in-Some.ensures.value
+          ∙ ap (λ ns. with_symbol_names is_rule_symbol ns (map ast_symbol_of w.symbols.result.now)) c.pidxs.invariant
+          ∙ ap (with_symbol_names is_rule_symbol names) w.symbols.ensures
           ∙ ap (with_symbol_names is_rule_symbol names) found
       | in_default w ↦
           let is : slice_get c.deref.result.now n ≡ None = slice_get_past c.deref.result.now n w.in_default.ensures.lookup.3 in

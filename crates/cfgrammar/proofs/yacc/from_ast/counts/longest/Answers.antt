@@ -1,7 +1,8 @@
-use Rattle.std.proofs.Common.{◌≡◌, ◌+◌, ◌∷◌, [], ◌++◌, take, length, map, max, sym, ap, ◌∙◌, arith}
+use Rattle.std.proofs.Common.{◌≡◌, ◌+◌, ◌∷◌, [], ◌++◌, List, take, length, map, max, sym, ap, ◌∙◌, arith}
 use Rattle.std.specs.List.{flat_map}
 use Rattle.std.proofs.lemmas.List.{take_more, take_all, map-append}
-use Rattle.cfg_read.specs.AstModels.{ast_symbol_of, production_of}
+use Rattle.cfg_read.specs.Asts.{SymbolAst}
+use Rattle.cfg_read.specs.AstModels.{production_of}
 use Rattle.cfgrammar.specs.FromAst.{as_told, syms_of, longest, file_productions}
 use Rattle.cfgrammar.proofs.FromAstCounts.{added_longest, longest_more, longest_all, told_max, max_step}
 use Rattle.cfgrammar.proofs.yacc.from_ast.counts.longest.Goals as goal
@@ -18,7 +19,7 @@ prods-preserved c =
     let here = c.count_symbols.ensures c.args.ast.now in
     let all = (step ∙ longer) in
     told_max c.prods.most c.count_symbols.result c.max-most.result _ _ _ c.prods.invariant here c.max-most.ensures
-    (max_step (added_longest c.args.implicit) _ _ _ _ all (ap (λ ss. length (flat_map (syms_of c.args.implicit c.args.ast.now) (map ast_symbol_of ss))) (sym c.deref.ensures.value)))
+    (max_step (added_longest c.args.implicit) _ _ _ _ all (ap (λ (ss : List SymbolAst). length (flat_map (syms_of c.args.implicit c.args.ast.now) ss)) (sym c.symbols.ensures)))
 
 pub returns : goal.returns
 returns c =

@@ -680,7 +680,8 @@ impl<S: IndexStorage> Visits<S> {
         self.take_back(groups)?;
         'waits: for k in 0..self.now.len() {
             if k < self.now.len() {
-                self.unmeet(self.now[k].index);
+                let index = self.now[k].index;
+                self.unmeet(index);
             }
         }
         self.go_on_each(alloc, source, groups, last, self.fork.passed)

@@ -215,7 +215,6 @@ impl<S: IndexStorage> Opened<S> {
 
 /// Opens productions, of which the last is the outermost one and is to be that of the start. None where one is not of the rule
 /// after the dot of the one around it, or has no such dot.
-#[tactic(auto, using(crate::proofs::Openings::still_open))]
 pub(crate) fn open_all<S: IndexStorage>(
     alloc: Global,
     grm: &NumberedGrammar<S>,

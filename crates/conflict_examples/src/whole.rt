@@ -149,7 +149,6 @@ pub(crate) fn joined<S: IndexStorage>(
 
 /// Goes from the productions that are open to so many of them with these within, of which the last is the outermost one. None
 /// where one is not of the rule after the dot of the one around it, or has no such dot.
-#[tactic(auto, using(crate::proofs::Openings::still_open))]
 fn reopened_outer<S: IndexStorage>(
     alloc: Global,
     grm: &NumberedGrammar<S>,
@@ -178,7 +177,6 @@ fn reopened_outer<S: IndexStorage>(
 }
 
 /// What is open as an outer part alone, if so many productions of it are asked for that the inner one has some of these.
-#[tactic(auto, using(crate::proofs::Openings::still_open))]
 fn flattened<S: IndexStorage>(
     alloc: Global,
     grm: &NumberedGrammar<S>,

@@ -1,9 +1,9 @@
 -- Examples are contests.
-use Rattle.std.proofs.Common.{◌≡◌, ◌≢◌, ℕ, zero, suc, ◌⊎◌, inl, inr, List, [], ◌∷◌, ◌++◌, length, refl, sym, ap, ◌∙◌, subst}
-use Rattle.cfg_theory.specs.Grammar.{Sym, rule, token, Grammar, body_of, end_token, IsOf, IsNext, IsEnd}
-use Rattle.cfg_theory.specs.Derivation.{Replaces, Derives, Nullable, IsFirst, IsFirstBefore}
-use Rattle.lr_theory.specs.Canonical.{Present, Look, from_dot, Act, shift, reduce, accept, Allows, Contest}
-use Rattle.conflict_examples.specs.Spines.{Item, IsSpine, around, AreForms, Begins, Shown, Stands, ShowsAct, Example, IsExample, SomeSpine, SomeSpineBefore, ExamplesAreContests}
+use Rattle.std.proofs.Common.{◌≢◌, ℕ, inl, inr, List, [], ◌∷◌, length, refl, subst}
+use Rattle.cfg_theory.specs.Grammar.{Sym, token, Grammar, body_of, end_token, IsNext, IsEnd}
+use Rattle.cfg_theory.specs.Derivation.{Derives, IsFirstBefore}
+use Rattle.lr_theory.specs.Canonical.{Present, Look, Act, shift, reduce, accept, Allows}
+use Rattle.conflict_examples.specs.Spines.{AreForms, Begins, Shown, ShowsAct, SomeSpine, SomeSpineBefore, ExamplesAreContests}
 use Rattle.conflict_examples.proofs.Items.{present_spine, look_spine, stands_present, stands_look}
 
 module _ (G : Grammar) where

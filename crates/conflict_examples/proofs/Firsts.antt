@@ -1,8 +1,8 @@
 -- What one list behind another begins with.
-use Rattle.std.proofs.Common.{◌≡◌, ℕ, ◌⊎◌, inl, inr, List, [], ◌∷◌, ◌++◌, append-nil, subst}
-use Rattle.cfg_theory.specs.Grammar.{Sym, rule, token, Grammar, IsOf, body_of}
+use Rattle.std.proofs.Common.{◌≡◌, ℕ, ◌⊎◌, inl, inr, List, [], ◌∷◌, ◌++◌}
+use Rattle.cfg_theory.specs.Grammar.{Sym, rule, Grammar, IsOf, body_of}
 use Rattle.cfg_theory.specs.Derivation.{Derives, Nullable, IsFirst, IsFirstBefore}
-use Rattle.cfg_theory.specs.First.{AllOf, FirstOf, IsFirstTable, FirstIsExact}
+use Rattle.cfg_theory.specs.First.{AllOf, FirstOf, FirstIsExact}
 use Rattle.cfg_theory.proofs.Derivation.{derives_on, derives_within, derives_rule, nullable_of, first_of_list, all_split, first_split, first_table_exact}
 
 module _ (G : Grammar) where

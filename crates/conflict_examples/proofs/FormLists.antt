@@ -1,5 +1,5 @@
 -- Forms, one after the other.
-use Rattle.std.proofs.Common.{◌≡◌, ℕ, List, [], ◌∷◌, ◌++◌, map, drop, refl, sym, ap, ◌∙◌, subst}
+use Rattle.std.proofs.Common.{◌≡◌, ℕ, List, [], ◌∷◌, ◌++◌, map, drop, sym, ap, ◌∙◌, subst}
 use Rattle.std.proofs.lemmas.List.{map-append, drop-map}
 use Rattle.cfg_theory.specs.Grammar.{Sym, rule, token, Grammar, body_of, IsOf, IsEnd}
 use Rattle.cfg_theory.specs.Derivation.{Replaces}

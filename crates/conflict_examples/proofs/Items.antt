@@ -1,8 +1,8 @@
 -- Spines are canonical items.
-use Rattle.std.proofs.Common.{arith, ◌≡◌, ℕ, zero, suc, ◌+◌, ◌≤◌, ◌<◌, ◌⊎◌, inl, inr, List, [], ◌∷◌, ◌++◌, length, Some, None, refl, sym, ap, ◌∙◌, subst}
-use Rattle.std.specs.Prelude.{slice_get, ◌↔◌}
-use Rattle.std.proofs.lemmas.Option.{slice_get_within, slice_get_cases}
-use Rattle.cfg_theory.specs.Grammar.{Sym, rule, token, Grammar, body_of, end_token, IsOf, IsNext, IsEnd}
+use Rattle.std.proofs.Common.{arith, ◌≡◌, ℕ, zero, suc, ◌≤◌, ◌⊎◌, inl, inr, List, [], ◌∷◌, ◌++◌, length, Some, refl, sym, ap, ◌∙◌, subst}
+use Rattle.std.specs.Prelude.{slice_get}
+use Rattle.std.proofs.lemmas.Option.{slice_get_within}
+use Rattle.cfg_theory.specs.Grammar.{Sym, rule, Grammar, body_of, end_token, IsOf, IsNext}
 use Rattle.cfg_theory.specs.Derivation.{Nullable, IsFirst, IsFirstBefore, Derives}
 use Rattle.lr_theory.specs.Canonical.{Present, Look, from_dot}
 use Rattle.conflict_examples.specs.Spines.{Item, IsSpine, back_over, before_dots, behind, around, Stands, SomeSpine, SomeSpineBefore, SpinesAreItems}

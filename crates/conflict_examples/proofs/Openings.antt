@@ -1,10 +1,10 @@
 -- Spines, one production after the other.
-use Rattle.std.proofs.Common.{arith, ◌≡◌, ℕ, zero, suc, ◌-◌, ◌<◌, ◌≤◌, List, [], ◌∷◌, ◌++◌, length, get_or, map, take, drop, reverse, refl, sym, ap, ◌∙◌, subst, append_assoc, append-nil}
+use Rattle.std.proofs.Common.{arith, ◌≡◌, ℕ, zero, suc, ◌-◌, ◌≤◌, List, [], ◌∷◌, ◌++◌, length, map, take, drop, reverse, refl, sym, ap, ◌∙◌, subst, append_assoc, append-nil}
 use Rattle.std.proofs.lemmas.List.{map-append, take-map, drop-map, length-map, length-append, length-reverse, reverse-append, reverse-reverse}
 use Rattle.cfg_theory.specs.Grammar.{Sym, rule, Grammar, body_of, IsOf, IsNext}
 use Rattle.lr_theory.specs.Canonical.{from_dot}
 use Rattle.lr_theory.proofs.Tops.{drop_reverse}
-use Rattle.conflict_examples.specs.Spines.{Item, IsSpine, back_over, before_dots, behind, around}
+use Rattle.conflict_examples.specs.Spines.{Item, IsSpine, back_over, before_dots, behind}
 use Rattle.cfg_numbered.specs.Symbols.{syms_of}
 use Rattle.conflict_examples.specs.ExampleViews.{spine_of}
 use Rattle.conflict_examples.specs.Opening.{IsOpened, IsOpen, StaysOpen}

@@ -1,5 +1,5 @@
 -- What is shown of an action, from what is open.
-use Rattle.std.proofs.Common.{◌≡◌, ◌≢◌, ℕ, List, [], ◌∷◌, ◌++◌, length, map, reverse, refl, sym, ap, ◌∙◌, subst}
+use Rattle.std.proofs.Common.{◌≡◌, ◌≢◌, ℕ, List, [], ◌∷◌, ◌++◌, length, map, reverse, sym, ap, ◌∙◌, subst}
 use Rattle.cfg_theory.specs.Grammar.{Sym, token, Grammar, body_of, IsNext, IsEnd}
 use Rattle.lr_theory.specs.Canonical.{shift, reduce, accept}
 use Rattle.conflict_examples.specs.Spines.{Item, IsSpine, before_dots, around, AreForms, Shown, Stands, ShowsAct}

@@ -1,5 +1,5 @@
 -- Lists of symbols, symbol by symbol.
-use Rattle.std.proofs.Common.{arith, ◌≡◌, ℕ, zero, suc, ◌+◌, ◌-◌, ◌<◌, ◌≤◌, List, [], ◌∷◌, ◌++◌, length, map, take, drop, reverse, get_or, Some, Option, refl, sym, ap, ◌∙◌, subst, append_assoc, append-nil}
+use Rattle.std.proofs.Common.{arith, ◌≡◌, ℕ, zero, suc, ◌+◌, ◌-◌, ◌<◌, ◌≤◌, List, [], ◌∷◌, ◌++◌, length, map, take, drop, reverse, get_or, Some, refl, sym, ap, ◌∙◌, subst, append_assoc, append-nil}
 use Rattle.std.proofs.lemmas.List.{map-append, get_or-map, length-map, take_more, take_more_same, reverse-append, length-reverse, get_or-reverse, take-append-drop, length-drop}
 use Rattle.cfg_theory.specs.Grammar.{Sym}
 use Rattle.lr_theory.specs.Graph.{Graph, Leads}

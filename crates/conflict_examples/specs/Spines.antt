@@ -1,6 +1,6 @@
 -- Spines: the productions that are open after a string, from the innermost to that of the start. A string of symbols is written
 -- with its last symbol first, as with canonical items.
-use Rattle.std.specs.Prelude.{◌≡◌, ◌≢◌, ℕ, zero, suc, ◌≤◌, ◌↔◌, ◌⊎◌, List, [], ◌∷◌, ◌++◌, length}
+use Rattle.std.specs.Prelude.{◌≡◌, ◌≢◌, ℕ, zero, suc, ◌≤◌, ◌↔◌, List, [], ◌∷◌, ◌++◌, length}
 use Rattle.cfg_theory.specs.Grammar.{Sym, rule, token, Grammar, body_of, end_token, IsOf, IsNext, IsEnd}
 use Rattle.cfg_theory.specs.Derivation.{Replaces, IsFirstBefore}
 use Rattle.lr_theory.specs.Canonical.{Present, Look, from_dot, Act, shift, reduce, accept, Contest}

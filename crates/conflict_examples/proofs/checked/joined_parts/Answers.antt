@@ -1,4 +1,3 @@
-use Rattle.std.proofs.Common.{◌≡◌}
 use Rattle.std.proofs.lemmas.Option.{IfSome_then}
 use Rattle.conflict_examples.proofs.checked.joined_parts.Goals as goal
 

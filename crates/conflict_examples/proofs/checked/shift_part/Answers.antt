@@ -1,4 +1,3 @@
-use Rattle.std.proofs.Common.{◌≡◌, ℕ}
 use Rattle.conflict_examples.specs.Opening.{IsInner}
 use Rattle.conflict_examples.proofs.checked.shift_part.Goals as goal
 

@@ -1,4 +1,4 @@
-use Rattle.std.proofs.Common.{arith, ◌≡◌, ℕ}
+use Rattle.std.proofs.Common.{arith}
 use Rattle.cfg_numbered.specs.Symbols.{syms_of}
 use Rattle.conflict_examples.proofs.FormLists.{begins_with, begins_end}
 use Rattle.conflict_examples.proofs.forms.begins.Goals as goal

@@ -1,4 +1,4 @@
-use Rattle.std.proofs.Common.{arith, ◌≡◌, ℕ, length}
+use Rattle.std.proofs.Common.{arith}
 use Rattle.cfg_numbered.specs.Symbols.{sym_of}
 use Rattle.conflict_examples.proofs.SymbolLists.{first_is}
 use Rattle.conflict_examples.proofs.forms.first_symbol.Goals as goal

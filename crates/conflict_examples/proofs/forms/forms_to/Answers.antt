@@ -1,4 +1,4 @@
-use Rattle.std.proofs.Common.{◌≡◌, ℕ, refl}
+use Rattle.std.proofs.Common.{refl}
 use Rattle.cfg_numbered.specs.Symbols.{syms_of}
 use Rattle.conflict_examples.proofs.FormLists.{leave_none, leave_all}
 use Rattle.conflict_examples.proofs.forms.forms_to.Goals as goal

@@ -1,4 +1,3 @@
-use Rattle.std.proofs.Common.{ℕ}
 use Rattle.cfg_numbered.specs.Symbols.{syms_of}
 use Rattle.conflict_examples.specs.Opening.{LeaveForm}
 use Rattle.conflict_examples.proofs.forms.forms_to.Given as goal

@@ -1,5 +1,4 @@
-use Rattle.std.proofs.Common.{◌≡◌, ℕ, take, sym, ap, ◌∙◌}
-use Rattle.lr_theory.specs.Graph.{Leads}
+use Rattle.std.proofs.Common.{◌≡◌, ap, ◌∙◌}
 use Rattle.cfg_numbered.specs.Symbols.{sym_of, syms_of}
 use Rattle.lrtable.specs.Graphs.{graph_of}
 use Rattle.conflict_examples.specs.Opening.{IsLed}

@@ -1,4 +1,4 @@
-use Rattle.std.proofs.Common.{◌≡◌, ℕ, reverse, sym, subst}
+use Rattle.std.proofs.Common.{reverse, sym, subst}
 use Rattle.lr_theory.specs.Graph.{Leads}
 use Rattle.cfg_numbered.specs.Symbols.{sym_of, syms_of}
 use Rattle.lrtable.specs.Graphs.{graph_of}

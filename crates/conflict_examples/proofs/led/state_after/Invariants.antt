@@ -1,4 +1,4 @@
-use Rattle.std.proofs.Common.{ℕ, ◌++◌, List, take, reverse}
+use Rattle.std.proofs.Common.{◌++◌, List, take, reverse}
 use Rattle.cfg_theory.specs.Grammar.{Sym}
 use Rattle.lr_theory.specs.Graph.{Leads}
 use Rattle.cfg_numbered.specs.Symbols.{syms_of}

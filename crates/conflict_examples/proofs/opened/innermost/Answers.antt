@@ -1,4 +1,4 @@
-use Rattle.std.proofs.Common.{arith, ◌≡◌, ◌-◌, length, take}
+use Rattle.std.proofs.Common.{arith, ◌-◌, length, take}
 use Rattle.conflict_examples.proofs.SymbolLists.{last_is}
 use Rattle.conflict_examples.proofs.opened.innermost.Goals as goal
 

@@ -1,4 +1,4 @@
-use Rattle.std.proofs.Common.{arith, ◌≡◌, ℕ, take, ap, ◌∙◌}
+use Rattle.std.proofs.Common.{arith, take, ap, ◌∙◌}
 use Rattle.cfg_numbered.specs.Symbols.{sym_of}
 use Rattle.conflict_examples.specs.ExampleViews.{open_item}
 use Rattle.conflict_examples.proofs.Openings.{start_kept}

@@ -1,4 +1,3 @@
-use Rattle.std.proofs.Common.{◌≡◌, ℕ}
 use Rattle.cfg_numbered.specs.Symbols.{sym_of}
 use Rattle.conflict_examples.proofs.SymbolLists.{turned_none, turned_more, turned_all}
 use Rattle.conflict_examples.proofs.opened.push_turned.Goals as goal

@@ -1,4 +1,4 @@
-use Rattle.std.proofs.Common.{◌≡◌, ℕ, ◌++◌, take, reverse}
+use Rattle.std.proofs.Common.{◌≡◌, ◌++◌, take, reverse}
 use Rattle.cfg_numbered.specs.Symbols.{syms_of}
 use Rattle.conflict_examples.proofs.opened.push_turned.Given as goal
 

@@ -1,5 +1,5 @@
-use Rattle.std.proofs.Common.{◌≡◌, ℕ, take, refl}
-use Rattle.cfg_numbered.specs.Symbols.{sym_of, syms_of}
+use Rattle.std.proofs.Common.{refl}
+use Rattle.cfg_numbered.specs.Symbols.{sym_of}
 use Rattle.conflict_examples.proofs.SymbolLists.{same_more, same_all}
 use Rattle.conflict_examples.proofs.shown.same_each.Goals as goal
 

@@ -1,4 +1,4 @@
-use Rattle.std.proofs.Common.{◌≡◌, ℕ, map, refl, ap, ◌∙◌}
+use Rattle.std.proofs.Common.{map, refl, ap, ◌∙◌}
 use Rattle.cfg_numbered.specs.Symbols.{sym_of, syms_of}
 use Rattle.conflict_examples.specs.ExampleViews.{open_item}
 use Rattle.conflict_examples.proofs.Shows.{kept_shift}

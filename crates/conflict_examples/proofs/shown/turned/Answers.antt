@@ -1,4 +1,4 @@
-use Rattle.std.proofs.Common.{◌≡◌, ◌++◌, map, reverse, ap, ◌∙◌}
+use Rattle.std.proofs.Common.{◌++◌, map, reverse, ap, ◌∙◌}
 use Rattle.cfg_numbered.specs.Symbols.{sym_of, syms_of}
 use Rattle.conflict_examples.proofs.shown.turned.Goals as goal
 

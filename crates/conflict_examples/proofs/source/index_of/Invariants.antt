@@ -1,4 +1,4 @@
-use Rattle.std.proofs.Common.{ℕ, ◌-◌, ◌≤◌, length}
+use Rattle.std.proofs.Common.{◌-◌, ◌≤◌, length}
 use Rattle.conflict_examples.proofs.source.index_of.Given as goal
 
 abbrev pub invariant-halves : goal.invariant-halves

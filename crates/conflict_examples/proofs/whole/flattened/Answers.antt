@@ -1,4 +1,3 @@
-use Rattle.std.proofs.Common.{◌≡◌, ℕ}
 use Rattle.conflict_examples.proofs.Openings.{still_open}
 use Rattle.conflict_examples.proofs.whole.flattened.Goals as goal
 

@@ -1,4 +1,4 @@
-use Rattle.std.proofs.Common.{◌≡◌, ℕ, sym, subst}
+use Rattle.std.proofs.Common.{sym, subst}
 use Rattle.conflict_examples.specs.Opening.{IsInner}
 use Rattle.conflict_examples.proofs.whole.inner_of.Goals as goal
 

@@ -1,4 +1,4 @@
-use Rattle.std.proofs.Common.{arith, ◌≡◌, ℕ, take, refl, sym, ap, ◌∙◌}
+use Rattle.std.proofs.Common.{arith, take, refl, sym, ap, ◌∙◌}
 use Rattle.cfg_theory.specs.Grammar.{IsOf}
 use Rattle.cfg_numbered.specs.Symbols.{sym_of}
 use Rattle.conflict_examples.specs.ExampleViews.{open_item}

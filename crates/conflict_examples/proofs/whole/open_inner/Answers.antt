@@ -1,4 +1,3 @@
-use Rattle.std.proofs.Common.{◌≡◌, ℕ}
 use Rattle.conflict_examples.specs.Opening.{IsInner}
 use Rattle.conflict_examples.proofs.whole.open_inner.Goals as goal
 

@@ -1,4 +1,4 @@
-use Rattle.std.proofs.Common.{◌≡◌, ℕ, refl}
+use Rattle.std.proofs.Common.{refl}
 use Rattle.conflict_examples.proofs.Openings.{still_open}
 use Rattle.conflict_examples.proofs.whole.reopened_outer.Goals as goal
 

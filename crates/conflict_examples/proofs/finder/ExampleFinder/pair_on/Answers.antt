@@ -1,6 +1,6 @@
 use Rattle.std.proofs.Common.{sym, ap, subst}
 use Rattle.std.specs.Prelude.{IfSome}
-use Rattle.lr_theory.specs.Canonical.{shift, reduce}
+use Rattle.lr_theory.specs.Canonical.{reduce}
 use Rattle.lr_theory.specs.Graph.{Leads}
 use Rattle.lrtable.specs.Graphs.{GraphValue, graph_of}
 use Rattle.cfg_theory.specs.Grammar.{Grammar}

@@ -1,4 +1,4 @@
-use Rattle.std.proofs.Common.{◌≡◌, ℕ, List, [], ◌∷◌, ◌++◌, sym, ap, ◌∙◌, subst}
+use Rattle.std.proofs.Common.{[], ◌∷◌, ◌++◌, sym, ap, ◌∙◌, subst}
 use Rattle.cfg_theory.specs.Derivation.{Replaces}
 use Rattle.cfg_numbered.specs.Symbols.{syms_of}
 use Rattle.conflict_examples.proofs.FormLists.{leave_more}

@@ -1,4 +1,4 @@
-use Rattle.std.proofs.Common.{arith, ◌≡◌, ℕ, suc, ◌++◌, take, drop, reverse, map, refl, ap, ◌∙◌}
+use Rattle.std.proofs.Common.{arith, suc, ◌++◌, take, drop, refl, ap, ◌∙◌}
 use Rattle.cfg_numbered.specs.Symbols.{sym_of}
 use Rattle.conflict_examples.specs.ExampleViews.{open_item}
 use Rattle.conflict_examples.proofs.Openings.{more_kept, behind_is}

@@ -43,13 +43,15 @@ pub(crate) struct Ends<S> {
 /// that its string goes through, of which the first `shortest` are those of a shortest string and the first `common` those of
 /// the one before too; how many of the productions that are open after it for either action, from that of the start in, are the
 /// way out from the next one; and whether all that is whole. Where the last search is one from which others go on, those states
-/// come last that belong to the visits which they share, from the one at the index `shared` in.
+/// stand apart as the last ones that belong to the visits which they share, from the one at the index `shared` in; the old states
+/// are those that stood before them for the search before.
 #[derive(Drop)]
 pub(crate) struct Kept<S> {
     groups: Groups<S>,
     visits: Visits<S>,
     way: Way,
     states: Vec<StIdx<S>>,
+    old_states: Vec<StIdx<S>>,
     last_states: Vec<StIdx<S>>,
     shared: usize,
     shortest: usize,
@@ -159,6 +161,7 @@ impl<S: IndexStorage> Kept<S> {
             visits: Visits::new(alloc),
             way: Way::new(alloc),
             states: Vec::new(alloc),
+            old_states: Vec::new(alloc),
             last_states: Vec::new(alloc),
             shared: usize::MAX,
             shortest: 0,
@@ -279,6 +282,7 @@ impl<S: IndexStorage> Kept<S> {
         if self.shared == ends.next {
             ends.first.stays = needs.0;
             ends.second.stays = needs.1;
+            self.note_same();
             return Ok(());
         }
         self.shared = ends.next;
@@ -289,6 +293,19 @@ impl<S: IndexStorage> Kept<S> {
         self.last_states = cut(&mut self.states, states)?;
         ends.first.part(needs.0, first)?;
         ends.second.part(needs.1, second)
+    }
+
+    /// Notes that the whole string is the last one, where the shared states stay and those before them are the same.
+    fn note_same(&mut self) {
+        if self.states.len() != self.old_states.len() {
+            return;
+        }
+        'states: for at in self.common..self.states.len() {
+            if self.states[at].0.to_usize() != self.old_states[at].0.to_usize() {
+                return;
+            }
+        }
+        self.common = self.length();
     }
 
     /// Reads the next visit, if there is one.
@@ -378,6 +395,8 @@ impl<S: IndexStorage> Kept<S> {
         let states = self.new_states(alloc, source, visit.stidx, shortest)?;
         let all = source.tables.length(visit.stidx).saturating_add(1);
         self.common = all.saturating_sub(states.len());
+        self.old_states.clear();
+        self.old_states.extend_from_slice(self.states.as_slice())?;
         self.states.truncate(self.common);
         'states: for back in 0..states.len() {
             self.states.push(states[states.len() - 1 - back])?;

@@ -17,21 +17,9 @@ use Rattle.lrpar.specs.Lex.{Lex}
 use Rattle.lrpar.specs.Run.{token_by, span_by}
 use Rattle.lrpar.specs.declared.parse_error.ParseError.{ParseError}
 use Rattle.lrpar.specs.FlatReading.{put, put_each}
+use Rattle.lrpar.proofs.OnlyTree.{put_on, joined, joined_none}
 
 module _ {L : Type 0} where
-  -- trees from left to right, put on a stack
-  abbrev put_on : Forest L → List (Tree L) → List (Tree L)
-  put_on none ts = ts
-  put_on (before t f) ts = put_on f (t ∷ ts)
-
-  abbrev joined : Forest L → Forest L → Forest L
-  joined none g = g
-  joined (before t f) g = before t (joined f g)
-
-  joined_none : (f : Forest L) → joined f none ≡ f
-  joined_none none = refl
-  joined_none (before t f) = ap (before t) (joined_none f)
-
   popped : (f : Forest L) (ts : List (Tree L)) (n : ℕ) (acc : Forest L) → pop (count f + n) (put_on f ts) acc ≡ pop n ts (joined f acc)
   popped none ts n acc = ap (λ k. pop k ts acc) (omega arith)
   popped (before t f) ts n acc =

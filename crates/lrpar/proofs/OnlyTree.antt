@@ -24,15 +24,15 @@ module _ {L : Type 0} where
   decode (p ∷ ps) ts = option_and_then (decode ps) (put_piece p ts)
 
   -- trees from left to right, put on a stack
-  abbrev put_on : Forest L → List (Tree L) → List (Tree L)
+  abbrev pub put_on : Forest L → List (Tree L) → List (Tree L)
   put_on none ts = ts
   put_on (before t f) ts = put_on f (t ∷ ts)
 
-  abbrev joined : Forest L → Forest L → Forest L
+  abbrev pub joined : Forest L → Forest L → Forest L
   joined none g = g
   joined (before t f) g = before t (joined f g)
 
-  joined_none : (f : Forest L) → joined f none ≡ f
+  pub joined_none : (f : Forest L) → joined f none ≡ f
   joined_none none = refl
   joined_none (before t f) = ap (before t) (joined_none f)
 

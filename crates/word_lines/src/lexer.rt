@@ -54,29 +54,64 @@ impl<'input, S: IndexStorage> WordLexer<'input, S> {
         ensures taken { IfOk result (λ l. (lexemes : List (WordLexeme S)) → AreItems l.items lexemes → AreLexemes grm.now.grammar (lex_of S.number) lexemes) }
         ensures not_refused { IfOk result (λ l. (m : Misfit) → HasMisfit grm.now.grammar (lex_of S.number) l.items m → ⊥) }
     {
-        let items = lex_line(alloc, grm, line)?;
-        let newlines = NewlineCache::from_str(alloc, line)?;
-        Ok(WordLexer {
-            line,
-            items,
-            newlines,
-        })
+        lexer_in(alloc, Vec::new(alloc), grm, line)
+    }
+
+    /// Makes the lexer of another line, whose list takes the room of this one's. A program that parses line after line so asks
+    /// for a list only where a line has more words than each one before it.
+    pub fn again<'other>(
+        self,
+        alloc: Global,
+        grm: &NumberedGrammar<S>,
+        line: &'other str,
+    ) -> Result<WordLexer<'other, S>, AllocError>
+        ensures text { IfOk result (λ l. l.text ≡ line.entry.now) }
+        ensures items { IfOk result (λ l. l.items ≡ items_of S.of_number grm.now line.entry.now) }
+        ensures taken { IfOk result (λ l. (lexemes : List (WordLexeme S)) → AreItems l.items lexemes → AreLexemes grm.now.grammar (lex_of S.number) lexemes) }
+        ensures not_refused { IfOk result (λ l. (m : Misfit) → HasMisfit grm.now.grammar (lex_of S.number) l.items m → ⊥) }
+    {
+        let WordLexer { mut items, .. } = self;
+        items.clear();
+        lexer_in(alloc, items, grm, line)
     }
 }
 
-/// The items of a line's words.
-fn lex_line<S: IndexStorage>(
+/// The lexer of a line, whose list takes the room of an empty one.
+fn lexer_in<'input, S: IndexStorage>(
     alloc: Global,
+    room: Vec<Result<WordLexeme<S>, WordLexError>>,
+    grm: &NumberedGrammar<S>,
+    line: &'input str,
+) -> Result<WordLexer<'input, S>, AllocError>
+    requires { room.items ≡ [] }
+    ensures text { IfOk result (λ l. l.text ≡ line.entry.now) }
+    ensures items { IfOk result (λ l. l.items ≡ items_of S.of_number grm.now line.entry.now) }
+    ensures taken { IfOk result (λ l. (lexemes : List (WordLexeme S)) → AreItems l.items lexemes → AreLexemes grm.now.grammar (lex_of S.number) lexemes) }
+    ensures not_refused { IfOk result (λ l. (m : Misfit) → HasMisfit grm.now.grammar (lex_of S.number) l.items m → ⊥) }
+{
+    let items = lex_line(room, grm, line)?;
+    let newlines = NewlineCache::from_str(alloc, line)?;
+    Ok(WordLexer {
+        line,
+        items,
+        newlines,
+    })
+}
+
+/// The items of a line's words, in the room of an empty list.
+fn lex_line<S: IndexStorage>(
+    room: Vec<Result<WordLexeme<S>, WordLexError>>,
     grm: &NumberedGrammar<S>,
     line: &str,
 ) -> Result<Vec<Result<WordLexeme<S>, WordLexError>>, AllocError>
+    requires { room.items ≡ [] }
     ensures items { IfOk result (λ v. v.items ≡ items_of S.of_number grm.now line.now) }
     ensures inside { IfOk result (λ v. AllByRecursion (IsInside S.number grm.now.grammar) v.items) }
 {
     // So the place behind the last part is a number too.
     let length = line.len();
     prove!(length < usize::MAX);
-    let mut items = Vec::new(alloc);
+    let mut items = room;
     let mut start = 0;
     'parts: for part in line.split(' ') {
         let end = start + part.len();

@@ -31,14 +31,20 @@ fn put_item<S: IndexStorage>(
     Ok(())
 }
 
+/// The items of a lexer.
+fn items_of<S: IndexStorage>(alloc: Global, lexer: &WordLexer<S>) -> Result<String, AllocError> {
+    let mut out = String::new(alloc);
+    for item in lexer.iter() {
+        put_item(alloc, &mut out, lexer, *item)?;
+    }
+    Ok(out)
+}
+
 /// The items of a line.
 fn shown<S: IndexStorage>(alloc: Global, line: &str) -> Result<String, Fail> {
     let grm = grammar::<S>(alloc, SUMS)?;
     let lexer = WordLexer::new(alloc, &grm, line)?;
-    let mut out = String::new(alloc);
-    for item in lexer.iter() {
-        put_item(alloc, &mut out, &lexer, *item)?;
-    }
+    let out = items_of(alloc, &lexer)?;
     drop(grm);
     Ok(out)
 }
@@ -64,6 +70,20 @@ fn words_are_items(rt: HostRuntime) -> Result<(), Fail> {
         shown::<u32>(rt.alloc(), "ID +")?.as_str(),
         "1[0,2] 0[3,4] "
     );
+    Ok(())
+}
+
+#[test]
+fn one_list_serves_line_after_line(rt: HostRuntime) -> Result<(), Fail> {
+    let alloc = rt.alloc();
+    let grm = grammar::<u8>(alloc, SUMS)?;
+    let mut lexer = WordLexer::new(alloc, &grm, "+ + ID ID *")?;
+    for row in ITEMS {
+        lexer = lexer.again(alloc, &grm, row.0)?;
+        assert_eq!(rt; items_of(alloc, &lexer)?.as_str(), row.1);
+    }
+    drop(lexer);
+    drop(grm);
     Ok(())
 }
 

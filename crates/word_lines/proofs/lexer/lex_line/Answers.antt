@@ -7,7 +7,7 @@ use Rattle.word_lines.proofs.LexedParts.{all_more, parts_of, LexedTo-start, Lexe
 use Rattle.word_lines.proofs.lexer.lex_line.Goals as goal
 
 pub parts-init : goal.parts-init
-parts-init g c = rw c.new-items.ensures.items (LexedTo-start g.S.IndexStorage.of_number c.args.grm.now c.args.line.now, tt)
+parts-init g c = rw c.requires (LexedTo-start g.S.IndexStorage.of_number c.args.grm.now c.args.line.now, tt)
 
 pub overflow_add-end : goal.overflow_add-end
 overflow_add-end g c =

@@ -1,5 +1,8 @@
 //! From the words to the report.
 
+ghost use Rattle.std.specs.Prelude.{◌≡◌, IfOk};
+ghost use Rattle.grammar_report.specs.Outcomes.{IsOutcome};
+
 use crate::fault::{CheckFault, Input, fault_of};
 use crate::words::Words;
 use byte_streams::{Counted, read_text, write_all};
@@ -23,8 +26,10 @@ fn read_file<R: Files + AllocGlobal>(
     }
 }
 
-/// Writes a report to standard output.
-fn write_report(rt: &impl Print, told: &Report) -> Result<Outcome, CheckFault> {
+/// Writes a report to standard output, and answers its outcome.
+fn write_report(rt: &impl Print, told: &Report) -> Result<Outcome, CheckFault>
+    ensures { IfOk result (λ outcome. outcome ≡ told.now.outcome) }
+{
     let mut out = Counted::new(io::writer(rt));
     match write_all(&mut out, told.text.as_bytes()) {
         Ok(()) => Ok(told.outcome),
@@ -32,13 +37,15 @@ fn write_report(rt: &impl Print, told: &Report) -> Result<Outcome, CheckFault> {
     }
 }
 
-/// Writes the report on a grammar's text.
+/// Writes the report on a grammar's text, and answers what is so of the text.
 fn write_report_on<R: Print + AllocGlobal>(
     rt: &R,
     grammar: &str,
     path: &str,
     asked: Asked<'_>,
-) -> Result<Outcome, CheckFault> {
+) -> Result<Outcome, CheckFault>
+    ensures { IfOk result (IsOutcome grammar.now) }
+{
     match report(rt.alloc(), grammar, path, asked) {
         Ok(told) => write_report(rt, &told),
         Err(e) => Err(CheckFault::Memory(e)),

@@ -1,1 +1,1 @@
-mod Folded
+mod Acted

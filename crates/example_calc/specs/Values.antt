@@ -7,12 +7,19 @@ use Rattle.lr_theory.specs.Automaton.{Closed, Complete}
 use Rattle.lrtable.specs.Tables.{automaton_of}
 use Rattle.lrpar.specs.Checked.{ParserValue}
 use Rattle.lrpar.specs.Stacks.{span_of_places}
+use Rattle.lrpar.specs.declared.parse_actions.AStackType.{AStackType}
+use Rattle.lrpar.specs.declared.parse_actions.AStackType.TheVariants as args
 use Rattle.example_calc.specs.declared.word.Word.{Word}
 use Rattle.example_calc.specs.declared.lexer.NoWord.{NoWord}
 
 -- what a word stands for
 abbrev pub number_of : Word → ℕ
 number_of x = x.number
+
+-- what an argument of an action stands for: a word's number, or what was answered
+abbrev pub number_in : AStackType Word ℕ → ℕ
+number_in (args.ActionType v) = v
+number_in (args.Lexeme x) = number_of x
 
 -- the production 0 subtracts its third symbol's value of the first one's; another one has the value of its first symbol
 abbrev pub difference : ℕ → List ℕ → ℕ

@@ -1,10 +1,11 @@
-//! Answers lines of digits and minus signs: each line is read by an own lexer, parsed, and valued as it is parsed.
+//! Answers lines of digits and minus signs: each line is read by an own lexer, parsed, and valued by actions as it is parsed.
 //!
 //! The clause of `eval`, that words which have a tree come to the value of that tree, is proved by the clause `parsed` of
-//! `RTParserBuilder::parse_fold`, by its part `flawless`. A run that hands a reduction its values in reverse, or one that
+//! `RTParserBuilder::parse_actions`, by its part `flawless`. A run that hands a reduction its values in reverse, or one that
 //! answers the value of another tree, would break it.
 #![tactic(auto)]
 
+mod actions;
 mod eval;
 mod lexer;
 mod word;

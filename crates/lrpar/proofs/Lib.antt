@@ -7,6 +7,7 @@ pub mod Room
 pub mod Joining
 pub mod LeastChains
 pub mod SafePairs
+pub mod OneMisfit
 pub mod Quiet
 pub mod Overlays
 pub mod Replays

@@ -6,6 +6,7 @@ pub mod Lex
 pub mod Made
 pub mod Run
 pub mod Safety
+pub mod OneMisfit
 pub mod Replay
 pub mod Taking
 pub mod Lexemes

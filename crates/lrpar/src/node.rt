@@ -1,6 +1,6 @@
 //! A tree by rules.
 
-ghost use Rattle.std.specs.Prelude.{◌≡◌, ◌<◌, ◌≤◌, ◌++◌, ℕ, List, length, reverse, IfSome, IfOk, OnOk, string_bytes, replicate};
+ghost use Rattle.std.specs.Prelude.{◌≡◌, None, ◌<◌, ◌≤◌, ◌++◌, ℕ, List, length, reverse, IfSome, IfOk, OnOk, string_bytes, replicate};
 ghost use Rattle.cfg_theory.specs.Grammar.{end_token};
 ghost use Rattle.lrpar.specs.NodeLists.{same_shape};
 ghost use Rattle.lrpar.specs.Shapes.{rule_line, lexeme_line, token_text, HasText, CanShow, CanShowAll, CanShowWaiting, tree_text, trees_text, waiting_text, shape_of, shapes_of};
@@ -79,7 +79,8 @@ impl<L: Lexeme<S>, S: IndexStorage> Node<L, S> {
 
     /// Answers the nodes below, and the rule; a lexeme has none.
     pub fn into_nodes(self) -> Option<(RIdx<S>, Vec<Node<L, S>>)>
-        ensures { IfSome result (λ below. self ≡ variants.Nonterm below.0 below.1) }
+        ensures below { IfSome result (λ below. self ≡ variants.Nonterm below.0 below.1) }
+        ensures none { result ≡ None → (lexeme : L) × (self ≡ variants.Term lexeme) }
     {
         match self {
             Node::Term { lexeme: _ } => None,

@@ -32,6 +32,9 @@ use cfg_base::symbol::{RIdx, TIdx};
 use cfg_numbered::yacc::grammar::NumberedGrammar;
 use lrtable::{StIdx, StateGraph, StateTable};
 use std::alloc::{AllocError, Global};
+use std::error::Error;
+use std::fmt;
+use std::fmt::{Debug, Display, Formatter, Write};
 use std::marker::Model;
 
 /// A grammar with a graph and a table that are safe for it. Contracts see the three and the cap.
@@ -93,6 +96,39 @@ impl<S: IndexStorage> From<AllocError> for ParserDataError<S> {
         ParserDataError::Memory(e)
     }
 }
+
+impl<S: IndexStorage> Debug for ParserDataError<S> {
+    fn fmt<W: Write>(&self, f: &mut Formatter<W>) -> fmt::Result {
+        match self {
+            ParserDataError::UnsafeTable { state, cell, .. } => {
+                write!(f, "UnsafeTable {{ state: {state:?}, cell: {cell:?}, .. }}")
+            }
+            ParserDataError::TooManyReductions {
+                state,
+                rule,
+                token,
+                cap,
+                ..
+            } => write!(
+                f,
+                "TooManyReductions {{ state: {state:?}, rule: {rule:?}, token: {token:?}, cap: {cap}, .. }}"
+            ),
+            ParserDataError::Memory(e) => write!(f, "Memory({e:?})"),
+        }
+    }
+}
+
+impl<S: IndexStorage> Display for ParserDataError<S> {
+    fn fmt<W: Write>(&self, f: &mut Formatter<W>) -> fmt::Result {
+        match self {
+            ParserDataError::UnsafeTable { .. } => write!(f, "UnsafeTable"),
+            ParserDataError::TooManyReductions { .. } => write!(f, "TooManyReductions"),
+            ParserDataError::Memory(_) => write!(f, "Memory"),
+        }
+    }
+}
+
+impl<S: IndexStorage> Error for ParserDataError<S> {}
 
 /// What a check comes to.
 #[derive(Clone, Copy, Debug, PartialEq, Eq)]

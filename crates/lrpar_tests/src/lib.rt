@@ -1,4 +1,4 @@
-//! Tests of `lrpar`: what lines come to, with repairs and without, and which lexemes are refused.
+//! Tests of `lrpar`: what lines come to, with repairs and without, which lexemes are refused, and the texts of errors.
 #![tactic(auto)]
 
 #[cfg(test)]
@@ -13,3 +13,5 @@ mod parses;
 mod repairs;
 #[cfg(test)]
 mod spell;
+#[cfg(test)]
+mod texts;

@@ -39,7 +39,8 @@ impl<S: IndexStorage> Recoverer<S, RowLexeme<S>> for Lines<S> {
     }
 }
 
-/// The sequences of letters: `d` deletes, `s` shifts, a digit inserts that token, and a blank ends a sequence.
+/// The sequences of letters: `d` deletes, `s` shifts, a digit inserts that token, any other letter the token of its own
+/// number, as `c` 99, and a blank ends a sequence.
 fn lines_of<S: IndexStorage>(alloc: Global, letters: &str) -> Result<Lines<S>, AllocError> {
     let mut sequences = Vec::new(alloc);
     let mut sequence = Vec::new(alloc);
@@ -52,8 +53,15 @@ fn lines_of<S: IndexStorage>(alloc: Global, letters: &str) -> Result<Lines<S>, A
             sequence.push(RepairStep::Delete)?;
         } else if letter == b's' {
             sequence.push(RepairStep::Shift)?;
-        } else if let Some(token) = S::from_usize((letter % 16) as usize) {
-            sequence.push(RepairStep::Insert(TIdx(token)))?;
+        } else {
+            let number = if letter.is_ascii_digit() {
+                letter % 16
+            } else {
+                letter
+            };
+            if let Some(token) = S::from_usize(number as usize) {
+                sequence.push(RepairStep::Insert(TIdx(token)))?;
+            }
         }
     }
     sequences.push(sequence)?;
@@ -100,7 +108,7 @@ fn errors_are_mended(rt: HostRuntime) -> Result<(), Fail> {
     let found = mended::<u8>(rt.alloc(), SUMS, &[(1, 0, 2), (0, 3, 1)], "d 1")?;
     assert_eq!(rt;
         found.as_str(),
-        "0:1[0,4]( 2:2[0,2]( 1@0 ) 0@3 1:1[4,4]( 2:2[4,4]( 1@4 ) ) ); error at 2@4 faulty, insert 1"
+        "0:1[0,4]( 2:2[0,2]( 1@0 ) 0@3 1:1[4,4]( 2:2[4,4]( 1@4 ) ) ); error at 2@4+0 faulty, insert 1"
     );
     let found = mended::<u16>(
         rt.alloc(),
@@ -110,12 +118,12 @@ fn errors_are_mended(rt: HostRuntime) -> Result<(), Fail> {
     )?;
     assert_eq!(rt;
         found.as_str(),
-        "0:1[0,4]( 0@0 4:2[2,3]( 4@2 ) 1@4 ); error at 3@4, insert 1 delete 3@4"
+        "0:1[0,4]( 0@0 4:2[2,3]( 4@2 ) 1@4 ); error at 3@4+1, insert 1 delete 3@4"
     );
-    let found = mended::<u32>(rt.alloc(), SUMS, &[(1, 0, 2), (0, 3, 1)], " 2 ? s d 101")?;
+    let found = mended::<u32>(rt.alloc(), SUMS, &[(1, 0, 2), (0, 3, 1)], " 2 c s d 101")?;
     assert_eq!(rt;
         found.as_str(),
-        "0:1[0,4]( 2:2[0,2]( 1@0 ) 0@3 0:1[4,4]( 2:2[4,4]( 1@4 ) 0@4 1:1[4,4]( 2:2[4,4]( 1@4 ) ) ) ); error at 2@4 faulty, insert 1 insert 0 insert 1"
+        "0:1[0,4]( 2:2[0,2]( 1@0 ) 0@3 0:1[4,4]( 2:2[4,4]( 1@4 ) 0@4 1:1[4,4]( 2:2[4,4]( 1@4 ) ) ) ); error at 2@4+0 faulty, insert 1 insert 0 insert 1"
     );
     Ok(())
 }

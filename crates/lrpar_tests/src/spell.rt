@@ -58,7 +58,7 @@ fn push_repair<S: IndexStorage>(
     }
 }
 
-/// An error: its lexeme, whether that was made up, and the listed sequences.
+/// An error: its lexeme with its length, whether that was made up, and the listed sequences.
 fn push_error<S: IndexStorage>(
     alloc: Global,
     text: &mut String,
@@ -66,6 +66,8 @@ fn push_error<S: IndexStorage>(
 ) -> Result<(), AllocError> {
     text.push_str("; error at ")?;
     text.push_str(leaf(alloc, error.lexeme)?.as_str())?;
+    let len = error.lexeme.span.len();
+    text.push_str(format!(in alloc; "+{len}")?.as_str())?;
     if error.lexeme.faulty {
         text.push_str(" faulty")?;
     }

@@ -56,29 +56,83 @@ fn told(
     }
 }
 
+/// What the lexemes of an input come to by the grammar of a text.
+fn shown(
+    alloc: Global,
+    text: &str,
+    input: &str,
+    lexemes: &[(u8, u8, u8)],
+    nodes: &[Visit],
+) -> Result<String, Fail> {
+    let data = data(alloc, text)?;
+    let found = told(alloc, &data, input, lexemes, nodes);
+    drop(data);
+    Ok(found?)
+}
+
+const CALL: &str = "%% Call: 'ID' '(' ')';";
+
+const LIST: &str = "%start S %% S: L; L: 'ID' | ;";
+
 const SUMS: &str =
     "%start Expr %% Expr : Expr '+' Term | Term; Term : Term '*' Factor | Factor; Factor : 'INT';";
 
 const TOLD: &str =
     "Expr\n Expr\n  Term\n   Factor\n    INT 2\n + +\n Term\n  Term\n   Factor\n    INT \u{E9}\n  * *\n  Factor\n   INT 4\n[Visit { index: 3, depth: 1 }, Visit { index: 4, depth: 1 }, Visit { index: 11, depth: 1 }]\n[Visit { index: 7, depth: 2 }, Visit { index: 8, depth: 2 }, Visit { index: 10, depth: 2 }]\n[]\n";
 
+const NODES: &[Visit] = &[
+    Visit {
+        index: 12,
+        depth: 0,
+    },
+    Visit {
+        index: 11,
+        depth: 1,
+    },
+    Visit { index: 4, depth: 1 },
+];
+
+/// Texts of grammars, inputs, tokens with their starts and lengths, nodes, and what comes of them.
+const TREES: &[(&str, &str, &[(u8, u8, u8)], &[Visit], &str)] = &[
+    (
+        SUMS,
+        "2+\u{E9}*4",
+        &[(2, 0, 1), (0, 1, 1), (2, 2, 2), (1, 4, 1), (2, 5, 1)],
+        NODES,
+        TOLD,
+    ),
+    (
+        SUMS,
+        "2+3*4",
+        &[(2, 0, 1), (0, 1, 1), (2, 2, 1), (1, 3, 1), (2, 4, 1)],
+        &[],
+        "Expr\n Expr\n  Term\n   Factor\n    INT 2\n + +\n Term\n  Term\n   Factor\n    INT 3\n  * *\n  Factor\n   INT 4\n",
+    ),
+    (
+        SUMS,
+        "2*3+4",
+        &[(2, 0, 1), (1, 1, 1), (2, 2, 1), (0, 3, 1), (2, 4, 1)],
+        &[],
+        "Expr\n Expr\n  Term\n   Term\n    Factor\n     INT 2\n   * *\n   Factor\n    INT 3\n + +\n Term\n  Factor\n   INT 4\n",
+    ),
+    (
+        CALL,
+        "f()",
+        &[(0, 0, 1), (1, 1, 1), (2, 2, 1)],
+        &[],
+        "Call\n ID f\n ( (\n ) )\n",
+    ),
+    (CALL, "f(", &[(0, 0, 1), (1, 1, 1)], &[], "no tree"),
+    (LIST, "x", &[(0, 0, 1)], &[], "S\n L\n  ID x\n"),
+    (LIST, "", &[], &[], "S\n L\n"),
+];
+
 #[test]
 fn trees_are_shown(rt: HostRuntime) -> Result<(), Fail> {
-    let data = data(rt.alloc(), SUMS)?;
-    let lexemes = &[(2, 0, 1), (0, 1, 1), (2, 2, 2), (1, 4, 1), (2, 5, 1)];
-    let nodes = &[
-        Visit {
-            index: 12,
-            depth: 0,
-        },
-        Visit {
-            index: 11,
-            depth: 1,
-        },
-        Visit { index: 4, depth: 1 },
-    ];
-    let text = told(rt.alloc(), &data, "2+\u{E9}*4", lexemes, nodes);
-    drop(data);
-    assert_eq!(rt; text?.as_str(), TOLD);
+    for index in 0..TREES.len() {
+        let (text, input, lexemes, nodes, tree) = TREES[index];
+        let found = shown(rt.alloc(), text, input, lexemes, nodes)?;
+        assert_eq!(rt; found.as_str(), tree, "tree {index}");
+    }
     Ok(())
 }

@@ -1,5 +1,5 @@
--- How passes fill the table of cheapest lists, and what it says at the end.
-use Rattle.std.proofs.Common.{◌≡◌, ℕ, zero, suc, ◌<◌, ◌≤◌, ◌⊎◌, inl, inr, ◌↔◌, Bool, true, false, List, [], ◌∷◌, ◌++◌, length, get_or, set, drop, replicate, map, Option, Some, refl, sym, ap, ◌∙◌, subst, arith}
+-- How productions fill the table of cheapest lists, and what it says at the end.
+use Rattle.std.proofs.Common.{◌≡◌, ℕ, zero, suc, ◌<◌, ◌≤◌, ◌⊎◌, inl, inr, ◌↔◌, Bool, true, false, List, [], ◌∷◌, ◌++◌, length, get_or, set, drop, replicate, map, Option, Some, None, refl, sym, ap, ◌∙◌, subst, arith}
 use Rattle.std.specs.Prelude.{IsTrue, Contains, AllPairs}
 use Rattle.std.proofs.lemmas.List.{get_or-set_same, get_or-set_other, length-set, length-replicate}
 use Rattle.std.proofs.lemmas.List.Sums.{sum_by-set}
@@ -12,16 +12,17 @@ use Rattle.cfg_theory.specs.CostTables.{Concatenates}
 use Rattle.cfg_theory.specs.CheapestLists.{NoneIsCheaper, IsTight, HaveCosts, IsClosedOver, ListsOfWantedRules, ListsAreShort}
 use Rattle.cfg_theory.proofs.Lists.{get_from_drop}
 use Rattle.cfg_numbered.specs.Sets.{is_set}
-use Rattle.cfg_numbered.specs.Passes.{PassStep}
+use Rattle.cfg_numbered.specs.WorkLists.{TakesIn}
 use Rattle.cfg_numbered.specs.CostTable.{bound, cost_in, AreCosts, IsClosedBy}
 use Rattle.std.specs.declared.alloc.Global.{Global}
 use Rattle.std.specs.declared.vec.Vec.{Vec}
 use Rattle.cfg_base.specs.declared.symbol.TIdx.{TIdx}
-use Rattle.cfg_numbered.specs.TokenLists.{tokens_of, lists_of, joined, spare}
+use Rattle.cfg_numbered.specs.TokenLists.{tokens_of, lists_of, joined, spare, AddsLists}
 use Rattle.cfg_numbered.specs.CheapestTable.{GivesLeast, IsHandedOn, lists_in, AllHaveLists, lists_before, AreLists, IsJoined, IsFirstCheapest, spare_in}
 use Rattle.cfg_numbered.proofs.Bits.{set_same}
 use Rattle.cfg_numbered.proofs.CostSteps.{is_least}
 use Rattle.cfg_numbered.proofs.Dictionary.{any_default}
+use Rattle.cfg_numbered.proofs.ProdSteps.{IsAt, idle, concatenates_same, takes_in}
 use Rattle.cfg_numbered.proofs.WantedSteps.{rules_in}
 
 some_same : (m n : ℕ) → Some m ≡ Some n → m ≡ n
@@ -133,11 +134,18 @@ body_has G table p good count = from (body_of G p) 0 refl
 -- ---- one production
 
 module _ (G : Grammar) (f : ℕ → ℕ) (least : List (Option ℕ)) (wanted : List Bool) (p : ℕ) (table : List (List (List ℕ))) where
-  pub not_wanted : is_set wanted (head_of G p) ≡ false → PassStep spare_in (IsJoined G f least wanted p) table table false
-  not_wanted free = record { still = λ e. refl; closed = λ e h _ _ _. absurd (false_true (sym free ∙ h)); fewer = λ e. cc }
+  -- what taking in the production does to the table
+  abbrev pub Joins : List (List (List ℕ)) → Option ℕ → Type 0
+  Joins new told = TakesIn G spare_in (λ t q. IsJoined G f least wanted q t) p table new told
 
-  pub not_given : (answer : Bool) → answer ≡ false → (IsTrue answer ↔ GivesLeast G f least p) → PassStep spare_in (IsJoined G f least wanted p) table table false
-  not_given answer e told = record { still = λ _. refl; closed = λ _ _ h _ _. absurd (false_true (sym e ∙ told.1 h)); fewer = λ e. cc }
+  was_joined : IsJoined G f least wanted p table → Joins table None
+  was_joined = idle G spare_in (λ t q. IsJoined G f least wanted q t) p table
+
+  pub not_wanted : is_set wanted (head_of G p) ≡ false → Joins table None
+  not_wanted free = was_joined (λ h _ _ _. absurd (false_true (sym free ∙ h)))
+
+  pub not_given : (answer : Bool) → answer ≡ false → (IsTrue answer ↔ GivesLeast G f least p) → Joins table None
+  not_given answer e told = was_joined (λ _ h _ _. absurd (false_true (sym e ∙ told.1 h)))
 
   module _ (A : ℕ) (own new ws : List (List ℕ)) (lt : A < length table) (is : own ≡ get_or table A own) (head : A ≡ head_of G p) (made : (w : List ℕ) → Contains ws w ↔ Concatenates (lists_in table) (body_of G p) w) where
     here : own ≡ get_or table A []
@@ -148,12 +156,33 @@ module _ (G : Grammar) (f : ℕ → ℕ) (least : List (Option ℕ)) (wanted : L
         other_default (x ∷ l) zero d e less = refl
         other_default (x ∷ l) (suc k) d e less = other_default l k d e (omega (arith, less))
 
-    pub joins : (changed : Bool) → PassStep spare (λ l. (v : List ℕ) → Contains ws v → Contains l v) own new changed → PassStep spare_in (IsJoined G f least wanted p) table (set table A new) changed
-    joins changed h = record {
-      still = λ e. set_same table A new [] lt (h.still e ∙ here);
-      closed = λ e _ _ w k. subst (λ B. Contains (lists_in table B) w) head (subst (λ l. Contains l w) here (h.closed e w ((made w).1 k)));
-      fewer = λ e. let s = sum_by-set spare table A new [] lt in let w = h.fewer e in let q = ap spare here in omega (arith, s, w, q);
-    }
+    -- no list was new
+    pub joins_none : AddsLists (Contains ws) own new false → Joins (set table A new) None
+    joins_none h =
+        let same : new ≡ get_or table A [] = h.still refl ∙ here in
+        subst (λ t. Joins t None) (sym (set_same table A new [] lt same)) (was_joined (λ _ _ w k. subst (λ B. Contains (lists_in table B) w) head (subst (λ l. Contains l w) same (h.here w ((made w).1 k)))))
+
+    -- one was
+    pub joins_some : AddsLists (Contains ws) own new true → A < G.rules → Joins (set table A new) (Some A)
+    joins_some h low = takes_in G spare_in (λ t q. IsJoined G f least wanted q t) p table (set table A new) A low kept ours (let s = sum_by-set spare table A new [] lt in let w = h.fewer refl in let q = ap spare here in omega (arith, s, w, q))
+      where
+        now : (w : List ℕ) → Contains new w → Contains (lists_in (set table A new) A) w
+        now w c = subst (λ l. Contains l w) (sym (get_or-set_same table A new [] lt)) c
+
+        grown : (B : ℕ) (w : List ℕ) → Contains (lists_in table B) w → Contains (lists_in (set table A new) B) w
+        grown B w c = elim (cases_eq B A) [
+          | inl e ↦ subst (λ C. Contains (lists_in (set table A new) C) w) (sym e) (now w (h.kept w (subst (λ l. Contains l w) (ap (lists_in table) e ∙ sym here) c)))
+          | inr ne ↦ subst (λ l. Contains l w) (sym (get_or-set_other table A B new [] ne)) c
+        ]
+
+        parts : (a : List Sym) (w : List ℕ) → ((d : ℕ) → IsAt a A d → ⊥) → Concatenates (lists_in (set table A new)) a w → Concatenates (lists_in table) a w
+        parts a w not x = concatenates_same (lists_in (set table A new)) (lists_in table) A (λ B ne. get_or-set_other table A B new [] ne) a not w x
+
+        kept : (q : ℕ) → ((d : ℕ) → IsAt (body_of G q) A d → ⊥) → IsJoined G f least wanted q table → IsJoined G f least wanted q (set table A new)
+        kept q not c want gives w x = grown (head_of G q) w (c want gives w (parts (body_of G q) w not x))
+
+        ours : ((d : ℕ) → IsAt (body_of G p) A d → ⊥) → IsJoined G f least wanted p (set table A new)
+        ours not want gives w x = subst (λ B. Contains (lists_in (set table A new) B) w) head (now w (h.here w ((made w).1 (parts (body_of G p) w not x))))
 
     pub lists_with : ListsOfWantedRules → AreLists G f least table → GivesLeast G f least p → ((v : List ℕ) → Contains new v → Contains own v ⊎ Contains ws v) → AreLists G f least (set table A new)
     lists_with law h (n, low, tight) sound = record { count = length-set table A new ∙ h.count; costs = costs }

@@ -1,5 +1,5 @@
 -- The dictionary order, and lists that are kept in it.
-use Rattle.std.proofs.Common.{◌≡◌, ℕ, zero, suc, ◌+◌, ◌-◌, ◌<◌, ◌≤◌, ◌⊎◌, inl, inr, ◌↔◌, Bool, List, [], ◌∷◌, ◌++◌, length, get_or, take, drop, map, refl, sym, ap, ◌∙◌, subst, arith}
+use Rattle.std.proofs.Common.{◌≡◌, ℕ, zero, suc, ◌+◌, ◌-◌, ◌<◌, ◌≤◌, ◌⊎◌, inl, inr, ◌↔◌, Bool, true, false, ◌||◌, List, [], ◌∷◌, ◌++◌, length, get_or, take, drop, map, refl, sym, ap, ◌∙◌, subst, arith}
 use Rattle.std.specs.Prelude.{Contains, AllPairs}
 use Rattle.std.specs.List.{insert}
 use Rattle.std.proofs.lemmas.Bool.{cases_eq, cases_lt}
@@ -7,12 +7,11 @@ use Rattle.std.proofs.lemmas.List.{length-map, drop_all}
 use Rattle.std.proofs.lemmas.List.Edits.{length-insert, get_or-insert_below, get_or-insert_at, get_or-insert_above}
 use Rattle.cfg_theory.specs.Cost.{IsBefore}
 use Rattle.cfg_theory.proofs.FirstLists.{before_on}
-use Rattle.cfg_numbered.specs.Passes.{PassStep}
 use Rattle.std.specs.declared.alloc.Global.{Global}
 use Rattle.std.specs.declared.vec.Vec.{Vec}
 use Rattle.std.proofs.lemmas.List.{map-append, take-map, drop-map, take_more, flat_map_more}
 use Rattle.cfg_base.specs.declared.symbol.TIdx.{TIdx}
-use Rattle.cfg_numbered.specs.TokenLists.{tokens_of, lists_of, joined, spare, BelongsAt}
+use Rattle.cfg_numbered.specs.TokenLists.{tokens_of, lists_of, joined, spare, AddsLists, BelongsAt}
 
 -- the order by the lists' first tokens
 abbrev pub Before : List ℕ → List ℕ → Type 0
@@ -172,6 +171,27 @@ module _ (V : List (List ℕ)) (W : List ℕ) (n : ℕ) (h : BelongsAt V W n) wh
         ]
       ]
 
+  pub kept_insert : (v : List ℕ) → Contains V v → Contains (insert V n W) v
+  kept_insert v (k, lt, e) = elim (cases_lt k n) [
+    | inl less ↦ found k (omega (arith, lt)) (get_or-insert_below V n W [] k less h.within ∙ any_default V k [] v lt ∙ e)
+    | inr le ↦ found (k + 1) (omega (arith, lt)) (get_or-insert_above V n W [] k le h.within ∙ any_default V k [] v lt ∙ e)
+  ]
+    where
+      found : (i : ℕ) → i < length V + 1 → get_or (insert V n W) i [] ≡ v → Contains (insert V n W) v
+      found i less q = let within : i < length (insert V n W) = subst (λ m. i < m) (sym count) less in (i, within, any_default (insert V n W) i v [] within ∙ q)
+
+  pub here_insert : Contains (insert V n W) W
+  here_insert = let low = h.within in let within : n < length (insert V n W) = subst (λ m. n < m) (sym count) (omega (arith, low)) in (n, within, get_or-insert_at V n W W h.within)
+
+  pub adds_one : length (insert V n W) ≤ 18446744073709551615 → AddsLists (λ v. v ≡ W) V (insert V n W) true
+  adds_one room = record {
+    kept = kept_insert;
+    only = sound_insert;
+    here = λ v e. subst (Contains (insert V n W)) (sym e) here_insert;
+    still = λ e. cc;
+    fewer = λ e. let c = count in omega (arith, c, room);
+  }
+
   carry : {x y u v : List ℕ} → x ≡ u → y ≡ v → IsBefore u v → IsBefore x y
   carry {x} {y} {u} {v} e f h = subst (λ l. IsBefore l y) (sym e) (subst (IsBefore u) (sym f) h)
 
@@ -214,14 +234,58 @@ module _ {S : Type 0} (number : S → ℕ) (xs new : List (Vec (TIdx S) Global))
     pub still_ordered : AllPairs IsBefore (lists_of number xs) → AllPairs IsBefore (lists_of number new)
     still_ordered o = subst (AllPairs IsBefore) (sym with_list) (ordered_insert (lists_of number xs) (tokens_of number w) n here' o)
 
-    pub still_sound : (V : List (List ℕ)) → lists_of number xs ≡ V → (v : List ℕ) → Contains (lists_of number new) v → Contains V v ⊎ (v ≡ tokens_of number w)
-    still_sound V q v c = subst (λ l. Contains l v ⊎ (v ≡ tokens_of number w)) q (sound_insert (lists_of number xs) (tokens_of number w) n here' v (subst (λ l. Contains l v) with_list c))
+    pub added : (V : List (List ℕ)) → lists_of number xs ≡ V → length (lists_of number new) ≤ 18446744073709551615 → AddsLists (λ v. v ≡ tokens_of number w) V (lists_of number new) true
+    added V q room =
+        let one = adds_one (lists_of number xs) (tokens_of number w) n here' (subst (λ l. length l ≤ 18446744073709551615) with_list room) in
+        subst (λ l. AddsLists (λ v. v ≡ tokens_of number w) l (lists_of number new) true) q (subst (λ l. AddsLists (λ v. v ≡ tokens_of number w) (lists_of number xs) l true) (sym with_list) one)
+
+-- ---- lists with more of them
+
+pub adds_none : (V : List ℕ → Type 0) (lists : List (List ℕ)) → ((v : List ℕ) → V v → Contains lists v) → AddsLists V lists lists false
+adds_none V lists there = record { kept = λ v c. c; only = λ v c. inl c; here = there; still = λ e. refl; fewer = λ e. cc }
+
+pub adds_both : (U V W : List ℕ → Type 0) (a b c : List (List ℕ)) (x y : Bool) → AddsLists U a b x → AddsLists V b c y → ((v : List ℕ) → W v ↔ (U v ⊎ V v)) → AddsLists W a c (x || y)
+adds_both U V W a b c x y h k both = record {
+  kept = λ v i. k.kept v (h.kept v i);
+  only = λ v i. elim (k.only v i) [ inl j ↦ elim (h.only v j) [ inl o ↦ inl o | inr u ↦ inr ((both v).1 (inl u)) ] | inr j ↦ inr ((both v).1 (inr j)) ];
+  here = λ v i. elim ((both v).0 i) [ inl u ↦ k.kept v (h.here v u) | inr j ↦ k.here v j ];
+  still = still x y h k;
+  fewer = fewer x y h k;
+}
+  where
+    still : (x y : Bool) → AddsLists U a b x → AddsLists V b c y → (x || y) ≡ false → c ≡ a
+    still true y h k e = cc
+    still false y h k e = k.still e ∙ h.still refl
+
+    fewer : (x y : Bool) → AddsLists U a b x → AddsLists V b c y → (x || y) ≡ true → spare c < spare a
+    fewer true true h k e = let p = h.fewer refl in let q = k.fewer refl in omega (arith, p, q)
+    fewer true false h k e = let p = h.fewer refl in let q = ap spare (k.still refl) in omega (arith, p, q)
+    fewer false y h k e = let p = k.fewer e in let q = ap spare (h.still refl) in omega (arith, p, q)
+
+-- v is one of the first n
+abbrev pub IsOneBelow : List (List ℕ) → ℕ → List ℕ → Type 0
+IsOneBelow V n v = (k : ℕ) × (k < n) × (get_or V k [] ≡ v)
+
+pub one_more : (V : List (List ℕ)) (n : ℕ) (v : List ℕ) → IsOneBelow V (n + 1) v ↔ (IsOneBelow V n v ⊎ (v ≡ get_or V n []))
+one_more V n v = (there, back)
+  where
+    there : IsOneBelow V (n + 1) v → IsOneBelow V n v ⊎ (v ≡ get_or V n [])
+    there (k, lt, e) = elim (cases_eq k n) [ inl q ↦ inr (sym e ∙ ap (λ i. get_or V i []) q) | inr ne ↦ inl (k, omega (arith, lt, ne), e) ]
+
+    back : IsOneBelow V n v ⊎ (v ≡ get_or V n []) → IsOneBelow V (n + 1) v
+    back (inl (k, lt, e)) = (k, omega (arith, lt), e)
+    back (inr e) = (n, omega arith, sym e)
+
+pub none_below : (V own : List (List ℕ)) → AddsLists (IsOneBelow V 0) own own false
+none_below V own = adds_none (IsOneBelow V 0) own (λ v (k, lt, e). absurd (omega (arith, lt)))
 
 -- each of the lists is there
-pub all_put : (V : List (List ℕ)) (n : ℕ) (a b : List (List ℕ)) (x : Bool) → length V ≤ n → PassStep spare (λ own. (k : ℕ) → k < n → Contains own (get_or V k [])) a b x → PassStep spare (λ own. (v : List ℕ) → Contains V v → Contains own v) a b x
-all_put V n a b x le h = record {
+pub all_added : (V : List (List ℕ)) (n : ℕ) (a b : List (List ℕ)) (x : Bool) → n ≡ length V → AddsLists (IsOneBelow V n) a b x → AddsLists (Contains V) a b x
+all_added V n a b x all h = record {
+  kept = h.kept;
+  only = λ v c. elim (h.only v c) [ inl o ↦ inl o | inr (k, lt, e) ↦ (let within : k < length V = omega (arith, lt, all) in inr (k, within, any_default V k v [] within ∙ e)) ];
+  here = λ v c. let (k, lt, q) = c in h.here v (k, omega (arith, lt, all), any_default V k [] v lt ∙ q);
   still = h.still;
-  closed = λ e v c. let (k, lt, q) = c in subst (Contains a) (any_default V k [] v lt ∙ q) (h.closed e k (omega (arith, lt, le)));
   fewer = h.fewer;
 }
 

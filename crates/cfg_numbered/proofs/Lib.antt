@@ -21,6 +21,7 @@ pub mod CostSteps
 pub mod RaiseSteps
 pub mod NarrowSteps
 pub mod SettleSteps
+pub mod OnceSteps
 pub mod Dictionary
 pub mod WantedSteps
 pub mod CheapestSteps

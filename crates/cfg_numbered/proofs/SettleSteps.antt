@@ -111,7 +111,7 @@ itself_out [] A lt = absurd (omega (arith, lt))
 itself_out (x ∷ xs) zero lt = refl
 itself_out (x ∷ xs) (suc A) lt = itself_out xs A (omega (arith, lt))
 
-past_end : (xs : List Bool) (A : ℕ) → length xs ≤ A → is_set xs A ≡ false
+pub past_end : (xs : List Bool) (A : ℕ) → length xs ≤ A → is_set xs A ≡ false
 past_end [] A le = refl
 past_end (x ∷ xs) zero le = absurd (omega (arith, le))
 past_end (x ∷ xs) (suc A) le = past_end xs A (omega (arith, le))

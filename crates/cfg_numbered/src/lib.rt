@@ -36,10 +36,9 @@
 //!
 //! FIRST and FOLLOW sets and paths are found by takings from a list of rules that wait (`yacc::work_list`): what rests
 //! on a rule that is taken is brought up to date, and a rule of which that tells more waits again. So are least and
-//! greatest costs, and the rules that cheapest lists need with the first list of each (`yacc::by_prods`). All cheapest
-//! lists, and the rules without a greatest cost, come by passes over all productions, until one changes nothing. What
-//! takings and passes keep is true of derivations, what they end with is closed under the productions, and sets or
-//! costs that are both are exact by the laws of `cfg_theory`.
+//! greatest costs, the rules without a greatest cost, and the rules that cheapest lists need, with all lists of each or
+//! with the first one (`yacc::by_prods`). What takings keep is true of derivations, what they end with is closed under
+//! the productions, and sets, costs and lists that are both are exact by the laws of `cfg_theory`.
 #![tactic(auto)]
 
 pub mod yacc;

@@ -15,6 +15,7 @@ mod kept_costs;
 mod least;
 mod max_cost;
 mod needed;
+mod once;
 mod shared_lists;
 mod shared_order;
 mod token_costs;

@@ -82,7 +82,7 @@ fn take_one(rule: usize, set: &mut Vob)
 }
 
 /// Takes rules out of a set.
-fn take_out(group: &[usize], set: &mut Vob)
+pub(super) fn take_out(group: &[usize], set: &mut Vob)
     ensures { TakesOut group.now (length group.now) set.old.bits set.new.bits }
 {
     'rules: for index in 0..group.len() {

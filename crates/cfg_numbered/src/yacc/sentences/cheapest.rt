@@ -1,28 +1,28 @@
 //! All cheapest token lists of a rule.
 //!
 //! Productions that give their rules the least cost put together lists of the rules that they name, each once in an
-//! order, and again until no list is new, as where names lead around in a cycle. Only rules that the asked one needs take part, so each list is a
-//! part of one that is answered.
+//! order, and again where it names a rule that got a new list, as where names lead around in a cycle. Only rules that the
+//! asked one needs take part, so each list is a part of one that is answered.
 
 ghost use Rattle.std.specs.Prelude.{◌≡◌, ℕ, ◌<◌, ◌↔◌, ◌∷◌, IsTrue, IfOk, IfErr, List, [], length, get_or, replicate, Contains, Some};
 ghost use Rattle.cfg_theory.specs.Grammar.{Grammar, body_of};
 ghost use Rattle.cfg_theory.specs.Cost.{AreCheapest};
 ghost use Rattle.cfg_theory.specs.CostTables.{Concatenates};
 ghost use Rattle.cfg_numbered.specs.Symbols.{sym_of, syms_of};
-ghost use Rattle.cfg_numbered.specs.Passes.{PassStep};
-ghost use Rattle.cfg_numbered.specs.Orders.{IsOrder};
+ghost use Rattle.cfg_numbered.specs.WorkLists.{TakesIn};
 ghost use Rattle.cfg_numbered.specs.CostTable.{bound, cost_of, cost_in};
 ghost use Rattle.cfg_numbered.specs.TokenLists.{lists_of};
 ghost use Rattle.cfg_numbered.specs.CheapestTable.{ListsAreRefused, lists_in, lists_before, AllHaveLists, AreLists, IsJoined, spare_in};
 
 use super::least::LeastCosts;
 use super::needed::wanted_rules;
+use super::once::Once;
 use super::token_costs::BOUND;
 use super::token_lists::{TokenLists, insert_all, join_all, put_before};
 use super::{SentenceError, SentenceGenerator};
-use crate::yacc::orders::Order;
+use crate::yacc::by_prods::{ByProds, ProdTable, close_by_prods};
 use cfg_base::index::IndexStorage;
-use cfg_base::symbol::{PIdx, RIdx, Symbol, TIdx};
+use cfg_base::symbol::{RIdx, Symbol, TIdx};
 use cfg_theory::cost::{cheapest_lists_of_wanted_rules, productive_rules_have_least_costs};
 use std::alloc::{AllocError, Global};
 use vob::Vob;
@@ -113,55 +113,71 @@ fn put_together<S: IndexStorage>(
     Ok(out)
 }
 
-/// Takes in one production, and says whether a list was new.
+/// Takes in one production, and gives its rule where that has a new list by it.
 fn take_prod<S: IndexStorage>(
     alloc: Global,
     least: &LeastCosts<S>,
     wanted: &Vob,
-    pidx: PIdx<S>,
+    number: usize,
     table: &mut Vec<TokenLists<S>>,
-) -> Result<bool, AllocError>
-    requires production { S.number pidx.0 < length least.now.grammar.productions }
+) -> Result<Option<usize>, AllocError>
+    requires production { number < length least.now.grammar.productions }
     requires width { length wanted.now.bits ≡ least.now.grammar.rules }
     requires lists { AreLists least.now.grammar (cost_of least.now.costs) least.now.table table.old.items }
     ensures lists { IfOk result (λ _. AreLists least.now.grammar (cost_of least.now.costs) least.now.table table.new.items) }
-    ensures steps { IfOk result (λ b. PassStep spare_in (IsJoined least.now.grammar (cost_of least.now.costs) least.now.table wanted.now.bits (S.number pidx.0)) table.old.items table.new.items b) }
+    ensures takes { IfOk result (λ o. TakesIn least.now.grammar spare_in (λ t p. IsJoined least.now.grammar (cost_of least.now.costs) least.now.table wanted.now.bits p t) number table.old.items table.new.items o) }
 {
     cheapest_lists_of_wanted_rules();
     least.stays_well_formed();
+    let pidx = least.prod_at(number);
     let rule = least.prod_to_rule(pidx).0.to_usize();
     if !wanted.get_unchecked(rule) {
-        return Ok(false);
+        return Ok(None);
     }
     if !least.gives_least(pidx) {
-        return Ok(false);
+        return Ok(None);
     }
     let lists = put_together(alloc, least.prod(pidx), table.as_slice())?;
     let own = &mut table[rule];
     let changed = insert_all(alloc, lists.as_slice(), own)?;
-    Ok(changed)
+    if !changed {
+        return Ok(None);
+    }
+    Ok(Some(rule))
 }
 
-/// Takes in each production once, in the order, and says whether a list was new.
-fn pass<S: IndexStorage>(
+/// The cheapest lists of wanted rules, as they are put together.
+#[derive(Drop)]
+struct Joining<'t, 'a, S: IndexStorage> {
     alloc: Global,
-    least: &LeastCosts<S>,
-    wanted: &Vob,
-    order: &Order,
-    table: &mut Vec<TokenLists<S>>,
-) -> Result<bool, AllocError>
-    requires order { IsOrder (length least.now.grammar.productions) order.now }
-    requires width { length wanted.now.bits ≡ least.now.grammar.rules }
-    requires lists { AreLists least.now.grammar (cost_of least.now.costs) least.now.table table.old.items }
-    ensures lists { IfOk result (λ _. AreLists least.now.grammar (cost_of least.now.costs) least.now.table table.new.items) }
-    ensures steps { IfOk result (λ b. PassStep spare_in (λ t. (p : ℕ) → p < length least.now.grammar.productions → IsJoined least.now.grammar (cost_of least.now.costs) least.now.table wanted.now.bits p t) table.old.items table.new.items b) }
-{
-    let mut changed = false;
-    'prods: for index in 0..order.len() {
-        let pidx = least.prod_at(order.at(index));
-        changed |= take_prod(alloc, least, wanted, pidx, table)?;
+    least: &'t LeastCosts<'a, S>,
+    wanted: &'t Vob,
+    lists: Vec<TokenLists<S>>,
+}
+
+impl<'t, 'a, S: IndexStorage> ProdTable for Joining<'t, 'a, S> {
+    ghost use Rattle.std.specs.Prelude.{◌≡◌, length, refl};
+    ghost use Rattle.std.proofs.Common.{◌∙◌};
+    ghost use Rattle.cfg_numbered.specs.CostTable.{cost_of};
+    ghost use Rattle.cfg_numbered.specs.CheapestTable.{AreLists, IsJoined, spare_in};
+
+    ghost grammar = { λ s. s.least.now.grammar };
+
+    ghost is_sound = { λ s. (length s.wanted.now.bits ≡ s.least.now.grammar.rules) × AreLists s.least.now.grammar (cost_of s.least.now.costs) s.least.now.table s.lists.items };
+
+    ghost room = { λ s. spare_in s.lists.items };
+
+    ghost is_closed_by = { λ s p. IsJoined s.least.now.grammar (cost_of s.least.now.costs) s.least.now.table s.wanted.now.bits p s.lists.items };
+
+    ghost is_of_same = { λ s t. (t.least.now ≡ s.least.now) × (t.wanted.now ≡ s.wanted.now) };
+
+    ghost same_refl = { λ s. (refl, refl) };
+
+    ghost same_trans = { λ s t u h k. (k.0 ∙ h.0, k.1 ∙ h.1) };
+
+    fn take_prod(&mut self, number: usize) -> Result<Option<usize>, AllocError> {
+        take_prod(self.alloc, self.least, self.wanted, number, &mut self.lists)
     }
-    Ok(changed)
 }
 
 fn no_lists<S: IndexStorage>(alloc: Global, rules: usize) -> Result<Vec<TokenLists<S>>, AllocError>
@@ -184,12 +200,23 @@ fn cheapest_lists<S: IndexStorage>(
     ensures lists { IfOk result (λ v. AreLists least.now.grammar (cost_of least.now.costs) least.now.table v.items) }
     ensures joined { IfOk result (λ v. (p : ℕ) → p < length least.now.grammar.productions → IsJoined least.now.grammar (cost_of least.now.costs) least.now.table wanted.now.bits p v.items) }
 {
+    let naming = least.naming(alloc)?;
+    let naming = &naming;
     let order = least.order(alloc)?;
-    let mut table = no_lists(alloc, least.rules_len().0.to_usize())?;
-    'passes: loop {
-        let changed = pass(alloc, least, wanted, &order, &mut table)?;
-        if !changed {
-            return Ok(table);
-        }
-    }
+    let lists = no_lists(alloc, least.rules_len().0.to_usize())?;
+    let taken = Vob::from_elem(alloc, false, least.prods_len().0.to_usize())?;
+    let table = Joining {
+        alloc,
+        least,
+        wanted,
+        lists,
+    };
+    let table = Once {
+        table,
+        naming,
+        taken,
+    };
+    let mut filling = ByProds { table, naming };
+    close_by_prods(alloc, &order, &mut filling)?;
+    Ok(filling.table.table.lists)
 }

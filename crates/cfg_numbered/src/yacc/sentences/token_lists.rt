@@ -2,8 +2,7 @@
 
 ghost use Rattle.std.specs.Prelude.{◌≡◌, ℕ, ◌<◌, ◌≤◌, ◌↔◌, ◌⊎◌, IsTrue, IfOk, MatchOption, List, [], ◌++◌, length, map, get_or, Contains, AllPairs};
 ghost use Rattle.cfg_theory.specs.Cost.{IsBefore};
-ghost use Rattle.cfg_numbered.specs.Passes.{PassStep};
-ghost use Rattle.cfg_numbered.specs.TokenLists.{tokens_of, lists_of, joined, spare, BelongsAt};
+ghost use Rattle.cfg_numbered.specs.TokenLists.{tokens_of, lists_of, joined, AddsLists, BelongsAt};
 
 use cfg_base::index::IndexStorage;
 use cfg_base::symbol::TIdx;
@@ -55,8 +54,7 @@ impl<S: IndexStorage> TokenLists<S> {
 
     /// Puts a copy of the list in, and says whether it wasn't there.
     pub fn insert(&mut self, alloc: Global, list: &[TIdx<S>]) -> Result<bool, AllocError>
-        ensures sound { IfOk result (λ _. (v : List ℕ) → Contains self.new v → Contains self.old v ⊎ (v ≡ tokens_of S.number list.now)) }
-        ensures steps { IfOk result (λ b. PassStep spare (λ lists. Contains lists (tokens_of S.number list.now)) self.old self.new b) }
+        ensures { IfOk result (λ b. AddsLists (λ v. v ≡ tokens_of S.number list.now) self.old self.new b) }
     {
         let Some(index) = free_place(self.lists.as_slice(), list) else {
             return Ok(false);
@@ -74,8 +72,7 @@ pub(crate) fn insert_all<S: IndexStorage>(
     lists: &[Vec<TIdx<S>>],
     own: &mut TokenLists<S>,
 ) -> Result<bool, AllocError>
-    ensures sound { IfOk result (λ _. (v : List ℕ) → Contains own.new v → Contains own.old v ⊎ Contains (lists_of S.number lists.now) v) }
-    ensures steps { IfOk result (λ b. PassStep spare (λ own. (v : List ℕ) → Contains (lists_of S.number lists.now) v → Contains own v) own.old own.new b) }
+    ensures { IfOk result (λ b. AddsLists (Contains (lists_of S.number lists.now)) own.old own.new b) }
 {
     let mut changed = false;
     'lists: for index in 0..lists.len() {

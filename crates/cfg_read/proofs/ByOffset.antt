@@ -1,12 +1,9 @@
--- Two lists of words joined by their offsets, one word after another.
-use Rattle.std.proofs.Common.{◌≡◌, ℕ, ◌+◌, ◌<◌, ◌≤◌, Bool, true, false, List, [], ◌∷◌, ◌++◌, drop, length, get_or, nat_lt, if◌then◌else◌, sym, ap, ◌∙◌, arith, Bor}
+-- Two lists of symbols joined by their offsets, one symbol after another.
+use Rattle.std.proofs.Common.{◌≡◌, ℕ, ◌+◌, ◌<◌, ◌≤◌, Bool, true, false, List, [], ◌∷◌, ◌++◌, drop, length, map, get_or, nat_lt, if◌then◌else◌, sym, ap, ◌∙◌, arith}
 use Rattle.std.proofs.lemmas.Bool.Decides.{nat_tests}
 use Rattle.std.proofs.lemmas.List.{map-append, append_assoc, drop-map, drop_more}
-use Rattle.cfg_read.specs.declared.yacc.parser.syntax.Word.{Word}
-use Rattle.cfg_read.specs.SyntaxTexts.{WordText}
-use Rattle.cfg_read.specs.Names.{put_by_offset, by_offset}
-use Rattle.cfg_read.specs.SyntaxModels.{word_of}
-use Rattle.cfg_read.specs.NameModels.{words_at}
+use Rattle.cfg_read.specs.SyntaxTexts.{WordText, SymbolText}
+use Rattle.cfg_read.specs.Names.{words_in, put_by_offset, by_offset}
 
 lt_true : (a b : ℕ) → a < b → nat_lt a b ≡ true
 lt_true a b h = grind (arith, nat_tests)
@@ -14,43 +11,51 @@ lt_true a b h = grind (arith, nat_tests)
 lt_false : (a b : ℕ) → b ≤ a → nat_lt a b ≡ false
 lt_false a b h = grind (arith, nat_tests)
 
-pub words_push : (xs : List (Bor Word)) (x : Bor Word) → words_at (xs ++ x ∷ []) ≡ words_at xs ++ word_of x.now ∷ []
-words_push xs x = map-append (λ (w : Bor Word). word_of w.now) xs (x ∷ [])
+-- the words of what these symbols say
+abbrev pub seen : {A : Type 0} → (A → SymbolText) → List A → List WordText
+seen g xs = words_in (map g xs)
 
-pub drop_word : (xs : List (Bor Word)) (i : ℕ) (x : Bor Word) → i < length xs → x ≡ get_or xs i x → drop i (words_at xs) ≡ word_of x.now ∷ drop (i + 1) (words_at xs)
-drop_word xs i x within is =
-    drop-map (λ (w : Bor Word). word_of w.now) i xs
-    ∙ ap words_at (drop_more xs i x within)
-    ∙ ap (λ (y : Bor Word). word_of y.now ∷ words_at (drop (i + 1) xs)) (sym is)
-    ∙ ap (λ l. word_of x.now ∷ l) (sym (drop-map (λ (w : Bor Word). word_of w.now) (i + 1) xs))
+pub push_seen : {A : Type 0} (g : A → SymbolText) (xs : List A) (x : A) → seen g (xs ++ x ∷ []) ≡ seen g xs ++ (g x).word ∷ []
+push_seen g xs x = ap words_in (map-append g xs (x ∷ [])) ∙ map-append (λ (s : SymbolText). s.word) (map g xs) (g x ∷ [])
 
--- behind one more word that stands before
-pub put_step : (found new xs : List (Bor Word)) (i : ℕ) (x : Bor Word) (v : WordText) (rest : List WordText → List WordText) → i < length xs → x ≡ get_or xs i x → new ≡ found ++ x ∷ [] → x.now.span.start < v.span.start
-    → words_at new ++ put_by_offset v rest (drop (i + 1) (words_at xs)) ≡ words_at found ++ put_by_offset v rest (drop i (words_at xs))
-put_step found new xs i x v rest within is push before =
-    ap (λ l. words_at l ++ put_by_offset v rest (drop (i + 1) (words_at xs))) push
-    ∙ ap (λ l. l ++ put_by_offset v rest (drop (i + 1) (words_at xs))) (words_push found x)
-    ∙ append_assoc (words_at found) (word_of x.now ∷ []) (put_by_offset v rest (drop (i + 1) (words_at xs)))
-    ∙ ap (λ (b : Bool). words_at found ++ (if b then word_of x.now ∷ put_by_offset v rest (drop (i + 1) (words_at xs)) else v ∷ rest (word_of x.now ∷ drop (i + 1) (words_at xs)))) (sym (lt_true x.now.span.start v.span.start before))
-    ∙ ap (λ l. words_at found ++ put_by_offset v rest l) (sym (drop_word xs i x within is))
+pub drop_seen : {A : Type 0} (g : A → SymbolText) (i : ℕ) (xs : List A) → drop i (seen g xs) ≡ seen g (drop i xs)
+drop_seen g i xs = drop-map (λ (s : SymbolText). s.word) i (map g xs) ∙ ap words_in (drop-map g i xs)
 
--- at a word that doesn't
-pub put_stop : (xs : List (Bor Word)) (i : ℕ) (x : Bor Word) (v : WordText) (rest : List WordText → List WordText) → i < length xs → x ≡ get_or xs i x → v.span.start ≤ x.now.span.start
-    → v ∷ rest (drop i (words_at xs)) ≡ put_by_offset v rest (drop i (words_at xs))
-put_stop xs i x v rest within is behind =
-    ap (λ l. v ∷ rest l) (drop_word xs i x within is)
-    ∙ ap (λ (b : Bool). if b then word_of x.now ∷ put_by_offset v rest (drop (i + 1) (words_at xs)) else v ∷ rest (word_of x.now ∷ drop (i + 1) (words_at xs))) (sym (lt_false x.now.span.start v.span.start behind))
-    ∙ ap (λ l. put_by_offset v rest l) (sym (drop_word xs i x within is))
+pub drop_at : {A : Type 0} (g : A → SymbolText) (xs : List A) (i : ℕ) (x : A) → i < length xs → x ≡ get_or xs i x → drop i (seen g xs) ≡ (g x).word ∷ drop (i + 1) (seen g xs)
+drop_at g xs i x within is =
+    drop_seen g i xs
+    ∙ ap (seen g) (drop_more xs i x within)
+    ∙ ap (λ y. (g y).word ∷ seen g (drop (i + 1) xs)) (sym is)
+    ∙ ap (λ l. (g x).word ∷ l) (sym (drop_seen g (i + 1) xs))
 
--- one word of the first list
-pub place_turn : (found before new xs ys : List (Bor Word)) (i next later : ℕ) (x : Bor Word) (all : List WordText) → i < length xs → x ≡ get_or xs i x → new ≡ before ++ x ∷ []
-    → words_at before ++ word_of x.now ∷ by_offset (drop (i + 1) (words_at xs)) (drop later (words_at ys)) ≡ words_at found ++ put_by_offset (word_of x.now) (by_offset (drop (i + 1) (words_at xs))) (drop next (words_at ys))
-    → words_at found ++ by_offset (drop i (words_at xs)) (drop next (words_at ys)) ≡ all
-    → words_at new ++ by_offset (drop (i + 1) (words_at xs)) (drop later (words_at ys)) ≡ all
-place_turn found before new xs ys i next later x all within is push turn same =
-    ap (λ l. words_at l ++ by_offset (drop (i + 1) (words_at xs)) (drop later (words_at ys))) push
-    ∙ ap (λ l. l ++ by_offset (drop (i + 1) (words_at xs)) (drop later (words_at ys))) (words_push before x)
-    ∙ append_assoc (words_at before) (word_of x.now ∷ []) (by_offset (drop (i + 1) (words_at xs)) (drop later (words_at ys)))
+-- behind one more that stands before
+pub put_step : {A : Type 0} (g : A → SymbolText) (found new xs : List A) (i : ℕ) (x : A) (v : WordText) (rest : List WordText → List WordText) → i < length xs → x ≡ get_or xs i x → new ≡ found ++ x ∷ [] → (g x).word.span.start < v.span.start
+    → seen g new ++ put_by_offset v rest (drop (i + 1) (seen g xs)) ≡ seen g found ++ put_by_offset v rest (drop i (seen g xs))
+put_step g found new xs i x v rest within is push before =
+    ap (λ l. seen g l ++ put_by_offset v rest (drop (i + 1) (seen g xs))) push
+    ∙ ap (λ l. l ++ put_by_offset v rest (drop (i + 1) (seen g xs))) (push_seen g found x)
+    ∙ append_assoc (seen g found) ((g x).word ∷ []) (put_by_offset v rest (drop (i + 1) (seen g xs)))
+    ∙ ap (λ (b : Bool). seen g found ++ (if b then (g x).word ∷ put_by_offset v rest (drop (i + 1) (seen g xs)) else v ∷ rest ((g x).word ∷ drop (i + 1) (seen g xs)))) (sym (lt_true (g x).word.span.start v.span.start before))
+    ∙ ap (λ l. seen g found ++ put_by_offset v rest l) (sym (drop_at g xs i x within is))
+
+-- at one that doesn't
+pub put_stop : {A : Type 0} (g : A → SymbolText) (xs : List A) (i : ℕ) (x : A) (v : WordText) (rest : List WordText → List WordText) → i < length xs → x ≡ get_or xs i x → v.span.start ≤ (g x).word.span.start
+    → v ∷ rest (drop i (seen g xs)) ≡ put_by_offset v rest (drop i (seen g xs))
+put_stop g xs i x v rest within is behind =
+    ap (λ l. v ∷ rest l) (drop_at g xs i x within is)
+    ∙ ap (λ (b : Bool). if b then (g x).word ∷ put_by_offset v rest (drop (i + 1) (seen g xs)) else v ∷ rest ((g x).word ∷ drop (i + 1) (seen g xs))) (sym (lt_false (g x).word.span.start v.span.start behind))
+    ∙ ap (λ l. put_by_offset v rest l) (sym (drop_at g xs i x within is))
+
+-- one of the first list
+pub place_turn : {A B : Type 0} (g : A → SymbolText) (h : B → SymbolText) (found before new : List A) (xs : List B) (ys : List A) (i next later : ℕ) (x : B) (y : A) (all : List WordText) → (g y).word ≡ (h x).word → i < length xs → x ≡ get_or xs i x → new ≡ before ++ y ∷ []
+    → seen g before ++ (h x).word ∷ by_offset (drop (i + 1) (seen h xs)) (drop later (seen g ys)) ≡ seen g found ++ put_by_offset (h x).word (by_offset (drop (i + 1) (seen h xs))) (drop next (seen g ys))
+    → seen g found ++ by_offset (drop i (seen h xs)) (drop next (seen g ys)) ≡ all
+    → seen g new ++ by_offset (drop (i + 1) (seen h xs)) (drop later (seen g ys)) ≡ all
+place_turn g h found before new xs ys i next later x y all same_word within is push turn same =
+    ap (λ l. seen g l ++ by_offset (drop (i + 1) (seen h xs)) (drop later (seen g ys))) push
+    ∙ ap (λ l. l ++ by_offset (drop (i + 1) (seen h xs)) (drop later (seen g ys))) (push_seen g before y)
+    ∙ append_assoc (seen g before) ((g y).word ∷ []) (by_offset (drop (i + 1) (seen h xs)) (drop later (seen g ys)))
+    ∙ ap (λ w. seen g before ++ w ∷ by_offset (drop (i + 1) (seen h xs)) (drop later (seen g ys))) same_word
     ∙ turn
-    ∙ ap (λ l. words_at found ++ by_offset l (drop next (words_at ys))) (sym (drop_word xs i x within is))
+    ∙ ap (λ l. seen g found ++ by_offset l (drop next (seen g ys))) (sym (drop_at h xs i x within is))
     ∙ same

@@ -10,7 +10,7 @@ use Rattle.indexmap.specs.IndexMap.{set_value_at, insert_entry}
 use Rattle.cfg_read.specs.declared.yacc.ast.Rule.{Rule}
 use Rattle.cfg_base.specs.SpanModel.{SpanModel}
 use Rattle.cfg_read.specs.SyntaxTexts.{WordText, EppText}
-use Rattle.cfg_read.specs.Asts.{Ast, ProductionAst, PrecedenceAst}
+use Rattle.cfg_read.specs.Asts.{Ast, RuleAst, ProductionAst, PrecedenceAst}
 use Rattle.cfg_read.specs.AstChanges.{put_rule, rule_named}
 use Rattle.cfg_read.specs.AstModels.{named_span, named_rule, rule_entry_of}
 use Rattle.cfg_read.proofs.RuleLemmas.{with_text}
@@ -81,9 +81,12 @@ places_are (e ∷ es) = ap (λ (l : List SpanModel). e.1 ∷ l) (places_are es)
 pub spans_put : (ast : Ast) {ts us : List WordText} → ts ≡ us → record ast { tokens = ts } ≡ record ast { tokens = us }
 spans_put ast e = λ i. record ast { tokens = e i }
 
-pub words_put : (ast : Ast) {ps qs : List ProductionAst} {ls ms : List PrecedenceAst} {vs ws : List WordText} {is js : List WordText} {es fs : List EppText} → ps ≡ qs → ls ≡ ms → vs ≡ ws → is ≡ js → es ≡ fs
-    → record ast { productions = ps; precedences = ls; avoid_insert = vs; implicit_tokens = is; epp = es } ≡ record ast { productions = qs; precedences = ms; avoid_insert = ws; implicit_tokens = js; epp = fs }
-words_put ast e f g h k = λ i. record ast { productions = e i; precedences = f i; avoid_insert = g i; implicit_tokens = h i; epp = k i }
+pub lines_put : (ast : Ast) {ls ms : List PrecedenceAst} {vs ws : List WordText} {is js : List WordText} {es fs : List EppText} → ls ≡ ms → vs ≡ ws → is ≡ js → es ≡ fs
+    → record ast { precedences = ls; avoid_insert = vs; implicit_tokens = is; epp = es } ≡ record ast { precedences = ms; avoid_insert = ws; implicit_tokens = js; epp = fs }
+lines_put ast e f g h = λ i. record ast { precedences = e i; avoid_insert = f i; implicit_tokens = g i; epp = h i }
+
+pub prods_put : (ast : Ast) {ps qs : List ProductionAst} {rs ts : List RuleAst} → ps ≡ qs → rs ≡ ts → record ast { productions = ps; rules = rs } ≡ record ast { productions = qs; rules = ts }
+prods_put ast e f = λ i. record ast { productions = e i; rules = f i }
 
 pub tokens_put : (ast : Ast) {ts us : List WordText} {ps qs : List PrecedenceAst} {vs ws : List WordText} {is js : List WordText} → ts ≡ us → ps ≡ qs → vs ≡ ws → is ≡ js
     → record ast { tokens = ts; precedences = ps; avoid_insert = vs; implicit_tokens = is } ≡ record ast { tokens = us; precedences = qs; avoid_insert = ws; implicit_tokens = js }

@@ -12,7 +12,7 @@ pub mod ByOffset
 pub mod Grouping
 pub mod Joined
 pub mod AstLemmas
-pub mod FreshEntries
+pub mod AstSymbols
 pub mod WholeFiles
 pub mod KindValues
 pub mod FileFailures
@@ -26,6 +26,9 @@ pub mod WellFormedParts
 pub mod FreshLemmas
 pub mod WellFormedTrees
 pub mod RuleLemmas
+pub mod RuleNumbers
+pub mod KeyPlaces
+pub mod HeadLemmas
 pub mod Clones
 pub mod ChangeLemmas
 pub mod OneAnswer
@@ -36,3 +39,10 @@ pub mod ReachedLemmas
 pub mod HeadingWords
 pub mod PlainLemmas
 pub mod WellMade
+pub mod TextPlaces
+pub mod Marks
+pub mod KnownLemmas
+pub mod UnknownLemmas
+pub mod Judged
+pub mod Settled
+pub mod Symbols

@@ -16,11 +16,10 @@ use Rattle.cfg_read.specs.declared.yacc.parser.syntax.Word.{Word}
 use Rattle.cfg_read.specs.SyntaxTexts.{WordText, RuleText, SyntaxText}
 use Rattle.cfg_read.specs.Names.{is_named, is_among, with_distinct, distinct}
 use Rattle.cfg_read.specs.FreshRules.{FreshText, fresh_of, fresh_words, rule_words}
-use Rattle.cfg_read.specs.Asts.{RuleAst, heads, heads_in, fresh_heads, numbers_from, heading_type, last_text, text_of, rule_ast}
+use Rattle.cfg_read.specs.Asts.{RuleAst, heads, heads_in, fresh_heads, heading_type, last_text, text_of, rule_ast}
 use Rattle.cfg_read.specs.AstModels.{named_rule}
 use Rattle.cfg_read.specs.SyntaxModels.{word_of}
 use Rattle.cfg_read.specs.AstBuild.{headed, blank_headings, fresh_rule, has_rule, with_first, with_numbers}
-use Rattle.cfg_read.specs.AstChanges.{with_number}
 use Rattle.cfg_read.proofs.AstLemmas.{found_by}
 use Rattle.cfg_read.proofs.Grouping.{or_left, or_right}
 use Rattle.cfg_read.proofs.NameLemmas.{any_map, among_more, among_distinct}
@@ -43,63 +42,67 @@ place_in q es = position_or_len (λ (k : String Global). bytes_eq q (string_byte
 abbrev with_productions : RuleAst → List ℕ → RuleAst
 with_productions r ps = record { name = r.name; productions = ps; action_type = r.action_type }
 
--- a rule of another name stays
-other_stays : (q : List ℕ) (n : ℕ) (r : RuleAst) → bytes_eq q r.name.text ≡ false → r ≡ with_number q n r
-other_stays q n r h = sym (ap (λ (b : Bool). with_productions r (r.productions ++ (if b then n ∷ [] else []))) h ∙ ap (with_productions r) (append-nil r.productions))
+-- with more productions, if the rule has this name
+abbrev pub with_more : List ℕ → List ℕ → RuleAst → RuleAst
+with_more name ns r = record { name = r.name; productions = r.productions ++ (if bytes_eq name r.name.text then ns else []); action_type = r.action_type }
 
-others_stay : (k : String Global) (q : List ℕ) (n : ℕ) (es : List (String Global × Rule)) → q ≡ string_bytes k → AllByRecursion (λ y. string_eq k y ≡ false) (keys_of es)
-    → map named_rule es ≡ map (with_number q n) (map named_rule es)
-others_stay k q n [] same h = refl
-others_stay k q n (e ∷ es) same h =
+-- a rule of another name stays
+other_stays : (q : List ℕ) (ns : List ℕ) (r : RuleAst) → bytes_eq q r.name.text ≡ false → r ≡ with_more q ns r
+other_stays q ns r h = sym (ap (λ (b : Bool). with_productions r (r.productions ++ (if b then ns else []))) h ∙ ap (with_productions r) (append-nil r.productions))
+
+others_stay : (k : String Global) (q : List ℕ) (ns : List ℕ) (es : List (String Global × Rule)) → q ≡ string_bytes k → AllByRecursion (λ y. string_eq k y ≡ false) (keys_of es)
+    → map named_rule es ≡ map (with_more q ns) (map named_rule es)
+others_stay k q ns [] same h = refl
+others_stay k q ns (e ∷ es) same h =
     let apart : bytes_eq q (string_bytes e.0) ≡ false = ap (λ (t : List ℕ). bytes_eq t (string_bytes e.0)) same ∙ h.0 in
-    ap (λ r. r ∷ map named_rule es) (other_stays q n (named_rule e) apart) ∙ ap (λ l. with_number q n (named_rule e) ∷ l) (others_stay k q n es same h.1)
+    ap (λ r. r ∷ map named_rule es) (other_stays q ns (named_rule e) apart) ∙ ap (λ l. with_more q ns (named_rule e) ∷ l) (others_stay k q ns es same h.1)
 
 -- a name that no key has
-pub unnumbered : (q : List ℕ) (n : ℕ) (es : List (String Global × Rule)) → is_some (lookup (λ (k : String Global). bytes_eq q (string_bytes k)) es) ≡ false
-    → map named_rule es ≡ map (with_number q n) (map named_rule es)
-unnumbered q n [] h = refl
-unnumbered q n (e ∷ es) h = by (bytes_eq q (string_bytes e.0)) refl h (unnumbered q n es)
+pub unnumbered : (q : List ℕ) (ns : List ℕ) (es : List (String Global × Rule)) → is_some (lookup (λ (k : String Global). bytes_eq q (string_bytes k)) es) ≡ false
+    → map named_rule es ≡ map (with_more q ns) (map named_rule es)
+unnumbered q ns [] h = refl
+unnumbered q ns (e ∷ es) h = by (bytes_eq q (string_bytes e.0)) refl h (unnumbered q ns es)
   where
     by : (b : Bool) → bytes_eq q (string_bytes e.0) ≡ b → is_some (cond b (Some e.1) (lookup (λ (k : String Global). bytes_eq q (string_bytes k)) es)) ≡ false
-        → (is_some (lookup (λ (k : String Global). bytes_eq q (string_bytes k)) es) ≡ false → map named_rule es ≡ map (with_number q n) (map named_rule es))
-        → map named_rule (e ∷ es) ≡ map (with_number q n) (map named_rule (e ∷ es))
+        → (is_some (lookup (λ (k : String Global). bytes_eq q (string_bytes k)) es) ≡ false → map named_rule es ≡ map (with_more q ns) (map named_rule es))
+        → map named_rule (e ∷ es) ≡ map (with_more q ns) (map named_rule (e ∷ es))
     by true same t rest = absurd (true≢false t)
-    by false apart t rest = ap (λ r. r ∷ map named_rule es) (other_stays q n (named_rule e) apart) ∙ ap (λ l. with_number q n (named_rule e) ∷ l) (rest t)
+    by false apart t rest = ap (λ r. r ∷ map named_rule es) (other_stays q ns (named_rule e) apart) ∙ ap (λ l. with_more q ns (named_rule e) ∷ l) (rest t)
 
--- a rule with one more production
-abbrev pub IsNumbered : ℕ → Rule → Rule → Type 0
-IsNumbered n old new = (new.name ≡ old.name) × (new.pidxs.items ≡ old.pidxs.items ++ n ∷ []) × (new.actiont ≡ old.actiont)
+-- a rule with more productions
+abbrev pub IsNumbered : List ℕ → Rule → Rule → Type 0
+IsNumbered ns old new = (new.name ≡ old.name) × (new.pidxs.items ≡ old.pidxs.items ++ ns) × (new.actiont ≡ old.actiont)
 
 same_value : (old new : Rule) → Some old ≡ Some new → old ≡ new
 same_value old new e = cc
 
-numbered_entry : (q : List ℕ) (n : ℕ) (k : String Global) (old new : Rule) → bytes_eq q (string_bytes k) ≡ true → IsNumbered n old new → named_rule (k, new) ≡ with_number q n (named_rule (k, old))
-numbered_entry q n k old new h is =
+numbered_entry : (q : List ℕ) (ns : List ℕ) (k : String Global) (old new : Rule) → bytes_eq q (string_bytes k) ≡ true → IsNumbered ns old new → named_rule (k, new) ≡ with_more q ns (named_rule (k, old))
+numbered_entry q ns k old new h is =
     ap (λ u. named_rule (k, record new { name = u })) is.0
     ∙ ap (λ u. named_rule (k, record new { name = old.name; actiont = u })) is.2
     ∙ ap (with_productions (named_rule (k, old))) is.1
-    ∙ ap (λ (b : Bool). with_productions (named_rule (k, old)) (old.pidxs.items ++ (if b then n ∷ [] else []))) (sym h)
+    ∙ ap (λ (b : Bool). with_productions (named_rule (k, old)) (old.pidxs.items ++ (if b then ns else []))) (sym h)
 
-pub numbered : (q : List ℕ) (n : ℕ) (old new : Rule) (es : List (String Global × Rule)) → IsDistinct string_eq (keys_of es) → slice_get (values_of es) (place_in q es) ≡ Some old → IsNumbered n old new
-    → map named_rule (set_value_at es (place_in q es) new) ≡ map (with_number q n) (map named_rule es)
+pub numbered : (q : List ℕ) (ns : List ℕ) (old new : Rule) (es : List (String Global × Rule)) → IsDistinct string_eq (keys_of es) → slice_get (values_of es) (place_in q es) ≡ Some old → IsNumbered ns old new
+    → map named_rule (set_value_at es (place_in q es) new) ≡ map (with_more q ns) (map named_rule es)
 unfolding IsDistinct
-numbered q n old new [] apart at is = refl
-numbered q n old new (e ∷ es) apart at is = by (bytes_eq q (string_bytes e.0)) refl at (λ h. numbered q n old new es apart.1 h is)
+numbered q ns old new [] apart at is = refl
+numbered q ns old new (e ∷ es) apart at is = by (bytes_eq q (string_bytes e.0)) refl at (λ h. numbered q ns old new es apart.1 h is)
   where
     by : (b : Bool) → bytes_eq q (string_bytes e.0) ≡ b → slice_get (e.1 ∷ values_of es) (cond (not b) (1 + place_in q es) 0) ≡ Some old
-        → (slice_get (values_of es) (place_in q es) ≡ Some old → map named_rule (set_value_at es (place_in q es) new) ≡ map (with_number q n) (map named_rule es))
-        → map named_rule (set_value_at (e ∷ es) (cond (not b) (1 + place_in q es) 0) new) ≡ map (with_number q n) (map named_rule (e ∷ es))
+        → (slice_get (values_of es) (place_in q es) ≡ Some old → map named_rule (set_value_at es (place_in q es) new) ≡ map (with_more q ns) (map named_rule es))
+        → map named_rule (set_value_at (e ∷ es) (cond (not b) (1 + place_in q es) 0) new) ≡ map (with_more q ns) (map named_rule (e ∷ es))
     by true same h rest =
         let was : named_rule (e.0, e.1) ≡ named_rule (e.0, old) = ap (λ v. named_rule (e.0, v)) (same_value e.1 old h) in
-        let here = numbered_entry q n e.0 old new same is ∙ ap (with_number q n) (sym was) in
+        let here = numbered_entry q ns e.0 old new same is ∙ ap (with_more q ns) (sym was) in
         ap (λ r. r ∷ map named_rule es) here
-        ∙ ap (λ l. with_number q n (named_rule e) ∷ l) (others_stay e.0 q n es ((bytes_eq-Decides q (string_bytes e.0)).0 same) apart.0)
+        ∙ ap (λ l. with_more q ns (named_rule e) ∷ l) (others_stay e.0 q ns es ((bytes_eq-Decides q (string_bytes e.0)).0 same) apart.0)
     by false other h rest =
         let next : 1 + place_in q es ≡ suc (place_in q es) = omega arith in
         let at : slice_get (values_of es) (place_in q es) ≡ Some old = sym (ap (slice_get (e.1 ∷ values_of es)) next) ∙ h in
         ap (λ i. map named_rule (set_value_at (e ∷ es) i new)) next
-        ∙ ap (λ r. r ∷ map named_rule (set_value_at es (place_in q es) new)) (other_stays q n (named_rule e) other)
-        ∙ ap (λ l. with_number q n (named_rule e) ∷ l) (rest at)
+        ∙ ap (λ r. r ∷ map named_rule (set_value_at es (place_in q es) new)) (other_stays q ns (named_rule e) other)
+        ∙ ap (λ l. with_more q ns (named_rule e) ∷ l) (rest at)
 
 -- the index that a look-up gives
 pub index_is : (b : Bool) (p i : ℕ) → cond b (Some p) None ≡ Some i → p ≡ i
@@ -118,37 +121,6 @@ names_stay [] i old new at same = refl
 names_stay (e ∷ es) zero old new at same =
     ap (λ u. string_bytes u.0 ∷ map (λ (e : String Global × Rule). string_bytes e.1.name.0) es) (same ∙ sym (ap (λ (v : Rule). v.name) (same_value e.1 old at)))
 names_stay (e ∷ es) (suc i) old new at same = ap (λ l. string_bytes e.1.name.0 ∷ l) (names_stay es i old new at same)
-
--- one more production
-numbers_push : (t : List ℕ) (k : ℕ) (hs : List (List ℕ)) (h : List ℕ) → numbers_from t k (hs ++ h ∷ []) ≡ numbers_from t k hs ++ (if bytes_eq h t then (k + length hs) ∷ [] else [])
-numbers_push t k [] h =
-    let same : k ≡ k + 0 = omega arith in
-    ap (λ m. if bytes_eq h t then m ∷ [] else []) same
-numbers_push t k (g ∷ hs) h = by (bytes_eq g t) (numbers_push t (suc k) hs h)
-  where
-    next : suc k + length hs ≡ k + suc (length hs)
-    next = omega arith
-
-    by : (b : Bool) → numbers_from t (suc k) (hs ++ h ∷ []) ≡ numbers_from t (suc k) hs ++ (if bytes_eq h t then (suc k + length hs) ∷ [] else [])
-        → (if b then k ∷ numbers_from t (suc k) (hs ++ h ∷ []) else numbers_from t (suc k) (hs ++ h ∷ [])) ≡ (if b then k ∷ numbers_from t (suc k) hs else numbers_from t (suc k) hs) ++ (if bytes_eq h t then (k + suc (length hs)) ∷ [] else [])
-    by true rest = ap (λ l. k ∷ l) rest ∙ ap (λ m. k ∷ (numbers_from t (suc k) hs ++ (if bytes_eq h t then m ∷ [] else []))) next
-    by false rest = rest ∙ ap (λ m. numbers_from t (suc k) hs ++ (if bytes_eq h t then m ∷ [] else [])) next
-
-pub numbers_more : (hs : List (List ℕ)) (h : List ℕ) (n : ℕ) (rs : List RuleAst) → n ≡ length hs → map (with_number h n) (map (with_numbers hs) rs) ≡ map (with_numbers (hs ++ h ∷ [])) rs
-numbers_more hs h n [] e = refl
-numbers_more hs h n (r ∷ rs) e =
-    let t = r.name.text in
-    let count : n ≡ 0 + length hs = omega (arith, e) in
-    let here : (r.productions ++ numbers_from t 0 hs) ++ (if bytes_eq h t then n ∷ [] else []) ≡ r.productions ++ numbers_from t 0 (hs ++ h ∷ []) =
-    append_assoc r.productions (numbers_from t 0 hs) (if bytes_eq h t then n ∷ [] else [])
-    ∙ ap (λ m. r.productions ++ (numbers_from t 0 hs ++ (if bytes_eq h t then m ∷ [] else []))) count
-    ∙ ap (λ l. r.productions ++ l) (sym (numbers_push t 0 hs h)) in
-    ap (λ ps. with_productions r ps ∷ map (with_number h n) (map (with_numbers hs) rs)) here
-    ∙ ap (λ l. with_numbers (hs ++ h ∷ []) r ∷ l) (numbers_more hs h n rs e)
-
-pub numbers_none : (rs : List RuleAst) → rs ≡ map (with_numbers []) rs
-numbers_none [] = refl
-numbers_none (r ∷ rs) = ap (λ ps. with_productions r ps ∷ rs) (sym (append-nil r.productions)) ∙ ap (λ l. with_numbers [] r ∷ l) (numbers_none rs)
 
 -- the names of headings
 abbrev names : List RuleText → List WordText

@@ -4,7 +4,7 @@ use Rattle.cfg_base.specs.Text.{FitsWord}
 use Rattle.cfg_read.specs.declared.yacc.parser.scan.TokenKind.{TokenKind}
 use Rattle.cfg_read.specs.declared.yacc.parser.scan.TokenKind.TheVariants as tokens
 use Rattle.cfg_read.specs.SyntaxErrors.{token_fault}
-use Rattle.cfg_read.specs.Scanning.{FitsPart, FitsQuoted, FitsToken, is_part, ends_alternative}
+use Rattle.cfg_read.specs.Scanning.{FitsQuoted, FitsToken, is_part, ends_alternative}
 
 -- it lies within the text
 pub part_within : (text : List ℕ) (a : ℕ) (m : TokenKind) → is_part m ≡ true → FitsToken text a m → a < length text
@@ -19,21 +19,9 @@ end_within text a tokens.Bar h f = f
 end_within text a tokens.Semicolon h f = f
 end_within text a _ h f = absurd cc
 
--- a name, and what stands between quotes
+-- the same of a token whose kind is known
 pub of_kind : (text : List ℕ) (a : ℕ) (m k : TokenKind) → m ≡ k → FitsToken text a m → FitsToken text a k
 of_kind text a m k e f = subst (FitsToken text a) e f
-
-pub name_part : (text : List ℕ) (a b : ℕ) → FitsWord text a b → FitsPart text a b
-name_part text a b f = let more : a < b = f.more in record { order = omega arith; start = f.start; end = f.end }
-
-pub name_within : (text : List ℕ) (a b : ℕ) → FitsWord text a b → (a < b) × (b ≤ length text)
-name_within text a b f = (f.more, f.within)
-
-pub quoted_part : (text : List ℕ) (a b : ℕ) → FitsQuoted text a b → FitsPart text (a + 1) b
-quoted_part text a b f = f.inner
-
-pub quoted_within : (text : List ℕ) (a b : ℕ) → FitsQuoted text a b → (a < b + 1) × (b + 1 ≤ length text)
-quoted_within text a b f = let order : a + 1 ≤ b = f.inner.order in let within : b < length text = f.within in (omega arith, omega arith)
 
 -- a part that is neither a word with `%` nor an action is a token
 pub part_token : (m : TokenKind) → is_part m ≡ true → (m ≡ tokens.Percent → ⊥) → (m ≡ tokens.Brace → ⊥) → token_fault m ≡ None

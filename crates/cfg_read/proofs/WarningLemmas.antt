@@ -14,9 +14,7 @@ use Rattle.std.proofs.lemmas.Option.{slice_get-map}
 use Rattle.std.proofs.lemmas.Slice.Eq.{bytes_eq-Decides}
 use Rattle.cfg_read.specs.declared.yacc.ast.Rule.{Rule as RuleEntry}
 use Rattle.cfg_read.specs.declared.yacc.ast.Production.{Production}
-use Rattle.cfg_read.specs.declared.yacc.ast.Symbol.{Symbol}
-use Rattle.cfg_read.specs.declared.yacc.ast.Symbol.TheVariants.{Rule, Token}
-use Rattle.cfg_base.specs.SpanModel.{SpanModel}
+use Rattle.cfg_read.specs.declared.yacc.parser.syntax.Symbol.{Symbol}
 use Rattle.cfg_read.specs.SyntaxTexts.{WordText}
 use Rattle.cfg_read.specs.Asts.{Ast, RuleAst, ProductionAst, SymbolAst}
 use Rattle.cfg_read.specs.AstChanges.{rule_named}
@@ -200,11 +198,6 @@ pub added : (keys all : List (Bor (List ℕ))) (k : Bor (List ℕ)) (names : Lis
     → map (λ (x : Bor (List ℕ)). x.now) keys ≡ names → k.now ≡ t → map (λ (x : Bor (List ℕ)). x.now) all ≡ with_name names t
 added keys all k names t is same text =
     ap (map (λ (x : Bor (List ℕ)). x.now)) is ∙ name_more keys k ∙ ap (λ ns. with_name ns k.now) same ∙ ap (with_name names) text
-
--- the text of a symbol of either kind
-pub text_of_either : (x : Symbol) (t : String Global) → ((s : SpanModel) × (x ≡ Rule t s)) ⊎ ((s : SpanModel) × (x ≡ Token t s)) → string_bytes t ≡ (ast_symbol_of x).word.text
-text_of_either x t (inl h) = ap (λ y. (ast_symbol_of y).word.text) (sym h.1)
-text_of_either x t (inr h) = ap (λ y. (ast_symbol_of y).word.text) (sym h.1)
 
 -- the symbols of a production that is looked up
 pub symbols_found : (items : List Production) (ps : List ProductionAst) (n : ℕ) (o : Option Production) → map production_of items ≡ ps → slice_get items n ≡ o

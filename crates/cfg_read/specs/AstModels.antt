@@ -1,14 +1,16 @@
 -- What the parts of a syntax tree say, without where they lie in memory.
-use Rattle.std.specs.Prelude.{ℕ, true, false, List, [], Option, None, Vec, map, option_map}
+use Rattle.std.specs.Prelude.{ℕ, true, false, List, [], Option, None, map, option_map}
 use Rattle.std.specs.String.{string_bytes}
 use Rattle.indexmap.specs.IndexMap.{IndexMap}
 use Rattle.cfg_base.specs.SpanModel.{SpanModel}
 use Rattle.std.specs.declared.alloc.Global.{Global}
 use Rattle.std.specs.declared.string.String.{String}
-use Rattle.cfg_read.specs.declared.yacc.ast.Symbol.{Symbol}
-use Rattle.cfg_read.specs.declared.yacc.ast.Symbol.TheVariants.{Rule, Token}
+use Rattle.cfg_read.specs.declared.yacc.parser.syntax.Symbol.{Symbol}
+use Rattle.cfg_read.specs.declared.yacc.parser.syntax.Symbol.TheVariants.{Rule, Token}
 use Rattle.cfg_read.specs.declared.yacc.ast.Production.{Production}
 use Rattle.cfg_read.specs.declared.yacc.parser.syntax.Word.{Word}
+use Rattle.cfg_read.specs.declared.yacc.parser.syntax.Single.{Single}
+use Rattle.cfg_read.specs.declared.yacc.parser.syntax.Plain.{Plain}
 use Rattle.cfg_read.specs.declared.yacc.parser.syntax.Body.{Body}
 use Rattle.cfg_read.specs.declared.yacc.parser.syntax.Alternative.{Alternative}
 use Rattle.cfg_read.specs.declared.yacc.parser.syntax.Alternative.TheVariants as alternatives
@@ -16,28 +18,37 @@ use Rattle.cfg_read.specs.declared.yacc.ast.Rule.{Rule as RuleEntry}
 use Rattle.cfg_base.specs.declared.precedence.Precedence.{Precedence}
 use Rattle.cfg_read.specs.SyntaxTexts.{WordText, NumberText, EppText}
 use Rattle.cfg_read.specs.Asts.{SymbolAst, RuleAst, ProductionAst, PrecedenceAst, text_of, span_of}
-use Rattle.cfg_read.specs.SyntaxModels.{word_of}
+use Rattle.cfg_read.specs.NameTexts.{name_text}
+use Rattle.cfg_read.specs.SyntaxModels.{word_of, boxed_word}
 
 abbrev pub ast_symbol_of : Symbol → SymbolAst
-ast_symbol_of (Rule text span) = record { is_token = false; word = record { text = string_bytes text; span = span } }
-ast_symbol_of (Token text span) = record { is_token = true; word = record { text = string_bytes text; span = span } }
+ast_symbol_of (Rule name span) = record { is_token = false; word = record { text = name_text name; span = span } }
+ast_symbol_of (Token name span) = record { is_token = true; word = record { text = name_text name; span = span } }
 
--- a production with these symbols, the token of `%prec`, the action and the span; one in which
+-- a production with these symbols, the token of `%prec`, the action and the span; one of symbols alone, one in which
 -- this stands, that of an alternative with symbols of the tree, and any one
-abbrev pub production_with : Vec Symbol Global → Option Word → Option Word → SpanModel → ProductionAst
+abbrev pub production_with : List Symbol → Option WordText → Option Word → SpanModel → ProductionAst
 production_with symbols precedence action span = record {
-  symbols = map ast_symbol_of symbols.items;
-  precedence = text_of (option_map word_of precedence);
+  symbols = map ast_symbol_of symbols;
+  precedence = text_of precedence;
   action = text_of (option_map word_of action);
   action_span = span_of (option_map word_of action);
   span = span;
 }
 
+abbrev pub single_of : Single → ProductionAst
+single_of p = production_with p.symbols None None p.span
+
+abbrev pub plain_of : Plain → ProductionAst
+plain_of p = production_with p.symbols.items None None p.span
+
 abbrev pub body_of : Body → ProductionAst
-body_of p = production_with p.made p.precedence p.action p.span
+body_of p = production_with p.symbols.items (option_map boxed_word p.precedence) p.action p.span
 
 abbrev pub kept_of : Alternative → ProductionAst
 kept_of (alternatives.Blank a) = record { symbols = []; precedence = None; action = None; action_span = None; span = record { start = a; end = a } }
+kept_of (alternatives.Single b) = single_of b.value
+kept_of (alternatives.Plain b) = plain_of b.value
 kept_of (alternatives.Body b) = body_of b.value
 
 abbrev pub production_of : Production → ProductionAst
@@ -72,6 +83,10 @@ named_rule e = record { name = record { text = string_bytes e.0; span = e.1.name
 
 abbrev pub named_rules : {S : Type 0} → IndexMap (String Global) RuleEntry S → List RuleAst
 named_rules m = map named_rule m.entries
+
+-- a key of a map
+abbrev pub key_text : {V : Type 0} → String Global × V → List ℕ
+key_text e = string_bytes e.0
 
 -- the keys of these rules, and the names that the rules themselves have
 abbrev pub rule_keys : {S : Type 0} → IndexMap (String Global) RuleEntry S → List (List ℕ)

@@ -10,7 +10,11 @@ pub mod SyntaxModels
 pub mod Scanning
 pub mod Names
 pub mod Validity
+pub mod NameTexts
+pub mod NameTables
 pub mod NameModels
+pub mod Settling
+pub mod Judging
 pub mod ErrorModels
 pub mod ErrorTexts
 pub mod FreshRules

@@ -21,6 +21,11 @@ pub record FitsPart (text : List ℕ) (a b : ℕ) : Type 0 where
   pub start : IsCharBoundary text a
   pub end : IsCharBoundary text b
 
+-- from a up to b stands what has this span, with its quotes where it is quoted
+pub record Encloses (is_quoted : Bool) (at : SpanModel) (a b : ℕ) : Type 0 where
+  pub start : (if is_quoted then a + 1 else a) ≡ at.start
+  pub end : (if is_quoted then at.end + 1 else at.end) ≡ b
+
 -- the digits from a up to b
 pub record FitsDigits (text : List ℕ) (a b : ℕ) : Type 0 where
   pub word : FitsWord text a b

@@ -26,6 +26,10 @@ trimmed_word text a b = word_at text (trimmed text a b)
 abbrev pub string_word : List ℕ → ℕ → ℕ → WordText
 string_word text a b = record { text = filter is_plain (slice_range text (a + 1) b); span = record { start = a; end = b + 1 } }
 
+-- a name or, between quotes, a token of this span
+abbrev pub token_text : List ℕ → Bool → SpanModel → SymbolText
+token_text text is_quoted at = record { is_quoted = is_quoted; word = word_at text at; optional = None }
+
 -- A `?` right behind a symbol makes it optional: where a symbol from a to b ends with that, and what it is then.
 abbrev pub mark_end : List ℕ → ℕ → ℕ
 mark_end text b = if is_at text b 63 then b + 1 else b

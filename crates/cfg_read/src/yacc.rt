@@ -4,6 +4,8 @@ pub mod ast;
 mod file;
 mod kind;
 pub mod laws;
+mod name;
+mod name_table;
 mod names;
 pub mod parser;
 pub mod validity;
@@ -13,6 +15,7 @@ pub use ast::warnings::{YaccGrammarWarning, YaccGrammarWarningKind};
 pub use cfg_base::precedence::{AssocKind, Precedence, PrecedenceLevel};
 pub use file::{YaccGrammarFailure, YaccGrammarResult, one_file, one_kind};
 pub use kind::{KindError, kind_comes_back};
+pub use name::Name;
 pub use parser::error::YaccGrammarErrorKind;
 pub use validity::YaccGrammarError;
 pub use validity_info::{

@@ -13,20 +13,24 @@ use std::test::*;
 
 const YACC: YaccKind = YaccKind::Original(YaccOriginalActionKind::UserAction);
 
-/// A word as its text in round brackets and its spans.
-fn spell_word(alloc: Global, out: &mut String, word: &Word) -> Result<(), AllocError> {
-    let text = word.text.as_str();
-    let start = word.span.start();
-    let end = word.span.end();
+/// A text in round brackets and its span.
+fn spell_text(alloc: Global, out: &mut String, text: &str, span: Span) -> Result<(), AllocError> {
+    let start = span.start();
+    let end = span.end();
     out.push_str(format!(in alloc; "({text}){start}-{end}")?.as_str())
+}
+
+/// A word as its text and its span.
+fn spell_word(alloc: Global, out: &mut String, word: &Word) -> Result<(), AllocError> {
+    spell_text(alloc, out, word.text.as_str(), word.span)
 }
 
 /// A symbol as its word, with `'` before a quoted one.
 fn spell_symbol(alloc: Global, out: &mut String, symbol: &Symbol) -> Result<(), AllocError> {
-    if symbol.is_quoted {
+    if let Symbol::Token(_name, _span) = symbol {
         out.push_str("'")?;
     }
-    spell_word(alloc, out, &symbol.word)
+    spell_text(alloc, out, symbol.name().as_str(), symbol.span())
 }
 
 fn spell_symbols(alloc: Global, out: &mut String, symbols: &[Symbol]) -> Result<(), AllocError> {
@@ -102,13 +106,28 @@ fn spell_body(alloc: Global, out: &mut String, x: &Body) -> Result<(), AllocErro
     if x.is_empty {
         out.push_str("%")?;
     }
-    spell_option(alloc, out, "^", &x.precedence)?;
+    if let Some(word) = &x.precedence {
+        out.push_str("^")?;
+        spell_word(alloc, out, word)?;
+    }
     spell_option(alloc, out, "=", &x.action)
+}
+
+fn spell_plain(
+    alloc: Global,
+    out: &mut String,
+    symbols: &[Symbol],
+    span: Span,
+) -> Result<(), AllocError> {
+    spell_at(alloc, out, span)?;
+    spell_symbols(alloc, out, symbols)
 }
 
 fn spell_alternative(alloc: Global, out: &mut String, x: &Alternative) -> Result<(), AllocError> {
     match x {
         Alternative::Blank(offset) => spell_at(alloc, out, Span::new(*offset, *offset)),
+        Alternative::Single(single) => spell_plain(alloc, out, &single.symbols, single.span),
+        Alternative::Plain(plain) => spell_plain(alloc, out, plain.symbols.as_slice(), plain.span),
         Alternative::Body(body) => spell_body(alloc, out, body),
     }
 }
@@ -127,7 +146,7 @@ fn spell_alternatives(
 fn spell_rules(alloc: Global, out: &mut String, rules: &[Rule]) -> Result<(), AllocError> {
     for rule in rules {
         out.push_str(" rule")?;
-        spell_word(alloc, out, &rule.name)?;
+        spell_text(alloc, out, rule.name.as_str(), rule.span)?;
         if let Some(word) = &rule.action_type {
             out.push_str("->")?;
             spell_word(alloc, out, word)?;

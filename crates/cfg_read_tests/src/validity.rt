@@ -3,20 +3,18 @@
 use crate::spell::spell_errors;
 use cfg_read::yacc::parser::error::{ReadError, YaccGrammarErrorKind};
 use cfg_read::yacc::parser::read_syntax;
-use cfg_read::yacc::parser::syntax::Syntax;
-use cfg_read::yacc::validity::failures;
-use cfg_read::yacc::{YaccKind, YaccOriginalActionKind};
+use cfg_read::yacc::{ASTWithValidityInfo, YaccKind, YaccOriginalActionKind};
 use std::alloc::{AllocError, Global};
 use std::process::Abort;
 use std::test::*;
 
 const TREE: YaccKind = YaccKind::Original(YaccOriginalActionKind::GenericParseTree);
 
-fn errors_of(alloc: Global, x: &Syntax) -> Result<String, AllocError> {
+fn errors_of(alloc: Global, kind: YaccKind, text: &str) -> Result<String, AllocError> {
     let mut out = String::new(alloc);
-    let errors = failures(alloc, x)?;
-    let spelled = spell_errors(alloc, &mut out, &errors);
-    drop(errors);
+    let checked = ASTWithValidityInfo::new(alloc, kind, text)?;
+    let spelled = spell_errors(alloc, &mut out, checked.errors());
+    drop(checked);
     spelled?;
     Ok(out)
 }
@@ -25,9 +23,8 @@ fn errors_of(alloc: Global, x: &Syntax) -> Result<String, AllocError> {
 fn answer(alloc: Global, kind: YaccKind, text: &str) -> Result<String, AllocError> {
     match read_syntax(alloc, kind, text, 0) {
         Ok(x) => {
-            let found = errors_of(alloc, &x);
             drop(x);
-            found
+            errors_of(alloc, kind, text)
         }
         Err(ReadError::Memory(e)) => Err(e),
         Err(ReadError::Fault(fault, offset)) => format!(in alloc; "{fault} {offset}"),

@@ -6,6 +6,7 @@ pub mod FromAstWell
 pub mod FromAstCounts
 pub mod FromAstHeads
 pub mod FromAstLookups
+pub mod FromAstTokens
 pub mod FromAstProductions
 pub mod FromAstValues
 pub mod AddedNames

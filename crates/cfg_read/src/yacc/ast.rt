@@ -1,15 +1,20 @@
 //! The syntax tree of a grammar text.
 
-ghost use Rattle.std.specs.Prelude.{◌≡◌, Some, map, option_map, slice_get, IfOk};
+ghost use Rattle.std.specs.Prelude.{◌≡◌, map, option_map, position, IfOk};
+ghost use Rattle.std.specs.Str.{bytes_eq};
+ghost use Rattle.cfg_read.specs.Names.{texts};
+ghost use Rattle.cfg_read.specs.NameTexts.{name_text};
 ghost use Rattle.std.specs.Option.{option_copied};
 ghost use Rattle.std.specs.String.{string_bytes};
 ghost use Rattle.cfg_read.specs.Asts as asts;
-ghost use Rattle.cfg_read.specs.SyntaxModels.{word_of};
+ghost use Rattle.cfg_read.specs.SyntaxModels.{word_of, boxed_word};
 ghost use Rattle.cfg_read.specs.AstChanges.{with_start};
 ghost use Rattle.cfg_read.specs.AstBuild.{empty_ast};
-ghost use Rattle.cfg_read.specs.AstModels.{ast_symbol_of, production_with, production_of, named_span, named_spans, named_rules, named_epps, named_precedences, rule_keys, own_names, number_with_span, param_pair};
+ghost use Rattle.cfg_read.specs.AstModels.{ast_symbol_of, production_with, production_of, named_span, named_spans, named_rules, named_epps, named_precedences, rule_keys, own_names, key_text, number_with_span, param_pair};
 
 use crate::yacc::Precedence;
+use crate::yacc::name::Name;
+pub use crate::yacc::parser::syntax::Symbol;
 use crate::yacc::parser::syntax::{Alternative, Body, Word};
 pub use crate::yacc::validity_info::ASTWithValidityInfo;
 use cfg_base::span::Span;
@@ -18,19 +23,13 @@ use std::alloc::{AllocError, Global};
 use std::fmt;
 use std::marker::Model;
 
-mod build;
+pub(crate) mod build;
 mod change;
 mod copy;
 mod fresh;
 mod parts;
+pub(crate) mod settle;
 pub mod warnings;
-
-/// A symbol of a production, and where it stands.
-#[derive(Debug, Drop)]
-pub enum Symbol {
-    Rule(String, Span),
-    Token(String, Span),
-}
 
 impl fmt::Display for Symbol {
     ghost use Rattle.std.specs.Prelude.{Some};
@@ -62,13 +61,12 @@ impl Production {
         action: Option<Word>,
         prod_span: Span,
     ) -> Result<Production, AllocError>
-        ensures { IfOk result (λ p. production_of p ≡ production_with symbols precedence action prod_span) }
+        ensures { IfOk result (λ p. production_of p ≡ production_with symbols.items (option_map word_of precedence) action prod_span) }
     {
         let body = Body {
-            symbols: Vec::new(alloc),
-            made: symbols,
+            symbols,
             is_empty: false,
-            precedence,
+            precedence: boxed(alloc, precedence)?,
             action,
             span: prod_span,
         };
@@ -82,10 +80,7 @@ impl Production {
     pub fn symbols(&self) -> &[Symbol]
         ensures { map ast_symbol_of result.now ≡ (production_of self.now).symbols }
     {
-        match &self.kept {
-            Alternative::Blank(_) => &[],
-            Alternative::Body(body) => body.made.as_slice(),
-        }
+        self.kept.symbols()
     }
 
     /// The token of `%prec`.
@@ -93,8 +88,8 @@ impl Production {
         ensures { option_map string_bytes (option_copied result) ≡ (production_of self.now).precedence }
     {
         match &self.kept {
-            Alternative::Blank(_) => None,
-            Alternative::Body(body) => text_of(&body.precedence),
+            Alternative::Body(body) => boxed_text_of(&body.precedence),
+            _ => None,
         }
     }
 
@@ -103,8 +98,8 @@ impl Production {
         ensures { option_map string_bytes (option_copied result) ≡ (production_of self.now).action }
     {
         match &self.kept {
-            Alternative::Blank(_) => None,
             Alternative::Body(body) => text_of(&body.action),
+            _ => None,
         }
     }
 
@@ -113,8 +108,8 @@ impl Production {
         ensures { result ≡ (production_of self.now).action_span }
     {
         match &self.kept {
-            Alternative::Blank(_) => None,
             Alternative::Body(body) => span_of(&body.action),
+            _ => None,
         }
     }
 
@@ -125,8 +120,30 @@ impl Production {
     {
         match &self.kept {
             Alternative::Blank(offset) => Span::new(*offset, *offset),
+            Alternative::Single(single) => single.span,
+            Alternative::Plain(plain) => plain.span,
             Alternative::Body(body) => body.span,
         }
+    }
+}
+
+/// Puts a word in a box, if there is one.
+pub(super) fn boxed(alloc: Global, word: Option<Word>) -> Result<Option<Box<Word>>, AllocError>
+    ensures { IfOk result (λ boxed. option_map boxed_word boxed ≡ option_map word_of word) }
+{
+    match word {
+        Some(word) => Ok(Some(Box::new(alloc, word)?)),
+        None => Ok(None),
+    }
+}
+
+/// The text of a word in a box, if there is one.
+fn boxed_text_of(word: &Option<Box<Word>>) -> Option<&String>
+    ensures { option_map string_bytes (option_copied result) ≡ asts.text_of (option_map boxed_word word.now) }
+{
+    match word {
+        Some(word) => Some(&word.text),
+        None => None,
     }
 }
 
@@ -211,6 +228,20 @@ impl Model for GrammarAST {
     ghost invariant = { λ a. own_names a.rules ≡ rule_keys a.rules };
 }
 
+/// The index of a name in a map, by where the name itself tells to look first.
+fn number_in<V>(names: &IndexMap<String, V>, name: &Name) -> Option<usize>
+    ensures { result ≡ position (bytes_eq (name_text name.now)) (map key_text names.now.entries) }
+{
+    let place = name.place();
+    let text = name.as_str();
+    // `len` is called for its clause that the keys are unique, which the proof cites.
+    let _count = names.len();
+    match names.get_index(place) {
+        Some((key, _value)) if key.as_str() == text => Some(place),
+        _ => names.get_index_of(text),
+    }
+}
+
 impl GrammarAST {
     /// Creates a tree that says nothing but whether its text is valid.
     pub(crate) fn empty(alloc: Global, is_valid: bool) -> GrammarAST
@@ -255,6 +286,20 @@ impl GrammarAST {
         ensures names { own_names result.now ≡ rule_keys result.now }
     {
         &self.rules
+    }
+
+    /// The number of the rule of this name, by where the name itself tells to look first.
+    pub fn rule_number(&self, name: &Name) -> Option<usize>
+        ensures { result ≡ position (bytes_eq (name_text name.now)) (map (λ r. r.name.text) self.now.rules) }
+    {
+        number_in(&self.rules, name)
+    }
+
+    /// The number of the token of this name, by where the name itself tells to look first.
+    pub fn token_number(&self, name: &Name) -> Option<usize>
+        ensures { result ≡ position (bytes_eq (name_text name.now)) (texts self.now.tokens) }
+    {
+        number_in(&self.tokens, name)
     }
 
     /// The productions, in the order of the text, and behind them two for each rule that optional symbols stand for.

@@ -1,13 +1,16 @@
 //! What is wrong with a text that reads.
 
-ghost use Rattle.std.specs.Prelude.{◌≡◌, ◌++◌, ◌∷◌, [], map, OnOk, IfOk};
-ghost use Rattle.cfg_read.specs.SyntaxModels.{words_of, rule_of, syntax_of};
+ghost use Rattle.std.specs.Prelude.{◌≡◌, ◌++◌, ◌∷◌, [], List, OnOk, IfOk};
+ghost use Rattle.cfg_read.specs.SyntaxTexts.{RuleText};
+ghost use Rattle.cfg_read.specs.SyntaxModels.{words_of, syntax_of};
+ghost use Rattle.cfg_read.specs.Settling.{AreUsesOf, uses_of};
+ghost use Rattle.cfg_read.specs.Judging.{with_rules, has_items};
 ghost use Rattle.cfg_read.specs.ErrorModels.{failures_in, kind_of};
-ghost use Rattle.cfg_read.specs.Validity.{failure_at, failures, no_start_rule};
+ghost use Rattle.cfg_read.specs.Validity.{failure_at, failures, no_start_rule, unknown_precs};
 
-use crate::yacc::names::Names;
+use crate::yacc::ast::settle::Uses;
 use crate::yacc::parser::error::YaccGrammarErrorKind;
-use crate::yacc::parser::syntax::{Rule, Syntax, Word};
+use crate::yacc::parser::syntax::{Syntax, Word};
 use cfg_base::header::HeaderError;
 use cfg_base::span::{Span, Spanned, SpansKind};
 use std::alloc::{AllocError, Global};
@@ -16,7 +19,7 @@ use std::fmt;
 use std::fmt::{Display, Formatter, Write};
 
 mod repeated;
-mod unknown;
+pub(crate) mod unknown;
 
 /// What is wrong with a grammar text, and the spans that show it.
 #[derive(Debug, Drop)]
@@ -130,12 +133,12 @@ fn push_no_start(
     alloc: Global,
     errors: &mut Vec<YaccGrammarError>,
     starts: &[Word],
-    rules: &[Rule],
+    has_rules: bool,
 ) -> Result<(), AllocError>
-    ensures { OnOk result (failures_in errors.new.items
-        ≡ failures_in errors.old.items ++ no_start_rule (words_of starts.now) (map rule_of rules.now)) }
+    ensures { (rules : List RuleText) → has_rules ≡ has_items rules → OnOk result (failures_in errors.new.items
+        ≡ failures_in errors.old.items ++ no_start_rule (words_of starts.now) rules) }
 {
-    if starts.is_empty() && rules.is_empty() {
+    if starts.is_empty() && !has_rules {
         push_failure(
             alloc,
             errors,
@@ -146,25 +149,22 @@ fn push_no_start(
     Ok(())
 }
 
-/// Lists all that is wrong with a text that reads, in order: what the conditions on names and declarations say, one
-/// condition after another, for each the spans in the order of the text. The text is valid where nothing is.
-pub fn failures(alloc: Global, x: &Syntax) -> Result<Vec<YaccGrammarError>, AllocError>
-    ensures { IfOk result (λ errors. failures_in errors.items ≡ failures (syntax_of x.now)) }
+/// Lists all that is wrong with a text that reads, but for its rules, which were taken over.
+pub(crate) fn failures_by(
+    alloc: Global,
+    x: &Syntax,
+    uses: &Uses,
+    has_rules: bool,
+    precs: Vec<YaccGrammarError>,
+) -> Result<Vec<YaccGrammarError>, AllocError>
+    ensures { (rules : List RuleText) → has_rules ≡ has_items rules → AreUsesOf (with_rules (syntax_of x.now) rules) (uses_of uses.now)
+        → failures_in precs.items ≡ unknown_precs (with_rules (syntax_of x.now) rules)
+        → IfOk result (λ errors. failures_in errors.items ≡ failures (with_rules (syntax_of x.now) rules)) }
 {
-    let names = Names::of(alloc, x)?;
-    let errors = failures_by(alloc, &names)?;
-    Ok(errors)
-}
-
-/// Lists all that is wrong with a text that reads, by its names.
-pub(crate) fn failures_by(alloc: Global, names: &Names) -> Result<Vec<YaccGrammarError>, AllocError>
-    ensures { IfOk result (λ errors. failures_in errors.items ≡ failures names.now) }
-{
-    let x = names.syntax();
     let mut errors = Vec::new(alloc);
-    push_no_start(alloc, &mut errors, &x.starts, &x.rules)?;
-    unknown::push_unknown_names(alloc, &mut errors, names)?;
-    repeated::push_repeated_words(alloc, &mut errors, names)?;
+    push_no_start(alloc, &mut errors, &x.starts, has_rules)?;
+    unknown::push_unknown_names(alloc, &mut errors, x, uses, precs)?;
+    repeated::push_repeated_words(alloc, &mut errors, x)?;
     repeated::push_repeated_declarations(alloc, &mut errors, x)?;
     Ok(errors)
 }

@@ -1,33 +1,36 @@
 //! Syntax trees of grammar texts, with what is wrong with the texts.
 
-ghost use Rattle.std.specs.Prelude.{◌≡◌, ◌≤◌, ℕ, List, Some, true, false, length, IfOk, IfErr};
+ghost use Rattle.std.specs.Prelude.{◌≡◌, ◌≤◌, ℕ, List, [], Some, true, false, length, IfOk, IfErr, OnOk};
 ghost use Rattle.cfg_base.specs.Sections.{PairText};
 ghost use Rattle.cfg_read.specs.declared.yacc.YaccKind.{YaccKind};
 ghost use Rattle.cfg_read.specs.SyntaxModels.{syntax_of};
-ghost use Rattle.cfg_read.specs.AstModels.{named_rules};
-ghost use Rattle.cfg_read.specs.Asts.{no_ast, ast_of};
-ghost use Rattle.cfg_read.specs.AstBuild.{with_words_of};
+ghost use Rattle.cfg_read.specs.AstModels.{named_rules, named_spans};
+ghost use Rattle.cfg_read.specs.NameTables.{known_before};
+ghost use Rattle.cfg_read.specs.Settling.{uses_of};
+ghost use Rattle.cfg_read.specs.Judging.{IsJudged, with_rules};
+ghost use Rattle.cfg_read.specs.Asts.{ast_of};
 ghost use Rattle.cfg_read.specs.Validity.{FailureText, failures};
 ghost use Rattle.cfg_read.specs.ErrorModels.{failures_in};
 ghost use Rattle.cfg_read.specs.Files.{HasSection, FailsFile, TellsKind, LacksKind, IsFailure};
 ghost use Rattle.cfg_read.specs.WellFormedAst.{IsWellFormedAst, NamesAreWords};
 ghost use Rattle.cfg_read.specs.ValidityInfo.{CheckedAst, is_valid, read_as, unread, IsChecked, heading_at, starts_at, ChangesStart, IsChangeError, HeadingsAreWords, IsWellMade};
 
-use crate::yacc::YaccKind;
-use crate::yacc::ast::{GrammarAST, Rule};
+use crate::yacc::ast::settle::{Uses, all_settled};
+use crate::yacc::ast::{GrammarAST, Rule, build};
 use crate::yacc::file::{
     YaccGrammarFailure, YaccGrammarResult, kind_in, one_file, read_rest, read_section,
 };
-use crate::yacc::names::Names;
+use crate::yacc::name::NameSet;
 use crate::yacc::parser::syntax::Syntax;
-use crate::yacc::validity::{YaccGrammarError, copy_errors, failures_by};
+use crate::yacc::validity::{YaccGrammarError, copy_errors, failures_by, unknown};
+use crate::yacc::{YaccKind, names};
 use cfg_base::span::Span;
 use indexmap::IndexMap;
 use std::alloc::{AllocError, Global};
 use std::error::Error;
-use std::fmt;
 use std::fmt::{Display, Formatter, Write};
 use std::marker::Model;
+use std::{fmt, mem};
 
 /// Why a syntax tree isn't changed.
 #[derive(Debug, Drop)]
@@ -90,14 +93,55 @@ impl Model for ASTWithValidityInfo {
     ghost invariant = { λ c. IsWellMade (record { kind = c.yacc_kind; ast = c.ast; errors = failures_in c.errors.items }) };
 }
 
-/// Makes the tree of a text that reads, but for what `take_words` puts in, and lists its failures.
-fn judge(alloc: Global, x: &Syntax) -> Result<(GrammarAST, Vec<YaccGrammarError>), AllocError>
-    ensures errors { IfOk result (λ r. failures_in r.1.items ≡ failures (syntax_of x.now)) }
-    ensures ast { IfOk result (λ r. r.0 ≡ with_words_of no_ast (ast_of (is_valid (failures_in r.1.items)) (syntax_of x.now))) }
+/// What is known of a text before its alternatives.
+fn uses_before(alloc: Global, x: &mut Syntax) -> Result<Uses, AllocError>
+    ensures same { syntax_of x.new ≡ syntax_of x.old }
+    ensures known { IfOk result (λ u. uses_of u ≡ record { known = known_before (syntax_of x.old); unknown = []; fresh = [] }) }
 {
-    let names = Names::of(alloc, x)?;
-    let errors = failures_by(alloc, &names)?;
-    let ast = GrammarAST::of_syntax(alloc, &names, none_of(&errors))?;
+    let names = mem::replace(&mut x.names, NameSet::new(alloc));
+    let table = names::table_of(alloc, names, x)?;
+    Ok(Uses::of(alloc, table))
+}
+
+/// The tokens, taken over.
+fn tokens_in(uses: Uses) -> IndexMap<String, Span>
+    ensures { named_spans result ≡ (uses_of uses).known.tokens }
+{
+    uses.table.into_tokens()
+}
+
+/// Puts the rules of a text into its tree, and lists the failures of the text.
+fn take_rules(
+    alloc: Global,
+    ast: &mut GrammarAST,
+    x: &mut Syntax,
+    uses: &mut Uses,
+) -> Result<Vec<YaccGrammarError>, AllocError>
+    requires { uses_of uses.old ≡ record { known = known_before (syntax_of x.old); unknown = []; fresh = [] } }
+    ensures errors { IfOk result (λ errors. failures_in errors.items ≡ failures (syntax_of x.old)) }
+    ensures rules { OnOk result (IsJudged (syntax_of x.old) (uses_of uses.new) ast.old ast.new) }
+    ensures rest { OnOk result (syntax_of x.new ≡ with_rules (syntax_of x.old) []) }
+{
+    all_settled();
+    let precs = unknown::unknown_precs(alloc, x)?;
+    let heads = build::heads(alloc, &x.rules)?;
+    let rules = mem::replace(&mut x.rules, Vec::new(alloc));
+    let prods = uses.productions(alloc, rules)?;
+    let errors = failures_by(alloc, x, uses, !heads.is_empty(), precs)?;
+    ast.fill_prods(alloc, prods, &heads, &uses.fresh)?;
+    Ok(errors)
+}
+
+/// Makes the tree of a text that reads, and lists its failures.
+fn judged(alloc: Global, mut x: Syntax) -> Result<(GrammarAST, Vec<YaccGrammarError>), AllocError>
+    ensures errors { IfOk result (λ r. failures_in r.1.items ≡ failures (syntax_of x)) }
+    ensures ast { IfOk result (λ r. r.0 ≡ ast_of (is_valid (failures_in r.1.items)) (syntax_of x)) }
+{
+    let mut uses = uses_before(alloc, &mut x)?;
+    let mut ast = GrammarAST::of_syntax(alloc, &x, uses.table.rules_len())?;
+    let errors = take_rules(alloc, &mut ast, &mut x, &mut uses)?;
+    ast.set_tokens(tokens_in(uses), none_of(&errors));
+    ast.take_words(alloc, x)?;
     Ok((ast, errors))
 }
 
@@ -111,8 +155,7 @@ impl ASTWithValidityInfo {
         requires { HeadingsAreWords (syntax_of x) }
         ensures { IfOk result (λ c. c ≡ read_as yacc_kind (syntax_of x)) }
     {
-        let (mut ast, errors) = judge(alloc, &x)?;
-        ast.take_words(alloc, x)?;
+        let (ast, errors) = judged(alloc, x)?;
         Ok(ASTWithValidityInfo {
             yacc_kind,
             ast,

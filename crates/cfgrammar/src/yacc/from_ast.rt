@@ -92,7 +92,7 @@ fn of_tree<S: IndexStorage>(
 {
     let rules = info::rules(alloc, ast, implicit)?;
     let tokens = info::tokens(alloc, ast)?;
-    let prods = productions::all(alloc, ast, implicit)?;
+    let prods = productions::all(alloc, ast, &tokens, implicit)?;
     let kept = info::kept(ast, implicit)?;
     let start = PIdx(index_of(ast.prods().len()));
     NumberedGrammar::of_parts(alloc, rules, tokens, prods, start, kept)

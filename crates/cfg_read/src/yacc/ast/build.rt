@@ -1,47 +1,51 @@
 //! Makes a syntax tree from what a text says.
 
-ghost use Rattle.std.specs.Prelude.{◌≡◌, true, ◌++◌, [], map, fold, option_map, IfOk, OnOk, OnErr};
+ghost use Rattle.std.specs.Prelude.{◌≡◌, ◌+◌, ◌-◌, ◌≤◌, ◌^◌, true, ◌++◌, [], length, replicate, map, fold, option_map, IfOk, OnOk, OnErr};
 ghost use Rattle.std.specs.List.{flat_map};
 ghost use Rattle.std.specs.Option.{option_or};
 ghost use Rattle.std.specs.String.{string_bytes};
-ghost use Rattle.cfg_read.specs.Asts.{first_item, last_text, text_of, param_texts, expected_ast, heads_in, fresh_heads, productions_in, productions_of, start_of, rule_ast, no_ast, ast_of};
+ghost use Rattle.cfg_read.specs.Asts.{first_item, last_text, text_of, param_texts, expected_ast, heads_in, start_of, no_ast, ast_of};
 ghost use Rattle.cfg_read.specs.AstModels.{ast_symbol_of, production_of, named_span, named_spans, named_rules, rule_entry_of, rule_keys, own_names, number_with_span, param_pair};
-ghost use Rattle.cfg_read.specs.Names.{is_among, declared_tokens, tokens_of};
 ghost use Rattle.cfg_read.specs.Validity.{expected_symbols};
 ghost use Rattle.cfg_read.specs.SyntaxModels.{word_of, boxed_word, words_of, symbol_of, param_of, rule_of, number_text, syntax_of};
-ghost use Rattle.cfg_read.specs.NameModels.{symbols_at, named_fresh};
-ghost use Rattle.cfg_read.specs.FreshRules.{fresh_of, rule_words};
-ghost use Rattle.cfg_read.specs.AstBuild.{headed, blank_headings, fresh_rule, with_first, with_numbers, names_at, with_heads_of, with_spans_of, with_parts_of, with_words_of, with_expected_of};
+ghost use Rattle.cfg_read.specs.NameModels.{symbols_at};
+ghost use Rattle.cfg_read.specs.Settling.{named_fresh};
+ghost use Rattle.cfg_read.specs.Judging.{heads_of, with_numbers_at, count_up, both_heads, with_headings_of, with_productions_of, with_tokens, with_lines_of};
+ghost use Rattle.cfg_read.specs.AstBuild.{headed, with_first, with_parts_of, with_expected_of};
 ghost use Rattle.cfg_read.specs.AstChanges.{with_number};
 
+use super::settle::Fresh;
 use super::{GrammarAST, Production, Rule, Symbol, fresh, parts};
-use crate::yacc::names::{self, Names};
-use crate::yacc::parser::syntax::{self, Number, Param, Syntax, Word};
+use crate::yacc::names;
+use crate::yacc::parser::syntax::{self, Epp, Level, Line, Number, Param, Syntax, Word};
 use cfg_base::span::Span;
 use indexmap::IndexMap;
 use std::alloc::{AllocError, Global};
-use std::mem;
+use std::rc::RcStr;
 
-/// A word's text, with its span.
-fn to_named(word: Option<&Word>) -> Result<Option<(String, Span)>, AllocError>
-    ensures { IfOk result (λ named. option_map named_span named ≡ option_map (λ w. word_of w.now) word.entry) }
+/// The first heading.
+fn first_heading(
+    alloc: Global,
+    rules: &[syntax::Rule],
+) -> Result<Option<(String, Span)>, AllocError>
+    ensures { IfOk result (λ named. option_map named_span named ≡ first_item (map (λ r. r.name) (map rule_of rules.now))) }
 {
-    match word {
-        Some(word) => Ok(Some((word.text.clone()?, word.span))),
+    match rules.first() {
+        Some(rule) => {
+            let name = String::from_str(alloc, rule.name.as_str())?;
+            Ok(Some((name, rule.span)))
+        }
         None => Ok(None),
     }
 }
 
 /// The first `%start`, else the first heading.
-fn start_word(x: &Syntax) -> Option<&Word>
-    ensures { option_map (λ w. word_of w.now) result ≡ start_of (syntax_of x.now) }
+fn start_word(alloc: Global, x: &Syntax) -> Result<Option<(String, Span)>, AllocError>
+    ensures { IfOk result (λ named. option_map named_span named ≡ start_of (syntax_of x.now)) }
 {
     match x.starts.first() {
-        Some(word) => Some(word),
-        None => match x.rules.first() {
-            Some(rule) => Some(&rule.name),
-            None => None,
-        },
+        Some(word) => Ok(Some((word.text.clone()?, word.span))),
+        None => first_heading(alloc, &x.rules),
     }
 }
 
@@ -70,20 +74,20 @@ fn to_param(param: &Option<Param>) -> Result<Option<(String, String)>, AllocErro
 }
 
 /// A symbol of `%expect-unused`: a token where it is quoted, else a rule.
-fn to_expected(symbol: &syntax::Symbol) -> Result<Symbol, AllocError>
+fn to_expected(symbol: &Symbol) -> Result<Symbol, AllocError>
     ensures { IfOk result (λ s. ast_symbol_of s ≡ expected_ast (symbol_of symbol.now)) }
 {
-    let text = symbol.word.text.clone()?;
-    let span = symbol.word.span;
-    if symbol.is_quoted {
-        Ok(Symbol::Token(text, span))
+    let name = symbol.name().plain()?;
+    let span = symbol.span();
+    if symbol.is_quoted() {
+        Ok(Symbol::Token(name, span))
     } else {
-        Ok(Symbol::Rule(text, span))
+        Ok(Symbol::Rule(name, span))
     }
 }
 
 /// These symbols of `%expect-unused`.
-fn to_all_expected(alloc: Global, symbols: &[&syntax::Symbol]) -> Result<Vec<Symbol>, AllocError>
+fn to_all_expected(alloc: Global, symbols: &[&Symbol]) -> Result<Vec<Symbol>, AllocError>
     ensures { IfOk result (λ made. map ast_symbol_of made.items ≡ map expected_ast (symbols_at symbols.now)) }
 {
     let mut made = Vec::new(alloc);
@@ -101,39 +105,6 @@ fn expected(alloc: Global, x: &Syntax) -> Result<Vec<Symbol>, AllocError>
     let symbols = names::line_symbols(alloc, &x.expect_unused)?;
     let made = to_all_expected(alloc, &symbols)?;
     Ok(made)
-}
-
-/// The grammar's tokens, each with the span of its first appearance.
-fn tokens(alloc: Global, names: &Names) -> Result<IndexMap<String, Span>, AllocError>
-    ensures { IfOk result (λ spans. named_spans spans ≡ tokens_of names.now) }
-{
-    parts::first_spans(alloc, names.token_words(), names.tokens().len())
-}
-
-/// The productions of these rules, in the order of the text, where a text declares tokens, and behind them the fresh ones.
-fn prods(
-    alloc: Global,
-    x: &Syntax,
-    rules: Vec<syntax::Rule>,
-    fresh: Vec<Production>,
-) -> Result<Vec<Production>, AllocError>
-    ensures { IfOk result (λ made. map production_of made.items
-        ≡ flat_map (productions_in (is_among (declared_tokens (syntax_of x.now)))) (map rule_of rules.items) ++ map production_of fresh.items) }
-{
-    let declared = names::declared_names(alloc, x)?;
-    let mut made = parts::productions(alloc, rules, &declared)?;
-    parts::push_all(&mut made, fresh)?;
-    Ok(made)
-}
-
-/// All productions of a text, for which it gives its rules.
-fn take_prods(alloc: Global, mut x: Syntax) -> Result<Vec<Production>, AllocError>
-    ensures { IfOk result (λ made. map production_of made.items ≡ productions_of (syntax_of x)) }
-{
-    let fresh = fresh::fresh_prods(alloc, &x)?;
-    let rules = mem::replace(&mut x.rules, Vec::new(alloc));
-    let prods = prods(alloc, &x, rules, fresh)?;
-    Ok(prods)
 }
 
 /// The type of a rule's actions: its own, else the one for all rules.
@@ -162,10 +133,10 @@ fn to_rule(alloc: Global, rule: &syntax::Rule, shared: Option<&Word>) -> Result<
     ensures { IfOk result (λ made. rule_entry_of made
         ≡ headed (text_of (option_map (λ w. word_of w.now) shared.entry)) (rule_of rule.now)) }
 {
-    let name = rule.name.text.clone()?;
+    let name = String::from_str(alloc, rule.name.as_str())?;
     let actiont = to_type(&rule.action_type, shared)?;
     Ok(Rule {
-        name: (name, rule.name.span),
+        name: (name, rule.span),
         pidxs: Vec::new(alloc),
         actiont,
     })
@@ -183,8 +154,9 @@ fn insert_heading(
         ≡ with_first (named_rules rules.old) (headed (text_of (option_map (λ w. word_of w.now) shared.entry)) (rule_of rule.now))) }
     ensures names { own_names rules.new ≡ rule_keys rules.new }
 {
-    if !rules.contains_key(rule.name.text.as_str()) {
-        let key = rule.name.text.clone()?;
+    let name = rule.name.as_str();
+    if !rules.contains_key(name) {
+        let key = String::from_str(alloc, name)?;
         let new = to_rule(alloc, rule, shared)?;
         rules.insert(key, new)?;
     }
@@ -209,41 +181,6 @@ fn headed_rules(
     Ok(rules)
 }
 
-/// Puts the rule's name behind the others, once for each alternative.
-fn push_heads<'a>(heads: &mut Vec<&'a String>, rule: &'a syntax::Rule) -> Result<(), AllocError>
-    ensures { OnOk result (names_at heads.new.items ≡ names_at heads.old.items ++ heads_in (rule_of rule.now)) }
-{
-    'alternatives: for _alternative in &rule.alternatives {
-        heads.push(&rule.name.text)?;
-    }
-    Ok(())
-}
-
-/// For each production the name of its rule.
-fn heads<'a>(alloc: Global, rules: &'a [syntax::Rule]) -> Result<Vec<&'a String>, AllocError>
-    ensures { IfOk result (λ heads. names_at heads.items ≡ flat_map heads_in (map rule_of rules.now)) }
-{
-    let mut heads = Vec::with_capacity(alloc, parts::room_for(rules))?;
-    'rules: for rule in rules {
-        push_heads(&mut heads, rule)?;
-    }
-    Ok(heads)
-}
-
-/// For each production the name of its rule, the fresh ones behind those of the file.
-fn all_heads<'a>(
-    alloc: Global,
-    rules: &'a [syntax::Rule],
-    fresh: &'a IndexMap<String, (Span, &syntax::Symbol)>,
-) -> Result<Vec<&'a String>, AllocError>
-    ensures { IfOk result (λ heads. names_at heads.items
-        ≡ flat_map heads_in (map rule_of rules.now) ++ flat_map fresh_heads (named_fresh fresh.now)) }
-{
-    let mut heads = heads(alloc, rules)?;
-    fresh::push_fresh_heads(&mut heads, fresh)?;
-    Ok(heads)
-}
-
 /// Gives the rule of this name one more production.
 pub(super) fn push_number(
     rules: &mut IndexMap<String, Rule>,
@@ -264,122 +201,168 @@ pub(super) fn push_number(
     }
 }
 
-/// Gives the rules the numbers of their productions.
-fn number_rules(rules: &mut IndexMap<String, Rule>, heads: &[&String]) -> Result<(), AllocError>
-    requires { own_names rules.old ≡ rule_keys rules.old }
-    ensures rules { OnOk result (named_rules rules.new ≡ map (with_numbers (names_at heads.now)) (named_rules rules.old)) }
+/// Gives the rule of this name the productions from one up to another, so many.
+pub(super) fn push_numbers(
+    rules: &mut IndexMap<String, Rule>,
+    name: &str,
+    start: usize,
+    count: usize,
+) -> Result<(), AllocError>
+    requires names { own_names rules.old ≡ rule_keys rules.old }
+    requires fits { start + count ≤ 2 ^ 64 - 1 }
+    ensures rules { OnOk result (named_rules rules.new ≡ map (with_numbers_at start (replicate count name.now)) (named_rules rules.old)) }
     ensures names { own_names rules.new ≡ rule_keys rules.new }
 {
-    let mut number = 0usize;
-    'heads: for name in heads {
-        push_number(rules, name.as_str(), number)?;
-        number += 1;
+    match rules.get_index_of(name) {
+        Some(index) => {
+            push_range(&mut rules[index].pidxs, start, count)?;
+            Ok(())
+        }
+        None => Ok(()),
+    }
+}
+
+/// Puts so many numbers behind the others, from one on.
+fn push_range(numbers: &mut Vec<usize>, start: usize, count: usize) -> Result<(), AllocError>
+    requires { start + count ≤ 2 ^ 64 - 1 }
+    ensures { OnOk result (numbers.new.items ≡ numbers.old.items ++ count_up start count) }
+{
+    numbers.reserve_exact(count)?;
+    'numbers: for number in start..start + count {
+        numbers.push(number)?;
     }
     Ok(())
 }
 
-/// The rules of a text without their productions, the fresh ones behind those of headings, in a map with room for so many of
-/// headings.
-fn blank_rules(
-    alloc: Global,
-    x: &Syntax,
-    fresh: &IndexMap<String, (Span, &syntax::Symbol)>,
-    room: usize,
-) -> Result<IndexMap<String, Rule>, AllocError>
-    ensures rules { IfOk result (λ rules. named_rules rules
-        ≡ fold with_first (blank_headings (syntax_of x.now)) (map fresh_rule (map (λ f. f.word) (named_fresh fresh.now)))) }
-    ensures names { IfOk result (λ rules. own_names rules ≡ rule_keys rules) }
-{
-    let shared = shared_type(&x.action_types);
-    let mut rules = headed_rules(alloc, &x.rules, shared, room)?;
-    fresh::insert_fresh_rules(alloc, &mut rules, fresh)?;
-    Ok(rules)
+/// A heading, and how many alternatives stand behind it.
+#[derive(Drop)]
+pub(crate) struct Head {
+    name: RcStr,
+    count: usize,
 }
 
-/// Gives the rules of these headings and the fresh ones the numbers of their productions.
-fn number_all(
-    alloc: Global,
-    rules: &mut IndexMap<String, Rule>,
-    headings: &[syntax::Rule],
-    fresh: &IndexMap<String, (Span, &syntax::Symbol)>,
-) -> Result<(), AllocError>
-    requires { own_names rules.old ≡ rule_keys rules.old }
-    ensures rules { OnOk result (named_rules rules.new
-        ≡ map (with_numbers (flat_map heads_in (map rule_of headings.now) ++ flat_map fresh_heads (named_fresh fresh.now))) (named_rules rules.old)) }
+/// The headings of rules.
+pub(crate) fn heads(alloc: Global, rules: &[syntax::Rule]) -> Result<Vec<Head>, AllocError>
+    ensures heads { IfOk result (λ heads. heads_of heads.items ≡ flat_map heads_in (map rule_of rules.now)) }
+    ensures count { IfOk result (λ heads. length heads.items ≡ length rules.now) }
+{
+    let mut heads = Vec::with_capacity(alloc, rules.len())?;
+    'rules: for rule in rules {
+        let name = rule.name.text()?;
+        heads.push(Head {
+            name,
+            count: rule.alternatives.len(),
+        })?;
+    }
+    Ok(heads)
+}
+
+/// Gives the rules of these headings the numbers of their productions, and answers how many there are.
+fn number_headings(rules: &mut IndexMap<String, Rule>, heads: &[Head]) -> Result<usize, AllocError>
+    requires names { own_names rules.old ≡ rule_keys rules.old }
+    requires fits { length (heads_of heads.now) ≤ 2 ^ 64 - 1 }
+    ensures count { IfOk result (λ n. n ≡ length (heads_of heads.now)) }
+    ensures rules { OnOk result (named_rules rules.new ≡ map (with_numbers_at 0 (heads_of heads.now)) (named_rules rules.old)) }
     ensures names { own_names rules.new ≡ rule_keys rules.new }
 {
-    let heads = all_heads(alloc, headings, fresh)?;
-    number_rules(rules, &heads)?;
+    let mut number = 0usize;
+    'headings: for head in heads {
+        push_numbers(rules, head.name.as_str(), number, head.count)?;
+        number += head.count;
+    }
+    Ok(number)
+}
+
+/// Gives the fresh rules the numbers of their productions, from one on.
+fn number_fresh(
+    rules: &mut IndexMap<String, Rule>,
+    fresh: &IndexMap<String, Fresh>,
+    start: usize,
+) -> Result<(), AllocError>
+    requires names { own_names rules.old ≡ rule_keys rules.old }
+    requires fits { start + length (flat_map both_heads (named_fresh fresh.now)) ≤ 2 ^ 64 - 1 }
+    ensures rules { OnOk result (named_rules rules.new ≡ map (with_numbers_at start (flat_map both_heads (named_fresh fresh.now))) (named_rules rules.old)) }
+    ensures names { own_names rules.new ≡ rule_keys rules.new }
+{
+    let mut number = start;
+    'fresh: for (name, _entry) in fresh {
+        push_numbers(rules, name.as_str(), number, 2)?;
+        number += 2;
+    }
     Ok(())
 }
 
-/// The rules of a text and these fresh ones, each with the numbers of its productions, in a map with room for so many of
-/// headings.
-fn numbered_rules(
-    alloc: Global,
-    x: &Syntax,
-    fresh: &IndexMap<String, (Span, &syntax::Symbol)>,
-    room: usize,
-) -> Result<IndexMap<String, Rule>, AllocError>
-    ensures rules { IfOk result (λ rules. named_fresh fresh.now ≡ fresh_of (syntax_of x.now) → named_rules rules ≡ map (rule_ast (syntax_of x.now)) (rule_words (syntax_of x.now))) }
-    ensures names { IfOk result (λ rules. own_names rules ≡ rule_keys rules) }
+/// The lines of precedences, of `%avoid_insert` and of `%implicit_tokens`, and the printed texts.
+fn lines_in(x: Syntax) -> (Vec<Level>, Vec<Line>, Vec<Line>, Vec<Epp>)
+    ensures levels { result.0 ≡ x.levels }
+    ensures avoided { result.1 ≡ x.avoid_insert }
+    ensures implicit { result.2 ≡ x.implicit_tokens }
+    ensures texts { result.3 ≡ x.epp }
 {
-    let mut rules = blank_rules(alloc, x, fresh, room)?;
-    number_all(alloc, &mut rules, &x.rules, fresh)?;
-    Ok(rules)
-}
-
-/// The rules, each with the numbers of its productions, in a map with room for so many of headings.
-fn rules(alloc: Global, x: &Syntax, room: usize) -> Result<IndexMap<String, Rule>, AllocError>
-    ensures rules { IfOk result (λ rules. named_rules rules ≡ map (rule_ast (syntax_of x.now)) (rule_words (syntax_of x.now))) }
-    ensures names { IfOk result (λ rules. own_names rules ≡ rule_keys rules) }
-{
-    let fresh = fresh::fresh_of(alloc, x)?;
-    let rules = numbered_rules(alloc, x, &fresh, room)?;
-    Ok(rules)
+    let Syntax {
+        levels,
+        avoid_insert,
+        implicit_tokens,
+        epp,
+        ..
+    } = x;
+    (levels, avoid_insert, implicit_tokens, epp)
 }
 
 impl GrammarAST {
-    /// Puts in the start rule and the rules of a text.
-    fn fill_rules(&mut self, alloc: Global, names: &Names) -> Result<(), AllocError>
-        ensures { OnOk result (self.new ≡ with_heads_of (ast_of true names.now) self.old) }
+    /// Puts in the start rule and the rules of a text, without their productions.
+    fn fill_rules(&mut self, alloc: Global, x: &Syntax, room: usize) -> Result<(), AllocError>
+        ensures { OnOk result (self.new ≡ with_headings_of (syntax_of x.now) self.old) }
     {
-        let x = names.syntax();
-        let start = to_named(start_word(x))?;
-        let rules = rules(alloc, x, names.rules().len())?;
+        let start = start_word(alloc, x)?;
+        let rules = headed_rules(alloc, &x.rules, shared_type(&x.action_types), room)?;
         self.start = start;
         self.rules = rules;
         Ok(())
     }
 
-    /// Takes over the words of a text for the productions, the precedences, the tokens of `%avoid_insert` and of
-    /// `%implicit_tokens`, and the printed texts.
-    pub(crate) fn take_words(&mut self, alloc: Global, mut x: Syntax) -> Result<(), AllocError>
-        ensures { OnOk result (self.new ≡ with_words_of (ast_of true (syntax_of x)) self.old) }
+    /// Puts in the productions and the fresh rules, and gives the rules the numbers of their productions.
+    pub(crate) fn fill_prods(
+        &mut self,
+        alloc: Global,
+        prods: Vec<Production>,
+        heads: &[Head],
+        fresh: &IndexMap<String, Fresh>,
+    ) -> Result<(), AllocError>
+        requires { length (heads_of heads.now) ≡ length prods.items }
+        ensures { OnOk result (self.new ≡ with_productions_of (map production_of prods.items) (heads_of heads.now) (named_fresh fresh.now) self.old) }
     {
-        let levels = mem::replace(&mut x.levels, Vec::new(alloc));
-        let avoided = mem::replace(&mut x.avoid_insert, Vec::new(alloc));
-        let implicit = mem::replace(&mut x.implicit_tokens, Vec::new(alloc));
-        let texts = mem::replace(&mut x.epp, Vec::new(alloc));
-        let prods = take_prods(alloc, x)?;
-        let precs = parts::first_precedences(alloc, levels)?;
-        let avoid_insert = parts::take_spans(alloc, avoided)?;
-        let implicit_tokens = parts::take_spans(alloc, implicit)?;
-        let epp = parts::first_epps(alloc, texts)?;
+        let more = fresh::fresh_productions(alloc, fresh)?;
         self.prods = prods;
+        parts::push_all(&mut self.prods, more)?;
+        fresh::insert_fresh_rules(alloc, &mut self.rules, fresh)?;
+        let number = number_headings(&mut self.rules, heads)?;
+        number_fresh(&mut self.rules, fresh, number)?;
+        Ok(())
+    }
+
+    /// Puts in the tokens.
+    pub(crate) fn set_tokens(&mut self, tokens: IndexMap<String, Span>, is_valid: bool)
+        ensures { self.new ≡ with_tokens (named_spans tokens) is_valid self.old }
+    {
+        self.tokens = tokens;
+        self.is_valid = is_valid;
+    }
+
+    /// Takes over what a text says of precedences, of the tokens of `%avoid_insert` and of `%implicit_tokens`, and of printed
+    /// texts.
+    pub(crate) fn take_words(&mut self, alloc: Global, x: Syntax) -> Result<(), AllocError>
+        ensures { OnOk result (self.new ≡ with_lines_of (ast_of true (syntax_of x)) self.old) }
+    {
+        let (levels, avoid_insert, implicit_tokens, epp) = lines_in(x);
+        let precs = parts::first_precedences(alloc, levels)?;
+        let avoid_insert = parts::take_spans(alloc, avoid_insert)?;
+        let implicit_tokens = parts::take_spans(alloc, implicit_tokens)?;
+        let epp = parts::first_epps(alloc, epp)?;
         self.precs = precs;
         self.avoid_insert = avoid_insert;
         self.implicit_tokens = implicit_tokens;
         self.epp = epp;
-        Ok(())
-    }
-
-    /// Puts in the tokens of a text.
-    fn fill_tokens(&mut self, alloc: Global, names: &Names) -> Result<(), AllocError>
-        ensures { OnOk result (self.new ≡ with_spans_of (ast_of true names.now) self.old) }
-    {
-        let tokens = tokens(alloc, names)?;
-        self.tokens = tokens;
         Ok(())
     }
 
@@ -407,29 +390,18 @@ impl GrammarAST {
         Ok(())
     }
 
-    /// Puts in all that a text says, but for what `take_words` puts in.
-    fn fill(&mut self, alloc: Global, names: &Names) -> Result<(), AllocError>
-        ensures { OnOk result (self.new ≡ with_words_of self.old (ast_of self.old.is_valid names.now)) }
-    {
-        let x = names.syntax();
-        self.fill_rules(alloc, names)?;
-        self.fill_tokens(alloc, names)?;
-        self.fill_texts(alloc, x)?;
-        self.fill_expected(alloc, x)?;
-        Ok(())
-    }
-
-    /// Makes the tree of what a text says, by its names, but for what `take_words` puts in. `is_valid` tells whether the
-    /// text is valid.
+    /// Makes the tree of what a text says, but for its productions and tokens.
     pub(crate) fn of_syntax(
         alloc: Global,
-        names: &Names,
-        is_valid: bool,
+        x: &Syntax,
+        room: usize,
     ) -> Result<GrammarAST, AllocError>
-        ensures { IfOk result (λ a. a ≡ with_words_of no_ast (ast_of is_valid names.now)) }
+        ensures { IfOk result (λ a. a ≡ with_expected_of (ast_of true (syntax_of x.now)) (with_parts_of (ast_of true (syntax_of x.now)) (with_headings_of (syntax_of x.now) no_ast))) }
     {
-        let mut tree = GrammarAST::empty(alloc, is_valid);
-        tree.fill(alloc, names)?;
+        let mut tree = GrammarAST::empty(alloc, false);
+        tree.fill_rules(alloc, x, room)?;
+        tree.fill_texts(alloc, x)?;
+        tree.fill_expected(alloc, x)?;
         Ok(tree)
     }
 }

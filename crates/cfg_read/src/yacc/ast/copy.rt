@@ -2,13 +2,13 @@
 
 ghost use Rattle.std.specs.Prelude.{◌≡◌, map, option_map, IfOk, OnOk};
 ghost use Rattle.std.specs.String.{string_bytes};
-ghost use Rattle.cfg_read.specs.AstModels.{ast_symbol_of, body_of, production_of, named_span, param_pair, named_spans, named_rules, named_epps, named_precedences, rule_keys, own_names};
-ghost use Rattle.cfg_read.specs.SyntaxModels.{word_of};
+ghost use Rattle.cfg_read.specs.AstModels.{ast_symbol_of, production_of, named_span, param_pair, named_spans, named_rules, named_epps, named_precedences, rule_keys, own_names};
+ghost use Rattle.cfg_read.specs.SyntaxModels.{word_of, boxed_word};
 ghost use Rattle.cfg_read.specs.AstBuild.{with_rules_of, with_tokens_of, with_texts_of, with_expected_of};
 
 use super::{GrammarAST, Production, Rule, Symbol};
 use crate::yacc::Precedence;
-use crate::yacc::parser::syntax::{Alternative, Body, Word};
+use crate::yacc::parser::syntax::{Alternative, Body, Plain, Single, Word};
 use cfg_base::span::Span;
 use indexmap::IndexMap;
 use std::alloc::{AllocError, Global};
@@ -53,16 +53,71 @@ fn copy_word(word: &Option<Word>) -> Result<Option<Word>, AllocError>
     }
 }
 
-/// Copies a production in which this stands.
-fn copy_body(body: &Body) -> Result<Production, AllocError>
-    ensures { IfOk result (λ copy. production_of copy ≡ body_of body.now) }
+/// Copies a word in a box, if there is one.
+fn copy_boxed(alloc: Global, word: &Option<Box<Word>>) -> Result<Option<Box<Word>>, AllocError>
+    ensures { IfOk result (λ copy. option_map boxed_word copy ≡ option_map boxed_word word.now) }
 {
-    let alloc = *body.made.allocator();
-    let symbols = body.made.clone()?;
-    let precedence = copy_word(&body.precedence)?;
-    let action = copy_word(&body.action)?;
-    let copy = Production::new(alloc, symbols, precedence, action, body.span)?;
-    Ok(copy)
+    match word {
+        Some(word) => {
+            let text = word.text.clone()?;
+            let copy = Word {
+                text,
+                span: word.span,
+            };
+            Ok(Some(Box::new(alloc, copy)?))
+        }
+        None => Ok(None),
+    }
+}
+
+impl Clone for Single {
+    ghost use Rattle.std.specs.Prelude.{◌≡◌};
+    ghost use Rattle.cfg_read.specs.AstModels.{single_of};
+
+    ghost is_clone = { λ s t. single_of t ≡ single_of s };
+
+    fn clone(&self) -> Result<Single, AllocError> {
+        let symbols = [self.symbols[0].clone()?];
+        Ok(Single {
+            symbols,
+            span: self.span,
+        })
+    }
+}
+
+impl Clone for Plain {
+    ghost use Rattle.std.specs.Prelude.{◌≡◌};
+    ghost use Rattle.cfg_read.specs.AstModels.{plain_of};
+
+    ghost is_clone = { λ s t. plain_of t ≡ plain_of s };
+
+    fn clone(&self) -> Result<Plain, AllocError> {
+        let symbols = self.symbols.clone()?;
+        Ok(Plain {
+            symbols,
+            span: self.span,
+        })
+    }
+}
+
+impl Clone for Body {
+    ghost use Rattle.std.specs.Prelude.{◌≡◌};
+    ghost use Rattle.cfg_read.specs.AstModels.{body_of};
+
+    ghost is_clone = { λ s t. body_of t ≡ body_of s };
+
+    fn clone(&self) -> Result<Body, AllocError> {
+        let symbols = self.symbols.clone()?;
+        let precedence = copy_boxed(*self.symbols.allocator(), &self.precedence)?;
+        let action = copy_word(&self.action)?;
+        Ok(Body {
+            symbols,
+            is_empty: self.is_empty,
+            precedence,
+            action,
+            span: self.span,
+        })
+    }
 }
 
 impl Clone for Production {
@@ -76,10 +131,15 @@ impl Clone for Production {
             Alternative::Blank(offset) => Ok(Production {
                 kept: Alternative::Blank(*offset),
             }),
-            Alternative::Body(body) => {
-                let copy = copy_body(body)?;
-                Ok(copy)
-            }
+            Alternative::Single(single) => Ok(Production {
+                kept: Alternative::Single(single.clone()?),
+            }),
+            Alternative::Plain(plain) => Ok(Production {
+                kept: Alternative::Plain(plain.clone()?),
+            }),
+            Alternative::Body(body) => Ok(Production {
+                kept: Alternative::Body(body.clone()?),
+            }),
         }
     }
 }

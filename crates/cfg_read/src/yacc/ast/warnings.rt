@@ -84,8 +84,8 @@ fn insert_rules<'a>(names: &mut IndexSet<&'a str>, symbols: &'a [Symbol]) -> Res
         ≡ with_symbol_names is_rule_symbol (names_in names.old) (map ast_symbol_of symbols.now)) }
 {
     'symbols: for symbol in symbols {
-        if let Symbol::Rule(text, _span) = symbol {
-            names.insert(text.as_str())?;
+        if let Symbol::Rule(name, _span) = symbol {
+            names.insert(name.as_str())?;
         }
     }
     Ok(())
@@ -97,8 +97,8 @@ fn insert_tokens<'a>(names: &mut IndexSet<&'a str>, symbols: &'a [Symbol]) -> Re
         ≡ with_symbol_names is_token_symbol (names_in names.old) (map ast_symbol_of symbols.now)) }
 {
     'symbols: for symbol in symbols {
-        if let Symbol::Token(text, _span) = symbol {
-            names.insert(text.as_str())?;
+        if let Symbol::Token(name, _span) = symbol {
+            names.insert(name.as_str())?;
         }
     }
     Ok(())
@@ -122,9 +122,7 @@ fn expected_tokens<'a>(
 {
     let mut names = IndexSet::new(alloc);
     'symbols: for symbol in symbols {
-        match symbol {
-            Symbol::Rule(text, _span) | Symbol::Token(text, _span) => names.insert(text.as_str())?,
-        };
+        names.insert(symbol.name().as_str())?;
     }
     Ok(names)
 }

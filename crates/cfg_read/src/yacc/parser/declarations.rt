@@ -13,6 +13,7 @@ ghost use Rattle.cfg_read.specs.SyntaxErrors.{declaration_fault, FailsFrom};
 ghost use Rattle.cfg_read.specs.SyntaxModels.{word_of, symbols_of, syntax_of};
 ghost use Rattle.cfg_read.specs.Scanning.{FitsToken, IsFaultAt, percent_or_separator};
 
+use crate::yacc::name::NameSet;
 use crate::yacc::parser::declaration::{Count, Declaration, LineList, LineText};
 use crate::yacc::parser::error::{ReadError, YaccGrammarErrorKind};
 use crate::yacc::parser::scan::{Scanner, TokenKind};
@@ -33,7 +34,7 @@ impl<'a> Scanner<'a> {
     {
         let mut end = self.parse_ws(offset)?;
         'tokens: while !self.token_kind_at(end).ends_tokens() {
-            let (token, after) = self.parse_token(alloc, end)?;
+            let (token, after) = self.parse_token(alloc, &mut syntax.names, end)?;
             syntax.tokens.push(token)?;
             end = self.parse_ws(after)?;
         }
@@ -44,6 +45,7 @@ impl<'a> Scanner<'a> {
     fn parse_line_items(
         &self,
         alloc: Global,
+        names: &mut NameSet,
         offset: usize,
     ) -> Result<(Vec<Symbol>, usize), ReadError>
         ensures ok { IfOk result (λ r. (l : LineList) (x : SyntaxText) → Steps self.now.kind self.now.text.now (InLine (LineItem l []) x offset) (Spaced Declared (append_list x l (symbols_of r.0.items)) r.1)) }
@@ -57,7 +59,7 @@ impl<'a> Scanner<'a> {
             if kind.ends_line() {
                 return Ok((items, end));
             }
-            let (item, after) = self.token_of(alloc, kind, end)?;
+            let (item, after) = self.token_of(alloc, names, kind, end)?;
             items.push(item)?;
             end = self.parse_line_ws(after)?;
         }
@@ -75,7 +77,7 @@ impl<'a> Scanner<'a> {
         ensures err { IfErr result (λ e. FailsFrom self.now.kind self.now.text.now (InLine (LineItem list []) (syntax_of syntax.old) offset) e) }
         ensures from { IfOk result (λ b. offset ≤ b) }
     {
-        let (items, end) = self.parse_line_items(alloc, offset)?;
+        let (items, end) = self.parse_line_items(alloc, &mut syntax.names, offset)?;
         syntax.add_list(list, items)?;
         Ok(self.parse_ws(end)?)
     }
@@ -123,10 +125,9 @@ impl<'a> Scanner<'a> {
         ensures from { IfOk result (λ r. offset ≤ r.1) }
     {
         let start = self.parse_ws(offset)?;
-        let (token, after) = self.parse_token(alloc, start)?;
+        let (token, after) = self.parse_token_word(alloc, start)?;
         let end = self.parse_ws(after)?;
-        let Symbol { word, .. } = token;
-        Ok((word, end))
+        Ok((token, end))
     }
 
     /// Reads the token and the string of `%epp`, and the gap behind them.

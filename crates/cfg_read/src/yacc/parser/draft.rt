@@ -1,20 +1,24 @@
 //! Alternatives as they are read.
 
-ghost use Rattle.std.specs.Prelude.{◌≡◌, ◌≤◌, ◌&&◌, not, true, OnOk, IfOk};
+ghost use Rattle.std.specs.Prelude.{◌≡◌, ◌≤◌, ◌&&◌, [], ◌∷◌, not, true, OnOk, IfOk};
 ghost use Rattle.cfg_read.specs.SyntaxUpdates.{no_part, is_open, span_with, span_or, append_symbol, put_empty, put_precedence, put_action, alternative};
 ghost use Rattle.cfg_read.specs.Scanning.{StartsBy};
-ghost use Rattle.cfg_read.specs.SyntaxModels.{word_of, symbol_of, part_of, alternative_of};
+ghost use Rattle.cfg_read.specs.SyntaxModels.{word_of, boxed_word, symbol_of, part_of, alternative_of};
 
-use crate::yacc::parser::syntax::{Alternative, Body, Symbol, Word};
+use crate::yacc::parser::syntax::{Alternative, Body, Plain, Single, Symbol, Word};
 use cfg_base::span::Span;
 use std::alloc::{AllocError, Global};
+use std::mem;
+
+/// How many symbols a list goes over with without further room.
+const FEW: usize = 64;
 
 /// An alternative as far as it is read.
 #[derive(Debug, Drop)]
 pub(crate) struct Draft {
     pub(crate) symbols: Vec<Symbol>,
     pub(crate) is_empty: bool,
-    pub(crate) precedence: Option<Word>,
+    pub(crate) precedence: Option<Box<Word>>,
     pub(crate) action: Option<Word>,
     pub(crate) span: Option<Span>,
 }
@@ -39,6 +43,20 @@ fn span_or(span: Option<Span>, offset: usize) -> Span
         None => Span::new(offset, offset),
         Some(span) => span,
     }
+}
+
+/// Takes symbols out. Few go over into a list without further room, so that the one that they were read into serves the next
+/// alternative; a long list goes over itself.
+fn take_symbols(symbols: &mut Vec<Symbol>, alloc: Global) -> Result<Vec<Symbol>, AllocError>
+    ensures taken { IfOk result (λ taken. taken.items ≡ symbols.old.items) }
+    ensures left { OnOk result (symbols.new.items ≡ []) }
+{
+    if symbols.len() > FEW {
+        return Ok(mem::replace(symbols, Vec::new(alloc)));
+    }
+    let mut taken = Vec::with_capacity(alloc, symbols.len())?;
+    taken.append(symbols)?;
+    Ok(taken)
 }
 
 impl Draft {
@@ -96,13 +114,13 @@ impl Draft {
     }
 
     /// Adds `%prec` with its token.
-    pub(crate) fn add_precedence(&mut self, word: Word, start: usize, end: usize)
+    pub(crate) fn add_precedence(&mut self, token: Box<Word>, start: usize, end: usize)
         requires { (start ≤ end) × StartsBy self.old.span end }
-        ensures value { part_of self.new ≡ put_precedence (part_of self.old) (word_of word) start end }
+        ensures value { part_of self.new ≡ put_precedence (part_of self.old) (boxed_word token) start end }
         ensures starts { StartsBy self.new.span end }
     {
         self.span = span_with(self.span, start, end);
-        self.precedence = Some(word);
+        self.precedence = Some(token);
     }
 
     /// Adds the action.
@@ -120,37 +138,78 @@ impl Draft {
         self.span.is_none() && self.symbols.is_empty() && self.takes_empty()
     }
 
-    /// Makes the alternative of what was read, which ends at this offset.
-    fn filled(self, alloc: Global, offset: usize) -> Result<Alternative, AllocError>
-        ensures { IfOk result (λ a. alternative_of a ≡ alternative (part_of self) offset) }
+    /// Makes the alternative of what was read, which ends at this offset, and begins anew.
+    fn take_body(&mut self, alloc: Global, offset: usize) -> Result<Alternative, AllocError>
+        ensures made { IfOk result (λ a. alternative_of a ≡ alternative (part_of self.old) offset) }
+        ensures anew { OnOk result (part_of self.new ≡ no_part) }
     {
-        let Draft {
-            symbols,
-            is_empty,
-            precedence,
-            action,
-            span,
-        } = self;
+        let symbols = take_symbols(&mut self.symbols, alloc)?;
         let body = Body {
             symbols,
-            made: Vec::new(alloc),
-            is_empty,
-            precedence,
-            action,
-            span: span_or(span, offset),
+            precedence: mem::replace(&mut self.precedence, None),
+            action: mem::replace(&mut self.action, None),
+            span: span_or(self.span, offset),
+            is_empty: self.is_empty,
         };
+        self.is_empty = false;
+        self.span = None;
         let boxed = Box::new(alloc, body)?;
         Ok(Alternative::Body(boxed))
     }
 
-    /// Makes the alternative, which ends at this offset.
-    pub(crate) fn finish(self, alloc: Global, offset: usize) -> Result<Alternative, AllocError>
-        ensures { IfOk result (λ a. alternative_of a ≡ alternative (part_of self) offset) }
+    /// Makes an alternative of one symbol, and begins anew.
+    fn take_single(
+        &mut self,
+        alloc: Global,
+        symbol: Symbol,
+        offset: usize,
+    ) -> Result<Alternative, AllocError>
+        requires plain { (not (part_of self.old).is_empty && is_open (part_of self.old)) ≡ true }
+        requires rest { (part_of self.old).symbols ≡ [] }
+        ensures made { IfOk result (λ a. alternative_of a ≡ alternative (record (part_of self.old) { symbols = symbol_of symbol ∷ [] }) offset) }
+        ensures anew { OnOk result (part_of self.new ≡ no_part) }
+    {
+        let span = span_or(self.span, offset);
+        self.span = None;
+        let boxed = Box::new(
+            alloc,
+            Single {
+                symbols: [symbol],
+                span,
+            },
+        )?;
+        Ok(Alternative::Single(boxed))
+    }
+
+    /// Makes an alternative of symbols alone, and begins anew.
+    fn take_plain(&mut self, alloc: Global, offset: usize) -> Result<Alternative, AllocError>
+        requires { (not (part_of self.old).is_empty && is_open (part_of self.old)) ≡ true }
+        ensures made { IfOk result (λ a. alternative_of a ≡ alternative (part_of self.old) offset) }
+        ensures anew { OnOk result (part_of self.new ≡ no_part) }
+    {
+        let symbols = take_symbols(&mut self.symbols, alloc)?;
+        let span = span_or(self.span, offset);
+        self.span = None;
+        let boxed = Box::new(alloc, Plain { symbols, span })?;
+        Ok(Alternative::Plain(boxed))
+    }
+
+    /// Makes the alternative, which ends at this offset, and begins anew.
+    pub(crate) fn finish(&mut self, alloc: Global, offset: usize) -> Result<Alternative, AllocError>
+        ensures made { IfOk result (λ a. alternative_of a ≡ alternative (part_of self.old) offset) }
+        ensures anew { OnOk result (part_of self.new ≡ no_part) }
     {
         if self.is_blank() {
             return Ok(Alternative::Blank(offset));
         }
-        let alternative = self.filled(alloc, offset)?;
-        Ok(alternative)
+        if !self.takes_empty() {
+            return self.take_body(alloc, offset);
+        }
+        if self.symbols.len() == 1 {
+            if let Some(symbol) = self.symbols.pop() {
+                return self.take_single(alloc, symbol, offset);
+            }
+        }
+        self.take_plain(alloc, offset)
     }
 }

@@ -9,13 +9,15 @@ ghost use Rattle.cfg_read.specs.declared.yacc.parser.scan.TokenKind.TheVariants 
 ghost use Rattle.cfg_base.specs.Text.{line_end};
 ghost use Rattle.cfg_read.specs.Bytes.{is_plain};
 ghost use Rattle.cfg_read.specs.Words.{token_kind_at};
-ghost use Rattle.cfg_read.specs.SyntaxTexts.{SyntaxText};
-ghost use Rattle.cfg_read.specs.SyntaxUpdates.{word_at, word, trimmed_word, rest_of_line, parameter};
+ghost use Rattle.cfg_read.specs.SyntaxTexts.{SymbolText, SyntaxText};
+ghost use Rattle.cfg_read.specs.SyntaxUpdates.{word_at, word, token_text, trimmed_word, rest_of_line, parameter};
 ghost use Rattle.cfg_read.specs.Reading.{Wanted, Spaced, InLine, At, IsToken, Steps};
 ghost use Rattle.cfg_read.specs.SyntaxErrors.{name_fault, token_fault, number_at, FailsFrom};
-ghost use Rattle.cfg_read.specs.SyntaxModels.{word_of, symbol_of, number_text, param_of};
-ghost use Rattle.cfg_read.specs.Scanning.{FitsPart, FitsToken, FitsDigits, IsNumber, IsString, IsFaultAt, IsFault, IsStringFault};
+ghost use Rattle.cfg_read.specs.NameTexts.{name_text};
+ghost use Rattle.cfg_read.specs.SyntaxModels.{word_of, mark_at, symbol_of, number_text, param_of};
+ghost use Rattle.cfg_read.specs.Scanning.{Encloses, FitsPart, FitsToken, FitsDigits, IsNumber, IsString, IsFaultAt, IsFault, IsStringFault};
 
+use crate::yacc::name::{Name, NameSet};
 use crate::yacc::parser::bytes;
 use crate::yacc::parser::error::{ReadError, YaccGrammarErrorKind};
 use crate::yacc::parser::scan::{Scanner, StringKind, TokenKind};
@@ -110,42 +112,43 @@ impl<'a> Scanner<'a> {
         }
     }
 
-    /// Reads a token of the kind that stands here.
-    pub(crate) fn token_of(
+    /// Reads the name of a rule, and answers it with its span and where it ends.
+    pub(crate) fn parse_heading_name(
         &self,
         alloc: Global,
+        names: &mut NameSet,
+        offset: usize,
+    ) -> Result<(Name, Span, usize), ReadError>
+        ensures ok { IfOk result (λ r. (token_kind_at self.now.text.now offset ≡ tokens.Name r.2) × (record { text = name_text r.0; span = r.1 } ≡ word self.now.text.now offset r.2)) }
+        ensures within { IfOk result (λ r. (offset < r.2) × (r.2 ≤ length self.now.text.now)) }
+        ensures err { IfErr result (λ e. IsFaultAt (name_fault (token_kind_at self.now.text.now offset)) offset e) }
+    {
+        match self.token_kind_at(offset) {
+            TokenKind::Name(end) => {
+                let name = names.share(alloc, &self.text[offset..end], false)?;
+                Ok((name, Span::new(offset, end), end))
+            }
+            _ => Err(ReadError::Fault(YaccGrammarErrorKind::IllegalName, offset)),
+        }
+    }
+
+    /// Finds a token of the kind that stands here: whether it is quoted, the span of its text, and where it ends.
+    pub(crate) fn token_part(
+        &self,
         kind: TokenKind,
         offset: usize,
-    ) -> Result<(Symbol, usize), ReadError>
+    ) -> Result<(bool, Span, usize), ReadError>
         requires kind { token_kind_at self.now.text.now offset ≡ kind }
         requires fits { FitsToken self.now.text.now offset kind }
-        ensures ok { IfOk result (λ r. IsToken self.now.text.now offset (symbol_of r.0) r.1) }
-        ensures within { IfOk result (λ r. (offset < r.1) × (r.1 ≤ length self.now.text.now)) }
+        ensures ok { IfOk result (λ r. IsToken self.now.text.now offset (token_text self.now.text.now r.0 r.1) r.2) }
+        ensures part { IfOk result (λ r. FitsPart self.now.text.now r.1.start r.1.end) }
+        ensures marks { IfOk result (λ r. Encloses r.0 r.1 offset r.2) }
+        ensures within { IfOk result (λ r. (offset < r.2) × (r.2 ≤ length self.now.text.now)) }
         ensures err { IfErr result (λ e. IsFaultAt (token_fault (token_kind_at self.now.text.now offset)) offset e) }
     {
         match kind {
-            TokenKind::Name(end) => {
-                let word = self.word(alloc, offset, end)?;
-                Ok((
-                    Symbol {
-                        is_quoted: false,
-                        word,
-                        optional: None,
-                    },
-                    end,
-                ))
-            }
-            TokenKind::Quoted(end) => {
-                let word = self.word(alloc, offset + 1, end)?;
-                Ok((
-                    Symbol {
-                        is_quoted: true,
-                        word,
-                        optional: None,
-                    },
-                    end + 1,
-                ))
-            }
+            TokenKind::Name(end) => Ok((false, Span::new(offset, end), end)),
+            TokenKind::Quoted(end) => Ok((true, Span::new(offset + 1, end), end + 1)),
             TokenKind::OpenQuote => Err(ReadError::Fault(
                 YaccGrammarErrorKind::IllegalString,
                 offset,
@@ -154,17 +157,73 @@ impl<'a> Scanner<'a> {
         }
     }
 
+    /// The symbol of a span of the text, whose name shares the text of those that are read alike.
+    pub(crate) fn symbol_at(
+        &self,
+        alloc: Global,
+        names: &mut NameSet,
+        is_quoted: bool,
+        is_optional: bool,
+        span: Span,
+    ) -> Result<Symbol, AllocError>
+        requires { FitsPart self.now.text.now span.start span.end }
+        ensures { IfOk result (λ s. symbol_of s ≡ record (token_text self.now.text.now is_quoted span) { optional = mark_at is_quoted is_optional span }) }
+    {
+        let name = names.share(alloc, &self.text[span.start()..span.end()], is_optional)?;
+        if is_quoted {
+            Ok(Symbol::Token(name, span))
+        } else {
+            Ok(Symbol::Rule(name, span))
+        }
+    }
+
+    /// Reads a token of the kind that stands here.
+    pub(crate) fn token_of(
+        &self,
+        alloc: Global,
+        names: &mut NameSet,
+        kind: TokenKind,
+        offset: usize,
+    ) -> Result<(Symbol, usize), ReadError>
+        requires kind { token_kind_at self.now.text.now offset ≡ kind }
+        requires fits { FitsToken self.now.text.now offset kind }
+        ensures ok { IfOk result (λ r. IsToken self.now.text.now offset (symbol_of r.0) r.1) }
+        ensures marks { IfOk result (λ r. Encloses (symbol_of r.0).is_quoted (symbol_of r.0).word.span offset r.1) }
+        ensures within { IfOk result (λ r. (offset < r.1) × (r.1 ≤ length self.now.text.now)) }
+        ensures err { IfErr result (λ e. IsFaultAt (token_fault (token_kind_at self.now.text.now offset)) offset e) }
+    {
+        let (is_quoted, span, end) = self.token_part(kind, offset)?;
+        let symbol = self.symbol_at(alloc, names, is_quoted, false, span)?;
+        Ok((symbol, end))
+    }
+
     /// Reads a token.
     pub(crate) fn parse_token(
         &self,
         alloc: Global,
+        names: &mut NameSet,
         offset: usize,
     ) -> Result<(Symbol, usize), ReadError>
         ensures ok { IfOk result (λ r. IsToken self.now.text.now offset (symbol_of r.0) r.1) }
         ensures within { IfOk result (λ r. (offset < r.1) × (r.1 ≤ length self.now.text.now)) }
         ensures err { IfErr result (λ e. IsFaultAt (token_fault (token_kind_at self.now.text.now offset)) offset e) }
     {
-        self.token_of(alloc, self.token_kind_at(offset), offset)
+        self.token_of(alloc, names, self.token_kind_at(offset), offset)
+    }
+
+    /// Reads a token, of which only the text is wanted.
+    pub(crate) fn parse_token_word(
+        &self,
+        alloc: Global,
+        offset: usize,
+    ) -> Result<(Word, usize), ReadError>
+        ensures ok { IfOk result (λ r. (t : SymbolText) × (t.word ≡ word_of r.0) × IsToken self.now.text.now offset t r.1) }
+        ensures within { IfOk result (λ r. (offset < r.1) × (r.1 ≤ length self.now.text.now)) }
+        ensures err { IfErr result (λ e. IsFaultAt (token_fault (token_kind_at self.now.text.now offset)) offset e) }
+    {
+        let (_is_quoted, span, end) = self.token_part(self.token_kind_at(offset), offset)?;
+        let word = self.word_at(alloc, span)?;
+        Ok((word, end))
     }
 
     /// Reads digits: answers where they end.

@@ -1,10 +1,10 @@
 //! Reads the rules of a text.
 
-ghost use Rattle.std.specs.Prelude.{◌≡◌, ◌+◌, ◌≤◌, ◌<◌, ℕ, Option, None, Some, true, false, not, length, map, option_map, ◌++◌, ◌∷◌, [], IfOk, IfErr, OnOk, IsTrue};
+ghost use Rattle.std.specs.Prelude.{◌≡◌, ◌+◌, ◌-◌, ◌^◌, ◌≤◌, ◌<◌, ℕ, Option, None, Some, true, false, not, length, map, option_map, ◌++◌, ◌∷◌, [], IfOk, IfErr, OnOk, IsTrue};
 ghost use Rattle.std.specs.Bool.{Decides};
 ghost use Rattle.std.specs.Str.{IsCharBoundary};
 ghost use Rattle.cfg_read.specs.declared.yacc.parser.scan.TokenKind.TheVariants as tokens;
-ghost use Rattle.cfg_base.specs.Text.{is_white, run_end};
+ghost use Rattle.cfg_base.specs.Text.{is_at, is_white, run_end};
 ghost use Rattle.cfg_read.specs.Words.{token_kind_at};
 ghost use Rattle.cfg_read.specs.SyntaxTexts.{WordText, RuleText, SyntaxText};
 ghost use Rattle.cfg_read.specs.SyntaxUpdates.{word, mark_end, marked, Part, no_part, alternative, heading, append_rule};
@@ -12,9 +12,10 @@ ghost use Rattle.cfg_read.specs.Declarations.{is_grmtools};
 ghost use Rattle.cfg_read.specs.Reading.{RuleName, RuleColon, More, PrecToken, Nothing, Spaced, At, IsLiteral, Steps, Reads};
 ghost use Rattle.cfg_read.specs.SyntaxErrors.{token_fault, rule_fault, alternative_fault, FailsFrom, IsErrorOf};
 ghost use Rattle.cfg_read.specs.SyntaxModels.{word_of, boxed_word, symbol_of, alternative_of, rule_of, part_of, syntax_of};
-ghost use Rattle.cfg_read.specs.Scanning.{IsMemory, StartsBy, FitsToken, IsFaultAt, is_part, ends_alternative, bar_or_semicolon, rule_text, ends_rules, end_or_separator, begins_name};
+ghost use Rattle.cfg_read.specs.Scanning.{IsMemory, StartsBy, Encloses, FitsToken, IsFaultAt, is_part, ends_alternative, bar_or_semicolon, rule_text, ends_rules, end_or_separator, begins_name};
 
 use crate::yacc::YaccKind;
+use crate::yacc::name::NameSet;
 use crate::yacc::parser::draft::Draft;
 use crate::yacc::parser::error::{ReadError, YaccGrammarErrorKind};
 use crate::yacc::parser::scan::{Scanner, TokenKind};
@@ -66,37 +67,20 @@ fn begins_part(kind: TokenKind, offset: usize) -> Result<bool, ReadError>
 }
 
 impl<'a> Scanner<'a> {
-    /// Reads the `?` behind a symbol, if one stands there: answers the symbol, and where it ends.
-    fn parse_mark(&self, symbol: Symbol, start: usize, end: usize) -> (Symbol, usize)
-        requires { start < end }
-        ensures symbol { symbol_of result.0 ≡ marked self.now.text.now start end (symbol_of symbol) }
-        ensures end { result.1 ≡ mark_end self.now.text.now end }
-        ensures from { end ≤ result.1 }
+    /// Tells whether a `?` stands here.
+    #[inline(always)]
+    fn has_mark(&self, offset: usize) -> bool
+        ensures value { result ≡ is_at self.now.text.now offset 63 }
+        ensures fits { IsTrue result → offset < 2 ^ 64 - 1 }
     {
-        let Symbol {
-            is_quoted,
-            word,
-            ..
-        } = symbol;
-        let is_optional = self.byte(end) == Some(b'?');
-        let after = if is_optional { end + 1 } else { end };
-        let optional = if is_optional {
-            Some(Span::new(start, after))
-        } else {
-            None
-        };
-        let symbol = Symbol {
-            is_quoted,
-            word,
-            optional,
-        };
-        (symbol, after)
+        self.byte(offset) == Some(b'?')
     }
 
     /// Reads a symbol of an alternative, a token of the kind that stands here.
     fn parse_symbol(
         &self,
         alloc: Global,
+        names: &mut NameSet,
         draft: &mut Draft,
         kind: TokenKind,
         offset: usize,
@@ -110,14 +94,16 @@ impl<'a> Scanner<'a> {
         ensures more { IfOk result (λ b. offset < b) }
         ensures starts { IfOk result (λ b. StartsBy draft.new.span b) }
     {
-        let (symbol, end) = self.token_of(alloc, kind, offset)?;
+        let (is_quoted, span, end) = self.token_part(kind, offset)?;
         if draft.is_empty {
             return Err(ReadError::Fault(YaccGrammarErrorKind::NonEmptyProduction, offset));
         }
         if !draft.is_open() {
             return Err(ReadError::Fault(YaccGrammarErrorKind::ProductionNotTerminated, offset));
         }
-        let (symbol, after) = self.parse_mark(symbol, offset, end);
+        let is_optional = self.has_mark(end);
+        let after = if is_optional { end + 1 } else { end };
+        let symbol = self.symbol_at(alloc, names, is_quoted, is_optional, span)?;
         draft.add_symbol(symbol, offset, after)?;
         Ok(after)
     }
@@ -157,13 +143,11 @@ impl<'a> Scanner<'a> {
         ensures starts { IfOk result (λ b. StartsBy draft.new.span b) }
     {
         let start = self.parse_ws(offset + 5)?;
-        let kind = self.token_kind_at(start);
-        if !kind.begins_token() {
+        if !self.token_kind_at(start).begins_token() {
             return Err(ReadError::Fault(YaccGrammarErrorKind::PrecNotFollowedByToken, start));
         }
-        let (token, end) = self.token_of(alloc, kind, start)?;
-        let Symbol { word, .. } = token;
-        draft.add_precedence(word, offset, end);
+        let (word, end) = self.parse_token_word(alloc, start)?;
+        draft.add_precedence(Box::new(alloc, word)?, offset, end);
         Ok(end)
     }
 
@@ -226,6 +210,7 @@ impl<'a> Scanner<'a> {
     fn parse_part_alone(
         &self,
         alloc: Global,
+        names: &mut NameSet,
         draft: &mut Draft,
         kind: TokenKind,
         offset: usize,
@@ -242,7 +227,7 @@ impl<'a> Scanner<'a> {
         match kind {
             TokenKind::Percent => self.parse_percent_part(alloc, draft, offset),
             TokenKind::Brace => self.parse_action(alloc, draft, offset),
-            _ => self.parse_symbol(alloc, draft, kind, offset),
+            _ => self.parse_symbol(alloc, names, draft, kind, offset),
         }
     }
 
@@ -250,6 +235,7 @@ impl<'a> Scanner<'a> {
     fn parse_part(
         &self,
         alloc: Global,
+        names: &mut NameSet,
         draft: &mut Draft,
         kind: TokenKind,
         offset: usize,
@@ -263,7 +249,7 @@ impl<'a> Scanner<'a> {
         ensures more { IfOk result (λ b. offset < b) }
         ensures starts { IfOk result (λ b. StartsBy draft.new.span b) }
     {
-        let end = self.parse_part_alone(alloc, draft, kind, offset)?;
+        let end = self.parse_part_alone(alloc, names, draft, kind, offset)?;
         Ok(self.parse_ws(end)?)
     }
 
@@ -271,18 +257,21 @@ impl<'a> Scanner<'a> {
     fn parse_alternative(
         &self,
         alloc: Global,
+        names: &mut NameSet,
+        draft: &mut Draft,
         offset: usize,
     ) -> Result<(Alternative, usize), ReadError>
+        requires blank { part_of draft.old ≡ no_part }
+        ensures anew { OnOk result (part_of draft.new ≡ no_part) }
         ensures ok { IfOk result (λ f. (p : Part) × (alternative_of f.0 ≡ alternative p f.1) × ((r : RuleText) (x : SyntaxText) → Steps self.now.kind self.now.text.now (Spaced (More r no_part) x offset) (At (More r p) x f.1))) }
         ensures end { IfOk result (λ f. ends_alternative (token_kind_at self.now.text.now f.1) ≡ true) }
         ensures err { IfErr result (λ e. (r : RuleText) (x : SyntaxText) → FailsFrom self.now.kind self.now.text.now (Spaced (More r no_part) x offset) e) }
         ensures within { IfOk result (λ f. (offset ≤ f.1) × (f.1 < length self.now.text.now)) }
     {
-        let mut draft = Draft::new(alloc);
         let mut end = self.parse_ws(offset)?;
         let mut kind = self.token_kind_at(end);
         'parts: while begins_part(kind, end)? {
-            end = self.parse_part(alloc, &mut draft, kind, end)?;
+            end = self.parse_part(alloc, names, draft, kind, end)?;
             kind = self.token_kind_at(end);
         }
         let alternative = draft.finish(alloc, end)?;
@@ -301,8 +290,12 @@ impl<'a> Scanner<'a> {
     fn parse_alternatives(
         &self,
         alloc: Global,
+        names: &mut NameSet,
+        draft: &mut Draft,
         offset: usize,
     ) -> Result<(Vec<Alternative>, usize), ReadError>
+        requires blank { part_of draft.old ≡ no_part }
+        ensures anew { OnOk result (part_of draft.new ≡ no_part) }
         ensures ok { IfOk result (λ f. (n : WordText) (t : Option WordText) (x : SyntaxText) → Steps self.now.kind self.now.text.now (Spaced (More (heading n t) no_part) x offset) (Spaced RuleName (append_rule x (rule_text n t (map alternative_of f.0.items))) f.1)) }
         ensures err { IfErr result (λ e. (n : WordText) (t : Option WordText) (x : SyntaxText) → FailsFrom self.now.kind self.now.text.now (Spaced (More (heading n t) no_part) x offset) e) }
         ensures more { IfOk result (λ f. offset < f.1) }
@@ -310,7 +303,7 @@ impl<'a> Scanner<'a> {
         let mut alternatives = Vec::new(alloc);
         let mut start = offset;
         'alternatives: loop {
-            let (alternative, end) = self.parse_alternative(alloc, start)?;
+            let (alternative, end) = self.parse_alternative(alloc, names, draft, start)?;
             let is_last = self.is_last(end);
             push_alternative(&mut alternatives, alternative, is_last)?;
             start = end + 1;
@@ -382,19 +375,28 @@ impl<'a> Scanner<'a> {
     }
 
     /// Reads a rule.
-    fn parse_rule(&self, alloc: Global, offset: usize) -> Result<(Rule, usize), ReadError>
+    fn parse_rule(
+        &self,
+        alloc: Global,
+        names: &mut NameSet,
+        draft: &mut Draft,
+        offset: usize,
+    ) -> Result<(Rule, usize), ReadError>
+        requires blank { part_of draft.old ≡ no_part }
         requires name { begins_name (token_kind_at self.now.text.now offset) ≡ true }
         ensures ok { IfOk result (λ f. (x : SyntaxText) → Steps self.now.kind self.now.text.now (At RuleName x offset) (Spaced RuleName (append_rule x (rule_of f.0)) f.1)) }
         ensures err { IfErr result (λ e. (x : SyntaxText) → FailsFrom self.now.kind self.now.text.now (At RuleName x offset) e) }
         ensures within { IfOk result (λ f. (offset < length self.now.text.now) × (offset < f.1)) }
+        ensures anew { OnOk result (part_of draft.new ≡ no_part) }
     {
-        let (name, after) = self.parse_name(alloc, offset)?;
+        let (name, span, after) = self.parse_heading_name(alloc, names, offset)?;
         let start = self.parse_ws(after)?;
         let (action_type, body) = self.parse_heading(alloc, start)?;
-        let (alternatives, end) = self.parse_alternatives(alloc, body)?;
+        let (alternatives, end) = self.parse_alternatives(alloc, names, draft, body)?;
         Ok((
             Rule {
                 name,
+                span,
                 action_type,
                 alternatives,
             },
@@ -425,9 +427,10 @@ impl<'a> Scanner<'a> {
         ensures end { IfOk result (λ b. ends_rules (token_kind_at self.now.text.now b) ≡ true) }
         ensures err { IfErr result (λ e. FailsFrom self.now.kind self.now.text.now (Spaced RuleName (syntax_of syntax.old) offset) e) }
     {
+        let mut draft = Draft::new(alloc);
         let mut end = self.parse_ws(offset)?;
         'rules: while self.begins_rule(end)? {
-            let (rule, after) = self.parse_rule(alloc, end)?;
+            let (rule, after) = self.parse_rule(alloc, &mut syntax.names, &mut draft, end)?;
             syntax.rules.push(rule)?;
             end = self.parse_ws(after)?;
         }

@@ -1,11 +1,13 @@
 //! What a grammar text says, before its names are looked up.
 
-ghost use Rattle.std.specs.Prelude.{◌≡◌, OnOk};
+ghost use Rattle.std.specs.Prelude.{◌≡◌, ◌≤◌, None, IfOk, OnOk};
 ghost use Rattle.cfg_read.specs.SyntaxUpdates.{no_syntax, append_list, append_number};
-ghost use Rattle.cfg_read.specs.SyntaxModels.{symbols_of, alternative_of, number_text, syntax_of};
+ghost use Rattle.cfg_read.specs.NameTexts.{name_text, name_optional};
+ghost use Rattle.cfg_read.specs.SyntaxModels.{mark_of, symbol_of, symbols_of, alternative_of, number_text, syntax_of};
 
+use crate::yacc::AssocKind;
+use crate::yacc::name::{Name, NameSet};
 use crate::yacc::parser::declaration::{Count, LineList};
-use crate::yacc::{AssocKind, ast};
 use cfg_base::span::Span;
 use std::alloc::{AllocError, Global};
 
@@ -16,35 +18,120 @@ pub struct Word {
     pub span: Span,
 }
 
-/// A name or a quoted token.
+/// A symbol, and where it stands, without quotes. In what was read it is told by its quotes alone, in a production by what it
+/// stands for.
 #[derive(Debug, Drop)]
-pub struct Symbol {
-    pub is_quoted: bool,
-    pub word: Word,
-    /// In an alternative, where a `?` stands right behind it: the span of both, quotes included.
-    pub optional: Option<Span>,
+pub enum Symbol {
+    /// A rule; in what was read, a name.
+    Rule(Name, Span),
+    /// A token; in what was read, a quoted one.
+    Token(Name, Span),
 }
 
-/// What stands in an alternative. A production keeps it.
+impl Symbol {
+    /// The name.
+    pub fn name(&self) -> &Name
+        ensures { name_text result.now ≡ (symbol_of self.now).word.text }
+    {
+        match self {
+            Symbol::Rule(name, _span) => name,
+            Symbol::Token(name, _span) => name,
+        }
+    }
+
+    /// Where the text stands.
+    pub fn span(&self) -> Span
+        ensures { result ≡ (symbol_of self.now).word.span }
+    {
+        match self {
+            Symbol::Rule(_name, span) => *span,
+            Symbol::Token(_name, span) => *span,
+        }
+    }
+
+    /// Whether it is quoted.
+    pub(crate) fn is_quoted(&self) -> bool
+        ensures { result ≡ (symbol_of self.now).is_quoted }
+    {
+        match self {
+            Symbol::Rule(_name, _span) => false,
+            Symbol::Token(_name, _span) => true,
+        }
+    }
+
+    /// A copy without a `?`.
+    pub(crate) fn plain(&self) -> Result<Symbol, AllocError>
+        ensures { IfOk result (λ s. symbol_of s ≡ record (symbol_of self.now) { optional = None }) }
+    {
+        match self {
+            Symbol::Rule(name, span) => Ok(Symbol::Rule(name.plain()?, *span)),
+            Symbol::Token(name, span) => Ok(Symbol::Token(name.plain()?, *span)),
+        }
+    }
+
+    /// In an alternative, where a `?` stands right behind it: the span of both, quotes included.
+    pub(crate) fn optional(&self) -> Option<Span>
+        ensures { result ≡ (symbol_of self.now).optional }
+    {
+        match self {
+            Symbol::Rule(name, span) => mark_of(name, span.start(), span.end()),
+            Symbol::Token(name, span) => mark_of(
+                name,
+                span.start().saturating_sub(1),
+                span.end().saturating_add(1),
+            ),
+        }
+    }
+}
+
+/// The span from an offset up to the `?` behind a name, if there is one.
+fn mark_of(name: &Name, start: usize, end: usize) -> Option<Span>
+    requires { start ≤ end }
+    ensures { result ≡ mark_of (name_optional name.now) start end }
+{
+    if name.is_optional() {
+        Some(Span::new(start, end.saturating_add(1)))
+    } else {
+        None
+    }
+}
+
+/// One symbol, and nothing else.
+#[derive(Debug, Drop)]
+pub struct Single {
+    pub symbols: [Symbol; 1],
+    pub span: Span,
+}
+
+/// Symbols, and nothing else.
+#[derive(Debug, Drop)]
+pub struct Plain {
+    pub symbols: Vec<Symbol>,
+    /// From the first to the last.
+    pub span: Span,
+}
+
+/// What may stand in an alternative.
 #[derive(Debug, Drop)]
 pub struct Body {
     pub symbols: Vec<Symbol>,
-    /// What the symbols stand for, in a production, which takes their words over: then `symbols` is empty, else this.
-    pub(crate) made: Vec<ast::Symbol>,
     /// Whether `%empty` stands there.
     pub is_empty: bool,
     /// The token of `%prec`.
-    pub precedence: Option<Word>,
+    pub precedence: Option<Box<Word>>,
     pub action: Option<Word>,
     /// Symbols, `%empty` and `%prec` with its token; without these an empty one at the `|` or `;`.
     pub span: Span,
 }
 
-/// An alternative of a rule. One in which nothing stands is small, since a text may have one for each of its bytes.
+/// An alternative of a rule, which a production takes over. One in which little stands is small, since a text may have one for
+/// each of its bytes.
 #[derive(Debug, Drop)]
 pub enum Alternative {
     /// Nothing stands there, up to the `|` or `;` at this offset.
     Blank(usize),
+    Single(Box<Single>),
+    Plain(Box<Plain>),
     Body(Box<Body>),
 }
 
@@ -55,6 +142,8 @@ impl Alternative {
     {
         match self {
             Alternative::Blank(_) => &[],
+            Alternative::Single(single) => &single.symbols,
+            Alternative::Plain(plain) => plain.symbols.as_slice(),
             Alternative::Body(body) => body.symbols.as_slice(),
         }
     }
@@ -63,7 +152,8 @@ impl Alternative {
 /// One heading of a rule with its alternatives.
 #[derive(Debug, Drop)]
 pub struct Rule {
-    pub name: Word,
+    pub name: Name,
+    pub span: Span,
     /// The type behind `->`, in Grmtools.
     pub action_type: Option<Box<Word>>,
     pub alternatives: Vec<Alternative>,
@@ -123,6 +213,8 @@ pub struct Syntax {
     pub rules: Vec<Rule>,
     /// The text behind the second `%%`.
     pub programs: Option<Word>,
+    /// The names of the symbols.
+    pub(crate) names: NameSet,
 }
 
 impl Syntax {
@@ -145,6 +237,7 @@ impl Syntax {
             parse_generics: None,
             rules: Vec::new(alloc),
             programs: None,
+            names: NameSet::new(alloc),
         }
     }
 

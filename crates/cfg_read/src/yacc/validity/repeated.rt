@@ -9,7 +9,7 @@ ghost use Rattle.cfg_read.specs.ErrorModels.{failures_in, kind_of, repeated_fail
 ghost use Rattle.cfg_read.specs.Validity.{FailureKind, repeated, repeated_names, repeated_words, repeated_declarations, word_spans, number_spans, groups_of, epp_tokens, DuplicatePrecedence, DuplicateEPP, DuplicateAvoidInsertDeclaration, DuplicateImplicitTokensDeclaration};
 
 use super::YaccGrammarError;
-use crate::yacc::names::{self, Names};
+use crate::yacc::names;
 use crate::yacc::parser::error::YaccGrammarErrorKind;
 use crate::yacc::parser::syntax::{Number, Syntax, Word};
 use cfg_base::span::Span;
@@ -80,20 +80,20 @@ fn add_span(
 }
 
 /// Lists the spans of each name, in the order of the first ones.
-fn grouped(alloc: Global, words: &[&Word]) -> Result<Vec<Vec<Span>>, AllocError>
+fn grouped(alloc: Global, words: &[(&str, Span)]) -> Result<Vec<Vec<Span>>, AllocError>
     ensures { IfOk result (λ groups. span_lists groups.items ≡ groups_of (words_at words.now)) }
 {
     let mut names = IndexSet::new(alloc);
     let mut groups = Vec::new(alloc);
     'words: for word in words {
-        let (index, _) = names.insert_full(word.text.as_str())?;
-        add_span(alloc, &mut groups, index, word.span)?;
+        let (index, _) = names.insert_full(word.0)?;
+        add_span(alloc, &mut groups, index, word.1)?;
     }
     Ok(groups)
 }
 
 /// Tells whether these words have as many names, if these are their names, so that none is told as repeated.
-fn all_differ(words: &[&Word], names: &IndexSet<&str>) -> bool
+fn all_differ(words: &[(&str, Span)], names: &IndexSet<&str>) -> bool
     ensures { result ≡ true → names_in names.now ≡ texts (distinct (words_at words.now)) → (k : FailureKind) → repeated_names k (words_at words.now) ≡ [] }
 {
     names.len() == words.len()
@@ -119,7 +119,7 @@ fn push_repeated_among(
     alloc: Global,
     errors: &mut Vec<YaccGrammarError>,
     what: Repeated,
-    words: &[&Word],
+    words: &[(&str, Span)],
     names: &IndexSet<&str>,
 ) -> Result<(), AllocError>
     ensures { OnOk result (names_in names.now ≡ texts (distinct (words_at words.now)) → failures_in errors.new.items
@@ -138,7 +138,7 @@ fn push_repeated_names(
     alloc: Global,
     errors: &mut Vec<YaccGrammarError>,
     what: Repeated,
-    words: &[&Word],
+    words: &[(&str, Span)],
 ) -> Result<(), AllocError>
     ensures { OnOk result (failures_in errors.new.items
         ≡ failures_in errors.old.items ++ repeated_names (repeated_failure what) (words_at words.now)) }
@@ -152,18 +152,13 @@ fn push_repeated_names(
 fn push_repeated_levels(
     alloc: Global,
     errors: &mut Vec<YaccGrammarError>,
-    names: &Names,
+    x: &Syntax,
 ) -> Result<(), AllocError>
     ensures { OnOk result (failures_in errors.new.items
-        ≡ failures_in errors.old.items ++ repeated_names DuplicatePrecedence (level_tokens names.now)) }
+        ≡ failures_in errors.old.items ++ repeated_names DuplicatePrecedence (level_tokens (syntax_of x.now))) }
 {
-    push_repeated_among(
-        alloc,
-        errors,
-        Repeated::Precedence,
-        names.level_words(),
-        names.levels(),
-    )?;
+    let words = names::level_words(alloc, &x.levels)?;
+    push_repeated_names(alloc, errors, Repeated::Precedence, &words)?;
     Ok(())
 }
 
@@ -213,13 +208,12 @@ fn push_repeated_implicit(
 pub(super) fn push_repeated_words(
     alloc: Global,
     errors: &mut Vec<YaccGrammarError>,
-    names: &Names,
+    x: &Syntax,
 ) -> Result<(), AllocError>
     ensures { OnOk result (failures_in errors.new.items
-        ≡ failures_in errors.old.items ++ repeated_words names.now) }
+        ≡ failures_in errors.old.items ++ repeated_words (syntax_of x.now)) }
 {
-    let x = names.syntax();
-    push_repeated_levels(alloc, errors, names)?;
+    push_repeated_levels(alloc, errors, x)?;
     push_repeated_epps(alloc, errors, x)?;
     push_repeated_avoided(alloc, errors, x)?;
     push_repeated_implicit(alloc, errors, x)?;

@@ -1,18 +1,25 @@
 //! Names that stand for nothing.
 
-ghost use Rattle.std.specs.Prelude.{◌≡◌, ◌++◌, ◌∷◌, [], map, if◌then◌else◌, OnOk};
+ghost use Rattle.std.specs.Prelude.{◌≡◌, ◌++◌, ◌∷◌, [], if◌then◌else◌, IfOk, OnOk};
 ghost use Rattle.std.specs.String.{string_bytes};
-ghost use Rattle.cfg_read.specs.Names.{is_rule, is_grammar_token, rules_used, avoided_tokens};
-ghost use Rattle.cfg_read.specs.SyntaxModels.{word_of, words_of, symbol_of, syntax_of};
+ghost use Rattle.cfg_read.specs.Names.{is_among, avoided_tokens};
+ghost use Rattle.cfg_read.specs.SyntaxModels.{words_of, symbol_of, syntax_of};
 ghost use Rattle.cfg_read.specs.NameModels.{words_at, symbols_at, has_name};
+ghost use Rattle.cfg_read.specs.NameTables.{known_of};
+ghost use Rattle.cfg_read.specs.AstModels.{named_spans};
+ghost use Rattle.cfg_read.specs.Settling.{unknown_words, uses_of};
 ghost use Rattle.cfg_read.specs.ErrorModels.{failures_in, kind_of, unknown_failure};
-ghost use Rattle.cfg_read.specs.Validity.{failure_at, invalid_start_rule, unknown_by, unknown_in_rules, unknown_in_declarations, unknown_names, known_by, unknown_symbols_by, unknown_precs, epp_tokens, UnknownSymbol, UnknownRuleRef, UnknownEPP, UnknownToken};
+ghost use Rattle.cfg_read.specs.Validity.{failure_at, failures_at, invalid_start_rule, unknown_by, unknown_in_declarations, known_by, unknown_symbols_by, unknown_precs, epp_tokens, UnknownSymbol, UnknownRuleRef, UnknownEPP, UnknownToken, NoPrecForToken};
 
 use super::{YaccGrammarError, push_failure};
-use crate::yacc::names::{self, Names};
+use crate::yacc::ast::settle::Uses;
+use crate::yacc::name::Name;
+use crate::yacc::name_table::NameTable;
+use crate::yacc::names;
 use crate::yacc::parser::error::YaccGrammarErrorKind;
 use crate::yacc::parser::syntax::{Symbol, Syntax, Word};
-use indexmap::IndexSet;
+use cfg_base::span::Span;
+use indexmap::{IndexMap, IndexSet};
 use std::alloc::{AllocError, Global};
 
 /// What an unknown name should have been.
@@ -42,33 +49,67 @@ fn unknown_kind(what: Unknown, name: String) -> YaccGrammarErrorKind
 fn push_if_unknown(
     alloc: Global,
     errors: &mut Vec<YaccGrammarError>,
-    word: &Word,
-    known: &IndexSet<&str>,
+    text: &str,
+    span: Span,
+    is_known: bool,
     what: Unknown,
 ) -> Result<(), AllocError>
     ensures { OnOk result (failures_in errors.new.items
-        ≡ failures_in errors.old.items ++ unknown_by (unknown_failure what) (has_name known.now) (word_of word.now ∷ [])) }
+        ≡ failures_in errors.old.items ++ unknown_by (unknown_failure what) (λ q. is_known) (record { text = text.now; span = span } ∷ [])) }
 {
-    if !known.contains(word.text.as_str()) {
-        let name = word.text.clone()?;
-        push_failure(alloc, errors, unknown_kind(what, name), word.span)?;
+    if !is_known {
+        let name = String::from_str(alloc, text)?;
+        push_failure(alloc, errors, unknown_kind(what, name), span)?;
     }
     Ok(())
 }
 
-/// Puts a failure for each word whose name isn't known behind the others.
+/// Puts a failure for each of these names behind the others.
+fn push_all_unknown(
+    alloc: Global,
+    errors: &mut Vec<YaccGrammarError>,
+    names: &[(Name, Span)],
+) -> Result<(), AllocError>
+    ensures { OnOk result (failures_in errors.new.items
+        ≡ failures_in errors.old.items ++ failures_at UnknownRuleRef (unknown_words names.now)) }
+{
+    'names: for name in names {
+        push_if_unknown(alloc, errors, name.0.as_str(), name.1, false, Unknown::Rule)?;
+    }
+    Ok(())
+}
+
+/// Puts a failure for each token of a precedence behind the others, whose name isn't among these.
+fn push_without_precedence(
+    alloc: Global,
+    errors: &mut Vec<YaccGrammarError>,
+    words: &[(&str, Span)],
+    levels: &IndexSet<&str>,
+) -> Result<(), AllocError>
+    ensures { OnOk result (failures_in errors.new.items
+        ≡ failures_in errors.old.items ++ unknown_by NoPrecForToken (has_name levels.now) (words_at words.now)) }
+{
+    'words: for word in words {
+        let is_known = levels.contains(word.0);
+        push_if_unknown(alloc, errors, word.0, word.1, is_known, Unknown::Precedence)?;
+    }
+    Ok(())
+}
+
+/// Puts a failure for each word behind the others, whose name isn't among these tokens.
 fn push_unknown(
     alloc: Global,
     errors: &mut Vec<YaccGrammarError>,
-    words: &[&Word],
-    known: &IndexSet<&str>,
+    words: &[(&str, Span)],
+    tokens: &IndexMap<String, Span>,
     what: Unknown,
 ) -> Result<(), AllocError>
     ensures { OnOk result (failures_in errors.new.items
-        ≡ failures_in errors.old.items ++ unknown_by (unknown_failure what) (has_name known.now) (words_at words.now)) }
+        ≡ failures_in errors.old.items ++ unknown_by (unknown_failure what) (is_among (named_spans tokens.now)) (words_at words.now)) }
 {
     'words: for word in words {
-        push_if_unknown(alloc, errors, word, known, what)?;
+        let is_known = tokens.contains_key(word.0);
+        push_if_unknown(alloc, errors, word.0, word.1, is_known, what)?;
     }
     Ok(())
 }
@@ -78,23 +119,32 @@ fn push_invalid_start(
     alloc: Global,
     errors: &mut Vec<YaccGrammarError>,
     starts: &[Word],
-    rules: &IndexSet<&str>,
+    table: &NameTable,
 ) -> Result<(), AllocError>
     ensures { OnOk result (failures_in errors.new.items
-        ≡ failures_in errors.old.items ++ invalid_start_rule (has_name rules.now) (words_of starts.now)) }
+        ≡ failures_in errors.old.items ++ invalid_start_rule (known_of table.now).rules (words_of starts.now)) }
 {
     if let Some(start) = starts.first() {
-        push_if_unknown(alloc, errors, start, rules, Unknown::StartRule)?;
+        let text = start.text.as_str();
+        let is_known = table.has_rule(text);
+        push_if_unknown(
+            alloc,
+            errors,
+            text,
+            start.span,
+            is_known,
+            Unknown::StartRule,
+        )?;
     }
     Ok(())
 }
 
 /// Tells whether a symbol of `%expect-unused` names something.
-fn is_known(symbol: &Symbol, rules: &IndexSet<&str>, tokens: &IndexSet<&str>) -> bool
-    ensures { result ≡ known_by (has_name rules.now) (has_name tokens.now) (symbol_of symbol.now) }
+fn is_known(symbol: &Symbol, table: &NameTable, tokens: &IndexMap<String, Span>) -> bool
+    ensures { result ≡ known_by (known_of table.now).rules (is_among (named_spans tokens.now)) (symbol_of symbol.now) }
 {
-    let name = symbol.word.text.as_str();
-    tokens.contains(name) || !symbol.is_quoted && rules.contains(name)
+    let name = symbol.name();
+    tokens.contains_key(name.as_str()) || !symbol.is_quoted() && table.entry(name).is_rule
 }
 
 /// Puts a failure for a symbol of `%expect-unused` behind the others, where it isn't known.
@@ -112,7 +162,7 @@ fn push_if_unknown_symbol(
             alloc,
             errors,
             YaccGrammarErrorKind::UnknownSymbol,
-            symbol.word.span,
+            symbol.span(),
         )?;
     }
     Ok(())
@@ -123,49 +173,28 @@ fn push_unknown_symbols(
     alloc: Global,
     errors: &mut Vec<YaccGrammarError>,
     symbols: &[&Symbol],
-    rules: &IndexSet<&str>,
-    tokens: &IndexSet<&str>,
+    table: &NameTable,
+    tokens: &IndexMap<String, Span>,
 ) -> Result<(), AllocError>
     ensures { OnOk result (failures_in errors.new.items
-        ≡ failures_in errors.old.items ++ unknown_symbols_by (known_by (has_name rules.now) (has_name tokens.now)) (symbols_at symbols.now)) }
+        ≡ failures_in errors.old.items ++ unknown_symbols_by (known_by (known_of table.now).rules (is_among (named_spans tokens.now))) (symbols_at symbols.now)) }
 {
     'symbols: for symbol in symbols {
-        push_if_unknown_symbol(alloc, errors, symbol, is_known(symbol, rules, tokens))?;
+        push_if_unknown_symbol(alloc, errors, symbol, is_known(symbol, table, tokens))?;
     }
     Ok(())
 }
 
-/// Puts a failure for each name in alternatives that stands for nothing behind the others.
-fn push_unknown_rules(
-    alloc: Global,
-    errors: &mut Vec<YaccGrammarError>,
-    names: &Names,
-) -> Result<(), AllocError>
-    ensures { OnOk result (failures_in errors.new.items
-        ≡ failures_in errors.old.items ++ unknown_by UnknownRuleRef (is_rule names.now) (rules_used names.now)) }
+/// The failures of tokens of `%prec` without a precedence.
+pub(crate) fn unknown_precs(alloc: Global, x: &Syntax) -> Result<Vec<YaccGrammarError>, AllocError>
+    ensures { IfOk result (λ errors. failures_in errors.items ≡ unknown_precs (syntax_of x.now)) }
 {
-    push_unknown(
-        alloc,
-        errors,
-        names.used_rules(),
-        names.rules(),
-        Unknown::Rule,
-    )
-}
-
-/// Puts a failure for each token of `%prec` without a precedence behind the others.
-fn push_unknown_precs(
-    alloc: Global,
-    errors: &mut Vec<YaccGrammarError>,
-    names: &Names,
-) -> Result<(), AllocError>
-    ensures { OnOk result (failures_in errors.new.items
-        ≡ failures_in errors.old.items ++ unknown_precs names.now) }
-{
-    let x = names.syntax();
+    let mut errors = Vec::new(alloc);
+    let levels = names::level_words(alloc, &x.levels)?;
+    let known = names::distinct_names(alloc, &levels)?;
     let words = names::prec_words(alloc, &x.rules)?;
-    push_unknown(alloc, errors, &words, names.levels(), Unknown::Precedence)?;
-    Ok(())
+    push_without_precedence(alloc, &mut errors, &words, &known)?;
+    Ok(errors)
 }
 
 /// Puts a failure for each token of `%epp` that isn't the grammar's behind the others.
@@ -173,10 +202,10 @@ fn push_unknown_epps(
     alloc: Global,
     errors: &mut Vec<YaccGrammarError>,
     x: &Syntax,
-    known: &IndexSet<&str>,
+    known: &IndexMap<String, Span>,
 ) -> Result<(), AllocError>
     ensures { OnOk result (failures_in errors.new.items
-        ≡ failures_in errors.old.items ++ unknown_by UnknownEPP (has_name known.now) (epp_tokens (syntax_of x.now))) }
+        ≡ failures_in errors.old.items ++ unknown_by UnknownEPP (is_among (named_spans known.now)) (epp_tokens (syntax_of x.now))) }
 {
     let words = names::epp_words(alloc, &x.epp)?;
     push_unknown(alloc, errors, &words, known, Unknown::Epp)?;
@@ -188,29 +217,13 @@ fn push_unknown_tokens(
     alloc: Global,
     errors: &mut Vec<YaccGrammarError>,
     x: &Syntax,
-    known: &IndexSet<&str>,
+    known: &IndexMap<String, Span>,
 ) -> Result<(), AllocError>
     ensures { OnOk result (failures_in errors.new.items
-        ≡ failures_in errors.old.items ++ unknown_by UnknownToken (has_name known.now) (avoided_tokens (syntax_of x.now))) }
+        ≡ failures_in errors.old.items ++ unknown_by UnknownToken (is_among (named_spans known.now)) (avoided_tokens (syntax_of x.now))) }
 {
     let words = names::line_words(alloc, &x.avoid_insert)?;
     push_unknown(alloc, errors, &words, known, Unknown::Token)?;
-    Ok(())
-}
-
-/// Puts a failure for each unknown name in `%start` and in rules behind the others.
-fn push_unknown_in_rules(
-    alloc: Global,
-    errors: &mut Vec<YaccGrammarError>,
-    names: &Names,
-) -> Result<(), AllocError>
-    ensures { OnOk result (failures_in errors.new.items
-        ≡ failures_in errors.old.items ++ unknown_in_rules (is_rule names.now) names.now) }
-{
-    let x = names.syntax();
-    push_invalid_start(alloc, errors, &x.starts, names.rules())?;
-    push_unknown_rules(alloc, errors, names)?;
-    push_unknown_precs(alloc, errors, names)?;
     Ok(())
 }
 
@@ -218,29 +231,48 @@ fn push_unknown_in_rules(
 fn push_unknown_in_declarations(
     alloc: Global,
     errors: &mut Vec<YaccGrammarError>,
-    names: &Names,
+    x: &Syntax,
+    table: &NameTable,
 ) -> Result<(), AllocError>
     ensures { OnOk result (failures_in errors.new.items
-        ≡ failures_in errors.old.items ++ unknown_in_declarations (is_rule names.now) (is_grammar_token names.now) names.now) }
+        ≡ failures_in errors.old.items ++ unknown_in_declarations (known_of table.now).rules (is_among table.now.tokens) (syntax_of x.now)) }
 {
-    let x = names.syntax();
-    push_unknown_epps(alloc, errors, x, names.tokens())?;
-    push_unknown_tokens(alloc, errors, x, names.tokens())?;
+    let tokens = table.tokens();
+    push_unknown_epps(alloc, errors, x, tokens)?;
+    push_unknown_tokens(alloc, errors, x, tokens)?;
     let symbols = names::line_symbols(alloc, &x.expect_unused)?;
-    push_unknown_symbols(alloc, errors, &symbols, names.rules(), names.tokens())?;
+    push_unknown_symbols(alloc, errors, &symbols, table, tokens)?;
     Ok(())
 }
 
-/// Puts a failure for each name that stands for nothing behind the others.
+/// Puts these errors behind the others.
+fn push_errors(
+    errors: &mut Vec<YaccGrammarError>,
+    others: Vec<YaccGrammarError>,
+) -> Result<(), AllocError>
+    ensures { OnOk result (failures_in errors.new.items ≡ failures_in errors.old.items ++ failures_in others.items) }
+{
+    'others: for error in others {
+        errors.push(error)?;
+    }
+    Ok(())
+}
+
+/// Puts a failure for each name that stands for nothing behind the others, where these are those of tokens of `%prec`.
 pub(super) fn push_unknown_names(
     alloc: Global,
     errors: &mut Vec<YaccGrammarError>,
-    names: &Names,
+    x: &Syntax,
+    uses: &Uses,
+    precs: Vec<YaccGrammarError>,
 ) -> Result<(), AllocError>
-    ensures { OnOk result (failures_in errors.new.items
-        ≡ failures_in errors.old.items ++ unknown_names names.now) }
+    ensures { OnOk result (failures_in errors.new.items ≡ failures_in errors.old.items
+        ++ ((invalid_start_rule (known_of uses.now.table).rules (syntax_of x.now).starts ++ (failures_at UnknownRuleRef (uses_of uses.now).unknown ++ failures_in precs.items))
+        ++ unknown_in_declarations (known_of uses.now.table).rules (is_among uses.now.table.tokens) (syntax_of x.now))) }
 {
-    push_unknown_in_rules(alloc, errors, names)?;
-    push_unknown_in_declarations(alloc, errors, names)?;
+    push_invalid_start(alloc, errors, &x.starts, &uses.table)?;
+    push_all_unknown(alloc, errors, &uses.unknown)?;
+    push_errors(errors, precs)?;
+    push_unknown_in_declarations(alloc, errors, x, &uses.table)?;
     Ok(())
 }

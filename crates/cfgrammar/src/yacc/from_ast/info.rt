@@ -98,7 +98,7 @@ pub(crate) fn rules(
     requires { AreDistinct (map (λ r. r.name) (tree.rules_of implicit ast.now)) }
     ensures { IfOk result (λ m. map rule_facts m.entries ≡ tree.rules_of implicit ast.now) }
 {
-    let mut rules = IndexMap::new(alloc);
+    let mut rules = IndexMap::with_capacity(alloc, ast.rules().len().saturating_add(3))?;
     add_rule(alloc, &mut rules, "^")?;
     'rules: for index in 0..ast.rules().len() {
         let (name, rule) = file_rule(ast, index)?;
@@ -134,7 +134,7 @@ pub(crate) fn tokens(
     requires { AreDistinct (names_of_tokens ast.now) }
     ensures { IfOk result (λ m. map token_facts m.entries ≡ map (tree.file_token_facts ast.now) ast.now.tokens) }
 {
-    let mut tokens = IndexMap::new(alloc);
+    let mut tokens = IndexMap::with_capacity(alloc, ast.tokens().len().saturating_add(1))?;
     'tokens: for index in 0..ast.tokens().len() {
         let (name, token) = file_token(ast, index)?;
         put_last(&mut tokens, name, token)?;

@@ -3,6 +3,7 @@
 ghost use Rattle.std.specs.Prelude.{◌≡◌, ℕ, suc, ◌≤◌, ◌++◌, Bool, true, length, map, Contains, All, IfOk, OnOk};
 ghost use Rattle.std.specs.List.{flat_map};
 ghost use Rattle.cfg_read.specs.AstModels.{ast_symbol_of};
+ghost use Rattle.cfg_read.specs.NameTexts.{name_text};
 ghost use Rattle.cfg_read.specs.WellFormedAst.{names_of_rules, names_of_tokens, NamesOne};
 ghost use Rattle.cfg_numbered.specs.Symbols.{sym_of, syms_of};
 ghost use Rattle.cfgrammar.specs.FromAst as tree;
@@ -10,6 +11,7 @@ ghost use Rattle.cfgrammar.specs.FromAst as tree;
 use cfg_base::index::IndexStorage;
 use cfg_base::symbol::{RIdx, Symbol, TIdx};
 use cfg_numbered::yacc::grammar::index_of;
+use cfg_read::yacc::Name;
 use cfg_read::yacc::ast::{self, GrammarAST};
 use std::alloc::{AllocError, Global};
 
@@ -30,6 +32,26 @@ pub(crate) fn token_named<S: IndexStorage>(ast: &GrammarAST, name: &str) -> TIdx
     ensures { S.number result.0 ≡ tree.token_number ast.now name.now }
 {
     let index = ast.tokens().get_index_of(name).unwrap();
+    TIdx(index_of(index))
+}
+
+/// The rule of a name in a production.
+fn rule_of<S: IndexStorage>(ast: &GrammarAST, name: &Name) -> RIdx<S>
+    requires known { Contains (names_of_rules ast.now) (name_text name.now) }
+    requires fits { suc (length ast.now.rules) ≤ S.MAX }
+    ensures { S.number result.0 ≡ tree.rule_number ast.now (name_text name.now) }
+{
+    let index = ast.rule_number(name).unwrap();
+    RIdx(index_of(index + 1))
+}
+
+/// The token of a name in a production.
+fn token_of<S: IndexStorage>(ast: &GrammarAST, name: &Name) -> TIdx<S>
+    requires known { Contains (names_of_tokens ast.now) (name_text name.now) }
+    requires fits { length ast.now.tokens ≤ S.MAX }
+    ensures { S.number result.0 ≡ tree.token_number ast.now (name_text name.now) }
+{
+    let index = ast.token_number(name).unwrap();
     TIdx(index_of(index))
 }
 
@@ -56,8 +78,8 @@ fn to_symbol<S: IndexStorage>(ast: &GrammarAST, symbol: &ast::Symbol) -> Symbol<
     ensures { sym_of S.number result ≡ tree.sym_of ast.now (ast_symbol_of symbol.now) }
 {
     match symbol {
-        ast::Symbol::Rule(name, _span) => Symbol::Rule(rule_named(ast, name.as_str())),
-        ast::Symbol::Token(name, _span) => Symbol::Token(token_named(ast, name.as_str())),
+        ast::Symbol::Rule(name, _span) => Symbol::Rule(rule_of(ast, name)),
+        ast::Symbol::Token(name, _span) => Symbol::Token(token_of(ast, name)),
     }
 }
 
@@ -101,7 +123,7 @@ pub(crate) fn body<S: IndexStorage>(
     requires tokens { length ast.now.tokens ≤ S.MAX }
     ensures { IfOk result (λ v. syms_of S.number v.items ≡ flat_map (tree.syms_of implicit ast.now) (map ast_symbol_of symbols.now)) }
 {
-    let mut made = Vec::new(alloc);
+    let mut made = Vec::with_capacity(alloc, symbols.len())?;
     'symbols: for symbol in symbols {
         push_symbol(&mut made, ast, implicit, symbol)?;
     }

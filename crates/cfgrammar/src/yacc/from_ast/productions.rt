@@ -1,14 +1,15 @@
 //! The productions of a grammar.
 
-ghost use Rattle.std.specs.Prelude.{◌≡◌, ℕ, suc, zero, ◌<◌, ◌≤◌, ◌++◌, ◌∷◌, [], Bool, true, length, map, slice_get, option_map, All, IfOk, IfSome, OnOk};
+ghost use Rattle.std.specs.Prelude.{◌≡◌, ℕ, suc, zero, ◌<◌, ◌≤◌, ◌++◌, ◌∷◌, [], Bool, true, length, map, slice_get, option_map, All, Contains, IfOk, IfSome, OnOk};
 ghost use Rattle.std.specs.Option.{option_and_then, option_copied, option_or};
 ghost use Rattle.std.specs.String.{string_bytes};
 ghost use Rattle.cfg_theory.specs.Grammar.{Production};
 ghost use Rattle.cfg_read.specs.AstModels.{ast_symbol_of};
 ghost use Rattle.cfg_read.specs.AstModels as views;
-ghost use Rattle.cfg_read.specs.WellFormedAst.{NamesOne, IsWellFormedAst};
+ghost use Rattle.cfg_read.specs.NameTexts.{name_text};
+ghost use Rattle.cfg_read.specs.WellFormedAst.{names_of_tokens, NamesOne, IsWellFormedAst};
 ghost use Rattle.cfg_numbered.specs.Symbols.{sym_of, syms_of};
-ghost use Rattle.cfg_numbered.specs.Info.{production_of, production_facts};
+ghost use Rattle.cfg_numbered.specs.Info.{token_facts, production_of, production_facts};
 ghost use Rattle.cfgrammar.specs.FromAst as tree;
 ghost use Rattle.cfgrammar.specs.AddedProductions.{Adds};
 
@@ -17,55 +18,81 @@ use cfg_base::index::IndexStorage;
 use cfg_base::span::Span;
 use cfg_base::symbol::{RIdx, Symbol};
 use cfg_numbered::yacc::grammar::index_of;
-use cfg_numbered::yacc::info::ProductionInfo;
-use cfg_read::yacc::Precedence;
+use cfg_numbered::yacc::info::{ProductionInfo, TokenInfo};
 use cfg_read::yacc::ast::{self, GrammarAST, Production};
+use cfg_read::yacc::{Name, Precedence};
+use indexmap::IndexMap;
 use std::alloc::{AllocError, Global};
 
-fn last_token(symbols: &[ast::Symbol]) -> Option<&str>
-    ensures { option_map (λ s. s.now) result ≡ tree.last_token (map ast_symbol_of symbols.now) }
+fn last_token(symbols: &[ast::Symbol]) -> Option<&Name>
+    ensures { option_map (λ s. name_text s.now) result ≡ tree.last_token (map ast_symbol_of symbols.now) }
 {
     let mut found = None;
     'symbols: for symbol in symbols {
         if let ast::Symbol::Token(name, _span) = symbol {
-            found = Some(name.as_str());
+            found = Some(name);
         }
     }
     found
 }
 
+/// The precedence of the token of this name.
+fn token_precedence(
+    ast: &GrammarAST,
+    tokens: &IndexMap<String, TokenInfo>,
+    name: &Name,
+) -> Option<Precedence>
+    requires told { map token_facts tokens.now.entries ≡ map (tree.file_token_facts ast.now) ast.now.tokens }
+    requires known { Contains (names_of_tokens ast.now) (name_text name.now) }
+    ensures { result ≡ tree.precedence_of ast.now (name_text name.now) }
+{
+    let number = ast.token_number(name).unwrap();
+    tokens[number].precedence
+}
+
 /// The precedence of a production with this token of `%prec` and these symbols.
 fn precedence_by(
     ast: &GrammarAST,
+    tokens: &IndexMap<String, TokenInfo>,
     own: Option<&String>,
     symbols: &[ast::Symbol],
 ) -> Option<Precedence>
+    requires told { map token_facts tokens.now.entries ≡ map (tree.file_token_facts ast.now) ast.now.tokens }
+    requires known { All (NamesOne ast.now) (map ast_symbol_of symbols.now) }
     ensures { result ≡ option_and_then (tree.precedence_of ast.now)
         (option_or (option_map string_bytes (option_copied own.entry)) (tree.last_token (map ast_symbol_of symbols.now))) }
 {
     match own {
         Some(name) => info::precedence_of(ast, name.as_str()),
         None => match last_token(symbols) {
-            Some(name) => info::precedence_of(ast, name),
+            Some(name) => token_precedence(ast, tokens, name),
             None => None,
         },
     }
 }
 
-fn precedence_of(ast: &GrammarAST, production: &Production) -> Option<Precedence>
+fn precedence_of(
+    ast: &GrammarAST,
+    tokens: &IndexMap<String, TokenInfo>,
+    production: &Production,
+) -> Option<Precedence>
+    requires told { map token_facts tokens.now.entries ≡ map (tree.file_token_facts ast.now) ast.now.tokens }
+    requires known { All (NamesOne ast.now) (views.production_of production.now).symbols }
     ensures { result ≡ tree.production_precedence ast.now (views.production_of production.now) }
 {
-    precedence_by(ast, production.precedence(), production.symbols())
+    precedence_by(ast, tokens, production.precedence(), production.symbols())
 }
 
 /// A production of the file, of the rule at this index.
 fn file_part<S: IndexStorage>(
     alloc: Global,
     ast: &GrammarAST,
+    tokens: &IndexMap<String, TokenInfo>,
     implicit: bool,
     index: usize,
     production: &Production,
 ) -> Result<ProductionInfo<S>, AllocError>
+    requires told { map token_facts tokens.now.entries ≡ map (tree.file_token_facts ast.now) ast.now.tokens }
     requires known { All (NamesOne ast.now) (views.production_of production.now).symbols }
     requires index { index < length ast.now.rules }
     requires rules { length (tree.rules_of implicit ast.now) ≤ S.MAX }
@@ -79,7 +106,7 @@ fn file_part<S: IndexStorage>(
         rule: RIdx(index_of(index + 1)),
         symbols,
         span: production.prod_span(),
-        precedence: precedence_of(ast, production),
+        precedence: precedence_of(ast, tokens, production),
         action,
         action_span: production.action_span(),
     })
@@ -89,8 +116,10 @@ fn file_part<S: IndexStorage>(
 fn file_parts<S: IndexStorage>(
     alloc: Global,
     ast: &GrammarAST,
+    tokens: &IndexMap<String, TokenInfo>,
     implicit: bool,
 ) -> Result<Vec<ProductionInfo<S>>, AllocError>
+    requires told { map token_facts tokens.now.entries ≡ map (tree.file_token_facts ast.now) ast.now.tokens }
     requires sound { IsWellFormedAst ast.now }
     requires rules { length (tree.rules_of implicit ast.now) ≤ S.MAX }
     requires tokens { length ast.now.tokens ≤ S.MAX }
@@ -99,9 +128,9 @@ fn file_parts<S: IndexStorage>(
 {
     let heads = heads::heads(alloc, ast)?;
     let prods = ast.prods();
-    let mut made = Vec::new(alloc);
+    let mut made = Vec::with_capacity(alloc, prods.len().saturating_add(1))?;
     'prods: for number in 0..prods.len() {
-        made.push(file_part(alloc, ast, implicit, heads[number], &prods[number])?)?;
+        made.push(file_part(alloc, ast, tokens, implicit, heads[number], &prods[number])?)?;
     }
     Ok(made)
 }
@@ -238,15 +267,17 @@ fn push_tildes<S: IndexStorage>(
 pub(crate) fn all<S: IndexStorage>(
     alloc: Global,
     ast: &GrammarAST,
+    tokens: &IndexMap<String, TokenInfo>,
     implicit: bool,
 ) -> Result<Vec<ProductionInfo<S>>, AllocError>
+    requires told { map token_facts tokens.now.entries ≡ map (tree.file_token_facts ast.now) ast.now.tokens }
     requires sound { IsWellFormedAst ast.now }
     requires rules { length (tree.rules_of implicit ast.now) ≤ S.MAX }
     requires tokens { length ast.now.tokens ≤ S.MAX }
     ensures productions { IfOk result (λ v. map (production_of S.number) v.items ≡ tree.productions_of implicit ast.now) }
     ensures facts { IfOk result (λ v. map production_facts v.items ≡ tree.production_facts_of implicit ast.now) }
 {
-    let mut made = file_parts(alloc, ast, implicit)?;
+    let mut made = file_parts(alloc, ast, tokens, implicit)?;
     push_start(alloc, &mut made, ast, implicit)?;
     if implicit {
         push_tildes(alloc, &mut made, ast)?;

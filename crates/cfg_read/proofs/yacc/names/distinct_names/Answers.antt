@@ -1,9 +1,7 @@
-use Rattle.std.proofs.Common.{◌≡◌, ◌+◌, ◌++◌, [], ◌∷◌, map, take, sym, ap, ◌∙◌, arith, Bor}
+use Rattle.std.proofs.Common.{◌≡◌, ◌+◌, ◌++◌, [], ◌∷◌, map, take, refl, sym, ap, ◌∙◌, arith, Bor}
 use Rattle.std.proofs.lemmas.List.{take_more, take_all, map-append}
-use Rattle.cfg_read.specs.declared.yacc.parser.syntax.Word.{Word}
 use Rattle.cfg_read.specs.Names.{distinct, texts}
-use Rattle.cfg_read.specs.SyntaxModels.{word_of}
-use Rattle.cfg_read.specs.NameModels.{words_at}
+use Rattle.cfg_read.specs.NameModels.{mention_of, words_at}
 use Rattle.cfg_read.proofs.NameLemmas.{has_all, names_step}
 use Rattle.cfg_read.proofs.yacc.names.distinct_names.Goals as goal
 
@@ -14,8 +12,8 @@ words-preserved c =
     let x = c.word-item.result in
     let more : take (i + 1) xs ≡ take i xs ++ x ∷ [] = take_more xs i x (omega arith) ∙ ap (λ y. take i xs ++ y ∷ []) (sym c.word-item.is) in
     ap (map (λ (k : Bor _). k.now)) c.in_ok-insert.ensures.keys
-    ∙ names_step c.words.names.keys (words_at (take i xs)) c.as_str.result (word_of x.now) c.words.invariant c.as_str.ensures.value
-    ∙ ap (λ l. texts (distinct l)) (sym (map-append (λ (w : Bor Word). word_of w.now) (take i xs) (x ∷ [])) ∙ sym (ap words_at more))
+    ∙ names_step c.words.names.keys (words_at (take i xs)) x.0 (mention_of x) c.words.invariant refl
+    ∙ ap (λ l. texts (distinct l)) (sym (map-append mention_of (take i xs) (x ∷ [])) ∙ sym (ap words_at more))
 
 pub returns-clause-has : goal.returns-clause-has
 returns-clause-has c =

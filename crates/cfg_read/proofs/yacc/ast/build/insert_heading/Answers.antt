@@ -20,8 +20,8 @@ returns-in_ok-insert-clause-rules c =
     let h = headed (text_of (option_map (λ w. word_of w.now) c.args.shared)) r in
     let k = c.in_ok-key.key in
     let new = c.in_ok-new.new in
-    let same : string_bytes k ≡ r.name.text = c.in_ok-key.ensures.cases in
-    let none : is_some (lookup (λ (k : String Global). bytes_eq r.name.text (string_bytes k)) es) ≡ false = ap (λ (q : List ℕ). is_some (lookup (λ (k : String Global). bytes_eq q (string_bytes k)) es)) (sym c.as_str.ensures.value) ∙ sym c.if-not-contains_key.ensures in
+    let same : string_bytes k ≡ r.name.text = c.in_ok-key.ensures.ok ∙ c.as_str-name.ensures in
+    let none : is_some (lookup (λ (k : String Global). bytes_eq r.name.text (string_bytes k)) es) ≡ false = ap (λ (q : List ℕ). is_some (lookup (λ (k : String Global). bytes_eq q (string_bytes k)) es)) (sym c.as_str-name.ensures) ∙ sym c.if-not-contains_key.ensures in
     let test : has_rule (map named_rule es) r.name.text ≡ false = sym (found_rule es r.name.text) ∙ none in
     ap (map named_rule) (c.in_ok-insert.ensures.entries ∙ entries_new r.name.text k new es same none)
     ∙ map-append named_rule es ((k, new) ∷ [])
@@ -38,8 +38,8 @@ returns-in_ok-insert-clause-names c =
     let new = c.in_ok-new.new in
     let own : String Global × Rule → List ℕ = λ e. string_bytes e.1.name.0 in
     let key : String Global × Rule → List ℕ = λ e. string_bytes e.0 in
-    let same : string_bytes k ≡ q = c.in_ok-key.ensures.cases in
-    let none : is_some (lookup (λ (k : String Global). bytes_eq q (string_bytes k)) es) ≡ false = ap (λ (q : List ℕ). is_some (lookup (λ (k : String Global). bytes_eq q (string_bytes k)) es)) (sym c.as_str.ensures.value) ∙ sym c.if-not-contains_key.ensures in
+    let same : string_bytes k ≡ q = c.in_ok-key.ensures.ok ∙ c.as_str-name.ensures in
+    let none : is_some (lookup (λ (k : String Global). bytes_eq q (string_bytes k)) es) ≡ false = ap (λ (q : List ℕ). is_some (lookup (λ (k : String Global). bytes_eq q (string_bytes k)) es)) (sym c.as_str-name.ensures) ∙ sym c.if-not-contains_key.ensures in
     let entries = c.in_ok-insert.ensures.entries ∙ entries_new q k new es same none in
     ap (map own) entries ∙ map-append own es ((k, new) ∷ [])
     ∙ ap (λ l. l ++ string_bytes new.name.0 ∷ []) c.requires
@@ -57,5 +57,5 @@ returns-else-not-contains_key-clause-rules c =
     let es = c.args.rules.now.entries in
     let r = rule_of c.args.rule.now in
     let h = headed (text_of (option_map (λ w. word_of w.now) c.args.shared)) r in
-    let test : has_rule (map named_rule es) r.name.text ≡ true = sym (found_rule es r.name.text) ∙ ap (λ (q : List ℕ). is_some (lookup (λ (k : String Global). bytes_eq q (string_bytes k)) es)) (sym c.as_str.ensures.value) ∙ sym c.if-not-contains_key.ensures in
+    let test : has_rule (map named_rule es) r.name.text ≡ true = sym (found_rule es r.name.text) ∙ ap (λ (q : List ℕ). is_some (lookup (λ (k : String Global). bytes_eq q (string_bytes k)) es)) (sym c.as_str-name.ensures) ∙ sym c.if-not-contains_key.ensures in
     ap (λ (b : Bool). if b then map named_rule es else map named_rule es ++ h ∷ []) (sym test)

@@ -1,4 +1,4 @@
-use Rattle.std.proofs.Common.{◌≡◌, nat_lt, length, map, refl, sym, ap, ◌∙◌}
+use Rattle.std.proofs.Common.{◌≡◌, [], ◌∷◌, nat_lt, length, map, refl, sym, ap, ◌∙◌}
 use Rattle.std.specs.Map.{keys_of, values_of}
 use Rattle.indexmap.specs.IndexMap.{set_value_at}
 use Rattle.cfg_read.specs.declared.yacc.ast.Rule.{Rule}
@@ -27,7 +27,7 @@ returns-in_ok-push-in-Some-clause-rules c =
     let new : Rule = record { name = old.name; pidxs = c.push.new.self; actiont = old.actiont } in
     let place : place_in q es ≡ i = index_is (nat_lt (place_in q es) (length (keys_of es))) (place_in q es) i (sym c.in-Some.ensures.index) in
     ap (λ n. map named_rule (set_value_at es n new)) (sym place)
-    ∙ numbered q c.args.number old new es c.in-Some.ensures.unique (ap (slice_get (values_of es)) place ∙ c.index_mut.ensures.value) (refl, c.in_ok-push-in-Some.ensures.items, refl)
+    ∙ numbered q (c.args.number ∷ []) old new es c.in-Some.ensures.unique (ap (slice_get (values_of es)) place ∙ c.index_mut.ensures.value) (refl, c.in_ok-push-in-Some.ensures.items, refl)
 
 pub returns-in_ok-push-in-Some-clause-names : goal.returns-in_ok-push-in-Some-clause-names
 returns-in_ok-push-in-Some-clause-names c =
@@ -37,7 +37,7 @@ returns-in_ok-push-in-Some-clause-names c =
     names_stay es c.in-Some.index old new c.index_mut.ensures.value refl ∙ c.requires ∙ sym (keys_stay es c.in-Some.index new)
 
 pub returns-in-None-clause-rules : goal.returns-in-None-clause-rules
-returns-in-None-clause-rules c = unnumbered c.args.name.now c.args.number c.args.rules.now.entries (sym c.in-None.ensures.found)
+returns-in-None-clause-rules c = unnumbered c.args.name.now (c.args.number ∷ []) c.args.rules.now.entries (sym c.in-None.ensures.found)
 
 pub returns-in_err-push-in-Some-clause-kept : goal.returns-in_err-push-in-Some-clause-kept
 returns-in_err-push-in-Some-clause-kept c =

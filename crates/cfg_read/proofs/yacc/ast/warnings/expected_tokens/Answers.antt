@@ -1,8 +1,10 @@
 use Rattle.std.proofs.Common.{[], map, take, sym, ap, ◌∙◌, arith}
 use Rattle.std.proofs.lemmas.List.{take_all}
+use Rattle.cfg_read.specs.Asts.{SymbolAst}
 use Rattle.cfg_read.specs.AstModels.{ast_symbol_of}
 use Rattle.cfg_read.specs.WarningModels.{with_name, with_symbol_names, is_any_symbol}
-use Rattle.cfg_read.proofs.WarningLemmas.{added, has, has_set, has_symbols, symbols_more, text_of_either}
+use Rattle.cfg_read.proofs.WarningLemmas.{added, has, has_set, has_symbols, symbols_more}
+use Rattle.cfg_read.proofs.AstSymbols.{by_quotes}
 use Rattle.cfg_read.proofs.yacc.ast.warnings.expected_tokens.Goals as goal
 
 pub symbols-preserved : goal.symbols-preserved
@@ -11,8 +13,8 @@ symbols-preserved c =
     let i = c.symbols.symbol-index in
     let x = c.symbol-item.result in
     let names = with_symbol_names is_any_symbol [] (map ast_symbol_of (take i xs)) in
-    added c.symbols.names.keys c.insert.new.self.keys c.as_str.result names _ c.in_ok-insert-in-Rule.ensures.keys c.symbols.invariant c.as_str.ensures.value
-    ∙ ap (with_name names) (text_of_either x c.in-Rule.text c.in-Rule.is)
+    added c.symbols.names.keys c.insert.new.self.keys c.as_str.result names _ c.in_ok-insert.ensures.keys c.symbols.invariant c.as_str.ensures
+    ∙ ap (with_name names) (c.name.ensures ∙ sym (ap (λ (s : SymbolAst). s.word.text) (by_quotes x)))
     ∙ sym (symbols_more is_any_symbol [] xs i x c.symbols-test.true c.symbol-item.is)
 
 pub returns : goal.returns

@@ -15,7 +15,7 @@ symbols-preserved c =
     let step : names_in c.match-symbol.names ≡ with_symbol_name is_rule_symbol names (ast_symbol_of x) = elim c.match-symbol.branch [
       | in-Rule+in_ok-insert w ↦
           ap names_in w.names-is
-          ∙ added c.symbols.names.keys w.insert.new.self.keys w.as_str.result names _ w.in_ok-insert.ensures.keys c.symbols.invariant w.as_str.ensures.value
+          ∙ added c.symbols.names.keys w.insert.new.self.keys w.as_str.result names _ w.in_ok-insert.ensures.keys c.symbols.invariant w.as_str.ensures
           ∙ ap (λ y. with_symbol_name is_rule_symbol names (ast_symbol_of y)) (sym w.in-Rule.is)
       | in_default w ↦ ap names_in w.names-is ∙ c.symbols.invariant ∙ ap (λ y. with_symbol_name is_rule_symbol names (ast_symbol_of y)) (sym w.in_default.is)
     ] in

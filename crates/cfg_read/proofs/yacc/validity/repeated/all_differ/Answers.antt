@@ -1,9 +1,7 @@
 use Rattle.std.proofs.Common.{◌≡◌, length, sym, ap, ◌∙◌, arith, Bor, ℕ, List}
 use Rattle.cfg_read.specs.SyntaxTexts.{WordText}
-use Rattle.cfg_read.specs.declared.yacc.parser.syntax.Word.{Word}
 use Rattle.cfg_read.specs.Names.{distinct}
-use Rattle.cfg_read.specs.SyntaxModels.{word_of}
-use Rattle.cfg_read.specs.NameModels.{words_at}
+use Rattle.cfg_read.specs.NameModels.{mention_of, words_at}
 use Rattle.std.proofs.lemmas.List.{length-map}
 use Rattle.cfg_read.proofs.Grouping.{as_many}
 use Rattle.cfg_read.proofs.yacc.validity.repeated.all_differ.Goals as goal
@@ -18,4 +16,4 @@ returns c = λ yes named k.
     ∙ sym (ap length named)
     ∙ length-map keys (λ (x : Bor (List ℕ)). x.now)
     ∙ counted
-    ∙ sym (length-map words (λ (w : Bor Word). word_of w.now)))
+    ∙ sym (length-map words mention_of))

@@ -1,4 +1,4 @@
-use Rattle.std.proofs.Common.{◌≡◌, ◌++◌, ap, ◌∙◌}
+use Rattle.std.proofs.Common.{◌++◌}
 use Rattle.cfg_read.proofs.Joined.{joined}
 use Rattle.cfg_read.specs.Names.{avoided_tokens, implicit_tokens_of, level_tokens}
 use Rattle.cfg_read.specs.SyntaxTexts.{SyntaxText}
@@ -9,8 +9,7 @@ use Rattle.cfg_read.proofs.yacc.validity.repeated.push_repeated_words.Goals as g
 
 pub returns : goal.returns
 returns c =
-    let x : SyntaxText = c.args.names.now in
-    let same : syntax_of c.syntax-x.result.now ≡ x = c.syntax-x.ensures in
+    let x : SyntaxText = syntax_of c.args.x.now in
     let base = failures_in c.args.errors.now.items in
     let a = repeated_names DuplicatePrecedence (level_tokens x) in
     let b = repeated_names DuplicateEPP (epp_tokens x) in
@@ -20,8 +19,5 @@ returns c =
     let two = failures_in c.push_repeated_epps.new.errors.items in
     let three = failures_in c.push_repeated_avoided.new.errors.items in
     let four = failures_in c.push_repeated_implicit.new.errors.items in
-    let epps : two ≡ one ++ b = c.in_ok-push_repeated_epps.ensures ∙ ap (λ (s : SyntaxText). one ++ repeated_names DuplicateEPP (epp_tokens s)) same in
-    let avoided : three ≡ two ++ d = c.in_ok-push_repeated_avoided.ensures ∙ ap (λ (s : SyntaxText). two ++ repeated_names DuplicateAvoidInsertDeclaration (avoided_tokens s)) same in
-    let implicit : four ≡ three ++ e = c.in_ok-push_repeated_implicit.ensures ∙ ap (λ (s : SyntaxText). three ++ repeated_names DuplicateImplicitTokensDeclaration (implicit_tokens_of s)) same in
     joined base one four a (b ++ (d ++ e)) c.in_ok-push_repeated_levels.ensures
-    (joined one two four b (d ++ e) epps (joined two three four d e avoided implicit))
+    (joined one two four b (d ++ e) c.in_ok-push_repeated_epps.ensures (joined two three four d e c.in_ok-push_repeated_avoided.ensures c.in_ok-push_repeated_implicit.ensures))

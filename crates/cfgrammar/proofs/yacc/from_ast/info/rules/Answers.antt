@@ -37,7 +37,7 @@ add_implicit-requires-clause-start c =
     ap (λ b. slice_get (rules_of b ast) (suc (length files))) c.if-implicit.true ∙ get_behind files (added_rule_facts implicit_start_name) (added_rule_facts implicit_name ∷ []) in
     let low = c.rules.auto.index-end in
     let end = c.len-index-end.ensures.len in
-    let count = sym (length-map c.rules-3.result.now.entries named_rule) ∙ ap length c.rules-3.ensures.rules ∙ sym (length-map ast.rules file_rule_facts) in
+    let count = sym (length-map c.rules-4.result.now.entries named_rule) ∙ ap length c.rules-4.ensures.rules ∙ sym (length-map ast.rules file_rule_facts) in
     let le : suc c.rules.index ≤ suc (length files) = omega (arith, low, end, count) in
     later_is_free rule_facts (λ r. r.name) (λ e. refl) (rules_of c.args.implicit ast) c.requires c.rules.rules.entries (suc c.rules.index) (suc (length files)) (added_rule_facts implicit_start_name) c.rules.invariant le at
 
@@ -49,6 +49,6 @@ add_implicit-requires-clause-rule c =
     ap (λ b. slice_get (rules_of b ast) (suc (suc (length files)))) c.if-implicit.true ∙ get_second files (added_rule_facts implicit_start_name) (added_rule_facts implicit_name) [] in
     let low = c.rules.auto.index-end in
     let end = c.len-index-end.ensures.len in
-    let count = sym (length-map c.rules-3.result.now.entries named_rule) ∙ ap length c.rules-3.ensures.rules ∙ sym (length-map ast.rules file_rule_facts) in
+    let count = sym (length-map c.rules-4.result.now.entries named_rule) ∙ ap length c.rules-4.ensures.rules ∙ sym (length-map ast.rules file_rule_facts) in
     let le : suc c.rules.index ≤ suc (suc (length files)) = omega (arith, low, end, count) in
     later_is_free rule_facts (λ r. r.name) (λ e. refl) (rules_of c.args.implicit ast) c.requires c.rules.rules.entries (suc c.rules.index) (suc (suc (length files))) (added_rule_facts implicit_name) c.rules.invariant le at

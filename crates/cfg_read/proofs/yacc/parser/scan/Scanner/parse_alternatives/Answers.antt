@@ -11,7 +11,7 @@ use Rattle.std.proofs.lemmas.Result.{err_from_is_err_and}
 use Rattle.cfg_read.proofs.yacc.parser.scan.Scanner.parse_alternatives.Goals as goal
 
 pub alternatives-init : goal.alternatives-init
-alternatives-init c = record { from = omega arith; steps = rw c.new-alternatives.ensures.items (λ n t x. here) }
+alternatives-init c = record { from = omega arith; blank = c.requires.blank; steps = rw c.new-alternatives.ensures.items (λ n t x. here) }
 
 pub returns-in_err-alternative-clause-err : goal.returns-in_err-alternative-clause-err
 returns-in_err-alternative-clause-err c =
@@ -33,5 +33,6 @@ alternatives-preserved c =
     rw c.in_ok-push_alternative.ensures (map_push _ c.alternatives.alternatives.items _ ∙ ap (λ (a : AlternativeText). map alternative_of c.alternatives.alternatives.items ++ a ∷ []) found.1) in
     record {
       from = omega arith;
+      blank = c.in_ok-alternative.ensures.anew;
       steps = rw pushed (λ n t x. and_then (join (c.alternatives.invariant.steps n t x) (found.2 _ _)) (bar (c.is_last-is_last.ensures ∙ ap bar_or_semicolon c.if-is_last.false)));
     }

@@ -1,5 +1,5 @@
-use Rattle.cfg_read.specs.Reading.{epp_token}
 use Rattle.cfg_read.specs.SyntaxErrors.{no_epp_token}
+use Rattle.cfg_read.proofs.Symbols.{epp_word}
 use Rattle.cfg_read.proofs.Chains.{join, and_then, join_fails, fails_at}
 use Rattle.std.proofs.lemmas.Result.{err_from_is_err_and}
 use Rattle.cfg_read.proofs.yacc.parser.scan.Scanner.parse_epp_token.Goals as goal
@@ -17,7 +17,7 @@ returns-in_err-token-clause-err c =
 pub returns-in_err-end-clause-err : goal.returns-in_err-end-clause-err
 returns-in_err-end-clause-err c =
     let p = err_from_is_err_and c.from_residual-in_err-end.result c.from_residual-in_err-end.ensures.1 in
-    rw (p.1, p.2) (λ x. join_fails _ (and_then (c.in_ok-start.ensures.ok _ x) (epp_token c.in_ok-token.ensures.ok)) (c.in_err-end.ensures.err _ _))
+    rw (p.1, p.2) (λ x. join_fails _ (and_then (c.in_ok-start.ensures.ok _ x) (epp_word c.in_ok-token.ensures.ok)) (c.in_err-end.ensures.err _ _))
 
 pub returns-clause-ok : goal.returns-clause-ok
-returns-clause-ok c = λ x. join (and_then (c.in_ok-start.ensures.ok _ x) (epp_token c.in_ok-token.ensures.ok)) (c.in_ok-end.ensures.ok _ _)
+returns-clause-ok c = λ x. join (and_then (c.in_ok-start.ensures.ok _ x) (epp_word c.in_ok-token.ensures.ok)) (c.in_ok-end.ensures.ok _ _)

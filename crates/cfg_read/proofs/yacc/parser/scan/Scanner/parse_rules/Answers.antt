@@ -35,5 +35,6 @@ rules-preserved c =
     rw c.in_ok-push.ensures.items (map_push _ c.rules.syntax.rules.items c.in_ok-rule.rule) in
     record {
       from = omega arith;
+      blank = c.in_ok-rule.ensures.anew;
       steps = rw pushed (join (join c.rules.invariant.steps (c.in_ok-rule.ensures.ok _)) (c.in_ok-end-2.ensures.ok _ _));
     }

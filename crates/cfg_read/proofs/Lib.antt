@@ -46,3 +46,4 @@ pub mod UnknownLemmas
 pub mod Judged
 pub mod Settled
 pub mod Symbols
+mod LineNames

@@ -280,3 +280,15 @@ word_there (Some w) = refl
 pub copied_is_some : {A : Type 0} (o : Option (Bor A)) → is_some o ≡ is_some (option_copied o)
 copied_is_some None = refl
 copied_is_some (Some a) = refl
+
+-- the key of a rule in a map, and the name that it has itself
+abbrev pub both_names : String Global × Rule → List ℕ × List ℕ
+both_names e = (string_bytes e.0, string_bytes e.1.name.0)
+
+pub own_of_both : (es : List (String Global × Rule)) → map (λ (e : String Global × Rule). string_bytes e.1.name.0) es ≡ map (λ (x : List ℕ × List ℕ). x.1) (map both_names es)
+own_of_both [] = refl
+own_of_both (e ∷ es) = ap (λ l. string_bytes e.1.name.0 ∷ l) (own_of_both es)
+
+pub key_of_both : (es : List (String Global × Rule)) → map (λ (e : String Global × Rule). string_bytes e.0) es ≡ map (λ (x : List ℕ × List ℕ). x.0) (map both_names es)
+key_of_both [] = refl
+key_of_both (e ∷ es) = ap (λ l. string_bytes e.0 ∷ l) (key_of_both es)

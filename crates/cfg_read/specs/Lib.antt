@@ -29,3 +29,4 @@ pub mod AstChanges
 pub mod AstBuild
 pub mod ValidityInfo
 pub mod Payloads
+pub mod LinesByName

@@ -27,7 +27,7 @@ pub(crate) mod build;
 mod change;
 mod copy;
 mod fresh;
-mod parts;
+pub(crate) mod parts;
 pub(crate) mod settle;
 pub mod warnings;
 

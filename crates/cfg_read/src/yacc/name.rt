@@ -155,6 +155,14 @@ impl NameSet {
         }
     }
 
+    /// Creates a set of no names, with room for so many.
+    pub(crate) fn with_room(alloc: Global, room: usize) -> Result<NameSet, AllocError>
+        ensures { IfOk result (λ n. n ≡ []) }
+    {
+        let names = IndexSet::with_capacity(alloc, room)?;
+        Ok(NameSet { names })
+    }
+
     /// How many there are.
     pub(crate) fn len(&self) -> usize
         ensures { result ≡ length self.now }

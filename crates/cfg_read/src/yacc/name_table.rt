@@ -106,16 +106,17 @@ fn add_token(
 }
 
 impl NameTable {
-    /// Begins with names that stand for nothing.
-    pub(crate) fn of(alloc: Global, names: NameSet) -> Result<NameTable, AllocError>
+    /// Begins with names that stand for nothing, and room for so many tokens.
+    pub(crate) fn of(alloc: Global, names: NameSet, room: usize) -> Result<NameTable, AllocError>
         ensures { IfOk result (λ t. known_of t ≡ no_names) }
     {
         let entries = vec![in alloc; NOTHING; names.len()]?;
+        let tokens = IndexMap::with_capacity(alloc, room)?;
         Ok(NameTable {
             names,
             entries,
             rules_len: 0,
-            tokens: IndexMap::new(alloc),
+            tokens,
         })
     }
 

@@ -1,6 +1,6 @@
 //! The names of a grammar text, collected for looking them up.
 
-ghost use Rattle.std.specs.Prelude.{◌≡◌, ◌≤◌, ◌++◌, ◌∷◌, [], List, map, fold, drop, length, option_map, option_to_list, IfOk, OnOk};
+ghost use Rattle.std.specs.Prelude.{◌≡◌, ◌≤◌, true, ◌++◌, ◌∷◌, [], List, map, fold, drop, length, option_map, option_to_list, IfOk, OnOk};
 ghost use Rattle.std.specs.List.{flat_map};
 ghost use Rattle.cfg_read.specs.SyntaxTexts.{WordText};
 ghost use Rattle.cfg_read.specs.Names.{is_among, distinct, texts, words_in, declared_tokens, implicit_tokens_of, put_by_offset, by_offset};
@@ -82,6 +82,34 @@ pub(crate) fn level_words<'a>(
         push_words(&mut found, &level.tokens)?;
     }
     Ok(found)
+}
+
+/// Tells whether these precedence lines have so many tokens.
+pub(crate) fn have_so_many_tokens(levels: &[Level], count: usize) -> bool
+    ensures { result ≡ true → length (flat_map (λ l. words_in l.tokens) (map level_of levels.now)) ≡ count }
+{
+    let mut left = count;
+    'levels: for level in levels {
+        match left.checked_sub(level.tokens.len()) {
+            Some(rest) => left = rest,
+            None => return false,
+        }
+    }
+    left == 0
+}
+
+/// Tells whether these lines have so many names and tokens.
+pub(crate) fn have_so_many_items(lines: &[Line], count: usize) -> bool
+    ensures { result ≡ true → length (flat_map words_in (map line_of lines.now)) ≡ count }
+{
+    let mut left = count;
+    'lines: for line in lines {
+        match left.checked_sub(line.items.len()) {
+            Some(rest) => left = rest,
+            None => return false,
+        }
+    }
+    left == 0
 }
 
 /// Collects the tokens of `%epp`.
@@ -276,7 +304,8 @@ fn note_tokens(alloc: Global, table: &mut NameTable, symbols: &[&Symbol]) -> Res
 pub(crate) fn table_of(alloc: Global, names: NameSet, x: &Syntax) -> Result<NameTable, AllocError>
     ensures { IfOk result (λ t. known_of t ≡ known_before (syntax_of x.now)) }
 {
-    let mut table = NameTable::of(alloc, names)?;
+    let room = names.len().saturating_sub(x.rules.len());
+    let mut table = NameTable::of(alloc, names, room)?;
     note_declared(&mut table, &x.tokens)?;
     note_rules(&mut table, &x.rules)?;
     let told = told_tokens(alloc, x)?;

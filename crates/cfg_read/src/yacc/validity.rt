@@ -5,9 +5,11 @@ ghost use Rattle.cfg_read.specs.SyntaxTexts.{RuleText};
 ghost use Rattle.cfg_read.specs.SyntaxModels.{words_of, syntax_of};
 ghost use Rattle.cfg_read.specs.Settling.{AreUsesOf, uses_of};
 ghost use Rattle.cfg_read.specs.Judging.{with_rules, has_items};
+ghost use Rattle.cfg_read.specs.LinesByName.{AreLinesOf};
 ghost use Rattle.cfg_read.specs.ErrorModels.{failures_in, kind_of};
 ghost use Rattle.cfg_read.specs.Validity.{failure_at, failures, no_start_rule, unknown_precs};
 
+use crate::yacc::ast::parts::Lines;
 use crate::yacc::ast::settle::Uses;
 use crate::yacc::parser::error::YaccGrammarErrorKind;
 use crate::yacc::parser::syntax::{Syntax, Word};
@@ -154,9 +156,11 @@ pub(crate) fn failures_by(
     alloc: Global,
     x: &Syntax,
     uses: &Uses,
+    lines: &Lines,
     has_rules: bool,
     precs: Vec<YaccGrammarError>,
 ) -> Result<Vec<YaccGrammarError>, AllocError>
+    requires { AreLinesOf (syntax_of x.now) lines.now }
     ensures { (rules : List RuleText) → has_rules ≡ has_items rules → AreUsesOf (with_rules (syntax_of x.now) rules) (uses_of uses.now)
         → failures_in precs.items ≡ unknown_precs (with_rules (syntax_of x.now) rules)
         → IfOk result (λ errors. failures_in errors.items ≡ failures (with_rules (syntax_of x.now) rules)) }
@@ -164,7 +168,7 @@ pub(crate) fn failures_by(
     let mut errors = Vec::new(alloc);
     push_no_start(alloc, &mut errors, &x.starts, has_rules)?;
     unknown::push_unknown_names(alloc, &mut errors, x, uses, precs)?;
-    repeated::push_repeated_words(alloc, &mut errors, x)?;
+    repeated::push_repeated_words(alloc, &mut errors, x, lines)?;
     repeated::push_repeated_declarations(alloc, &mut errors, x)?;
     Ok(errors)
 }

@@ -8,6 +8,7 @@ ghost use Rattle.cfg_read.specs.AstModels.{named_rules, named_spans};
 ghost use Rattle.cfg_read.specs.NameTables.{known_before};
 ghost use Rattle.cfg_read.specs.Settling.{uses_of};
 ghost use Rattle.cfg_read.specs.Judging.{IsJudged, with_rules};
+ghost use Rattle.cfg_read.specs.LinesByName.{AreLinesOf};
 ghost use Rattle.cfg_read.specs.Asts.{ast_of};
 ghost use Rattle.cfg_read.specs.Validity.{FailureText, failures};
 ghost use Rattle.cfg_read.specs.ErrorModels.{failures_in};
@@ -15,6 +16,7 @@ ghost use Rattle.cfg_read.specs.Files.{HasSection, FailsFile, TellsKind, LacksKi
 ghost use Rattle.cfg_read.specs.WellFormedAst.{IsWellFormedAst, NamesAreWords};
 ghost use Rattle.cfg_read.specs.ValidityInfo.{CheckedAst, is_valid, read_as, unread, IsChecked, heading_at, starts_at, ChangesStart, IsChangeError, HeadingsAreWords, IsWellMade};
 
+use crate::yacc::ast::parts::{Lines, first_lines};
 use crate::yacc::ast::settle::{Uses, all_settled};
 use crate::yacc::ast::{GrammarAST, Rule, build};
 use crate::yacc::file::{
@@ -116,18 +118,20 @@ fn take_rules(
     ast: &mut GrammarAST,
     x: &mut Syntax,
     uses: &mut Uses,
+    lines: &Lines,
 ) -> Result<Vec<YaccGrammarError>, AllocError>
-    requires { uses_of uses.old ≡ record { known = known_before (syntax_of x.old); unknown = []; fresh = [] } }
+    requires uses { uses_of uses.old ≡ record { known = known_before (syntax_of x.old); unknown = []; fresh = [] } }
+    requires lines { AreLinesOf (syntax_of x.old) lines.now }
     ensures errors { IfOk result (λ errors. failures_in errors.items ≡ failures (syntax_of x.old)) }
     ensures rules { OnOk result (IsJudged (syntax_of x.old) (uses_of uses.new) ast.old ast.new) }
     ensures rest { OnOk result (syntax_of x.new ≡ with_rules (syntax_of x.old) []) }
 {
     all_settled();
-    let precs = unknown::unknown_precs(alloc, x)?;
+    let precs = unknown::unknown_precs(alloc, x, &lines.precs)?;
     let heads = build::heads(alloc, &x.rules)?;
     let rules = mem::replace(&mut x.rules, Vec::new(alloc));
     let prods = uses.productions(alloc, rules)?;
-    let errors = failures_by(alloc, x, uses, !heads.is_empty(), precs)?;
+    let errors = failures_by(alloc, x, uses, lines, !heads.is_empty(), precs)?;
     ast.fill_prods(alloc, prods, &heads, &uses.fresh)?;
     Ok(errors)
 }
@@ -139,9 +143,10 @@ fn judged(alloc: Global, mut x: Syntax) -> Result<(GrammarAST, Vec<YaccGrammarEr
 {
     let mut uses = uses_before(alloc, &mut x)?;
     let mut ast = GrammarAST::of_syntax(alloc, &x, uses.table.rules_len())?;
-    let errors = take_rules(alloc, &mut ast, &mut x, &mut uses)?;
+    let lines = first_lines(alloc, &x)?;
+    let errors = take_rules(alloc, &mut ast, &mut x, &mut uses, &lines)?;
     ast.set_tokens(tokens_in(uses), none_of(&errors));
-    ast.take_words(alloc, x)?;
+    ast.take_words(alloc, x, lines)?;
     Ok((ast, errors))
 }
 

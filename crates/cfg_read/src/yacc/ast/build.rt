@@ -11,13 +11,15 @@ ghost use Rattle.cfg_read.specs.SyntaxModels.{word_of, boxed_word, words_of, sym
 ghost use Rattle.cfg_read.specs.NameModels.{symbols_at};
 ghost use Rattle.cfg_read.specs.Settling.{named_fresh};
 ghost use Rattle.cfg_read.specs.Judging.{heads_of, with_numbers_at, count_up, both_heads, with_headings_of, with_productions_of, with_tokens, with_lines_of};
+ghost use Rattle.cfg_read.specs.LinesByName.{AreLinesOf};
 ghost use Rattle.cfg_read.specs.AstBuild.{headed, with_first, with_parts_of, with_expected_of};
 ghost use Rattle.cfg_read.specs.AstChanges.{with_number};
 
+use super::parts::Lines;
 use super::settle::Fresh;
 use super::{GrammarAST, Production, Rule, Symbol, fresh, parts};
 use crate::yacc::names;
-use crate::yacc::parser::syntax::{self, Epp, Level, Line, Number, Param, Syntax, Word};
+use crate::yacc::parser::syntax::{self, Epp, Number, Param, Syntax, Word};
 use cfg_base::span::Span;
 use indexmap::IndexMap;
 use std::alloc::{AllocError, Global};
@@ -154,11 +156,11 @@ fn insert_heading(
         ≡ with_first (named_rules rules.old) (headed (text_of (option_map (λ w. word_of w.now) shared.entry)) (rule_of rule.now))) }
     ensures names { own_names rules.new ≡ rule_keys rules.new }
 {
-    let name = rule.name.as_str();
-    if !rules.contains_key(name) {
-        let key = String::from_str(alloc, name)?;
-        let new = to_rule(alloc, rule, shared)?;
-        rules.insert(key, new)?;
+    let key = String::from_str(alloc, rule.name.as_str())?;
+    let new = to_rule(alloc, rule, shared)?;
+    let (index, old) = rules.insert_full(key, new)?;
+    if let Some(first) = old {
+        rules[index] = first;
     }
     Ok(())
 }
@@ -292,21 +294,12 @@ fn number_fresh(
     Ok(())
 }
 
-/// The lines of precedences, of `%avoid_insert` and of `%implicit_tokens`, and the printed texts.
-fn lines_in(x: Syntax) -> (Vec<Level>, Vec<Line>, Vec<Line>, Vec<Epp>)
-    ensures levels { result.0 ≡ x.levels }
-    ensures avoided { result.1 ≡ x.avoid_insert }
-    ensures implicit { result.2 ≡ x.implicit_tokens }
-    ensures texts { result.3 ≡ x.epp }
+/// The printed texts.
+fn epp_in(x: Syntax) -> Vec<Epp>
+    ensures { result ≡ x.epp }
 {
-    let Syntax {
-        levels,
-        avoid_insert,
-        implicit_tokens,
-        epp,
-        ..
-    } = x;
-    (levels, avoid_insert, implicit_tokens, epp)
+    let Syntax { epp, .. } = x;
+    epp
 }
 
 impl GrammarAST {
@@ -351,14 +344,21 @@ impl GrammarAST {
 
     /// Takes over what a text says of precedences, of the tokens of `%avoid_insert` and of `%implicit_tokens`, and of printed
     /// texts.
-    pub(crate) fn take_words(&mut self, alloc: Global, x: Syntax) -> Result<(), AllocError>
+    pub(crate) fn take_words(
+        &mut self,
+        alloc: Global,
+        x: Syntax,
+        lines: Lines,
+    ) -> Result<(), AllocError>
+        requires { AreLinesOf (syntax_of x) lines }
         ensures { OnOk result (self.new ≡ with_lines_of (ast_of true (syntax_of x)) self.old) }
     {
-        let (levels, avoid_insert, implicit_tokens, epp) = lines_in(x);
-        let precs = parts::first_precedences(alloc, levels)?;
-        let avoid_insert = parts::take_spans(alloc, avoid_insert)?;
-        let implicit_tokens = parts::take_spans(alloc, implicit_tokens)?;
-        let epp = parts::first_epps(alloc, epp)?;
+        let epp = parts::first_epps(alloc, epp_in(x))?;
+        let Lines {
+            precs,
+            avoid_insert,
+            implicit_tokens,
+        } = lines;
         self.precs = precs;
         self.avoid_insert = avoid_insert;
         self.implicit_tokens = implicit_tokens;

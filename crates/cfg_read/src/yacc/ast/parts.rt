@@ -6,10 +6,11 @@ ghost use Rattle.std.specs.String.{string_bytes};
 ghost use Rattle.cfg_read.specs.Asts.{text_of, with_epp_of, with_precedence_of, precedence_ast, precedences_of};
 ghost use Rattle.cfg_read.specs.AstModels.{production_of, named_spans, named_epps, named_precedences};
 ghost use Rattle.cfg_read.specs.Names.{with_distinct, distinct, words_in};
-ghost use Rattle.cfg_read.specs.SyntaxModels.{word_of, symbol_of, symbols_of, line_of, epp_of, level_of};
+ghost use Rattle.cfg_read.specs.SyntaxModels.{word_of, symbol_of, symbols_of, line_of, epp_of, level_of, syntax_of};
+ghost use Rattle.cfg_read.specs.LinesByName.{AreLinesOf};
 
 use super::{Production, Symbol};
-use crate::yacc::parser::syntax::{Epp, Level, Line, Word};
+use crate::yacc::parser::syntax::{Epp, Level, Line, Syntax, Word};
 use crate::yacc::{Precedence, PrecedenceLevel};
 use cfg_base::span::Span;
 use indexmap::IndexMap;
@@ -48,9 +49,10 @@ fn insert_first(
 ) -> Result<(), AllocError>
     ensures { OnOk result (named_spans spans.new ≡ with_distinct (named_spans spans.old) (record { text = name.now; span = span })) }
 {
-    if !spans.contains_key(name) {
-        let key = String::from_str(alloc, name)?;
-        spans.insert(key, span)?;
+    let key = String::from_str(alloc, name)?;
+    let (index, old) = spans.insert_full(key, span)?;
+    if let Some(first) = old {
+        spans[index] = first;
     }
     Ok(())
 }
@@ -70,11 +72,8 @@ fn take_all_first(
 }
 
 /// Each name of these lines with its first span, in the order of these.
-pub(super) fn take_spans(
-    alloc: Global,
-    lines: Vec<Line>,
-) -> Result<IndexMap<String, Span>, AllocError>
-    ensures { IfOk result (λ spans. named_spans spans ≡ distinct (flat_map words_in (map line_of lines.items))) }
+fn first_spans(alloc: Global, lines: &[Line]) -> Result<IndexMap<String, Span>, AllocError>
+    ensures { IfOk result (λ spans. named_spans spans ≡ distinct (flat_map words_in (map line_of lines.now))) }
 {
     let mut spans = IndexMap::with_capacity(alloc, lines.len())?;
     'lines: for line in lines {
@@ -130,10 +129,10 @@ fn insert_precedence(
     ensures { OnOk result (named_precedences found.new
         ≡ with_precedence_of (named_precedences found.old) (precedence_ast precedence.level precedence.kind (symbol_of symbol.now).word)) }
 {
-    let name = symbol.name().as_str();
-    if !found.contains_key(name) {
-        let key = String::from_str(alloc, name)?;
-        found.insert(key, (precedence, symbol.span()))?;
+    let key = String::from_str(alloc, symbol.name().as_str())?;
+    let (index, old) = found.insert_full(key, (precedence, symbol.span()))?;
+    if let Some(first) = old {
+        found[index] = first;
     }
     Ok(())
 }
@@ -155,14 +154,14 @@ fn insert_level(
 }
 
 /// The precedences: each line is a level, the first one 0, and a token's first one counts.
-pub(super) fn first_precedences(
+fn first_precedences(
     alloc: Global,
-    levels: Vec<Level>,
+    levels: &[Level],
 ) -> Result<IndexMap<String, (Precedence, Span)>, AllocError>
-    ensures { IfOk result (λ found. named_precedences found ≡ precedences_of (map level_of levels.items)) }
+    ensures { IfOk result (λ found. named_precedences found ≡ precedences_of (map level_of levels.now)) }
 {
     let mut found = IndexMap::with_capacity(alloc, levels.len())?;
-    'levels: for (number, level) in levels.into_iter().enumerate() {
+    'levels: for (number, level) in levels.iter().enumerate() {
         let precedence = Precedence {
             level: number as PrecedenceLevel,
             kind: level.kind,
@@ -170,4 +169,26 @@ pub(super) fn first_precedences(
         insert_level(alloc, &mut found, precedence, &level.tokens)?;
     }
     Ok(found)
+}
+
+/// What the lines of a text say by names: precedences, and the tokens of `%avoid_insert` and of `%implicit_tokens`.
+#[derive(Drop)]
+pub(crate) struct Lines {
+    pub(crate) precs: IndexMap<String, (Precedence, Span)>,
+    pub(crate) avoid_insert: IndexMap<String, Span>,
+    pub(crate) implicit_tokens: IndexMap<String, Span>,
+}
+
+/// The lines of a text by names, where the first one of a name counts.
+pub(crate) fn first_lines(alloc: Global, x: &Syntax) -> Result<Lines, AllocError>
+    ensures { IfOk result (λ l. AreLinesOf (syntax_of x.now) l) }
+{
+    let precs = first_precedences(alloc, &x.levels)?;
+    let avoid_insert = first_spans(alloc, &x.avoid_insert)?;
+    let implicit_tokens = first_spans(alloc, &x.implicit_tokens)?;
+    Ok(Lines {
+        precs,
+        avoid_insert,
+        implicit_tokens,
+    })
 }

@@ -23,6 +23,9 @@ use crate::yacc::parser::syntax::{Alternative, Rule, Symbol, Syntax, Word};
 use cfg_base::span::Span;
 use std::alloc::{AllocError, Global};
 
+/// In how many bytes of a text one more name may be met, where room for names is made at once.
+const BYTES_A_NAME: usize = 32;
+
 /// Puts the last alternative of a rule behind the others, with room for no further ones.
 fn push_last(
     alternatives: &mut Vec<Alternative>,
@@ -488,7 +491,8 @@ pub fn read_syntax(
     ensures err { IfErr result (λ e. IsErrorOf kind text.now start e) }
 {
     let scanner = Scanner { text, kind };
-    let mut syntax = Syntax::new(alloc);
+    let names = NameSet::with_room(alloc, text.len() / BYTES_A_NAME)?;
+    let mut syntax = Syntax::new(alloc, names);
     let rules = scanner.parse_declarations(alloc, &mut syntax, start)?;
     let end = scanner.parse_rules(alloc, &mut syntax, rules)?;
     scanner.parse_last_part(alloc, &mut syntax, end)?;

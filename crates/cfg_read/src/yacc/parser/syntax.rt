@@ -218,8 +218,8 @@ pub struct Syntax {
 }
 
 impl Syntax {
-    /// Creates the syntax of an empty text.
-    pub(crate) fn new(alloc: Global) -> Syntax
+    /// Creates the syntax of an empty text, whose names are collected in this set.
+    pub(crate) fn new(alloc: Global, names: NameSet) -> Syntax
         ensures { syntax_of result ≡ no_syntax }
     {
         Syntax {
@@ -237,7 +237,7 @@ impl Syntax {
             parse_generics: None,
             rules: Vec::new(alloc),
             programs: None,
-            names: NameSet::new(alloc),
+            names,
         }
     }
 

@@ -4,11 +4,13 @@ ghost use Rattle.std.specs.Prelude.{◌≡◌, ◌++◌, ◌≤◌, [], map, vec
 ghost use Rattle.std.specs.List.{flat_map};
 ghost use Rattle.cfg_read.specs.Names.{distinct, texts, level_tokens, avoided_tokens, implicit_tokens_of};
 ghost use Rattle.cfg_read.specs.SyntaxModels.{words_of, number_text, syntax_of};
+ghost use Rattle.cfg_read.specs.LinesByName.{AreLinesOf};
 ghost use Rattle.cfg_read.specs.NameModels.{words_at, names_in};
 ghost use Rattle.cfg_read.specs.ErrorModels.{failures_in, kind_of, repeated_failure, span_lists, with_span};
 ghost use Rattle.cfg_read.specs.Validity.{FailureKind, repeated, repeated_names, repeated_words, repeated_declarations, word_spans, number_spans, groups_of, epp_tokens, DuplicatePrecedence, DuplicateEPP, DuplicateAvoidInsertDeclaration, DuplicateImplicitTokensDeclaration};
 
 use super::YaccGrammarError;
+use crate::yacc::ast::parts::Lines;
 use crate::yacc::names;
 use crate::yacc::parser::error::YaccGrammarErrorKind;
 use crate::yacc::parser::syntax::{Number, Syntax, Word};
@@ -153,10 +155,15 @@ fn push_repeated_levels(
     alloc: Global,
     errors: &mut Vec<YaccGrammarError>,
     x: &Syntax,
+    lines: &Lines,
 ) -> Result<(), AllocError>
+    requires { AreLinesOf (syntax_of x.now) lines.now }
     ensures { OnOk result (failures_in errors.new.items
         ≡ failures_in errors.old.items ++ repeated_names DuplicatePrecedence (level_tokens (syntax_of x.now))) }
 {
+    if names::have_so_many_tokens(&x.levels, lines.precs.len()) {
+        return Ok(());
+    }
     let words = names::level_words(alloc, &x.levels)?;
     push_repeated_names(alloc, errors, Repeated::Precedence, &words)?;
     Ok(())
@@ -181,10 +188,15 @@ fn push_repeated_avoided(
     alloc: Global,
     errors: &mut Vec<YaccGrammarError>,
     x: &Syntax,
+    lines: &Lines,
 ) -> Result<(), AllocError>
+    requires { AreLinesOf (syntax_of x.now) lines.now }
     ensures { OnOk result (failures_in errors.new.items
         ≡ failures_in errors.old.items ++ repeated_names DuplicateAvoidInsertDeclaration (avoided_tokens (syntax_of x.now))) }
 {
+    if names::have_so_many_items(&x.avoid_insert, lines.avoid_insert.len()) {
+        return Ok(());
+    }
     let words = names::line_words(alloc, &x.avoid_insert)?;
     push_repeated_names(alloc, errors, Repeated::AvoidInsert, &words)?;
     Ok(())
@@ -195,10 +207,15 @@ fn push_repeated_implicit(
     alloc: Global,
     errors: &mut Vec<YaccGrammarError>,
     x: &Syntax,
+    lines: &Lines,
 ) -> Result<(), AllocError>
+    requires { AreLinesOf (syntax_of x.now) lines.now }
     ensures { OnOk result (failures_in errors.new.items
         ≡ failures_in errors.old.items ++ repeated_names DuplicateImplicitTokensDeclaration (implicit_tokens_of (syntax_of x.now))) }
 {
+    if names::have_so_many_items(&x.implicit_tokens, lines.implicit_tokens.len()) {
+        return Ok(());
+    }
     let words = names::line_words(alloc, &x.implicit_tokens)?;
     push_repeated_names(alloc, errors, Repeated::ImplicitToken, &words)?;
     Ok(())
@@ -209,14 +226,16 @@ pub(super) fn push_repeated_words(
     alloc: Global,
     errors: &mut Vec<YaccGrammarError>,
     x: &Syntax,
+    lines: &Lines,
 ) -> Result<(), AllocError>
+    requires { AreLinesOf (syntax_of x.now) lines.now }
     ensures { OnOk result (failures_in errors.new.items
         ≡ failures_in errors.old.items ++ repeated_words (syntax_of x.now)) }
 {
-    push_repeated_levels(alloc, errors, x)?;
+    push_repeated_levels(alloc, errors, x, lines)?;
     push_repeated_epps(alloc, errors, x)?;
-    push_repeated_avoided(alloc, errors, x)?;
-    push_repeated_implicit(alloc, errors, x)?;
+    push_repeated_avoided(alloc, errors, x, lines)?;
+    push_repeated_implicit(alloc, errors, x, lines)?;
     Ok(())
 }
 

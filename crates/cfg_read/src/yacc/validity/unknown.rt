@@ -2,11 +2,12 @@
 
 ghost use Rattle.std.specs.Prelude.{◌≡◌, ◌++◌, ◌∷◌, [], if◌then◌else◌, IfOk, OnOk};
 ghost use Rattle.std.specs.String.{string_bytes};
-ghost use Rattle.cfg_read.specs.Names.{is_among, avoided_tokens};
+ghost use Rattle.cfg_read.specs.Asts.{has_precedence, precedences_of};
+ghost use Rattle.cfg_read.specs.Names.{is_among, words_in, avoided_tokens};
 ghost use Rattle.cfg_read.specs.SyntaxModels.{words_of, symbol_of, syntax_of};
-ghost use Rattle.cfg_read.specs.NameModels.{words_at, symbols_at, has_name};
+ghost use Rattle.cfg_read.specs.NameModels.{words_at, symbols_at};
 ghost use Rattle.cfg_read.specs.NameTables.{known_of};
-ghost use Rattle.cfg_read.specs.AstModels.{named_spans};
+ghost use Rattle.cfg_read.specs.AstModels.{named_spans, named_precedences};
 ghost use Rattle.cfg_read.specs.Settling.{unknown_words, uses_of};
 ghost use Rattle.cfg_read.specs.ErrorModels.{failures_in, kind_of, unknown_failure};
 ghost use Rattle.cfg_read.specs.Validity.{failure_at, failures_at, invalid_start_rule, unknown_by, unknown_in_declarations, known_by, unknown_symbols_by, unknown_precs, epp_tokens, UnknownSymbol, UnknownRuleRef, UnknownEPP, UnknownToken, NoPrecForToken};
@@ -15,11 +16,11 @@ use super::{YaccGrammarError, push_failure};
 use crate::yacc::ast::settle::Uses;
 use crate::yacc::name::Name;
 use crate::yacc::name_table::NameTable;
-use crate::yacc::names;
 use crate::yacc::parser::error::YaccGrammarErrorKind;
 use crate::yacc::parser::syntax::{Symbol, Syntax, Word};
+use crate::yacc::{Precedence, names};
 use cfg_base::span::Span;
-use indexmap::{IndexMap, IndexSet};
+use indexmap::IndexMap;
 use std::alloc::{AllocError, Global};
 
 /// What an unknown name should have been.
@@ -79,18 +80,18 @@ fn push_all_unknown(
     Ok(())
 }
 
-/// Puts a failure for each token of a precedence behind the others, whose name isn't among these.
+/// Puts a failure for each token of a precedence behind the others, whose name has none.
 fn push_without_precedence(
     alloc: Global,
     errors: &mut Vec<YaccGrammarError>,
     words: &[(&str, Span)],
-    levels: &IndexSet<&str>,
+    precs: &IndexMap<String, (Precedence, Span)>,
 ) -> Result<(), AllocError>
     ensures { OnOk result (failures_in errors.new.items
-        ≡ failures_in errors.old.items ++ unknown_by NoPrecForToken (has_name levels.now) (words_at words.now)) }
+        ≡ failures_in errors.old.items ++ unknown_by NoPrecForToken (has_precedence (named_precedences precs.now)) (words_at words.now)) }
 {
     'words: for word in words {
-        let is_known = levels.contains(word.0);
+        let is_known = precs.contains_key(word.0);
         push_if_unknown(alloc, errors, word.0, word.1, is_known, Unknown::Precedence)?;
     }
     Ok(())
@@ -186,14 +187,17 @@ fn push_unknown_symbols(
 }
 
 /// The failures of tokens of `%prec` without a precedence.
-pub(crate) fn unknown_precs(alloc: Global, x: &Syntax) -> Result<Vec<YaccGrammarError>, AllocError>
+pub(crate) fn unknown_precs(
+    alloc: Global,
+    x: &Syntax,
+    precs: &IndexMap<String, (Precedence, Span)>,
+) -> Result<Vec<YaccGrammarError>, AllocError>
+    requires { named_precedences precs.now ≡ precedences_of (syntax_of x.now).levels }
     ensures { IfOk result (λ errors. failures_in errors.items ≡ unknown_precs (syntax_of x.now)) }
 {
     let mut errors = Vec::new(alloc);
-    let levels = names::level_words(alloc, &x.levels)?;
-    let known = names::distinct_names(alloc, &levels)?;
     let words = names::prec_words(alloc, &x.rules)?;
-    push_without_precedence(alloc, &mut errors, &words, &known)?;
+    push_without_precedence(alloc, &mut errors, &words, precs)?;
     Ok(errors)
 }
 
@@ -212,18 +216,43 @@ fn push_unknown_epps(
     Ok(())
 }
 
+/// Puts a failure for each of these symbols behind the others, whose name isn't that of a token.
+fn push_unknown_items(
+    alloc: Global,
+    errors: &mut Vec<YaccGrammarError>,
+    symbols: &[&Symbol],
+    table: &NameTable,
+) -> Result<(), AllocError>
+    ensures { OnOk result (failures_in errors.new.items
+        ≡ failures_in errors.old.items ++ unknown_by UnknownToken (is_among table.now.tokens) (words_in (symbols_at symbols.now))) }
+{
+    'symbols: for symbol in symbols {
+        let name = symbol.name();
+        let is_known = table.entry(name).is_token;
+        push_if_unknown(
+            alloc,
+            errors,
+            name.as_str(),
+            symbol.span(),
+            is_known,
+            Unknown::Token,
+        )?;
+    }
+    Ok(())
+}
+
 /// Puts a failure for each token of `%avoid_insert` that isn't the grammar's behind the others.
 fn push_unknown_tokens(
     alloc: Global,
     errors: &mut Vec<YaccGrammarError>,
     x: &Syntax,
-    known: &IndexMap<String, Span>,
+    table: &NameTable,
 ) -> Result<(), AllocError>
     ensures { OnOk result (failures_in errors.new.items
-        ≡ failures_in errors.old.items ++ unknown_by UnknownToken (is_among (named_spans known.now)) (avoided_tokens (syntax_of x.now))) }
+        ≡ failures_in errors.old.items ++ unknown_by UnknownToken (is_among table.now.tokens) (avoided_tokens (syntax_of x.now))) }
 {
-    let words = names::line_words(alloc, &x.avoid_insert)?;
-    push_unknown(alloc, errors, &words, known, Unknown::Token)?;
+    let symbols = names::line_symbols(alloc, &x.avoid_insert)?;
+    push_unknown_items(alloc, errors, &symbols, table)?;
     Ok(())
 }
 
@@ -239,7 +268,7 @@ fn push_unknown_in_declarations(
 {
     let tokens = table.tokens();
     push_unknown_epps(alloc, errors, x, tokens)?;
-    push_unknown_tokens(alloc, errors, x, tokens)?;
+    push_unknown_tokens(alloc, errors, x, table)?;
     let symbols = names::line_symbols(alloc, &x.expect_unused)?;
     push_unknown_symbols(alloc, errors, &symbols, table, tokens)?;
     Ok(())

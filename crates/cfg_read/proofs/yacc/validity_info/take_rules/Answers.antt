@@ -21,8 +21,14 @@ fill_prods-requires c =
     let prods : map production_of c.in_ok-prods.prods.items ≡ flat_map (productions_in (is_among (declared_tokens x))) x.rules =
     c.in_ok-prods.ensures.productions
     ∙ ap (λ (rs : List Rule). flat_map (productions_in (known_of c.args.uses.now.table).declared) (map rule_of rs)) rules
-    ∙ ap (λ (u : UsesText). flat_map (productions_in u.known.declared) x.rules) c.requires in
+    ∙ ap (λ (u : UsesText). flat_map (productions_in u.known.declared) x.rules) c.requires.uses in
     ap length heads ∙ as_many_heads (is_among (declared_tokens x)) x.rules ∙ sym (ap length prods) ∙ length-map c.in_ok-prods.prods.items production_of
+
+pub unknown_precs-requires : goal.unknown_precs-requires
+unknown_precs-requires c = c.requires.lines.precedences_is
+
+pub failures_by-requires : goal.failures_by-requires
+failures_by-requires c = record { precedences_is = c.requires.lines.precedences_is; avoided_is = c.requires.lines.avoided_is; implicit_is = c.requires.lines.implicit_is }
 
 pub returns-clause-errors : goal.returns-clause-errors
 returns-clause-errors c =
@@ -32,7 +38,7 @@ returns-clause-errors c =
     let used : u ≡ with_symbols (record { known = known_before x; unknown = []; fresh = [] }) (symbols_used x) =
     c.in_ok-prods.ensures.uses
     ∙ ap (λ (rs : List Rule). with_symbols (uses_of c.args.uses.now) (flat_map symbols_in (map rule_of rs))) rules
-    ∙ ap (λ (v : UsesText). with_symbols v (symbols_used x)) c.requires in
+    ∙ ap (λ (v : UsesText). with_symbols v (symbols_used x)) c.requires.uses in
     let are : AreUsesOf x u = subst (AreUsesOf x) (sym used) (c.all_settled.ensures x) in
     let kept = c.in_ok-heads.heads in
     let items : vec_len kept ≡ length kept.items = omega (arith, kept.ok.0) in
@@ -47,13 +53,13 @@ returns-clause-rules c =
     let used : u ≡ with_symbols (record { known = known_before x; unknown = []; fresh = [] }) (symbols_used x) =
     c.in_ok-prods.ensures.uses
     ∙ ap (λ (rs : List Rule). with_symbols (uses_of c.args.uses.now) (flat_map symbols_in (map rule_of rs))) rules
-    ∙ ap (λ (v : UsesText). with_symbols v (symbols_used x)) c.requires in
+    ∙ ap (λ (v : UsesText). with_symbols v (symbols_used x)) c.requires.uses in
     let heads : heads_of c.deref-2.result.now ≡ flat_map heads_in x.rules =
     ap heads_of c.deref-2.ensures.value ∙ c.in_ok-heads.ensures.heads ∙ ap (λ (rs : List Rule). flat_map heads_in (map rule_of rs)) c.deref.ensures.value in
     let prods : map production_of c.in_ok-prods.prods.items ≡ flat_map (productions_in (is_among (declared_tokens x))) x.rules =
     c.in_ok-prods.ensures.productions
     ∙ ap (λ (rs : List Rule). flat_map (productions_in (known_of c.args.uses.now.table).declared) (map rule_of rs)) rules
-    ∙ ap (λ (v : UsesText). flat_map (productions_in v.known.declared) x.rules) c.requires in
+    ∙ ap (λ (v : UsesText). flat_map (productions_in v.known.declared) x.rules) c.requires.uses in
     record {
       uses = subst (AreUsesOf x) (sym used) (c.all_settled.ensures x);
       is = c.in_ok-fill_prods.ensures

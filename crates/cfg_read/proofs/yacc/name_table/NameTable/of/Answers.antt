@@ -13,7 +13,7 @@ invariant_of-result c =
     let mark : Entry → Bool = λ (e : Entry). e.is_token in
     record {
       size = sym es.ok.0 ∙ c.in_ok-entries.ensures.len ∙ c.len.ensures;
-      are_tokens = λ j q. (ap (λ (l : List Entry). is_marked mark c.args.names l q) made ∙ marked_nothing mark c.args.names c.len.result nothing q refl ∙ sym (ap (λ l. is_among (map named_span l) q) c.new.ensures.empty)) j;
+      are_tokens = λ j q. (ap (λ (l : List Entry). is_marked mark c.args.names l q) made ∙ marked_nothing mark c.args.names c.len.result nothing q refl ∙ sym (ap (λ l. is_among (map named_span l) q) c.in_ok-tokens.ensures.empty)) j;
     }
 
 pub returns : goal.returns
@@ -22,4 +22,4 @@ returns c =
     let made : es.items ≡ replicate c.len.result nothing = c.in_ok-entries.ensures.items_if_clones_equal (λ y e. e) in
     let none : (mark : Entry → Bool) → mark nothing ≡ false → (q : List ℕ) → is_marked mark c.args.names es.items q ≡ false =
     λ mark is q. ap (λ (l : List Entry). is_marked mark c.args.names l q) made ∙ marked_nothing mark c.args.names c.len.result nothing q is in
-    λ j. let k : KnownNames = record { declared = λ q. none (λ (e : Entry). e.is_declared) refl q j; rules = λ q. none (λ (e : Entry). e.is_rule) refl q j; tokens = ap (map named_span) c.new.ensures.empty j } in k
+    λ j. let k : KnownNames = record { declared = λ q. none (λ (e : Entry). e.is_declared) refl q j; rules = λ q. none (λ (e : Entry). e.is_rule) refl q j; tokens = ap (map named_span) c.in_ok-tokens.ensures.empty j } in k

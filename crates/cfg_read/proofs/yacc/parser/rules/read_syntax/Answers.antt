@@ -4,7 +4,7 @@ use Rattle.cfg_read.proofs.yacc.parser.rules.read_syntax.Goals as goal
 
 pub returns-in_err-rules-clause-err : goal.returns-in_err-rules-clause-err
 returns-in_err-rules-clause-err c =
-    let p = err_from_is_err_and c.from_residual.result c.from_residual.ensures.1 in
+    let p = err_from_is_err_and c.from_residual-in_err-rules.result c.from_residual-in_err-rules.ensures.1 in
     let fails = rw c.new-syntax.ensures at c.in_err-rules.ensures.err in
     rw (p.1, p.2) fails
 

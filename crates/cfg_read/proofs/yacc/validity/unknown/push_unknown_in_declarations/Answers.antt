@@ -29,7 +29,7 @@ returns c =
     let epps : one ≡ base ++ a =
     c.in_ok-push_unknown_epps.ensures ∙ ap (λ ws. base ++ unknown_by UnknownEPP (is_among ws) (epp_tokens x)) c.tokens-tokens.ensures in
     let tokens : two ≡ one ++ b =
-    c.in_ok-push_unknown_tokens.ensures ∙ ap (λ ws. one ++ unknown_by UnknownToken (is_among ws) (avoided_tokens x)) c.tokens-tokens.ensures in
+    c.in_ok-push_unknown_tokens.ensures in
     let symbols : three ≡ two ++ d =
     c.in_ok-push_unknown_symbols.ensures
     ∙ ap (λ ws. two ++ unknown_symbols_by (known_by rules (is_among ws)) (symbols_at c.deref-2.result.now)) c.tokens-tokens.ensures

@@ -51,7 +51,7 @@ pub(crate) fn write_line<W: Sink>(
 {
     let lexer = WordLexer::in_room(alloc, room, kit.grm(), &*line)?;
     match write_lexed(alloc, &*kit, repairs, &*line, &lexer, out) {
-        Ok(faulty) => Ok((faulty, lexer.into_room())),
+        Ok(wrong) => Ok((wrong, lexer.into_room())),
         Err(e) => Err(e),
     }
 }

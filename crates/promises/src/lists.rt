@@ -34,7 +34,7 @@ pub fn listed_conflicts_are_contested()
 }
 
 /// Where the text declares no precedence, the table does all that the items say exactly where no conflict is listed.
-/// Shown by `example_kit`; refused: `complete_by_conflicts`.
+/// Shown by `example_kit`; refused: `mutants/lrpar/complete_by_conflicts`.
 pub fn complete_where_none_is_listed<S: IndexStorage>(kit: &ParserKit<S>) -> bool
     ensures value { IsTrue result ↔ Complete kit.now.parser.grammar.grammar (automaton_of kit.now.parser.graph kit.now.parser.table) }
     ensures unlisted { kit.now.kept.ast.precedences ≡ [] → IsTrue result ↔ IsNone kit.now.parser.table.conflicts }

@@ -111,7 +111,7 @@ impl<'input, S: IndexStorage> WordLexer<'input, S> {
 
     /// Lets the line go, and keeps the room of the list.
     pub fn into_room(self) -> LexerRoom<S>
-        ensures { result ≡ self.items }
+        ensures { result ≡ self.entry.items }
     {
         let WordLexer { items, .. } = self;
         LexerRoom { items }

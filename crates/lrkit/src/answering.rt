@@ -25,7 +25,7 @@ use parser_kit::ParserKit;
 use std::alloc::Global;
 use word_lines::laws::items_are_parts_of_their_line;
 use word_lines::shown::{push_errors, push_fault};
-use word_lines::{RepairLines, WordLexError, WordLexeme, WordLexer, WordLexerTypes};
+use word_lines::{LexerRoom, RepairLines, WordLexError, WordLexeme, WordLexer, WordLexerTypes};
 
 type LineTree = FlatTree<u32, WordLexeme<u32>>;
 
@@ -33,24 +33,27 @@ type LineError = ParseError<WordLexeme<u32>, u32>;
 
 type LineLexer<'a> = WordLexer<'a, u32>;
 
-/// Writes the text of a line: its errors, and then its tree, if it has a value. It answers whether there was an error.
+/// Writes the text of a line: its errors, and then its tree, if it has a value. It answers whether there was an error, and the
+/// room of its lexer's list, which serves the next line.
 pub(crate) fn write_line<W: Sink>(
     alloc: Global,
     kit: &ParserKit<u32>,
     repairs: &RepairLines<u32>,
+    room: LexerRoom<u32>,
     line: &str,
     out: &mut W,
-) -> Result<bool, RunFault>
-    ensures ok { IfOk result (WritesLine kit.now repairs.now line.now (W.known out.old) (W.known out.new)) }
+) -> Result<(bool, LexerRoom<u32>), RunFault>
+    ensures ok { IfOk result (λ r. WritesLine kit.now repairs.now line.now (W.known out.old) (W.known out.new) r.0) }
     ensures late { IfErr result IsLate }
     ensures begins { IfErr result (BeginsLine kit.now repairs.now line.now (W.known out.old) (W.known out.new)) }
     ensures cause { IfErr result (IsWriteCause (W.faults out.old) (W.faults out.new)) }
     ensures kept { OnOk result (W.faults out.new ≡ W.faults out.old) }
 {
-    let lexer = WordLexer::new(alloc, kit.grm(), &*line)?;
-    let written = write_lexed(alloc, &*kit, repairs, &*line, &lexer, out);
-    drop(lexer);
-    written
+    let lexer = WordLexer::in_room(alloc, room, kit.grm(), &*line)?;
+    match write_lexed(alloc, &*kit, repairs, &*line, &lexer, out) {
+        Ok(wrong) => Ok((wrong, lexer.into_room())),
+        Err(e) => Err(e),
+    }
 }
 
 // Writes the text of a line whose items are at hand.

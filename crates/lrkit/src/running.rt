@@ -13,7 +13,7 @@ use crate::fault::{Input, RunFault, run_fault};
 use byte_streams::{Sink, Source, read_text};
 use parser_kit::ParserKit;
 use std::alloc::Global;
-use word_lines::{RepairLines, RepairsError, read_repairs};
+use word_lines::{LexerRoom, RepairLines, RepairsError, read_repairs};
 
 // No chain of reductions on one token goes past this.
 const CAP: u16 = 1000;
@@ -148,9 +148,11 @@ fn write_lines<W: Sink>(
     ensures kept { OnOk result (W.faults out.new ≡ W.faults out.old) }
 {
     let mut faulty = false;
+    let mut room = LexerRoom::new(alloc);
     'lines: for line in line_text.lines() {
-        let wrong = write_line(alloc, kit, repairs, line, out)?;
+        let (wrong, left) = write_line(alloc, kit, repairs, room, line, out)?;
         faulty = either(faulty, wrong);
+        room = left;
     }
     Ok(faulty)
 }

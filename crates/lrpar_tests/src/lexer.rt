@@ -109,7 +109,10 @@ impl<S: IndexStorage> Lexer<RowTypes<S>> for RowLexer<S> {
     }
 }
 
-/// Lexemes of these tokens, starts and lengths.
+/// Stands for no token.
+pub const NO_TOKEN: u8 = 255;
+
+/// Lexemes of these tokens, starts and lengths, and a fault for each that is of no token.
 pub fn lexer_of<S: IndexStorage>(
     alloc: Global,
     lexemes: &[(u8, u16, u16)],
@@ -117,8 +120,13 @@ pub fn lexer_of<S: IndexStorage>(
     let mut items = Vec::new(alloc);
     for index in 0..lexemes.len() {
         let (token, start, len) = lexemes[index];
-        if let Some(tok_id) = S::from_usize(token as usize) {
-            items.push(Ok(RowLexeme::new(tok_id, start as usize, len as usize)))?;
+        let start = start as usize;
+        let len = len as usize;
+        if token == NO_TOKEN {
+            let span = Span::new(start, start + len);
+            items.push(Err(RowError { span }))?;
+        } else if let Some(tok_id) = S::from_usize(token as usize) {
+            items.push(Ok(RowLexeme::new(tok_id, start, len)))?;
         }
     }
     Ok(RowLexer { items })

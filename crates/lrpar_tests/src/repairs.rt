@@ -1,72 +1,15 @@
 //! Lines with repairs.
 
-ghost use Rattle.std.specs.Prelude.{IfOk};
-
 use crate::lexer::{RowLexeme, RowTypes, lexer_of};
+use crate::lines::{Lines, lines_of};
 use crate::make::data;
 use crate::spell::{branch, leaf, told};
 use cfg_base::index::IndexStorage;
 use cfg_base::span::Span;
-use cfg_base::symbol::{PIdx, RIdx, TIdx};
-use lrpar::{ParserData, RTParserBuilder, Recoverer, RepairStep};
-use lrtable::StIdx;
+use cfg_base::symbol::{PIdx, RIdx};
+use lrpar::{ParserData, RTParserBuilder};
 use std::alloc::{AllocError, Global};
 use std::test::*;
-
-/// Hands in the same sequences at each error.
-#[derive(Drop)]
-struct Lines<S> {
-    sequences: Vec<Vec<RepairStep<S>>>,
-}
-
-impl<S: IndexStorage> Recoverer<S, RowLexeme<S>> for Lines<S> {
-    ghost answers = { λ lines state index lexeme offered. Unit {0} };
-
-    fn sequences(
-        &self,
-        alloc: Global,
-        _stidx: StIdx<S>,
-        _laidx: usize,
-        _lexeme: RowLexeme<S>,
-    ) -> Result<Vec<Vec<RepairStep<S>>>, AllocError>
-        ensures { IfOk result (λ r. Unit {0}) }
-    {
-        let mut all = Vec::new(alloc);
-        for sequence in self.sequences.as_slice() {
-            all.push(Vec::from_clones(alloc, sequence.as_slice())?)?;
-        }
-        Ok(all)
-    }
-}
-
-/// The sequences of letters: `d` deletes, `s` shifts, a digit inserts that token, any other letter the token of its own
-/// number, as `c` 99, and a blank ends a sequence.
-fn lines_of<S: IndexStorage>(alloc: Global, letters: &str) -> Result<Lines<S>, AllocError> {
-    let mut sequences = Vec::new(alloc);
-    let mut sequence = Vec::new(alloc);
-    for byte in letters.as_bytes() {
-        let letter = *byte;
-        if letter == b' ' {
-            sequences.push(sequence)?;
-            sequence = Vec::new(alloc);
-        } else if letter == b'd' {
-            sequence.push(RepairStep::Delete)?;
-        } else if letter == b's' {
-            sequence.push(RepairStep::Shift)?;
-        } else {
-            let number = if letter.is_ascii_digit() {
-                letter % 16
-            } else {
-                letter
-            };
-            if let Some(token) = S::from_usize(number as usize) {
-                sequence.push(RepairStep::Insert(TIdx(token)))?;
-            }
-        }
-    }
-    sequences.push(sequence)?;
-    Ok(Lines { sequences })
-}
 
 /// What the lexemes come to over checked data with these sequences.
 fn told_by<S: IndexStorage>(

@@ -37,7 +37,7 @@ pub fn branch<S: IndexStorage>(
 }
 
 /// A repair.
-fn push_repair<S: IndexStorage>(
+pub fn push_repair<S: IndexStorage>(
     alloc: Global,
     text: &mut String,
     repair: ParseRepair<RowLexeme<S>, S>,

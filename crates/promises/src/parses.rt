@@ -23,7 +23,7 @@ use std::alloc::Global;
 /// For any lexer and any recoverer a parse tells the lexer's first fault alone, or is that of the machine with repairs: the
 /// tree is a derivation of the lexemes as repaired, it comes exactly where each error lists a repair, and each error lists
 /// in the order handed in exactly the sequences that can be taken.
-/// Shown by `a_missing_lexeme_is_inserted` of `lr_theory`; `lrpar_value_tests`; refused: `insert_left_off`, `mutants/lrpar/deleted_stays`.
+/// Shown by `a_missing_lexeme_is_inserted` of `lr_theory`; `lrpar_tests`; refused: `insert_left_off`, `mutants/lrpar/deleted_stays`.
 pub fn trees_derive_the_lexemes_as_repaired<
     S: IndexStorage,
     T: LexerTypes<StorageT = S>,

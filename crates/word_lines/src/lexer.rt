@@ -21,6 +21,35 @@ use std::alloc::{AllocError, Global};
 use std::marker::Model;
 use std::slice::Iter;
 
+/// Room for the list of a lexer. A program that parses line after line hands it on from lexer to lexer (`WordLexer::in_room`,
+/// `WordLexer::into_room`), and so asks for a list only where a line has more words than each one before it. Contracts see the
+/// items that it held last.
+#[derive(Drop)]
+pub struct LexerRoom<S: IndexStorage> {
+    items: Vec<Result<WordLexeme<S>, WordLexError>>,
+}
+
+impl<S: IndexStorage> Model for LexerRoom<S> {
+    ghost use Rattle.std.specs.Prelude.{List, Result};
+    ghost use Rattle.word_lines.specs.declared.lexeme.WordLexError.{WordLexError};
+    ghost use Rattle.word_lines.specs.declared.lexeme.WordLexeme.{WordLexeme};
+
+    ghost Value = { List (Result (WordLexeme S) WordLexError) };
+
+    ghost view = { λ r. r.items.items };
+}
+
+impl<S: IndexStorage> LexerRoom<S> {
+    /// Makes room for no word. It takes no memory.
+    pub fn new(alloc: Global) -> LexerRoom<S>
+        ensures { result ≡ [] }
+    {
+        LexerRoom {
+            items: Vec::new(alloc),
+        }
+    }
+}
+
 /// The lexemes and lexing errors of a line of words. Contracts see the line and this list.
 #[derive(Drop)]
 pub struct WordLexer<'input, S: IndexStorage> {
@@ -54,48 +83,39 @@ impl<'input, S: IndexStorage> WordLexer<'input, S> {
         ensures taken { IfOk result (λ l. (lexemes : List (WordLexeme S)) → AreItems l.items lexemes → AreLexemes grm.now.grammar (lex_of S.number) lexemes) }
         ensures not_refused { IfOk result (λ l. (m : Misfit) → HasMisfit grm.now.grammar (lex_of S.number) l.items m → ⊥) }
     {
-        lexer_in(alloc, Vec::new(alloc), grm, line)
+        WordLexer::in_room(alloc, LexerRoom::new(alloc), grm, line)
     }
 
-    /// Makes the lexer of another line, whose list takes the room of this one's. A program that parses line after line so asks
-    /// for a list only where a line has more words than each one before it.
-    pub fn again<'other>(
-        self,
+    /// Makes the lexer of a line, as `new` does, whose list takes the room of an earlier one.
+    pub fn in_room(
         alloc: Global,
+        room: LexerRoom<S>,
         grm: &NumberedGrammar<S>,
-        line: &'other str,
-    ) -> Result<WordLexer<'other, S>, AllocError>
+        line: &'input str,
+    ) -> Result<WordLexer<'input, S>, AllocError>
         ensures text { IfOk result (λ l. l.text ≡ line.entry.now) }
         ensures items { IfOk result (λ l. l.items ≡ items_of S.of_number grm.now line.entry.now) }
         ensures taken { IfOk result (λ l. (lexemes : List (WordLexeme S)) → AreItems l.items lexemes → AreLexemes grm.now.grammar (lex_of S.number) lexemes) }
         ensures not_refused { IfOk result (λ l. (m : Misfit) → HasMisfit grm.now.grammar (lex_of S.number) l.items m → ⊥) }
     {
-        let WordLexer { mut items, .. } = self;
-        items.clear();
-        lexer_in(alloc, items, grm, line)
+        let LexerRoom { items: mut room } = room;
+        room.clear();
+        let items = lex_line(room, grm, line)?;
+        let newlines = NewlineCache::from_str(alloc, line)?;
+        Ok(WordLexer {
+            line,
+            items,
+            newlines,
+        })
     }
-}
 
-/// The lexer of a line, whose list takes the room of an empty one.
-fn lexer_in<'input, S: IndexStorage>(
-    alloc: Global,
-    room: Vec<Result<WordLexeme<S>, WordLexError>>,
-    grm: &NumberedGrammar<S>,
-    line: &'input str,
-) -> Result<WordLexer<'input, S>, AllocError>
-    requires { room.items ≡ [] }
-    ensures text { IfOk result (λ l. l.text ≡ line.entry.now) }
-    ensures items { IfOk result (λ l. l.items ≡ items_of S.of_number grm.now line.entry.now) }
-    ensures taken { IfOk result (λ l. (lexemes : List (WordLexeme S)) → AreItems l.items lexemes → AreLexemes grm.now.grammar (lex_of S.number) lexemes) }
-    ensures not_refused { IfOk result (λ l. (m : Misfit) → HasMisfit grm.now.grammar (lex_of S.number) l.items m → ⊥) }
-{
-    let items = lex_line(room, grm, line)?;
-    let newlines = NewlineCache::from_str(alloc, line)?;
-    Ok(WordLexer {
-        line,
-        items,
-        newlines,
-    })
+    /// Lets the line go, and keeps the room of the list.
+    pub fn into_room(self) -> LexerRoom<S>
+        ensures { result ≡ self.entry.items }
+    {
+        let WordLexer { items, .. } = self;
+        LexerRoom { items }
+    }
 }
 
 /// The items of a line's words, in the room of an empty list.

@@ -43,5 +43,5 @@ pub mod shown;
 pub mod trees;
 
 pub use lexeme::{WordLexError, WordLexeme, WordLexerTypes};
-pub use lexer::WordLexer;
+pub use lexer::{LexerRoom, WordLexer};
 pub use repairs::{RepairLines, RepairsError, read_repairs};

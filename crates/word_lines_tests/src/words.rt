@@ -7,7 +7,7 @@ use lrpar::{LexError, Lexeme, Lexer, NonStreamingLexer};
 use std::alloc::{AllocError, Global};
 use std::fmt::Write;
 use std::test::*;
-use word_lines::{WordLexError, WordLexeme, WordLexer};
+use word_lines::{LexerRoom, WordLexError, WordLexeme, WordLexer};
 
 /// Puts an item: the token's number, or `?` for a word that is no token, its span, and its text.
 fn put_item<S: IndexStorage>(
@@ -77,12 +77,13 @@ fn words_are_items(rt: HostRuntime) -> Result<(), Fail> {
 fn one_list_serves_line_after_line(rt: HostRuntime) -> Result<(), Fail> {
     let alloc = rt.alloc();
     let grm = grammar::<u8>(alloc, SUMS)?;
-    let mut lexer = WordLexer::new(alloc, &grm, "+ + ID ID *")?;
+    let mut room = LexerRoom::new(alloc);
     for row in ITEMS {
-        lexer = lexer.again(alloc, &grm, row.0)?;
+        let lexer = WordLexer::in_room(alloc, room, &grm, row.0)?;
         assert_eq!(rt; items_of(alloc, &lexer)?.as_str(), row.1);
+        room = lexer.into_room();
     }
-    drop(lexer);
+    drop(room);
     drop(grm);
     Ok(())
 }

@@ -1,7 +1,8 @@
 //! Trees by rules as texts.
 
 use crate::lexer::{RowLexeme, RowTypes};
-use crate::spell::{leaf, push_errors, refusal};
+use crate::outcomes::{push_errors, refusal};
+use crate::spell::leaf;
 use cfg_base::index::IndexStorage;
 use lrpar::{LexParseError, Node, ParseRefusal};
 use std::alloc::{AllocError, Global};

@@ -1,6 +1,6 @@
 use Rattle.lrpar.specs.Run.{span_by}
-use Rattle.lrpar_text_tests.proofs.ShownTrees.{value_can}
-use Rattle.lrpar_text_tests.proofs.shown.flat_shown.Goals as goal
+use Rattle.lrpar_tests.proofs.ShownTrees.{value_can}
+use Rattle.lrpar_tests.proofs.shown.flat_shown.Goals as goal
 
 pub pp-requires : goal.pp-requires
 pp-requires g c =

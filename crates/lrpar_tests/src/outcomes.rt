@@ -1,38 +1,10 @@
-//! Values and errors of parses as texts.
+//! What the calls that answer a list of errors come to, as texts.
 
 use crate::lexer::{RowLexeme, RowTypes};
+use crate::spell::{leaf, push_repair};
 use cfg_base::index::IndexStorage;
-use lrpar::{LexParseError, Lexeme, ParseError, ParseRefusal, ParseRepair};
+use lrpar::{LexParseError, Lexeme, ParseError, ParseRefusal};
 use std::alloc::{AllocError, Global};
-
-/// A lexeme as its token and its start.
-pub fn leaf<S: IndexStorage>(alloc: Global, lexeme: RowLexeme<S>) -> Result<String, AllocError> {
-    let token = lexeme.token.to_usize();
-    let start = lexeme.span.start();
-    format!(in alloc; "{token}@{start}")
-}
-
-/// A repair.
-fn push_repair<S: IndexStorage>(
-    alloc: Global,
-    text: &mut String,
-    repair: ParseRepair<RowLexeme<S>, S>,
-) -> Result<(), AllocError> {
-    match repair {
-        ParseRepair::Insert(tidx) => {
-            let token = tidx.0.to_usize();
-            text.push_str(format!(in alloc; " insert {token}")?.as_str())
-        }
-        ParseRepair::Delete(lexeme) => {
-            text.push_str(" delete ")?;
-            text.push_str(leaf(alloc, lexeme)?.as_str())
-        }
-        ParseRepair::Shift(lexeme) => {
-            text.push_str(" shift ")?;
-            text.push_str(leaf(alloc, lexeme)?.as_str())
-        }
-    }
-}
 
 /// An error of a parse: its lexeme, whether that was made up, and the listed sequences.
 fn push_parse_error<S: IndexStorage>(

@@ -2,7 +2,7 @@ use Rattle.std.proofs.Common.{Some, take}
 use Rattle.std.specs.List.{AllByRecursion}
 use Rattle.lrpar.specs.FlatLines.{CanShowPiece}
 use Rattle.lrpar.specs.FlatTrees.{piece_of}
-use Rattle.lrpar_text_tests.proofs.shown.are_shown.Given as goal
+use Rattle.lrpar_tests.proofs.shown.are_shown.Given as goal
 
 abbrev pub invariant-nodes : goal.invariant-nodes
 invariant-nodes g l = AllByRecursion (λ n. CanShowPiece l.grm g.L.Lexeme.lex l.input (Some (piece_of g.S.IndexStorage.number n))) (take l.at l.nodes)

@@ -1,6 +1,6 @@
 //! Flat trees as texts, and the children of their nodes.
 
-use crate::lexer::{Mark, MarkTypes, marks_of};
+use crate::lexer::{RowLexeme, RowTypes, lexer_of};
 use crate::make::data;
 use crate::shown::flat_shown;
 use cfg_numbered::yacc::grammar::NumberedGrammar;
@@ -12,7 +12,7 @@ use std::test::*;
 /// The children of a node, none where there is no such node.
 fn children_of(
     alloc: Global,
-    tree: &FlatTree<u8, Mark>,
+    tree: &FlatTree<u8, RowLexeme<u8>>,
     at: Visit,
 ) -> Result<Vec<Visit>, AllocError> {
     let count = tree.nodes().len();
@@ -28,7 +28,7 @@ fn tree_told(
     alloc: Global,
     grm: &NumberedGrammar<u8>,
     input: &str,
-    tree: &FlatTree<u8, Mark>,
+    tree: &FlatTree<u8, RowLexeme<u8>>,
     nodes: &[Visit],
 ) -> Result<String, AllocError> {
     let mut text = flat_shown(alloc, grm, input, tree)?;
@@ -44,11 +44,11 @@ fn told(
     alloc: Global,
     data: &ParserData<u8>,
     input: &str,
-    lexemes: &[(u8, u8, u8)],
+    lexemes: &[(u8, u16, u16)],
     nodes: &[Visit],
 ) -> Result<String, AllocError> {
-    let lexer = marks_of(alloc, lexemes)?;
-    let parser = RTParserBuilder::<MarkTypes, _>::new(data);
+    let lexer = lexer_of::<u8>(alloc, lexemes)?;
+    let parser = RTParserBuilder::<RowTypes<u8>, _>::new(data);
     match &parser.parse_flat(alloc, &lexer) {
         Ok(Ok((Some(tree), _))) => tree_told(alloc, data.grm(), input, tree, nodes),
         Err(ParseRefusal::Memory(e)) => Err(*e),
@@ -61,10 +61,10 @@ fn shown(
     alloc: Global,
     text: &str,
     input: &str,
-    lexemes: &[(u8, u8, u8)],
+    lexemes: &[(u8, u16, u16)],
     nodes: &[Visit],
 ) -> Result<String, Fail> {
-    let data = data(alloc, text)?;
+    let data = data::<u8>(alloc, text)?;
     let found = told(alloc, &data, input, lexemes, nodes);
     drop(data);
     Ok(found?)
@@ -93,7 +93,7 @@ const NODES: &[Visit] = &[
 ];
 
 /// Texts of grammars, inputs, tokens with their starts and lengths, nodes, and what comes of them.
-const TREES: &[(&str, &str, &[(u8, u8, u8)], &[Visit], &str)] = &[
+const TREES: &[(&str, &str, &[(u8, u16, u16)], &[Visit], &str)] = &[
     (
         SUMS,
         "2+\u{E9}*4",

@@ -35,7 +35,8 @@ impl<S: IndexStorage> Recoverer<S, RowLexeme<S>> for Lines<S> {
     }
 }
 
-/// The sequences of letters: `d` deletes, `s` shifts, a digit inserts that token, and a blank ends a sequence.
+/// The sequences of letters: `d` deletes, `s` shifts, a digit inserts that token, any other letter the token of its own
+/// number, as `c` 99, and a blank ends a sequence.
 pub fn lines_of<S: IndexStorage>(alloc: Global, letters: &str) -> Result<Lines<S>, AllocError> {
     let mut sequences = Vec::new(alloc);
     let mut sequence = Vec::new(alloc);
@@ -48,8 +49,15 @@ pub fn lines_of<S: IndexStorage>(alloc: Global, letters: &str) -> Result<Lines<S
             sequence.push(RepairStep::Delete)?;
         } else if letter == b's' {
             sequence.push(RepairStep::Shift)?;
-        } else if let Some(token) = S::from_usize((letter % 16) as usize) {
-            sequence.push(RepairStep::Insert(TIdx(token)))?;
+        } else {
+            let number = if letter.is_ascii_digit() {
+                letter % 16
+            } else {
+                letter
+            };
+            if let Some(token) = S::from_usize(number as usize) {
+                sequence.push(RepairStep::Insert(TIdx(token)))?;
+            }
         }
     }
     sequences.push(sequence)?;

@@ -3,7 +3,8 @@
 ghost use Rattle.std.specs.Prelude.{IfOk};
 
 use crate::lexer::{RowLexeme, RowLexer, RowTypes};
-use crate::spell::{errors_told, leaf, told};
+use crate::outcomes::{errors_told, told};
+use crate::spell::leaf;
 use crate::trees::tree_told;
 use cfg_base::index::IndexStorage;
 use cfg_base::span::Span;

@@ -3,8 +3,8 @@ use Rattle.std.proofs.lemmas.List.{take_all}
 use Rattle.std.specs.List.{AllByRecursion}
 use Rattle.lrpar.specs.FlatLines.{CanShowPiece}
 use Rattle.lrpar.specs.FlatTrees.{piece_of}
-use Rattle.lrpar_text_tests.proofs.OneMore.{one_more}
-use Rattle.lrpar_text_tests.proofs.shown.are_shown.Goals as goal
+use Rattle.lrpar_tests.proofs.OneMore.{one_more}
+use Rattle.lrpar_tests.proofs.shown.are_shown.Goals as goal
 
 pub nodes-preserved : goal.nodes-preserved
 nodes-preserved g c =

@@ -1,6 +1,6 @@
 //! A node as a text, and the node of a flat tree.
 
-use crate::lexer::{Mark, MarkTypes, Marks, marks_of};
+use crate::lexer::{RowLexeme, RowLexer, RowTypes, lexer_of};
 use crate::make::data;
 use crate::shown::pair_shown;
 use cfg_base::symbol::RIdx;
@@ -10,8 +10,11 @@ use std::test::*;
 
 #[test]
 fn nodes_are_shown(rt: HostRuntime) -> Result<(), Fail> {
-    let data = data(rt.alloc(), "%start S %% S: 'a' 'b';")?;
-    let lexemes: (Mark, Mark) = (Mark::new(0, 0, 1), Mark::new(1, 1, 2));
+    let data = data::<u8>(rt.alloc(), "%start S %% S: 'a' 'b';")?;
+    let lexemes: (RowLexeme<u8>, RowLexeme<u8>) = (
+        RowLexeme::new(0, 0, 1),
+        RowLexeme::new(1, 1, 2),
+    );
     let text = pair_shown(rt.alloc(), data.grm(), "x\u{E9}", RIdx(1), lexemes);
     drop(data);
     assert_eq!(rt; text?.as_str(), "S\n a x\n b \u{E9}\n");
@@ -21,9 +24,9 @@ fn nodes_are_shown(rt: HostRuntime) -> Result<(), Fail> {
 /// Whether the generic parse gives this node.
 fn is_parsed(
     alloc: Global,
-    parser: &RTParserBuilder<'_, MarkTypes, NoRecovery>,
-    lexer: &Marks,
-    node: &Node<Mark, u8>,
+    parser: &RTParserBuilder<'_, RowTypes<u8>, NoRecovery>,
+    lexer: &RowLexer<u8>,
+    node: &Node<RowLexeme<u8>, u8>,
 ) -> Result<bool, Fail> {
     match &parser.parse_generictree(alloc, lexer) {
         Ok((Some(other), _)) => Ok(node.equals(alloc, other)?),
@@ -36,10 +39,10 @@ fn is_parsed(
 fn gives_one_node(
     alloc: Global,
     data: &ParserData<u8>,
-    lexemes: &[(u8, u8, u8)],
+    lexemes: &[(u8, u16, u16)],
 ) -> Result<bool, Fail> {
-    let lexer = marks_of(alloc, lexemes)?;
-    let parser = RTParserBuilder::<MarkTypes, _>::new(data);
+    let lexer = lexer_of::<u8>(alloc, lexemes)?;
+    let parser = RTParserBuilder::<RowTypes<u8>, _>::new(data);
     match &parser.parse_flat(alloc, &lexer) {
         Ok(Ok((Some(tree), _))) => {
             let node = tree.to_node(alloc, data.grm())?;
@@ -52,7 +55,7 @@ fn gives_one_node(
 
 #[test]
 fn flat_trees_give_nodes(rt: HostRuntime) -> Result<(), Fail> {
-    let data = data(
+    let data = data::<u8>(
         rt.alloc(),
         "%start S %% S: 'a' E S 'b' | E T E; E: ; T: 'c' | T 'c';",
     )?;

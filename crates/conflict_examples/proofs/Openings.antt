@@ -189,3 +189,13 @@ still_open number G old new stays o =
     let four = subst (λ l. IsOpened G l (front ++ []) (after ++ [])) (append-nil (spine_of number new.items.items)) now in
     let five = subst (λ l. IsOpened G (spine_of number new.items.items) l (after ++ [])) (append-nil front) four in
     subst (λ l. IsOpened G (spine_of number new.items.items) front l) (append-nil after) five
+
+-- the same lists are open too
+pub same_open : {S : Type 0} (number : S → ℕ) (G : Grammar) (old new : Opened S) → new.items.items ≡ old.items.items → new.symbols.items ≡ old.symbols.items → new.rest.items ≡ old.rest.items →
+    IsOpen number G old → IsOpen number G new
+same_open number G old new e t r o =
+    let w = reverse (syms_of number new.symbols.items) in
+    let others = reverse (syms_of number new.rest.items) in
+    subst (λ l. IsOpened G (spine_of number l) w others) (sym e)
+    (subst (λ l. IsOpened G (spine_of number old.items.items) (reverse (syms_of number l)) others) (sym t)
+    (subst (λ l. IsOpened G (spine_of number old.items.items) (reverse (syms_of number old.symbols.items)) (reverse (syms_of number l))) (sym r) o))

@@ -250,7 +250,7 @@ fn reduce_part<'a, S: IndexStorage>(
         return Ok(None);
     };
     let steps = steps_to_nothing(alloc, reading, opened.rest.as_slice())?;
-    shown_reduce(alloc, grm, &opened, steps.as_slice(), token, pidx)
+    shown_reduce(alloc, grm, opened, steps.as_slice(), token, pidx)
 }
 
 /// What is shown of the end of the text.
@@ -264,7 +264,7 @@ fn accept_part<S: IndexStorage>(
     let Some(opened) = open_start(alloc, grm, dot)? else {
         return Ok(None);
     };
-    shown_accept(alloc, grm, &opened)
+    shown_accept(alloc, grm, opened)
 }
 
 /// An example of a production that may be reduced where a text has ended, as a `StateTableError` tells one: before the end

@@ -19,6 +19,7 @@ use crate::steps::steps_behind;
 use crate::whole::{Whole, joined, reopened};
 use cfg_base::index::IndexStorage;
 use cfg_base::symbol::PIdx;
+use cfg_numbered::yacc::NumberedGrammar;
 use lrtable::stidx::StIdx;
 use std::alloc::{AllocError, Global};
 
@@ -37,13 +38,11 @@ pub(crate) struct Found<S> {
     pub example: Option<ConflictExample<S>>,
 }
 
-/// What is open for one action, and what is shown of it, if that is; and how many of the first symbols may be those of the last
-/// string.
+/// What is open for one action, and what is shown of it, if that is.
 #[derive(Drop)]
 struct Side<S> {
     opened: Option<Whole<S>>,
     part: Option<Part<S>>,
-    same: usize,
 }
 
 /// Where the string of an example leads, and the example, if it is one.
@@ -64,6 +63,23 @@ pub(crate) fn no_spines<S: IndexStorage>() -> Spines<S>
     }
 }
 
+/// What is open as one list. None where the outer part doesn't wait for the inner one.
+#[tactic(auto, using(crate::proofs::Openings::same_open))]
+fn opened_of<S: IndexStorage>(
+    alloc: Global,
+    grm: &NumberedGrammar<S>,
+    whole: &Whole<S>,
+) -> Result<Option<Opened<S>>, AllocError>
+    requires { IsWhole S.number grm.now.grammar whole.now }
+    ensures { IfOk result (λ o. IfSome o (IsOpen S.number grm.now.grammar)) }
+{
+    let Some(inner) = &whole.inner else {
+        let opened = whole.outer.shown(alloc)?;
+        return Ok(Some(opened));
+    };
+    joined(alloc, grm, &whole.outer, inner)
+}
+
 /// What is shown of a shift of the token by what is open.
 fn shift_part<'a, S: IndexStorage>(
     alloc: Global,
@@ -73,34 +89,10 @@ fn shift_part<'a, S: IndexStorage>(
     requires { IsWhole S.number source.now.grm.now.grammar whole.now }
     ensures { IfOk result (λ o. IfSome o (PartShows S.number source.now.grm.now.grammar (S.number source.now.token.0) shift)) }
 {
-    let Some(inner) = &whole.inner else {
-        return shown_shift(alloc, source.grm, &whole.outer, source.token);
-    };
-    let Some(opened) = joined(alloc, source.grm, &whole.outer, inner)? else {
+    let Some(opened) = opened_of(alloc, source.grm, whole)? else {
         return Ok(None);
     };
-    shown_shift(alloc, source.grm, &opened, source.token)
-}
-
-/// What is shown of a reduction on the token by what is open in one part.
-fn reduce_opened<'a, S: IndexStorage>(
-    alloc: Global,
-    source: &Source<'a, S>,
-    opened: &Opened<S>,
-    production: PIdx<S>,
-) -> Result<Option<Part<S>>, AllocError>
-    requires { IsOpen S.number source.now.grm.now.grammar opened.now }
-    ensures { IfOk result (λ o. IfSome o (PartShows S.number source.now.grm.now.grammar (S.number source.now.token.0) (reduce (S.number production.0)))) }
-{
-    let steps = steps_behind(alloc, source, opened.rest.as_slice())?;
-    shown_reduce(
-        alloc,
-        source.grm,
-        opened,
-        steps.as_slice(),
-        source.token,
-        production,
-    )
+    shown_shift(alloc, source.grm, opened, source.token)
 }
 
 /// What is shown of a reduction on the token by what is open.
@@ -113,13 +105,18 @@ fn reduce_part<'a, S: IndexStorage>(
     requires { IsWhole S.number source.now.grm.now.grammar whole.now }
     ensures { IfOk result (λ o. IfSome o (PartShows S.number source.now.grm.now.grammar (S.number source.now.token.0) (reduce (S.number production.0)))) }
 {
-    let Some(inner) = &whole.inner else {
-        return reduce_opened(alloc, source, &whole.outer, production);
-    };
-    let Some(opened) = joined(alloc, source.grm, &whole.outer, inner)? else {
+    let Some(opened) = opened_of(alloc, source.grm, whole)? else {
         return Ok(None);
     };
-    reduce_opened(alloc, source, &opened, production)
+    let steps = steps_behind(alloc, source, opened.rest.as_slice())?;
+    shown_reduce(
+        alloc,
+        source.grm,
+        opened,
+        steps.as_slice(),
+        source.token,
+        production,
+    )
 }
 
 /// What is shown of a shift of the token by the productions of a path.
@@ -133,47 +130,44 @@ fn shift_side<'a, S: IndexStorage>(
     ensures spines { IfOk result (λ r. IfSome r.opened (IsWhole S.number source.now.grm.now.grammar)) }
     ensures part { IfOk result (λ r. IfSome r.part (PartShows S.number source.now.grm.now.grammar (S.number source.now.token.0) shift)) }
 {
-    let Some(opened) = reopened(alloc, source.grm, opened, path)? else {
+    let Some(opened) = reopened(alloc, source.grm, opened, &None, path)? else {
         return Ok(Side {
             opened: None,
             part: None,
-            same: 0,
         });
     };
     let part = shift_part(alloc, source, &opened)?;
-    let same = opened.same(path.stays);
     Ok(Side {
         opened: Some(opened),
         part,
-        same,
     })
 }
 
-/// What is shown of a reduction on the token by the productions of a path.
+/// What is shown of a reduction on the token by the productions of a path, where these are open for the
+/// other action.
 fn reduce_side<'a, S: IndexStorage>(
     alloc: Global,
     source: &Source<'a, S>,
     opened: Option<Whole<S>>,
+    like: &Option<Whole<S>>,
     path: &Path<S>,
     production: PIdx<S>,
 ) -> Result<Side<S>, AllocError>
-    requires { IfSome opened (IsWhole S.number source.now.grm.now.grammar) }
+    requires opened { IfSome opened (IsWhole S.number source.now.grm.now.grammar) }
+    requires like { IfSome like.now (IsWhole S.number source.now.grm.now.grammar) }
     ensures spines { IfOk result (λ r. IfSome r.opened (IsWhole S.number source.now.grm.now.grammar)) }
     ensures part { IfOk result (λ r. IfSome r.part (PartShows S.number source.now.grm.now.grammar (S.number source.now.token.0) (reduce (S.number production.0)))) }
 {
-    let Some(opened) = reopened(alloc, source.grm, opened, path)? else {
+    let Some(opened) = reopened(alloc, source.grm, opened, like, path)? else {
         return Ok(Side {
             opened: None,
             part: None,
-            same: 0,
         });
     };
     let part = reduce_part(alloc, source, &opened, production)?;
-    let same = opened.same(path.stays);
     Ok(Side {
         opened: Some(opened),
         part,
-        same,
     })
 }
 
@@ -224,13 +218,19 @@ pub(crate) fn shift_example<'a, S: IndexStorage>(
     ensures state { IfOk result (λ r. IfSome r.example (λ x. Leads (graph_of source.now.graph.now) (example_of S.number x).string (S.number stidx.0))) }
 {
     let Spines { first, second, led } = spines;
-    let one = shift_side(alloc, source, first, &paths.0)?;
-    let other = reduce_side(alloc, source, second, &paths.1, production)?;
-    let same = one.same;
-    let joined = joined_parts(alloc, source, stidx, led, same, one.part, other.part)?;
+    let Side {
+        opened: first,
+        part: one,
+    } = shift_side(alloc, source, first, &paths.0)?;
+    let Side {
+        opened: second,
+        part: other,
+    } = reduce_side(alloc, source, second, &first, &paths.1, production)?;
+    let same = paths.0.same;
+    let joined = joined_parts(alloc, source, stidx, led, same, one, other)?;
     let spines = Spines {
-        first: one.opened,
-        second: other.opened,
+        first,
+        second,
         led: joined.led,
     };
     let example = joined.example;
@@ -259,13 +259,19 @@ pub(crate) fn pair_example<'a, S: IndexStorage>(
         });
     }
     let Spines { first, second, led } = spines;
-    let one = reduce_side(alloc, source, first, &paths.0, production)?;
-    let other = reduce_side(alloc, source, second, &paths.1, other_production)?;
-    let same = one.same;
-    let joined = joined_parts(alloc, source, stidx, led, same, one.part, other.part)?;
+    let Side {
+        opened: first,
+        part: one,
+    } = reduce_side(alloc, source, first, &None, &paths.0, production)?;
+    let Side {
+        opened: second,
+        part: other,
+    } = reduce_side(alloc, source, second, &first, &paths.1, other_production)?;
+    let same = paths.0.same;
+    let joined = joined_parts(alloc, source, stidx, led, same, one, other)?;
     let spines = Spines {
-        first: one.opened,
-        second: other.opened,
+        first,
+        second,
         led: joined.led,
     };
     let example = joined.example;

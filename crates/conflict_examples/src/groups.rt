@@ -11,8 +11,9 @@ use lrtable::stidx::StIdx;
 use std::alloc::{AllocError, Global};
 
 /// The items of a state before a rule: where they begin and end in the list; the way out, which is one of them, once it is known;
-/// the number by which the last search met the group, and its index when it was last on a way; and how many steps away the end
-/// of a search for the token is at least, with the number of the token for which that was noted.
+/// the number by which the last search met the group, the trunk that met it and at which step, and its index when it was last on a
+/// way; and how many steps away the end of a search for the token is at least, with the number of the token for which that was
+/// noted.
 #[derive(Clone, Copy)]
 struct Group<S> {
     stidx: StIdx<S>,
@@ -21,34 +22,27 @@ struct Group<S> {
     end: usize,
     out: Option<(PIdx<S>, SIdx<S>)>,
     met_by: usize,
+    trunk: usize,
+    step: usize,
     mark: usize,
     bound: usize,
     bound_for: usize,
 }
 
 /// The groups, and their items, one group's behind another's. The slots hold the numbers of groups, each in the first one that
-/// was free from that on which its state and its rule give; `usize::MAX` in a free one. Searches are counted, and so are
-/// changes of the token; a search that is watched has several numbers. The groups that a search met have numbers from `since`
-/// on, or those of the search from which it goes on.
+/// was free from that on which its state and its rule give; `usize::MAX` in a free one. Searches are counted, and so are trunks
+/// and changes of the token. The groups that a search met have its number, or were met by the trunk before the step from which
+/// it goes on.
 #[derive(Drop)]
 pub(crate) struct Groups<S> {
     list: Vec<Group<S>>,
     outers: Vec<Outer<S>>,
     slots: Vec<usize>,
     searches: usize,
-    since: usize,
-    before: Numbers,
+    trunk: usize,
+    before: usize,
     tokens: usize,
 }
-
-/// The numbers of a search from its beginning to where another goes on from it.
-#[derive(Clone, Copy)]
-pub(crate) struct Numbers {
-    pub begin: usize,
-    pub end: usize,
-}
-
-const NO_NUMBERS: Numbers = Numbers { begin: 0, end: 0 };
 
 /// A group that was come to on a way out, by an item of another one.
 #[derive(Clone, Copy)]
@@ -78,8 +72,8 @@ impl<S: IndexStorage> Groups<S> {
             outers: Vec::new(alloc),
             slots: free_slots(alloc, 256)?,
             searches: 0,
-            since: 0,
-            before: NO_NUMBERS,
+            trunk: 0,
+            before: 0,
             tokens: 0,
         })
     }
@@ -153,6 +147,8 @@ impl<S: IndexStorage> Groups<S> {
             end: self.outers.len(),
             out: None,
             met_by: 0,
+            trunk: 0,
+            step: 0,
             mark: usize::MAX,
             bound: 0,
             bound_for: 0,
@@ -191,35 +187,78 @@ impl<S: IndexStorage> Groups<S> {
         &self.outers.as_slice()[begin..end]
     }
 
+    /// The items of a group from an index on.
+    pub(crate) fn items_from(&self, number: usize, index: usize) -> &[Outer<S>] {
+        let items = self.items(number);
+        if index > items.len() {
+            return &items[items.len()..];
+        }
+        &items[index..]
+    }
+
     /// Begins a search: no group was met by it.
     pub(crate) fn begin(&mut self) {
-        self.since = self.next();
-        self.before = NO_NUMBERS;
+        self.begin_from(0);
     }
 
-    /// Begins a search that goes on from another one: the groups were met that have its numbers.
-    pub(crate) fn begin_from(&mut self, before: Numbers) {
-        self.begin();
-        self.before = before;
-    }
-
-    /// Gives the search another number, by which those groups are known that it meets from here on.
-    pub(crate) fn next(&mut self) -> usize {
+    /// Begins a search that goes on from a step of the trunk: those groups were met that the trunk met before.
+    pub(crate) fn begin_from(&mut self, step: usize) {
         self.searches = self.searches.wrapping_add(1);
-        self.searches
+        self.before = step;
     }
 
-    /// Whether the group wasn't met by the search, which it is from here on.
-    pub(crate) fn meet(&mut self, number: usize) -> bool {
-        if number >= self.list.len() {
+    /// Begins a search that is watched, which makes a trunk.
+    pub(crate) fn begin_trunk(&mut self) {
+        self.begin_from(usize::MAX);
+        self.trunk = self.trunk.wrapping_add(1);
+    }
+
+    /// The step of the trunk from which the search goes on, or nought.
+    pub(crate) fn before(&self) -> usize {
+        self.before
+    }
+
+    /// The step at which the trunk met the group, if it did.
+    pub(crate) fn trunk_step(&self, number: usize) -> Option<usize> {
+        if number >= self.list.len() || self.list[number].trunk != self.trunk {
+            return None;
+        }
+        Some(self.list[number].step)
+    }
+
+    /// Whether the group wasn't met by the search, which it is from here on, by the trunk at a step or by the search alone.
+    pub(crate) fn meet(&mut self, number: usize, step: Option<usize>) -> bool {
+        if number >= self.list.len() || self.list[number].met_by == self.searches {
             return false;
         }
-        let by = self.list[number].met_by;
-        if by >= self.since || (by >= self.before.begin && by < self.before.end) {
-            return false;
+        if let Some(step) = self.trunk_step(number) {
+            if step < self.before {
+                return false;
+            }
         }
-        self.list[number].met_by = self.searches;
+        if let Some(step) = step {
+            self.list[number].trunk = self.trunk;
+            self.list[number].step = step;
+        } else {
+            self.list[number].met_by = self.searches;
+        }
         true
+    }
+
+    /// Ends the watch at a step of the trunk: what it met from there on was met by the search alone.
+    pub(crate) fn end_trunk(&mut self, step: usize) {
+        self.before = step;
+    }
+
+    /// Takes a group from the trunk that this met at a step: the search alone has met it.
+    pub(crate) fn take(&mut self, number: usize, step: usize) {
+        if number >= self.list.len() {
+            return;
+        }
+        if self.list[number].trunk == self.trunk && self.list[number].step == step {
+            self.list[number].trunk = 0;
+            self.list[number].met_by = self.searches;
+        }
     }
 
     /// Where the group was last on a way.
@@ -293,7 +332,7 @@ impl<S: IndexStorage> Groups<S> {
         number: usize,
     ) -> Result<(), AllocError> {
         self.begin();
-        self.meet(number);
+        self.meet(number, None);
         let mut come = Vec::new(alloc);
         come.push(Come {
             number,
@@ -394,7 +433,7 @@ impl<S: IndexStorage> Groups<S> {
             return Ok(());
         }
         let number = self.group(alloc, source, stidx, source.grm.prod_to_rule(pidx))?;
-        if self.meet(number) {
+        if self.meet(number, None) {
             come.push(Come { number, item, from })?;
         }
         Ok(())
@@ -417,8 +456,26 @@ fn first_past<'a, S: IndexStorage>(
     best
 }
 
+/// Of the items that the token follows at once the first of those with the largest dot.
+pub(crate) fn first_before<'a, S: IndexStorage>(
+    source: &Source<'a, S>,
+    items: &[Outer<S>],
+) -> Need<S> {
+    let mut best: Need<S> = None;
+    'items: for k in 0..items.len() {
+        if source.is_before_other(&items[k]) {
+            continue 'items;
+        }
+        let Outer { pidx, dot, .. } = items[k];
+        if source.follows(&items[k]) && is_later(best, dot) {
+            best = Some((pidx, dot));
+        }
+    }
+    best
+}
+
 /// Whether there is no item yet, or one with a smaller dot.
-pub(crate) fn is_later<S: IndexStorage>(best: Need<S>, dot: SIdx<S>) -> bool {
+fn is_later<S: IndexStorage>(best: Need<S>, dot: SIdx<S>) -> bool {
     match best {
         Some((_, other)) => other.0.to_usize() < dot.0.to_usize(),
         None => true,

@@ -8,7 +8,8 @@ use crate::groups::Groups;
 use crate::opened::Opened;
 use crate::reading::has_production;
 use crate::source::Source;
-use crate::strings::{End, Met, Visit, Visits};
+use crate::strings::{End, Visits};
+use crate::visit::{Met, Visit};
 use crate::way::{Mark, Way};
 use crate::whole::Whole;
 use cfg_base::index::IndexStorage;
@@ -42,9 +43,10 @@ pub(crate) struct Ends<S> {
 /// What the searches for all conflicts keep: the items before rules; the last search and the way that it came on; the states
 /// that its string goes through, of which the first `shortest` are those of a shortest string and the first `common` those of
 /// the one before too; how many of the productions that are open after it for either action, from that of the start in, are the
-/// way out from the next one; and whether all that is whole. Where the last search is one from which others go on, those states
-/// stand apart as the last ones that belong to the visits which they share, from the one at the index `shared` in; the old states
-/// are those that stood before them for the search before.
+/// way out from the next one; and whether all that is whole. Where the last search went on from the trunk, those states stand
+/// apart as the last ones that belong to the visits which all share that do, from the one at the index `shared` in; the old states
+/// are those that stood before them for the search before. Where it came to the trunk from another beginning, which of the
+/// trunk's visits stands there, and the search's own ones from there.
 #[derive(Drop)]
 pub(crate) struct Kept<S> {
     groups: Groups<S>,
@@ -54,6 +56,9 @@ pub(crate) struct Kept<S> {
     old_states: Vec<StIdx<S>>,
     last_states: Vec<StIdx<S>>,
     shared: usize,
+    joint: usize,
+    joined: usize,
+    beginning: Vec<Visit<S>>,
     shortest: usize,
     common: usize,
     first_free: usize,
@@ -62,12 +67,14 @@ pub(crate) struct Kept<S> {
 }
 
 /// The productions that are to be open: so many of those that are, and these within them, the innermost first; within these the
-/// inner part that is open, if it stays, or those of which it is to be. Those of the way out are so many from that of the start in.
+/// inner part that is open, if it stays, or those of which it is to be. Those of the way out are so many from that of the start in;
+/// of the string so many first symbols may be those of the last one.
 #[derive(Drop)]
 pub(crate) struct Path<S> {
     pub around: usize,
     pub items: Vec<(PIdx<S>, SIdx<S>)>,
     pub free: usize,
+    pub same: usize,
     pub stays: bool,
     pub within: Option<Vec<(PIdx<S>, SIdx<S>)>>,
 }
@@ -164,6 +171,9 @@ impl<S: IndexStorage> Kept<S> {
             old_states: Vec::new(alloc),
             last_states: Vec::new(alloc),
             shared: usize::MAX,
+            joint: usize::MAX,
+            joined: usize::MAX,
+            beginning: Vec::new(alloc),
             shortest: 0,
             common: 0,
             first_free: 0,
@@ -173,10 +183,10 @@ impl<S: IndexStorage> Kept<S> {
     }
 
     /// Begins a search for a token, and tells whether the last one was for another. What that one left goes if it isn't whole.
-    fn begin(&mut self, token: usize) -> bool {
+    fn begin(&mut self, alloc: Global, token: usize) -> bool {
         if !self.whole {
             self.way.clear();
-            self.visits.forget();
+            self.visits.forget(alloc);
             self.shortest = 0;
             self.shared = usize::MAX;
         }
@@ -213,7 +223,7 @@ impl<S: IndexStorage> Kept<S> {
         source: &Source<'a, S>,
         start: Visit<S>,
     ) -> Result<Option<Ends<S>>, AllocError> {
-        let other = self.begin(source.token.0.to_usize());
+        let other = self.begin(alloc, source.token.0.to_usize());
         let found = self
             .visits
             .search(alloc, source, &mut self.groups, &self.way, start, other)?;
@@ -269,7 +279,7 @@ impl<S: IndexStorage> Kept<S> {
     /// Reads the visits up to the first ones, which are so many.
     fn read_to(&mut self, ends: &mut Ends<S>, count: usize) -> Result<(), AllocError> {
         'visits: for _ in 0..self.visits.len() {
-            if ends.next < count {
+            if ends.next < count || ends.next >= self.visits.len() {
                 return Ok(());
             }
             self.read_one(ends)?;
@@ -279,7 +289,7 @@ impl<S: IndexStorage> Kept<S> {
 
     /// Reads the visits that searches for other tokens share, unless that is done.
     fn read_shared(&mut self, ends: &mut Ends<S>, needs: (bool, bool)) -> Result<(), AllocError> {
-        if self.shared == ends.next {
+        if self.shared == ends.next && self.begins_so() {
             ends.first.stays = needs.0;
             ends.second.stays = needs.1;
             self.note_same();
@@ -289,10 +299,45 @@ impl<S: IndexStorage> Kept<S> {
         let states = self.states.len();
         let first = ends.first.items.len();
         let second = ends.second.items.len();
-        self.read_to(ends, 0)?;
+        self.read_noted(ends)?;
         self.last_states = cut(&mut self.states, states)?;
         ends.first.part(needs.0, first)?;
         ends.second.part(needs.1, second)
+    }
+
+    /// Whether the search came to the trunk as the one whose visits were read there.
+    fn begins_so(&self) -> bool {
+        if self.joint != self.visits.joint() {
+            return false;
+        }
+        let mut next = self.joined;
+        'visits: for k in 0..self.beginning.len() {
+            match self.visits.at(next) {
+                Some(visit) if visit.is_read_as(&self.beginning[k]) => next = visit.from,
+                _ => return false,
+            }
+        }
+        next >= self.visits.len()
+    }
+
+    /// Reads the visits that searches for other tokens share, and notes those behind the place where the search came to the trunk.
+    fn read_noted(&mut self, ends: &mut Ends<S>) -> Result<(), AllocError> {
+        self.joint = self.visits.joint();
+        self.joined = usize::MAX;
+        self.beginning.clear();
+        'visits: for _ in 0..self.visits.len() {
+            if self.joined == usize::MAX && self.visits.is_at_joint(ends.next) {
+                self.joined = ends.next;
+            }
+            let Some(visit) = self.visits.at(ends.next) else {
+                return Ok(());
+            };
+            if self.joined != usize::MAX {
+                self.beginning.push(visit)?;
+            }
+            self.read_one(ends)?;
+        }
+        Ok(())
     }
 
     /// Notes that the whole string is the last one, where the shared states stay and those before them are the same.
@@ -335,7 +380,7 @@ impl<S: IndexStorage> Kept<S> {
         }
         let mark = Mark {
             group,
-            to_end: ends.steps.saturating_sub(step),
+            to_end: ends.steps.wrapping_sub(step),
             place: self.states.len().saturating_sub(1),
             first: ends.first.items.len(),
             second: ends.second.items.len(),
@@ -441,32 +486,49 @@ impl<S: IndexStorage> Kept<S> {
         free: usize,
         chain: Chain<S>,
     ) -> Result<Option<Path<S>>, AllocError> {
+        let Some(around) = chain.around else {
+            return self.path_out(alloc, source, opened, free, chain);
+        };
+        let Chain {
+            items,
+            stays,
+            within,
+            ..
+        } = chain;
+        Ok(Some(Path {
+            around,
+            items,
+            free,
+            same: self.common.saturating_sub(1),
+            stays,
+            within,
+        }))
+    }
+
+    /// The same, where they go out from the outermost one.
+    fn path_out<'a>(
+        &mut self,
+        alloc: Global,
+        source: &Source<'a, S>,
+        opened: &Option<Whole<S>>,
+        free: usize,
+        chain: Chain<S>,
+    ) -> Result<Option<Path<S>>, AllocError> {
         let Chain {
             items,
             place,
-            around,
             stays,
             within,
+            ..
         } = chain;
-        if let Some(around) = around {
-            return Ok(Some(Path {
-                around,
-                items,
-                free,
-                stays,
-                within,
-            }));
-        }
         if items.is_empty() {
             return Ok(None);
         }
-        let item = items[items.len() - 1];
-        let index = free;
         let out = Out {
+            item: items[items.len() - 1],
             items,
-            item,
             place,
-            index,
+            index: free,
             stays,
             within,
         };
@@ -496,6 +558,7 @@ impl<S: IndexStorage> Kept<S> {
                 around,
                 items,
                 free,
+                same: self.common.saturating_sub(1),
                 stays: out.stays,
                 within: out.within,
             }));

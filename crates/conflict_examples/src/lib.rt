@@ -33,12 +33,12 @@
 //! `graph.shift_reduce_example(alloc, grm, entry)` makes a finder and asks it once.
 //!
 //! A search over the finished graph (`strings`, `groups`, `steps`) comes to the open productions; what it comes to is checked
-//! against the grammar (`opened`, `whole`, `forms`, `shown`, `led`), and only what passes is answered. A finder keeps what the last
-//! search came to (`kept`), so that the next one goes on where that one and it part, be it for another token (`alike`). Where no
-//! table is made, since a production may be reduced where a text has ended, `accept_reduce` searches over the productions. Where
-//! the forms would have more than 262,144 symbols all together none is found (`steps`). The contracts that matter most are those of
-//! `finder::ExampleFinder` and of `graph_examples::ConflictExamples`; the laws that tie examples to canonical LR(1) are in
-//! `laws`.
+//! against the grammar (`opened`, `whole`, `forms`, `shown`, `led`), and only what passes is answered. A finder keeps what the
+//! last search came to (`kept`), so that the next one goes on where that one and it part, and one long search (`trunk`), from
+//! which those for other tokens (`alike`) and other actions go on. Where no table is made, since a production may be reduced
+//! where a text has ended, `accept_reduce` searches over the productions. Where the forms would have more than 262,144 symbols
+//! all together none is found (`steps`). The contracts that matter most are those of `finder::ExampleFinder` and of
+//! `graph_examples::ConflictExamples`; the laws that tie examples to canonical LR(1) are in `laws`.
 #![tactic(auto)]
 
 mod accepting;
@@ -63,6 +63,8 @@ mod steps;
 mod strings;
 mod tables;
 mod traces;
+mod trunk;
+mod visit;
 mod way;
 mod whole;
 

@@ -13,15 +13,13 @@ use cfg_numbered::yacc::NumberedGrammar;
 use std::alloc::{AllocError, Global};
 
 /// The productions that are open with their dots, from the outermost in; behind how many symbols each begins; the symbols before
-/// the dots, and those that stand behind the innermost production, the first of these last. Of the symbols so many first ones
-/// are those that were there for the last example.
+/// the dots, and those that stand behind the innermost production, the first of these last.
 #[derive(Drop)]
 pub(crate) struct Opened<S> {
     pub items: Vec<(PIdx<S>, SIdx<S>)>,
     pub places: Vec<usize>,
     pub symbols: Vec<Symbol<S>>,
     pub rest: Vec<Symbol<S>>,
-    pub same: usize,
 }
 
 /// Opens the start production.
@@ -48,7 +46,6 @@ pub(crate) fn open_start<S: IndexStorage>(
         places,
         symbols,
         rest: Vec::new(alloc),
-        same: 0,
     }))
 }
 
@@ -92,6 +89,31 @@ pub(crate) fn innermost<S: IndexStorage>(items: &[(PIdx<S>, SIdx<S>)]) -> Option
 }
 
 impl<S: IndexStorage> Opened<S> {
+    /// The same, of which it isn't kept where each begins.
+    pub(crate) fn shown(&self, alloc: Global) -> Result<Opened<S>, AllocError>
+        ensures items { IfOk result (λ o. o.items.items ≡ self.now.items.items) }
+        ensures symbols { IfOk result (λ o. o.symbols.items ≡ self.now.symbols.items) }
+        ensures rest { IfOk result (λ o. o.rest.items ≡ self.now.rest.items) }
+    {
+        Ok(Opened {
+            items: Vec::from_slice(alloc, self.items.as_slice())?,
+            places: Vec::new(alloc),
+            symbols: Vec::from_slice(alloc, self.symbols.as_slice())?,
+            rest: Vec::from_slice(alloc, self.rest.as_slice())?,
+        })
+    }
+
+    /// The same.
+    pub(crate) fn copy(&self, alloc: Global) -> Result<Opened<S>, AllocError>
+        ensures items { IfOk result (λ o. o.items.items ≡ self.now.items.items) }
+        ensures symbols { IfOk result (λ o. o.symbols.items ≡ self.now.symbols.items) }
+        ensures rest { IfOk result (λ o. o.rest.items ≡ self.now.rest.items) }
+    {
+        let mut copy = self.shown(alloc)?;
+        copy.places = Vec::from_slice(alloc, self.places.as_slice())?;
+        Ok(copy)
+    }
+
     /// Behind how many symbols a production begins; `usize::MAX` past the last one.
     pub(crate) fn place(&self, index: usize) -> usize {
         if index >= self.places.len() {
@@ -202,6 +224,20 @@ impl<S: IndexStorage> Opened<S> {
             }
         }
         items.len()
+    }
+
+    /// Whether so many productions of another list stand first in this one too.
+    pub(crate) fn begins_as(&self, other: &Opened<S>, count: usize) -> bool {
+        'items: for at in 0..count {
+            if at >= other.items.len() {
+                return false;
+            }
+            let (pidx, dot) = other.items[at];
+            if !self.has_at(at, pidx, dot) {
+                return false;
+            }
+        }
+        true
     }
 
     fn has_at(&self, index: usize, pidx: PIdx<S>, dot: SIdx<S>) -> bool {

@@ -76,31 +76,34 @@ fn accepts<S: IndexStorage>(grm: &NumberedGrammar<S>, pidx: PIdx<S>, dot: SIdx<S
 }
 
 /// What is shown by these forms after what is open.
-fn closed<S: IndexStorage>(
-    alloc: Global,
-    opened: &Opened<S>,
-    forms: Vec<Vec<Symbol<S>>>,
-) -> Result<Part<S>, AllocError>
-    ensures symbols { IfOk result (λ x. x.symbols.items ≡ opened.now.symbols.items) }
-    ensures spine { IfOk result (λ x. x.shown.spine.items ≡ opened.now.items.items) }
-    ensures forms { IfOk result (λ x. x.shown.forms ≡ forms) }
+fn closed<S: IndexStorage>(opened: Opened<S>, forms: Vec<Vec<Symbol<S>>>) -> Part<S>
+    ensures symbols { result.symbols.items ≡ opened.symbols.items }
+    ensures spine { result.shown.spine.items ≡ opened.items.items }
+    ensures forms { result.shown.forms ≡ forms }
 {
-    let symbols = Vec::from_slice(alloc, opened.symbols.as_slice())?;
-    let spine = Vec::from_slice(alloc, opened.items.as_slice())?;
-    Ok(Part {
+    let Opened {
+        items,
+        places: _,
         symbols,
-        shown: ActionExample { spine, forms },
-    })
+        rest: _,
+    } = opened;
+    Part {
+        symbols,
+        shown: ActionExample {
+            spine: items,
+            forms,
+        },
+    }
 }
 
 /// What is shown of a shift of the token. None where what is open doesn't show it.
 pub(crate) fn shown_shift<S: IndexStorage>(
     alloc: Global,
     grm: &NumberedGrammar<S>,
-    opened: &Opened<S>,
+    opened: Opened<S>,
     token: TIdx<S>,
 ) -> Result<Option<Part<S>>, AllocError>
-    requires { IsOpen S.number grm.now.grammar opened.now }
+    requires { IsOpen S.number grm.now.grammar opened }
     ensures { IfOk result (λ o. IfSome o (PartShows S.number grm.now.grammar (S.number token.0) shift)) }
 {
     let Some((pidx, dot)) = innermost(opened.items.as_slice()) else {
@@ -109,17 +112,16 @@ pub(crate) fn shown_shift<S: IndexStorage>(
     if !shifts(grm, pidx, dot, token) {
         return Ok(None);
     }
-    let part = closed(alloc, opened, Vec::new(alloc))?;
-    Ok(Some(part))
+    Ok(Some(closed(opened, Vec::new(alloc))))
 }
 
 /// What is shown of the end of a text. None where what is open doesn't show it.
 pub(crate) fn shown_accept<S: IndexStorage>(
     alloc: Global,
     grm: &NumberedGrammar<S>,
-    opened: &Opened<S>,
+    opened: Opened<S>,
 ) -> Result<Option<Part<S>>, AllocError>
-    requires { IsOpen S.number grm.now.grammar opened.now }
+    requires { IsOpen S.number grm.now.grammar opened }
     ensures { IfOk result (λ o. IfSome o (PartShows S.number grm.now.grammar (end_token grm.now.grammar) accept)) }
 {
     let Some((pidx, dot)) = innermost(opened.items.as_slice()) else {
@@ -128,8 +130,7 @@ pub(crate) fn shown_accept<S: IndexStorage>(
     if !accepts(grm, pidx, dot) {
         return Ok(None);
     }
-    let part = closed(alloc, opened, Vec::new(alloc))?;
-    Ok(Some(part))
+    Ok(Some(closed(opened, Vec::new(alloc))))
 }
 
 /// The symbols with the last one first.
@@ -149,12 +150,12 @@ fn turned<S: IndexStorage>(
 pub(crate) fn shown_reduce<S: IndexStorage>(
     alloc: Global,
     grm: &NumberedGrammar<S>,
-    opened: &Opened<S>,
+    opened: Opened<S>,
     steps: &[PIdx<S>],
     token: TIdx<S>,
     production: PIdx<S>,
 ) -> Result<Option<Part<S>>, AllocError>
-    requires { IsOpen S.number grm.now.grammar opened.now }
+    requires { IsOpen S.number grm.now.grammar opened }
     ensures { IfOk result (λ o. IfSome o (PartShows S.number grm.now.grammar (S.number token.0) (reduce (S.number production.0)))) }
 {
     let Some((pidx, dot)) = innermost(opened.items.as_slice()) else {
@@ -167,8 +168,7 @@ pub(crate) fn shown_reduce<S: IndexStorage>(
     let Some(forms) = forms_to(alloc, grm, rest, steps, token)? else {
         return Ok(None);
     };
-    let part = closed(alloc, opened, forms)?;
-    Ok(Some(part))
+    Ok(Some(closed(opened, forms)))
 }
 
 /// Whether two symbols are one.

@@ -175,6 +175,14 @@ impl<'a, S: IndexStorage> Source<'a, S> {
         }
     }
 
+    /// The symbols behind the one after the dot.
+    pub(crate) fn rest(&self, pidx: PIdx<S>, dot: SIdx<S>) -> &[Symbol<S>] {
+        if !has_production(self.grm, pidx) {
+            return symbols_behind(self.grm.prod(self.grm.start_prod()), usize::MAX);
+        }
+        symbols_behind(self.grm.prod(pidx), dot.0.to_usize())
+    }
+
     /// Whether one of the tokens may follow the rule after the dot at once.
     pub(crate) fn one_follows(&self, outer: &Outer<S>, tokens: &Vob) -> bool {
         match outer.rest {

@@ -6,61 +6,28 @@
 //! open around them. Steps are saved, and what is found stays the same: a visit waits for as many steps as there are edges to
 //! go back to dot nought, and goes back over all of them then; one that comes to the way of the last search for the token
 //! waits for the steps that are left there, and ends the search; and one that would come behind such an end is dropped. A search
-//! that comes behind a long one for another token is watched: which tokens would take it the same way until a test tells them apart.
-//! For these the next one that begins so goes on from there.
+//! that comes behind a long one for another token is watched: which tokens would take it the same way, and at which step a test
+//! tells each other one apart. It is the trunk from then on: a search for one of these tokens that begins so goes on from its step,
+//! and one that begins otherwise does so too, once the same waits as at a step before. So what was met before need not be the same:
+//! all that leads to the end from there leads over what waits, and comes later.
 
 use crate::alike::Alike;
-use crate::groups::{Groups, Numbers, is_later};
-use crate::needs::{
-    Need, are_of_one_rule, are_same, edges_to_nought, is_held, moved_back, rule_at_nought,
-};
+use crate::groups::{Groups, first_before};
 use crate::source::{Outer, Source};
+use crate::tables::Start;
+use crate::trunk::{Joint, Record, Trunk, Wait};
+use crate::visit::{
+    Met, NOT_MET, Place, Visit, are_held, edges_back, moved_over, place_at, replaced,
+};
 use crate::way::{Mark, Way};
 use cfg_base::index::IndexStorage;
-use cfg_base::symbol::{PIdx, RIdx};
-use lrtable::stidx::StIdx;
 use std::alloc::{AllocError, Global};
-use std::collections::BTreeSet;
+use std::collections::{BTreeMap, BTreeSet};
 use std::mem;
 
 /// The number of a group whose items were replaced, and the numbers of the item that needs the token beside it. The last tells
 /// whether the replaced one is the first of the two.
 type Key = (usize, usize, usize, bool);
-
-/// A state that was come to, with what is needed there, and the visit from which it was come to: over an edge, or by an item
-/// in the place of the first, the second or both.
-#[derive(Clone, Copy)]
-pub(crate) struct Visit<S> {
-    pub stidx: StIdx<S>,
-    first: Need<S>,
-    second: Need<S>,
-    pub from: usize,
-    pub over: bool,
-    pub in_first: bool,
-    pub in_second: bool,
-    pub outer: Need<S>,
-    pub met: Met,
-}
-
-/// The group of the items that were replaced at a visit, where nothing else was needed beside them, and at which step that was.
-#[derive(Clone, Copy)]
-pub(crate) struct Met {
-    pub group: usize,
-    pub step: usize,
-}
-
-const NOT_MET: Met = Met {
-    group: usize::MAX,
-    step: 0,
-};
-
-/// A visit that waits, and for how many steps more; and whether the search ends with it then, on the way of the last one.
-#[derive(Clone, Copy)]
-struct Wait {
-    index: usize,
-    steps: usize,
-    ends: bool,
-}
 
 /// Where a search ended: at which visit and step, and at which group of the last way, if it came to that, with the first need,
 /// the second or both.
@@ -80,38 +47,17 @@ struct Step {
     next: usize,
 }
 
-/// Which of the items of a visit are replaced, of which rule they are, and what is needed beside them.
-#[derive(Clone, Copy)]
-struct Place<S> {
-    index: usize,
-    in_first: bool,
-    in_second: bool,
-    pidx: PIdx<S>,
-    ridx: RIdx<S>,
-    beside: Need<S>,
-}
-
-/// Where the searches for several tokens part that begin with one visit: at the beginning of a step, with what waited for it and
-/// how many steps were passed over; how many visits there were, which step it is, and the numbers of groups until there; and
-/// what was replaced beside another need from there on. No visits where there is no such place.
-#[derive(Drop)]
-struct Fork {
-    waits: Vec<Wait>,
-    passed: usize,
-    visits: usize,
-    step: usize,
-    numbers: Numbers,
-    late: Vec<Key>,
-}
-
 /// How many visits a search has that is worth to be gone on from.
 const MANY_VISITS: usize = 32;
 
-/// The visits so far; those that are gone on with, those that wait for later steps and the fewest steps that one of these
-/// waits for; the edges that are gone back over from a visit; what was replaced beside another need; how many steps were gone;
-/// the step at which one that waits on the way of the last search ends this one, and whether that one stands before the one
-/// that is gone on with; the end, if there is one; for which tokens the search would go the same way and where these part; and
-/// whether it went on from there.
+/// The visits so far, those of the trunk first; those that are gone on with, those that wait for later steps and the fewest steps
+/// that one of these waits for; the edges that are gone back over from a visit; what was replaced beside another need; how many
+/// steps were gone; the step at which one that waits on the way of the last search ends this one, and whether that one stands
+/// before the one that is gone on with; the end, if there is one; for which tokens the trunk goes the same way, the trunk, what
+/// was replaced beside another need on it with the step, and of these those of its last step; where the search came to the trunk;
+/// the step of the trunk behind the one at which the first group of this step was met; from which visit on they are the search's
+/// own; whether it went on from the trunk; and whether the last search was one that is worth to be watched, and one since the
+/// last one that was.
 #[derive(Drop)]
 pub(crate) struct Visits<S> {
     list: Vec<Visit<S>>,
@@ -125,97 +71,15 @@ pub(crate) struct Visits<S> {
     end_passed: bool,
     done: Option<End>,
     alike: Alike,
-    fork: Fork,
+    trunk: Trunk,
+    on_trunk: BTreeMap<Key, usize>,
+    late: Vec<Key>,
+    joint: Joint,
+    behind: usize,
+    own: usize,
     resumed: bool,
-}
-
-/// How many edges are to be gone back until one of the items is at dot nought.
-fn edges_back<S: IndexStorage>(visit: &Visit<S>) -> usize {
-    edges_to_nought(visit.first).min(edges_to_nought(visit.second))
-}
-
-/// Whether the state has both items with the token.
-fn are_held<'a, S: IndexStorage>(source: &Source<'a, S>, visit: &Visit<S>) -> bool {
-    is_held(source, visit.stidx, visit.first) && is_held(source, visit.stidx, visit.second)
-}
-
-/// What is replaced at a visit: the item at dot nought; if both are, both where they are of one rule, or else the first, unless
-/// it has just come in the place of another. So two that come to one rule within a state are replaced together from there on.
-fn place_at<'a, S: IndexStorage>(
-    source: &Source<'a, S>,
-    visit: &Visit<S>,
-    index: usize,
-) -> Option<Place<S>> {
-    let first = rule_at_nought(source, visit.first);
-    let second = rule_at_nought(source, visit.second);
-    let both = are_of_one_rule(first, second);
-    let turn = second.is_some() && visit.in_first && !visit.in_second;
-    let in_first = both || (first.is_some() && !turn);
-    let in_second = both || !in_first;
-    let (pidx, ridx) = if in_first { first? } else { second? };
-    let beside = match (in_first, in_second) {
-        (true, true) => None,
-        (true, false) => visit.second,
-        _ => visit.first,
-    };
-    Some(Place {
-        index,
-        in_first,
-        in_second,
-        pidx,
-        ridx,
-        beside,
-    })
-}
-
-/// A visit with another need in the place of what is replaced, as the item around gives it.
-fn replaced<S: IndexStorage>(
-    visit: &Visit<S>,
-    place: &Place<S>,
-    need: Need<S>,
-    outer: Need<S>,
-) -> Visit<S> {
-    Visit {
-        stidx: visit.stidx,
-        first: if place.in_first { need } else { visit.first },
-        second: if place.in_second { need } else { visit.second },
-        from: place.index,
-        over: false,
-        in_first: place.in_first,
-        in_second: place.in_second,
-        outer,
-        met: NOT_MET,
-    }
-}
-
-/// The visit of a state from which an edge leads to that of another visit, at the index.
-fn moved_over<S: IndexStorage>(visit: &Visit<S>, index: usize, stidx: StIdx<S>) -> Visit<S> {
-    Visit {
-        stidx,
-        first: moved_back(visit.first),
-        second: moved_back(visit.second),
-        from: index,
-        over: true,
-        in_first: false,
-        in_second: false,
-        outer: None,
-        met: NOT_MET,
-    }
-}
-
-/// Of the items that the token follows at once the first of those with the largest dot.
-fn first_before<'a, S: IndexStorage>(source: &Source<'a, S>, items: &[Outer<S>]) -> Need<S> {
-    let mut best: Need<S> = None;
-    'items: for k in 0..items.len() {
-        if source.is_before_other(&items[k]) {
-            continue 'items;
-        }
-        let Outer { pidx, dot, .. } = items[k];
-        if source.follows(&items[k]) && is_later(best, dot) {
-            best = Some((pidx, dot));
-        }
-    }
-    best
+    long: bool,
+    long_one: bool,
 }
 
 impl<S: IndexStorage> Visits<S> {
@@ -254,13 +118,11 @@ impl<S: IndexStorage> Visits<S> {
         end > self.nearest_end || (end == self.nearest_end && self.end_passed)
     }
 
-    /// Notes how far the end is from the groups that the search came to, at least; where it went on from another one, from those
-    /// that it came to itself.
+    /// Notes how far the end is from the groups that the search came to itself, at least.
     pub(crate) fn bound(&self, groups: &mut Groups<S>, end: End) {
-        let from = if self.resumed { self.fork.visits } else { 0 };
-        'visits: for k in from..self.list.len() {
+        'visits: for k in self.own..self.list.len() {
             let Met { group, step } = self.list[k].met;
-            groups.put_bound(group, end.step.saturating_sub(step));
+            groups.put_bound(group, end.step.wrapping_sub(step));
         }
     }
 
@@ -308,8 +170,7 @@ impl<S: IndexStorage> Visits<S> {
                 second,
                 ..
             } = before;
-            let stay = self.alike.hold(source, stidx, first, second, held);
-            self.part_unless(stay)?;
+            self.alike.hold(source, stidx, first, second, held)?;
         }
         if !held {
             return Ok(());
@@ -376,13 +237,16 @@ impl<S: IndexStorage> Visits<S> {
             return Ok(());
         }
         if source.is_start(place.pidx) {
-            self.part_unless(false)?;
             if source.is_end() {
+                self.end_watch(groups)?;
                 self.put(replaced(&visit, &place, None, None))?;
+            } else if self.alike.watched {
+                self.alike
+                    .leave_one(source.grm.eof_token_idx().0.to_usize());
             }
             return Ok(());
         }
-        self.put_each(source, &visit, &place, groups.items(group))
+        self.put_each(source, groups, &visit, &place, group)
     }
 
     /// Whether nothing of the group was replaced yet beside what is needed too.
@@ -393,14 +257,38 @@ impl<S: IndexStorage> Visits<S> {
         place: &Place<S>,
     ) -> Result<bool, AllocError> {
         let Some((pidx, dot)) = place.beside else {
-            return Ok(groups.meet(group));
+            return Ok(self.is_new_group(groups, group));
         };
         let key = (group, pidx.0.to_usize(), dot.0.to_usize(), place.in_first);
-        let added = self.seen.insert(key)?;
-        if added && self.fork.visits > 0 {
-            self.fork.late.push(key)?;
+        let by_trunk = match self.on_trunk.get(&key) {
+            Some(step) => *step < groups.before(),
+            None => false,
+        };
+        if by_trunk {
+            return Ok(false);
         }
-        Ok(added)
+        if !self.alike.watched {
+            let added = self.seen.insert(key)?;
+            return Ok(added);
+        }
+        self.on_trunk.insert(key, self.trunk.last())?;
+        self.late.push(key)?;
+        Ok(true)
+    }
+
+    /// Whether nothing of the group was replaced yet, where nothing else is needed.
+    fn is_new_group(&mut self, groups: &mut Groups<S>, group: usize) -> bool {
+        if self.behind == usize::MAX {
+            if let Some(step) = groups.trunk_step(group) {
+                self.behind = step.saturating_add(1);
+            }
+        }
+        let step = if self.alike.watched {
+            Some(self.trunk.last())
+        } else {
+            None
+        };
+        groups.meet(group, step)
     }
 
     /// Notes of which group the items are, where nothing else is needed, and tells whether these are to be put: not where they
@@ -428,37 +316,52 @@ impl<S: IndexStorage> Visits<S> {
         Ok(false)
     }
 
-    /// Puts each of these items in the place of what is at dot nought, and nothing in it where the token follows at once.
+    /// Puts each item of the group in the place of what is at dot nought, and nothing in it where the token follows at once.
     fn put_each<'a>(
         &mut self,
         source: &Source<'a, S>,
+        groups: &mut Groups<S>,
         visit: &Visit<S>,
         place: &Place<S>,
-        outer: &[Outer<S>],
+        group: usize,
     ) -> Result<(), AllocError> {
         let mut follows = false;
-        'outer: for k in 0..outer.len() {
-            if !self.alike.watched && source.is_before_other(&outer[k]) {
+        'outer: for k in 0..groups.items(group).len() {
+            let outer = groups.items_from(group, k);
+            if outer.is_empty() || (source.is_before_other(&outer[0]) && !self.alike.watched) {
                 continue 'outer;
             }
-            let start = source.start_behind(visit.stidx, &outer[k]);
-            if self.alike.watched {
-                let stay = self.alike.follow(source, visit.stidx, &outer[k], start);
-                self.part_unless(stay)?;
-            }
-            if start.has {
-                if !follows {
-                    let item = first_before(source, &outer[k..]);
-                    self.put(replaced(visit, place, None, item))?;
-                }
+            let start = source.start_behind(visit.stidx, &outer[0]);
+            if !start.has {
+                self.put_around(source, visit, place, &outer[0], start)?;
+            } else if !follows {
+                let item = first_before(source, outer);
+                self.end_watch(groups)?;
+                self.put(replaced(visit, place, None, item))?;
                 follows = true;
-            } else if start.vanishes {
-                let item = Some((outer[k].pidx, outer[k].dot));
-                self.put(replaced(visit, place, item, item))?;
             }
             if self.done.is_some() {
                 return Ok(());
             }
+        }
+        Ok(())
+    }
+
+    /// Puts an item of a group in the place of what is at dot nought, where what stands behind the rule may vanish.
+    fn put_around<'a>(
+        &mut self,
+        source: &Source<'a, S>,
+        visit: &Visit<S>,
+        place: &Place<S>,
+        outer: &Outer<S>,
+        start: Start,
+    ) -> Result<(), AllocError> {
+        if self.alike.watched {
+            self.alike.follow(source, visit.stidx, outer, start);
+        }
+        if start.vanishes {
+            let item = Some((outer.pidx, outer.dot));
+            self.put(replaced(visit, place, item, item))?;
         }
         Ok(())
     }
@@ -496,8 +399,9 @@ impl<S: IndexStorage> Visits<S> {
         self.later.clear();
         let passed = self.least;
         self.step = self.step.saturating_add(passed).saturating_add(1);
+        self.behind = usize::MAX;
         if self.alike.watched {
-            self.note_step(groups, passed);
+            self.note_step(passed)?;
         }
         self.go_on_each(alloc, source, groups, last, passed)
     }
@@ -538,60 +442,73 @@ impl<S: IndexStorage> Visits<S> {
             end_passed: false,
             done: None,
             alike: Alike::new(alloc),
-            fork: Fork {
-                waits: Vec::new(alloc),
-                passed: 0,
-                visits: 0,
-                step: 0,
-                numbers: Numbers { begin: 0, end: 0 },
-                late: Vec::new(alloc),
-            },
+            trunk: Trunk::new(alloc),
+            on_trunk: BTreeMap::new(alloc),
+            late: Vec::new(alloc),
+            joint: Joint::new(alloc),
+            behind: usize::MAX,
+            own: 0,
             resumed: false,
+            long: false,
+            long_one: false,
         }
     }
 
-    /// Lets the last search go.
-    pub(crate) fn forget(&mut self) {
-        self.list.clear();
-        self.fork.visits = 0;
-        self.alike.watched = false;
+    /// Lets the trunk go.
+    pub(crate) fn forget(&mut self, alloc: Global) {
+        self.alike.forget();
+        self.trunk.clear();
+        self.on_trunk = BTreeMap::new(alloc);
+        self.late.clear();
     }
 
+    /// Lets what is but the trunk go.
     fn clear(&mut self, alloc: Global) {
-        self.forget();
+        self.list.truncate(self.trunk.visits);
+        self.own = self.trunk.visits;
         self.now.clear();
         self.later.clear();
         self.least = usize::MAX;
-        self.seen = BTreeSet::new(alloc);
+        if !self.seen.is_empty() {
+            self.seen = BTreeSet::new(alloc);
+        }
         self.step = 0;
         self.nearest_end = usize::MAX;
         self.end_passed = false;
         self.done = None;
+        self.joint.clear();
         self.resumed = false;
     }
 
-    /// How many visits the search shares with those for other tokens, if it is one from which they may go on.
+    /// How many visits all searches share that go on from the trunk.
     pub(crate) fn shared(&self) -> usize {
-        if self.alike.watched {
-            return 0;
+        match self.trunk.step(self.alike.nearest()) {
+            Some(record) => record.visits,
+            None => 0,
         }
-        self.fork.visits
     }
 
-    /// Whether the search went on from that for another token.
+    /// Whether the search went on from the trunk.
     pub(crate) fn is_resumed(&self) -> bool {
         self.resumed
     }
 
-    /// Whether the last search began with this visit.
+    /// The step at which the search came to the trunk; `usize::MAX` where it began with it, or didn't.
+    pub(crate) fn joint(&self) -> usize {
+        self.joint.step
+    }
+
+    /// Whether a visit is one of the trunk at which the search came to it.
+    pub(crate) fn is_at_joint(&self, index: usize) -> bool {
+        index < self.joint.visits
+    }
+
+    /// Whether the trunk began with this visit.
     fn began_with(&self, start: &Visit<S>) -> bool {
-        if self.list.is_empty() {
+        if self.list.is_empty() || self.trunk.visits == 0 {
             return false;
         }
-        let last = &self.list[0];
-        last.stidx.0.to_usize() == start.stidx.0.to_usize()
-            && are_same(last.first, start.first)
-            && are_same(last.second, start.second)
+        self.list[0].needs_same(start)
     }
 
     /// Begins a search with a visit, which is watched where that is asked.
@@ -603,9 +520,12 @@ impl<S: IndexStorage> Visits<S> {
         start: Visit<S>,
         watched: bool,
     ) -> Result<(), AllocError> {
-        self.clear(alloc);
-        groups.begin();
         if watched {
+            self.forget(alloc);
+        }
+        self.clear(alloc);
+        if watched {
+            self.long = false;
             let Visit {
                 stidx,
                 first,
@@ -613,82 +533,199 @@ impl<S: IndexStorage> Visits<S> {
                 ..
             } = start;
             self.alike.begin(source, stidx, first, second)?;
-            self.fork.numbers.begin = groups.next();
+            groups.begin_trunk();
+        } else {
+            groups.begin();
         }
         self.put(start)
     }
 
     /// Notes the beginning of a step of a search that is watched.
-    fn note_step(&mut self, groups: &mut Groups<S>, passed: usize) {
-        self.fork.passed = passed;
-        self.fork.visits = self.list.len();
-        self.fork.step = self.step;
-        self.fork.numbers.end = groups.next();
-        self.fork.late.clear();
-        self.alike.whole = self.list.len() >= MANY_VISITS;
+    fn note_step(&mut self, passed: usize) -> Result<(), AllocError> {
+        self.trunk
+            .put(self.now.as_slice(), passed, self.list.len(), self.step)?;
+        self.late.clear();
+        if self.list.len() >= MANY_VISITS {
+            self.alike.note_step(self.trunk.last());
+        }
+        Ok(())
     }
 
-    /// Ends the watch, unless the tokens stay together: they part at the step that is gone.
-    fn part_unless(&mut self, stay: bool) -> Result<(), AllocError> {
-        if stay || !self.alike.watched {
+    /// Ends the watch: from the beginning of the last step the searches for those tokens go on that have come so far.
+    fn end_watch(&mut self, groups: &mut Groups<S>) -> Result<(), AllocError> {
+        if !self.alike.watched {
             return Ok(());
         }
         self.alike.watched = false;
-        self.fork.waits.clear();
-        self.fork.waits.extend_from_slice(self.now.as_slice())?;
-        if self.fork.visits < MANY_VISITS {
-            self.fork.visits = 0;
+        let last = self.trunk.last();
+        let Some(record) = self.trunk.step(last) else {
+            return Ok(());
+        };
+        self.trunk.visits = if record.visits < MANY_VISITS {
+            0
+        } else {
+            record.visits
+        };
+        groups.end_trunk(last);
+        self.take_waits(groups, &record);
+        'visits: for k in record.visits..self.list.len() {
+            groups.take(self.list[k].met.group, last);
         }
-        Ok(())
+        self.take_keys()
     }
 
-    /// Lets go what was come to behind the place where the searches part.
-    fn take_back(&mut self, groups: &mut Groups<S>) -> Result<(), AllocError> {
-        groups.begin_from(self.fork.numbers);
-        self.list.truncate(self.fork.visits);
-        self.now.clear();
-        self.now.extend_from_slice(self.fork.waits.as_slice())?;
-        self.later.clear();
-        self.step = self.fork.step;
-        self.nearest_end = usize::MAX;
-        self.done = None;
-        self.resumed = true;
-        'keys: for k in 0..self.fork.late.len() {
-            if k < self.fork.late.len() {
-                self.seen.remove(&self.fork.late[k]);
+    /// Takes the groups from the trunk that were met at what waited for a step.
+    fn take_waits(&self, groups: &mut Groups<S>, record: &Record) {
+        let last = self.trunk.last();
+        let waits = self.trunk.waits(record);
+        'waits: for k in 0..waits.len() {
+            if waits[k].index < self.list.len() {
+                groups.take(self.list[waits[k].index].met.group, last);
             }
         }
-        self.fork.late.clear();
+    }
+
+    /// Takes from the trunk what was replaced at its last step beside another need.
+    fn take_keys(&mut self) -> Result<(), AllocError> {
+        'keys: for k in 0..self.late.len() {
+            if k < self.late.len() {
+                let key = self.late[k];
+                self.on_trunk.remove(&key);
+                self.seen.insert(key)?;
+            }
+        }
+        self.late.clear();
         Ok(())
     }
 
-    /// Lets go of which group the items at a visit are.
-    fn unmeet(&mut self, index: usize) {
-        if index < self.list.len() {
-            self.list[index].met = NOT_MET;
+    /// Lets go of which groups the items are at what is gone on with.
+    fn unmeet(&mut self) {
+        'waits: for k in 0..self.now.len() {
+            if k < self.now.len() {
+                let index = self.now[k].index;
+                if index < self.list.len() {
+                    self.list[index].met = NOT_MET;
+                }
+            }
         }
     }
 
-    /// Goes on for another token from where the searches part.
+    /// Goes on from a step of the trunk.
+    fn go_from<'a>(
+        &mut self,
+        alloc: Global,
+        source: &Source<'a, S>,
+        groups: &mut Groups<S>,
+        last: &Way,
+        number: usize,
+    ) -> Result<(), AllocError> {
+        let Some(record) = self.trunk.step(number) else {
+            return Ok(());
+        };
+        groups.begin_from(if self.alike.watched {
+            usize::MAX
+        } else {
+            number
+        });
+        self.now.clear();
+        self.now.extend_from_slice(self.trunk.waits(&record))?;
+        self.later.clear();
+        self.step = record.step;
+        self.resumed = true;
+        if number == self.trunk.last() {
+            self.unmeet();
+        }
+        self.go_on_each(alloc, source, groups, last, record.passed)
+    }
+
+    /// Goes on from the step of the trunk at which the token and the others part. Where that is the last one, and the search
+    /// before was long behind the trunk, this grows.
     fn go_again<'a>(
         &mut self,
         alloc: Global,
         source: &Source<'a, S>,
         groups: &mut Groups<S>,
         last: &Way,
+        number: usize,
     ) -> Result<(), AllocError> {
-        self.take_back(groups)?;
-        'waits: for k in 0..self.now.len() {
-            if k < self.now.len() {
-                let index = self.now[k].index;
-                self.unmeet(index);
-            }
+        self.clear(alloc);
+        if number == self.trunk.last() && self.long_one {
+            self.alike.begin_again(source.token.0.to_usize());
         }
-        self.go_on_each(alloc, source, groups, last, self.fork.passed)
+        self.go_from(alloc, source, groups, last, number)
     }
 
-    /// The visit at an index.
+    /// Whether the same waits as at the step of the trunk behind the one at which a group was met, and that is before a step.
+    fn comes_to_trunk(&self, number: usize) -> bool {
+        if self.alike.watched || self.resumed || self.behind >= number {
+            return false;
+        }
+        let Some(record) = self.trunk.step(self.behind) else {
+            return false;
+        };
+        if record.passed != self.least || record.count != self.later.len() {
+            return false;
+        }
+        self.are_waits(self.trunk.waits(&record))
+    }
+
+    /// Whether what waits is the same.
+    fn are_waits(&self, waits: &[Wait]) -> bool {
+        'waits: for k in 0..waits.len() {
+            if k >= self.later.len() || !self.is_wait(&waits[k], &self.later[k]) {
+                return false;
+            }
+        }
+        true
+    }
+
+    fn is_wait(&self, one: &Wait, other: &Wait) -> bool {
+        if one.steps != other.steps || other.ends {
+            return false;
+        }
+        if one.index >= self.list.len() || other.index >= self.list.len() {
+            return false;
+        }
+        let visit = &self.list[other.index];
+        self.list[one.index].goes_on_as(visit)
+    }
+
+    /// Comes to the trunk at the step behind the one at which a group was met: what was met until here is told in its steps.
+    fn join(&mut self) -> Result<(), AllocError> {
+        let Some(record) = self.trunk.step(self.behind) else {
+            return Ok(());
+        };
+        self.joint
+            .put(self.behind, record.visits, self.later.as_slice())?;
+        let gone = self.step.wrapping_add(self.least).wrapping_add(1);
+        let more = record.step.wrapping_sub(gone);
+        'visits: for k in self.own..self.list.len() {
+            if k < self.list.len() {
+                let Met { group, step } = self.list[k].met;
+                let step = step.wrapping_add(more);
+                self.list[k].met = Met { group, step };
+            }
+        }
+        self.meet_joint(&record);
+        Ok(())
+    }
+
+    /// Notes at the search's own visits of which groups the items are at those of the trunk.
+    fn meet_joint(&mut self, record: &Record) {
+        'waits: for k in 0..self.joint.waits.len() {
+            let waits = self.trunk.waits(record);
+            if k < waits.len() && k < self.joint.waits.len() {
+                let (from, to) = (waits[k].index, self.joint.waits[k].index);
+                if from < self.list.len() && to < self.list.len() {
+                    self.list[to].met = self.list[from].met;
+                }
+            }
+        }
+    }
+
+    /// The visit at an index; where the search came to the trunk its own one.
     pub(crate) fn at(&self, index: usize) -> Option<Visit<S>> {
+        let index = self.joint.own_index(&self.trunk, index);
         if index >= self.list.len() {
             return None;
         }
@@ -699,8 +736,38 @@ impl<S: IndexStorage> Visits<S> {
         self.list.len()
     }
 
+    /// Begins a search, or goes on from the trunk, and tells before which of its steps the search may come to it.
+    fn begin_or_go_on<'a>(
+        &mut self,
+        alloc: Global,
+        source: &Source<'a, S>,
+        groups: &mut Groups<S>,
+        last: &Way,
+        start: Visit<S>,
+        other: bool,
+    ) -> Result<usize, AllocError> {
+        let number = self.alike.step_for(source.token.0.to_usize()).unwrap_or(0);
+        if other && number > 0 && self.began_with(&start) {
+            self.go_again(alloc, source, groups, last, number)?;
+            return Ok(0);
+        }
+        let long = if self.trunk.visits > 0 {
+            self.long_one
+        } else {
+            self.long
+        };
+        self.begin(alloc, source, groups, start, other && long)?;
+        Ok(if other && long { 0 } else { number })
+    }
+
+    /// Notes whether the search was long behind the trunk.
+    fn note_length(&mut self) {
+        self.long_one = self.list.len() >= self.trunk.visits.saturating_add(MANY_VISITS);
+        self.long |= self.long_one;
+    }
+
     /// Searches for a string to the state after which the items there have the token for a lookahead, and tells where that
-    /// ended. Where the last search was for another token it may go on from that one.
+    /// ended. Where the last search was for another token it may go on from the trunk.
     pub(crate) fn search<'a>(
         &mut self,
         alloc: Global,
@@ -710,41 +777,20 @@ impl<S: IndexStorage> Visits<S> {
         start: Visit<S>,
         other: bool,
     ) -> Result<Option<End>, AllocError> {
-        let again = other && self.began_with(&start);
-        if again && self.shared() > 0 && self.alike.has(source.token.0.to_usize()) {
-            self.go_again(alloc, source, groups, last)?;
-        } else {
-            let watched = other && self.list.len() >= MANY_VISITS;
-            self.begin(alloc, source, groups, start, watched)?;
-        }
+        let number = self.begin_or_go_on(alloc, source, groups, last, start, other)?;
         'steps: for _ in 0..usize::MAX {
             if self.done.is_some() || self.later.is_empty() {
+                self.end_watch(groups)?;
+                self.note_length();
                 return Ok(self.done);
+            }
+            if self.comes_to_trunk(number) {
+                self.join()?;
+                self.go_from(alloc, source, groups, last, number)?;
+                continue 'steps;
             }
             self.go_on(alloc, source, groups, last)?;
         }
         Ok(None)
-    }
-}
-
-impl<S: IndexStorage> Visit<S> {
-    /// Whether there is a first need, and a second one.
-    pub(crate) fn needs(&self) -> (bool, bool) {
-        (self.first.is_some(), self.second.is_some())
-    }
-}
-
-/// The first visit of a search for a string to the state.
-pub(crate) fn start<S: IndexStorage>(stidx: StIdx<S>, first: Need<S>, second: Need<S>) -> Visit<S> {
-    Visit {
-        stidx,
-        first,
-        second,
-        from: usize::MAX,
-        over: false,
-        in_first: false,
-        in_second: false,
-        outer: None,
-        met: NOT_MET,
     }
 }

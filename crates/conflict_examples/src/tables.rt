@@ -270,6 +270,15 @@ impl<S: IndexStorage> Tables<S> {
         self.firsts[number].get(token.0.to_usize()).unwrap_or(false)
     }
 
+    /// The tokens that the rule begins with, if it is one of the grammar.
+    pub(crate) fn firsts_of(&self, ridx: RIdx<S>) -> Option<&Vob> {
+        let number = ridx.0.to_usize();
+        if number >= self.firsts.len() {
+            return None;
+        }
+        Some(&self.firsts[number])
+    }
+
     /// How a symbol begins.
     pub(crate) fn symbol_start(&self, symbol: Symbol<S>, token: TIdx<S>) -> Start {
         match symbol {

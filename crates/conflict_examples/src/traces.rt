@@ -4,7 +4,7 @@ use crate::checked::Spines;
 use crate::kept::{Kept, Path};
 use crate::reading::has_production;
 use crate::source::Source;
-use crate::strings::start;
+use crate::visit::start;
 use cfg_base::index::IndexStorage;
 use cfg_base::symbol::{PIdx, SIdx};
 use lrtable::stidx::StIdx;

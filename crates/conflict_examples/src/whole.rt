@@ -27,18 +27,8 @@ pub(crate) struct Whole<S> {
     pub inner: Option<Box<Inner<S>>>,
 }
 
-impl<S: IndexStorage> Whole<S> {
-    /// How many of the first symbols of the string were there for the last example, where the inner part stayed or didn't.
-    pub(crate) fn same(&self, stays: bool) -> usize {
-        let same = self.outer.same;
-        match &self.inner {
-            Some(inner) if stays && same == self.outer.symbols.len() => {
-                same.saturating_add(inner.part.symbols.len())
-            }
-            _ => same,
-        }
-    }
-}
+/// How many productions are better copied than opened.
+const MANY_ITEMS: usize = 16;
 
 /// Opens a production within any that waits for its rule.
 fn open_first<S: IndexStorage>(
@@ -68,7 +58,6 @@ fn open_first<S: IndexStorage>(
         places,
         symbols,
         rest,
-        same: 0,
     };
     let ridx = grm.prod_to_rule(pidx);
     Ok(Some(Inner { ridx, part }))
@@ -143,7 +132,6 @@ pub(crate) fn joined<S: IndexStorage>(
         places: Vec::new(alloc),
         symbols,
         rest,
-        same: 0,
     }))
 }
 
@@ -169,7 +157,6 @@ fn reopened_outer<S: IndexStorage>(
     if !opened.close_to(grm, stay) {
         return Ok(None);
     }
-    opened.same = opened.symbols.len();
     if !opened.open_each(grm, &items[..items.len() - agree])? {
         return Ok(None);
     }
@@ -225,20 +212,63 @@ fn inner_of<S: IndexStorage>(
     Ok(Some(inner))
 }
 
+/// Whether so many productions that are open and these within them, of which the last is the outermost one, are those that are
+/// open for the other action. It is looked at where these are so many that they are better copied than opened.
+fn are_of_both<S: IndexStorage>(
+    outer: &Opened<S>,
+    like: &Opened<S>,
+    around: usize,
+    items: &[(PIdx<S>, SIdx<S>)],
+) -> bool {
+    if items.len() < MANY_ITEMS || items.len() < around / 8 {
+        return false;
+    }
+    if like.items.len() != around.saturating_add(items.len()) {
+        return false;
+    }
+    like.agree(around, items) == items.len() && outer.begins_as(like, around)
+}
+
+/// Goes from the productions that are open to so many of them with these within, or takes those that are open for the other
+/// action, where they are the same.
+#[tactic(auto, using(crate::proofs::Openings::same_open))]
+fn reopened_or_copied<S: IndexStorage>(
+    alloc: Global,
+    grm: &NumberedGrammar<S>,
+    outer: Opened<S>,
+    like: &Option<Whole<S>>,
+    path: &Path<S>,
+) -> Result<Option<Opened<S>>, AllocError>
+    requires outer { IsOpen S.number grm.now.grammar outer }
+    requires like { IfSome like.now (IsWhole S.number grm.now.grammar) }
+    ensures { IfOk result (λ o. IfSome o (IsOpen S.number grm.now.grammar)) }
+{
+    let items = path.items.as_slice();
+    let Some(like) = like else {
+        return reopened_outer(alloc, grm, outer, path.around, items);
+    };
+    if are_of_both(&outer, &like.outer, path.around, items) {
+        let copy = like.outer.copy(alloc)?;
+        return Ok(Some(copy));
+    }
+    reopened_outer(alloc, grm, outer, path.around, items)
+}
+
 /// Goes from what is open, if anything is, to the productions of a path. None where one is not of the rule after the dot of the
 /// one around it, or has no such dot.
 pub(crate) fn reopened<S: IndexStorage>(
     alloc: Global,
     grm: &NumberedGrammar<S>,
     whole: Option<Whole<S>>,
+    like: &Option<Whole<S>>,
     path: &Path<S>,
 ) -> Result<Option<Whole<S>>, AllocError>
-    requires { IfSome whole (IsWhole S.number grm.now.grammar) }
+    requires whole { IfSome whole (IsWhole S.number grm.now.grammar) }
+    requires like { IfSome like.now (IsWhole S.number grm.now.grammar) }
     ensures { IfOk result (λ o. IfSome o (IsWhole S.number grm.now.grammar)) }
 {
-    let items = path.items.as_slice();
     let Some(Whole { outer, inner }) = whole else {
-        let Some(outer) = open_all(alloc, grm, items)? else {
+        let Some(outer) = open_all(alloc, grm, path.items.as_slice())? else {
             return Ok(None);
         };
         let inner = inner_of(alloc, grm, None, path)?;
@@ -247,7 +277,7 @@ pub(crate) fn reopened<S: IndexStorage>(
     let Some(outer) = flattened(alloc, grm, outer, &inner, path.around)? else {
         return Ok(None);
     };
-    let Some(outer) = reopened_outer(alloc, grm, outer, path.around, items)? else {
+    let Some(outer) = reopened_or_copied(alloc, grm, outer, like, path)? else {
         return Ok(None);
     };
     let inner = inner_of(alloc, grm, inner, path)?;

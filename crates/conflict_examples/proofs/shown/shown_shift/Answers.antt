@@ -7,9 +7,9 @@ use Rattle.conflict_examples.proofs.shown.shown_shift.Goals as goal
 pub returns : goal.returns
 returns g c =
     let number = g.S.IndexStorage.number in
-    let o = c.args.opened.now in
-    let part = c.in_ok-part.part in
+    let o = c.args.opened in
+    let part = c.closed.result in
     let inner = rw c.as_slice.ensures.value at c.in-Some.ensures in
-    let none = ap (λ v. map (λ l. syms_of number l.items) v.items) c.in_ok-part.ensures.forms ∙ ap (map (λ l. syms_of number l.items)) c.new.ensures.items in
+    let none = ap (λ v. map (λ l. syms_of number l.items) v.items) c.closed.ensures.forms ∙ ap (map (λ l. syms_of number l.items)) c.new.ensures.items in
     kept_shift (open_item number) (sym_of number) c.args.grm.now.grammar (number c.args.token.0) (c.in-Some.pidx, c.in-Some.dot) inner.outer o.items.items part.shown.spine.items o.symbols.items part.symbols.items o.rest.items (map (λ l. syms_of number l.items) part.shown.forms.items)
-    inner.is c.requires c.in_ok-part.ensures.spine c.in_ok-part.ensures.symbols none (c.if-not-shifts.ensures refl)
+    inner.is c.requires c.closed.ensures.spine c.closed.ensures.symbols none (c.if-not-shifts.ensures refl)

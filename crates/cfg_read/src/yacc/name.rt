@@ -9,7 +9,6 @@ ghost use Rattle.cfg_read.specs.Scanning.{FitsPart};
 
 use indexmap::IndexSet;
 use std::alloc::{AllocError, Global};
-use std::cmp::{Eq, PartialEq};
 use std::fmt;
 use std::hash::{Hash, Hasher};
 use std::marker::Model;

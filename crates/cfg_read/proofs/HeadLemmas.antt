@@ -1,7 +1,6 @@
 -- Headings, for each of their alternatives the name of its rule.
 use Rattle.std.proofs.Common.{◌≡◌, ℕ, suc, ◌+◌, ◌<◌, ◌≤◌, List, [], ◌∷◌, ◌++◌, map, take, length, get_or, replicate, refl, sym, ap, ◌∙◌, arith}
 use Rattle.std.specs.List.{flat_map}
-use Rattle.std.specs.Rc.{rc_str_bytes}
 use Rattle.std.proofs.lemmas.List.{map-append, flat_map_more, take_more, length-map, length-replicate, length-append}
 use Rattle.std.proofs.lemmas.List.Folds.{length-flat_map-take}
 use Rattle.cfg_read.specs.declared.yacc.ast.build.Head.{Head}
@@ -23,17 +22,17 @@ pub heads_count : (hs : List Head) (i : ℕ) (h : Head) → i < length hs → h 
 heads_count hs i h l is =
     ap length (heads_more hs i h l is)
     ∙ length-append (heads_of (take i hs)) (head_names h)
-    ∙ ap (λ n. length (heads_of (take i hs)) + n) (length-replicate h.count (rc_str_bytes h.name))
+    ∙ ap (λ n. length (heads_of (take i hs)) + n) (length-replicate h.count (name_text h.name))
 
 pub heads_fit : (hs : List Head) (i : ℕ) (h : Head) → i < length hs → h ≡ get_or hs i h → length (heads_of (take i hs)) + h.count ≤ length (heads_of hs)
 heads_fit hs i h l is =
     let all = length-flat_map-take head_names hs i h l in
-    let count : length (head_names (get_or hs i h)) ≡ h.count = ap (λ x. length (head_names x)) (sym is) ∙ length-replicate h.count (rc_str_bytes h.name) in
+    let count : length (head_names (get_or hs i h)) ≡ h.count = ap (λ x. length (head_names x)) (sym is) ∙ length-replicate h.count (name_text h.name) in
     omega (arith, all, count)
 
 -- one more that is read
 pub heads_read : (old : List Head) (h : Head) (rs : List Rule) (i : ℕ) (r : Rule) → i < length rs → r ≡ get_or rs i r → heads_of old ≡ flat_map heads_in (map rule_of (take i rs))
-    → rc_str_bytes h.name ≡ name_text r.name → h.count ≡ length r.alternatives.items → heads_of (old ++ h ∷ []) ≡ flat_map heads_in (map rule_of (take (i + 1) rs))
+    → name_text h.name ≡ name_text r.name → h.count ≡ length r.alternatives.items → heads_of (old ++ h ∷ []) ≡ flat_map heads_in (map rule_of (take (i + 1) rs))
 heads_read old h rs i r l is same name count =
     let q = name_text r.name in
     let alternatives = map alternative_of r.alternatives.items in

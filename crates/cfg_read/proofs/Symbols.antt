@@ -1,14 +1,7 @@
 -- Symbols of a text: what their names are, where these stand, and the `?` behind them.
-use Rattle.std.proofs.Common.{◌≡◌, ℕ, ◌+◌, ◌-◌, ◌^◌, ◌<◌, Bool, true, false, List, [], ◌∷◌, Option, Some, None, refl, sym, ap, subst, cond, ◌∙◌, arith}
+use Rattle.std.proofs.Common.{◌≡◌, ℕ, ◌+◌, ◌-◌, ◌^◌, ◌<◌, Bool, true, false, List, Option, Some, None, refl, sym, subst, ◌∙◌, arith}
 use Rattle.std.specs.Prelude.{not, ◌&&◌, if◌then◌else◌}
 use Rattle.std.specs.Option.{is_none}
-use Rattle.std.specs.List.{find}
-use Rattle.std.specs.Rc.{rc_str_bytes}
-use Rattle.std.specs.Str.{bytes_eq}
-use Rattle.std.specs.declared.alloc.Global.{Global}
-use Rattle.std.specs.declared.rc.RcStr.{RcStr}
-use Rattle.std.proofs.lemmas.Option.{same_Some}
-use Rattle.std.proofs.lemmas.Slice.Eq.{bytes_eq-Decides}
 use Rattle.cfg_base.specs.SpanModel.{SpanModel}
 use Rattle.cfg_base.specs.Text.{is_at}
 use Rattle.cfg_read.specs.declared.yacc.YaccKind.{YaccKind}
@@ -17,15 +10,6 @@ use Rattle.cfg_read.specs.SyntaxUpdates.{Part, token_text, mark_end, marked, put
 use Rattle.cfg_read.specs.SyntaxModels.{next, mark_at}
 use Rattle.cfg_read.specs.Scanning.{Encloses}
 use Rattle.cfg_read.specs.Reading.{EppToken, EppString, PrecToken, More, At, Spaced, IsToken, Step, epp_token, prec_token}
-
--- the text that a look-up finds is the one that was looked for
-pub found_text : (ts : List (RcStr Global)) (q : List ℕ) (t : RcStr Global) → find (λ t. bytes_eq q (rc_str_bytes t)) ts ≡ Some t → rc_str_bytes t ≡ q
-found_text [] q t h = absurd cc
-found_text (u ∷ ts) q t h = go (bytes_eq q (rc_str_bytes u)) refl (found_text ts q t)
-  where
-    go : (b : Bool) → bytes_eq q (rc_str_bytes u) ≡ b → (find (λ t. bytes_eq q (rc_str_bytes t)) ts ≡ Some t → rc_str_bytes t ≡ q) → rc_str_bytes t ≡ q
-    go true e rest = let same : ◌≡◌ {A = Option (RcStr Global)} (Some u) (Some t) = subst (λ b. cond b (Some u) (find (λ t. bytes_eq q (rc_str_bytes t)) ts) ≡ Some t) e h in ap rc_str_bytes (sym (same_Some u t same)) ∙ sym ((bytes_eq-Decides q (rc_str_bytes u)).0 e)
-    go false e rest = rest (subst (λ b. cond b (Some u) (find (λ t. bytes_eq q (rc_str_bytes t)) ts) ≡ Some t) e h)
 
 -- a span by its two ends
 pub span_is : (s : SpanModel) (a b : ℕ) → s.start ≡ a → s.end ≡ b → s ≡ record { start = a; end = b }

@@ -1,7 +1,7 @@
 -- How a tree and the failures of a text are put together.
 use Rattle.std.specs.Prelude.{◌≡◌, ℕ, zero, suc, Bool, true, false, List, [], ◌∷◌, ◌++◌, map, fold, replicate}
 use Rattle.std.specs.List.{flat_map}
-use Rattle.std.specs.Rc.{rc_str_bytes}
+use Rattle.cfg_read.specs.NameTexts.{name_text}
 use Rattle.cfg_base.specs.SpanModel.{SpanModel}
 use Rattle.cfg_read.specs.declared.yacc.ast.build.Head.{Head}
 use Rattle.cfg_read.specs.SyntaxTexts.{WordText, RuleText, SyntaxText}
@@ -20,7 +20,7 @@ has_items (a ∷ more) = true
 
 -- for each alternative of headings the name of its rule
 abbrev pub head_names : Head → List (List ℕ)
-head_names h = replicate h.count (rc_str_bytes h.name)
+head_names h = replicate h.count (name_text h.name)
 
 abbrev pub heads_of : List Head → List (List ℕ)
 heads_of hs = flat_map head_names hs

@@ -10,6 +10,7 @@ pub mod SyntaxModels
 pub mod Scanning
 pub mod Names
 pub mod Validity
+pub mod NameParts
 pub mod NameTexts
 pub mod NameTables
 pub mod NameModels

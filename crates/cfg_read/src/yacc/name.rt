@@ -1,27 +1,50 @@
-//! Names that share their texts.
+//! Names, each of them a part of the text that it was read in.
 
-ghost use Rattle.std.specs.Prelude.{◌≡◌, ◌++◌, ◌∷◌, [], false, is_some, slice_get, length, Some, IfOk, IfSome, OnOk, OnErr};
+ghost use Rattle.std.specs.Prelude.{◌≡◌, ◌++◌, ◌∷◌, [], false, is_some, slice_get, slice_range, length, Some, IfOk, IfSome, OnOk, OnErr};
 ghost use Rattle.std.specs.List.{list_any, IsDistinct};
 ghost use Rattle.std.specs.Rc.{rc_str_bytes};
 ghost use Rattle.std.specs.Str.{bytes_eq};
-ghost use Rattle.std.specs.String.{string_bytes};
 ghost use Rattle.cfg_read.specs.NameTexts.{name_text, name_optional};
+ghost use Rattle.cfg_read.specs.Scanning.{FitsPart};
 
 use indexmap::IndexSet;
 use std::alloc::{AllocError, Global};
 use std::fmt;
+use std::hash::{Hash, Hasher};
 use std::marker::Model;
 use std::rc::RcStr;
 
-/// A name, or the text of a quoted token. All that are read alike in one text share it.
-#[derive(Debug, Drop)]
+/// The greatest offset that a part of a text can begin at, to be a name that shares the text.
+const MAX_START: usize = 0xffff_ffff;
+
+/// What `Name::len` is where all of the text is the name. A part that shares the text is shorter.
+const WHOLE: u8 = 0xff;
+
+/// A name, or the text of a quoted token. All that are read in one text share that text, and each is a part of it.
+#[derive(Drop)]
 pub struct Name {
+    /// The text of which the name is a part.
     text: RcStr,
-    /// Where the text may stand in a list of names: of a name that was read among all names of its text, of one in a tree among
+    /// Where the part begins.
+    start: u32,
+    /// Where the name may stand in a list of names: of one that was read among all names of its text, of one in a tree among
     /// the rules or the tokens. A look-up tries this place first, and no answer hangs on it.
-    place: u32,
+    place: u16,
+    /// How long the part is, or `WHOLE`.
+    len: u8,
     /// Whether a `?` was read right behind it.
     is_optional: bool,
+}
+
+impl Model for Name {
+    ghost use Rattle.std.specs.Rc.{rc_str_bytes};
+    ghost use Rattle.cfg_read.specs.NameParts.{NameValue, part_of, IsPartOf};
+
+    ghost Value = { NameValue };
+
+    ghost view = { λ n. record { text = part_of (rc_str_bytes n.text) n.start n.len; optional = n.is_optional } };
+
+    ghost invariant = { λ n. IsPartOf (rc_str_bytes n.text) n.start n.len };
 }
 
 impl Name {
@@ -33,20 +56,35 @@ impl Name {
         let text = RcStr::from_str(alloc, text)?;
         Ok(Name {
             text,
+            start: 0,
             place: 0,
+            len: WHOLE,
             is_optional: false,
         })
     }
 
-    /// Makes a name of a text.
-    pub(crate) fn of_string(text: String) -> Result<Name, AllocError>
-        ensures text { IfOk result (λ n. name_text n ≡ string_bytes text) }
+    /// Makes a part of a text a name, which shares the text. One that begins far behind its start, or is long, has a text of
+    /// its own.
+    pub(crate) fn of_part(
+        alloc: Global,
+        text: &RcStr,
+        start: usize,
+        end: usize,
+    ) -> Result<Name, AllocError>
+        requires { FitsPart (rc_str_bytes text.now) start end }
+        ensures text { IfOk result (λ n. name_text n ≡ slice_range (rc_str_bytes text.now) start end) }
         ensures mark { IfOk result (λ n. name_optional n ≡ false) }
     {
-        let text = RcStr::from_string(text)?;
+        let len = end - start;
+        if start > MAX_START || len >= WHOLE as usize {
+            return Name::new(alloc, &text.as_str()[start..end]);
+        }
+        let text = text.clone()?;
         Ok(Name {
             text,
+            start: start as u32,
             place: 0,
+            len: len as u8,
             is_optional: false,
         })
     }
@@ -55,14 +93,12 @@ impl Name {
     pub fn as_str(&self) -> &str
         ensures { result.now ≡ name_text self.now }
     {
-        self.text.as_str()
-    }
-
-    /// The text, shared.
-    pub(crate) fn text(&self) -> Result<RcStr, AllocError>
-        ensures { IfOk result (λ t. rc_str_bytes t ≡ name_text self.now) }
-    {
-        self.text.clone()
+        let text = self.text.as_str();
+        if self.len == WHOLE {
+            return text;
+        }
+        let start = self.start as usize;
+        &text[start..start + self.len as usize]
     }
 
     /// Where to look for the text first.
@@ -77,12 +113,35 @@ impl Name {
         self.is_optional
     }
 
+    /// Marks it, or takes the mark away.
+    pub(crate) fn set_optional(&mut self, is_optional: bool)
+        ensures text { name_text self.new ≡ name_text self.old }
+        ensures mark { name_optional self.new ≡ is_optional }
+    {
+        self.is_optional = is_optional;
+    }
+
     /// Has look-ups try this place first.
     pub(crate) fn set_place(&mut self, place: u32)
         ensures text { name_text self.new ≡ name_text self.old }
         ensures mark { name_optional self.new ≡ name_optional self.old }
     {
-        self.place = place;
+        self.place = (place % 0x1_0000) as u16;
+    }
+
+    /// A name of the same text, with such a mark.
+    pub(crate) fn marked(&self, is_optional: bool) -> Result<Name, AllocError>
+        ensures text { IfOk result (λ n. name_text n ≡ name_text self.now) }
+        ensures mark { IfOk result (λ n. name_optional n ≡ is_optional) }
+    {
+        let text = self.text.clone()?;
+        Ok(Name {
+            text,
+            start: self.start,
+            place: self.place,
+            len: self.len,
+            is_optional,
+        })
     }
 
     /// A name of the same text, without a `?`.
@@ -90,12 +149,7 @@ impl Name {
         ensures text { IfOk result (λ n. name_text n ≡ name_text self.now) }
         ensures mark { IfOk result (λ n. name_optional n ≡ false) }
     {
-        let text = self.text.clone()?;
-        Ok(Name {
-            text,
-            place: self.place,
-            is_optional: false,
-        })
+        self.marked(false)
     }
 }
 
@@ -106,12 +160,45 @@ impl Clone for Name {
     ghost is_clone = { λ n copy. (name_text copy ≡ name_text n) × (name_optional copy ≡ name_optional n) };
 
     fn clone(&self) -> Result<Name, AllocError> {
-        let text = self.text.clone()?;
-        Ok(Name {
-            text,
-            place: self.place,
-            is_optional: self.is_optional,
-        })
+        self.marked(self.is_optional)
+    }
+}
+
+impl PartialEq for Name {
+    ghost use Rattle.std.specs.Prelude.{nat_eq};
+    ghost use Rattle.std.specs.Cmp.Lexicographic.{pointwise};
+    ghost use Rattle.std.specs.Cmp.Rules.{comparing};
+    ghost use Rattle.std.proofs.Common.{rules};
+    ghost use Rattle.cfg_read.specs.NameTexts.{name_text};
+
+    ghost eq = { λ a b. pointwise nat_eq (name_text a) (name_text b) };
+
+    ghost laws = { Prim.search (comparing, rules) };
+
+    fn eq(&self, other: &Name) -> bool {
+        self.as_str() == other.as_str()
+    }
+}
+
+impl Eq for Name {
+    ghost use Rattle.std.specs.Cmp.Rules.{comparing};
+    ghost use Rattle.std.proofs.Common.{rules};
+
+    ghost laws = { Prim.search (comparing, rules) };
+}
+
+impl Hash for Name {
+    ghost use Rattle.std.specs.Hash as fed;
+    ghost use Rattle.std.specs.Cmp.Rules.{hashing};
+    ghost use Rattle.std.proofs.Common.{rules};
+    ghost use Rattle.cfg_read.specs.NameTexts.{name_text};
+
+    ghost hash_input = { λ n. fed.str (name_text n) };
+
+    ghost respects_eq = { Prim.search (hashing, rules) };
+
+    fn hash<H: Hasher>(&self, state: &mut H) {
+        self.as_str().hash(state);
     }
 }
 
@@ -122,15 +209,21 @@ impl fmt::Display for Name {
     ghost output = { λ n. Some (name_text n) };
 
     fn fmt<W: fmt::Write>(&self, f: &mut fmt::Formatter<W>) -> fmt::Result {
-        let text = &self.text;
+        let text = self.as_str();
         write!(f, "{text}")
+    }
+}
+
+impl fmt::Debug for Name {
+    fn fmt<W: fmt::Write>(&self, f: &mut fmt::Formatter<W>) -> fmt::Result {
+        fmt::Debug::fmt(&self.as_str(), f)
     }
 }
 
 /// The names of a text, each once, in the order of their first appearances.
 #[derive(Debug, Drop)]
 pub(crate) struct NameSet {
-    names: IndexSet<RcStr>,
+    names: IndexSet<Name>,
 }
 
 impl Model for NameSet {
@@ -170,15 +263,6 @@ impl NameSet {
         self.names.len()
     }
 
-    /// The place of a text, if it is there.
-    pub(crate) fn place(&self, text: &str) -> Option<usize>
-        ensures there { IfSome result (λ p. slice_get self.now p ≡ Some text.now) }
-        ensures found { is_some result ≡ list_any (bytes_eq text.now) self.now }
-        ensures unique { IsDistinct bytes_eq self.now }
-    {
-        self.names.get_index_of(text)
-    }
-
     /// The place of a name, if it is there, by where the name itself tells to look first.
     pub(crate) fn find(&self, name: &Name) -> Option<usize>
         ensures there { IfSome result (λ p. slice_get self.now p ≡ Some (name_text name.now)) }
@@ -186,10 +270,9 @@ impl NameSet {
         ensures unique { IsDistinct bytes_eq self.now }
     {
         let hint = name.place();
-        let text = name.as_str();
         match self.names.get_index(hint) {
-            Some(found) if found.as_str() == text => Some(hint),
-            _ => self.place(text),
+            Some(found) if *found == *name => Some(hint),
+            _ => self.names.get_index_of(name),
         }
     }
 
@@ -201,45 +284,23 @@ impl NameSet {
         ensures unique { OnOk result (IsDistinct bytes_eq self.new) }
         ensures kept { OnErr result (self.new ≡ self.old) }
     {
-        let (place, _) = self.names.insert_full(name.text.clone()?)?;
+        let (place, _) = self.names.insert_full(name.clone()?)?;
         Ok(place)
     }
 
-    /// Puts a text behind the others.
-    fn add(&mut self, alloc: Global, text: &str, is_optional: bool) -> Result<Name, AllocError>
-        ensures text { IfOk result (λ n. name_text n ≡ text.now) }
-        ensures mark { IfOk result (λ n. name_optional n ≡ is_optional) }
+    /// Notes a name that was read, and has look-ups of it try first the place that all that are read alike have here.
+    pub(crate) fn note(&mut self, name: &mut Name) -> Result<(), AllocError>
+        ensures text { name_text name.new ≡ name_text name.old }
+        ensures mark { name_optional name.new ≡ name_optional name.old }
     {
-        let text = RcStr::from_str(alloc, text)?;
-        let shared = text.clone()?;
-        let (place, _) = self.names.insert_full(text)?;
-        Ok(Name {
-            text: shared,
-            place: (place % 0x1_0000_0000) as u32,
-            is_optional,
-        })
-    }
-
-    /// The name of a text, which shares it with all that are alike.
-    pub(crate) fn share(
-        &mut self,
-        alloc: Global,
-        text: &str,
-        is_optional: bool,
-    ) -> Result<Name, AllocError>
-        ensures text { IfOk result (λ n. name_text n ≡ text.now) }
-        ensures mark { IfOk result (λ n. name_optional n ≡ is_optional) }
-    {
-        match self.names.get_full(text) {
-            Some((place, found)) => {
-                let text = found.clone()?;
-                Ok(Name {
-                    text,
-                    place: (place % 0x1_0000_0000) as u32,
-                    is_optional,
-                })
+        let place = match self.names.get_index_of(&*name) {
+            Some(place) => place,
+            None => {
+                let (place, _) = self.names.insert_full(name.clone()?)?;
+                place
             }
-            None => self.add(alloc, text, is_optional),
-        }
+        };
+        name.set_place((place % 0x1_0000_0000) as u32);
+        Ok(())
     }
 }

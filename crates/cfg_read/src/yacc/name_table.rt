@@ -197,16 +197,6 @@ impl NameTable {
         self.rules_len as usize
     }
 
-    /// Whether a rule has a name.
-    pub(crate) fn has_rule(&self, text: &str) -> bool
-        ensures { result ≡ (known_of self.now).rules text.now }
-    {
-        match self.names.place(text) {
-            Some(place) => self.entries[place].is_rule,
-            None => false,
-        }
-    }
-
     /// The tokens, each with its first span.
     pub(crate) fn tokens(&self) -> &IndexMap<String, Span>
         ensures { named_spans result.now ≡ self.now.tokens }

@@ -18,12 +18,12 @@ ghost use Rattle.cfg_read.specs.AstChanges.{with_number};
 use super::parts::Lines;
 use super::settle::Fresh;
 use super::{GrammarAST, Production, Rule, Symbol, fresh, parts};
+use crate::yacc::name::Name;
 use crate::yacc::names;
 use crate::yacc::parser::syntax::{self, Epp, Number, Param, Syntax, Word};
 use cfg_base::span::Span;
 use indexmap::IndexMap;
 use std::alloc::{AllocError, Global};
-use std::rc::RcStr;
 
 /// The first heading.
 fn first_heading(
@@ -239,7 +239,7 @@ fn push_range(numbers: &mut Vec<usize>, start: usize, count: usize) -> Result<()
 /// A heading, and how many alternatives stand behind it.
 #[derive(Drop)]
 pub(crate) struct Head {
-    name: RcStr,
+    name: Name,
     count: usize,
 }
 
@@ -250,7 +250,7 @@ pub(crate) fn heads(alloc: Global, rules: &[syntax::Rule]) -> Result<Vec<Head>, 
 {
     let mut heads = Vec::with_capacity(alloc, rules.len())?;
     'rules: for rule in rules {
-        let name = rule.name.text()?;
+        let name = rule.name.plain()?;
         heads.push(Head {
             name,
             count: rule.alternatives.len(),

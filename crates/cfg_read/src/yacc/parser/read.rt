@@ -112,6 +112,22 @@ impl<'a> Scanner<'a> {
         }
     }
 
+    /// The name from one offset up to another, noted.
+    fn name_at(
+        &self,
+        alloc: Global,
+        names: &mut NameSet,
+        start: usize,
+        end: usize,
+    ) -> Result<Name, AllocError>
+        requires { FitsPart self.now.text.now start end }
+        ensures { IfOk result (λ n. name_text n ≡ slice_range self.now.text.now start end) }
+    {
+        let mut name = Name::of_part(alloc, self.shared, start, end)?;
+        names.note(&mut name)?;
+        Ok(name)
+    }
+
     /// Reads the name of a rule, and answers it with its span and where it ends.
     pub(crate) fn parse_heading_name(
         &self,
@@ -125,7 +141,7 @@ impl<'a> Scanner<'a> {
     {
         match self.token_kind_at(offset) {
             TokenKind::Name(end) => {
-                let name = names.share(alloc, &self.text[offset..end], false)?;
+                let name = self.name_at(alloc, names, offset, end)?;
                 Ok((name, Span::new(offset, end), end))
             }
             _ => Err(ReadError::Fault(YaccGrammarErrorKind::IllegalName, offset)),
@@ -157,7 +173,7 @@ impl<'a> Scanner<'a> {
         }
     }
 
-    /// The symbol of a span of the text, whose name shares the text of those that are read alike.
+    /// The symbol of a span of the text.
     pub(crate) fn symbol_at(
         &self,
         alloc: Global,
@@ -169,7 +185,8 @@ impl<'a> Scanner<'a> {
         requires { FitsPart self.now.text.now span.start span.end }
         ensures { IfOk result (λ s. symbol_of s ≡ record (token_text self.now.text.now is_quoted span) { optional = mark_at is_quoted is_optional span }) }
     {
-        let name = names.share(alloc, &self.text[span.start()..span.end()], is_optional)?;
+        let mut name = self.name_at(alloc, names, span.start(), span.end())?;
+        name.set_optional(is_optional);
         if is_quoted {
             Ok(Symbol::Token(name, span))
         } else {

@@ -22,6 +22,7 @@ use crate::yacc::parser::scan::{Scanner, TokenKind};
 use crate::yacc::parser::syntax::{Alternative, Rule, Symbol, Syntax, Word};
 use cfg_base::span::Span;
 use std::alloc::{AllocError, Global};
+use std::rc::RcStr;
 
 /// In how many bytes of a text one more name may be met, where room for names is made at once.
 const BYTES_A_NAME: usize = 32;
@@ -490,7 +491,12 @@ pub fn read_syntax(
     ensures ok { IfOk result (λ x. Reads kind text.now start (syntax_of x)) }
     ensures err { IfErr result (λ e. IsErrorOf kind text.now start e) }
 {
-    let scanner = Scanner { text, kind };
+    let shared = RcStr::from_str(alloc, text)?;
+    let scanner = Scanner {
+        text,
+        shared: &shared,
+        kind,
+    };
     let names = NameSet::with_room(alloc, text.len() / BYTES_A_NAME)?;
     let mut syntax = Syntax::new(alloc, names);
     let rules = scanner.parse_declarations(alloc, &mut syntax, start)?;

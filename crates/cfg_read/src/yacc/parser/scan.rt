@@ -1,6 +1,7 @@
 //! Tells what stands at an offset of a grammar text, and where it ends.
 
 ghost use Rattle.std.specs.Prelude.{◌≡◌, ◌+◌, ◌≤◌, ◌<◌, length, slice_get, IfSome, IsTrue};
+ghost use Rattle.std.specs.Rc.{rc_str_bytes};
 ghost use Rattle.std.specs.Str.{IsUtf8};
 ghost use Rattle.cfg_base.specs.Text.{is_white, is_digit, run_end, line_end, is_comment_end, comment_end, gap_at, FitsGap};
 ghost use Rattle.cfg_read.specs.Bytes.{is_name_byte, is_quoted_by, holds_line_feed};
@@ -12,6 +13,7 @@ use crate::yacc::YaccKind;
 use crate::yacc::parser::bytes;
 use cfg_base::text;
 use cfg_base::text::GapPart;
+use std::rc::RcStr;
 
 /// What stands at an offset, and where it ends.
 #[derive(Clone, Copy, Debug, PartialEq, Eq)]
@@ -54,7 +56,10 @@ pub(crate) enum StringKind {
 #[derive(Clone, Copy, Debug)]
 pub(crate) struct Scanner<'a> {
     pub(crate) text: &'a str,
+    /// The same text, for names that share it.
+    pub(crate) shared: &'a RcStr,
     pub(crate) kind: YaccKind,
+    ghost same: { rc_str_bytes shared.now ≡ text.now },
 }
 
 impl<'a> Scanner<'a> {

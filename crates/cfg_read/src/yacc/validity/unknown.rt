@@ -127,7 +127,8 @@ fn push_invalid_start(
 {
     if let Some(start) = starts.first() {
         let text = start.text.as_str();
-        let is_known = table.has_rule(text);
+        let name = Name::new(alloc, text)?;
+        let is_known = table.entry(&name).is_rule;
         push_if_unknown(
             alloc,
             errors,

@@ -13,7 +13,7 @@ rules-preserved c =
     let old = c.rules.heads.items in
     let h : Head = record { name = c.in_ok-name.name; count = c.len.result } in (
       ap heads_of c.in_ok-push.ensures.items
-          ∙ heads_read old h rs i r c.rules-test.true c.rule-item.is c.rules.invariant.0 c.in_ok-name.ensures (c.len.ensures ∙ r.alternatives.ok.0),
+          ∙ heads_read old h rs i r c.rules-test.true c.rule-item.is c.rules.invariant.0 c.in_ok-name.ensures.text (c.len.ensures ∙ r.alternatives.ok.0),
       ap length c.in_ok-push.ensures.items
           ∙ length_push old h
           ∙ ap (λ n. n + 1) c.rules.invariant.1

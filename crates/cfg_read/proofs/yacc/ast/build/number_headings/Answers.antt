@@ -33,7 +33,7 @@ headings-preserved c =
     let from : n ≡ 0 + length done = omega (arith, count) in (
       omega (arith, count, more),
       c.in_ok-push_numbers.ensures.rules
-          ∙ ap (λ t. map (with_numbers_at n (replicate h.count t)) (named_rules c.headings.rules)) c.as_str.ensures.value
+          ∙ ap (λ t. map (with_numbers_at n (replicate h.count t)) (named_rules c.headings.rules)) c.as_str.ensures
           ∙ ap (map (with_numbers_at n (head_names h))) c.headings.invariant.1
           ∙ at_more 0 n done (head_names h) rs from
           ∙ ap (λ l. map (with_numbers_at 0 l) rs) (sym (heads_more hs i h c.headings-test.true c.head-item.is)),

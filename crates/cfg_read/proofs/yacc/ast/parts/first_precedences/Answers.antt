@@ -1,5 +1,5 @@
 use Rattle.std.proofs.Common.{◌≡◌, ◌<◌, ◌≤◌, ◌+◌, ◌++◌, [], ◌∷◌, map, take, length, fold, sym, ap, ◌∙◌, arith}
-use Rattle.std.proofs.lemmas.List.{map-append, length-map, length-take-le, take_all, take_more}
+use Rattle.std.proofs.lemmas.List.{map-append, length-map, length-take-le, take_more}
 use Rattle.cfg_read.specs.Asts.{with_precedence_of, precedence_ast, level_precedences, precedences_of}
 use Rattle.cfg_read.specs.AstModels.{named_precedences}
 use Rattle.cfg_read.specs.Names.{words_in}

@@ -1,6 +1,6 @@
 use Rattle.std.proofs.Common.{◌≡◌, ◌++◌, ℕ, Bool, List, map, ap, ◌∙◌}
 use Rattle.std.specs.List.{flat_map}
-use Rattle.cfg_read.specs.Asts.{has_precedence, precedences_of}
+use Rattle.cfg_read.specs.Asts.{has_precedence}
 use Rattle.cfg_read.specs.AstModels.{named_precedences}
 use Rattle.cfg_read.specs.Names.{is_among, level_tokens}
 use Rattle.cfg_read.specs.SyntaxModels.{rule_of, syntax_of}

@@ -12,6 +12,19 @@ with_start ast w = record ast { start = Some w }
 abbrev pub with_programs : Ast → List ℕ → Ast
 with_programs ast text = record ast { programs = Some text }
 
+-- without a part that was taken out
+abbrev pub without_rules : Ast → Ast
+without_rules ast = record ast { rules = [] }
+
+abbrev pub without_productions : Ast → Ast
+without_productions ast = record ast { productions = [] }
+
+abbrev pub without_tokens : Ast → Ast
+without_tokens ast = record ast { tokens = [] }
+
+abbrev pub without_epp : Ast → Ast
+without_epp ast = record ast { epp = [] }
+
 -- a rule instead of that of its name, else behind the others
 abbrev pub put_rule : List RuleAst → RuleAst → List RuleAst
 put_rule [] r = r ∷ []

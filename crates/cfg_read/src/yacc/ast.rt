@@ -29,6 +29,7 @@ mod copy;
 mod fresh;
 pub(crate) mod parts;
 pub(crate) mod settle;
+mod take;
 pub mod warnings;
 
 impl fmt::Display for Symbol {

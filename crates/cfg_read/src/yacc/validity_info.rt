@@ -300,6 +300,15 @@ impl ASTWithValidityInfo {
         &self.ast
     }
 
+    /// The tree alone, for what takes its parts over.
+    pub fn into_ast(self) -> GrammarAST
+        ensures ast { result ≡ self.ast }
+        ensures well_formed { is_valid self.errors ≡ true → IsWellFormedAst result }
+        ensures names { is_valid self.errors ≡ true → NamesAreWords result }
+    {
+        self.ast
+    }
+
     /// Whether nothing is wrong with the text.
     pub fn is_valid(&self) -> bool
         ensures { result ≡ is_valid self.now.errors }

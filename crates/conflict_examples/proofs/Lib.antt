@@ -2,6 +2,6 @@ pub mod Firsts
 pub mod Items
 pub mod Contests
 pub mod SymbolLists
-pub mod FormLists
+pub mod StepLists
 pub mod Openings
 pub mod Shows

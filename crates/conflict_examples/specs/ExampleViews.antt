@@ -2,7 +2,7 @@
 use Rattle.std.specs.Prelude.{ℕ, List, map, reverse}
 use Rattle.cfg_base.specs.declared.symbol.PIdx.{PIdx}
 use Rattle.cfg_base.specs.declared.symbol.SIdx.{SIdx}
-use Rattle.cfg_numbered.specs.Symbols.{syms_of}
+use Rattle.cfg_numbered.specs.Symbols.{syms_of, numbers_of}
 use Rattle.cfg_numbered.specs.Value.{GrammarValue}
 use Rattle.lrtable.specs.Graphs.{GraphValue}
 use Rattle.conflict_examples.specs.Spines.{Item, Shown, Example}
@@ -17,7 +17,7 @@ abbrev pub spine_of : {S : Type 0} → (S → ℕ) → List (PIdx S × SIdx S) �
 spine_of number items = reverse (map (open_item number) items)
 
 abbrev pub shown_of : {S : Type 0} → (S → ℕ) → ActionExample S → Shown
-shown_of number a = record { spine = spine_of number a.spine.items; forms = map (λ f. syms_of number f.items) a.forms.items }
+shown_of number a = record { spine = spine_of number a.spine.items; steps = numbers_of number a.steps.items }
 
 -- the last symbol first
 abbrev pub example_of : {S : Type 0} → (S → ℕ) → ConflictExample S → Example

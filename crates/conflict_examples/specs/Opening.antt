@@ -1,18 +1,19 @@
 -- What is open while an example is put together.
-use Rattle.std.specs.Prelude.{◌≡◌, ℕ, suc, List, [], ◌∷◌, ◌++◌, map, reverse, IfSome}
+use Rattle.std.specs.Prelude.{◌≡◌, ℕ, suc, List, [], ◌∷◌, ◌++◌, Bool, true, false, reverse, map, IfSome}
 use Rattle.cfg_base.specs.declared.symbol.PIdx.{PIdx}
 use Rattle.cfg_base.specs.declared.symbol.SIdx.{SIdx}
-use Rattle.cfg_theory.specs.Grammar.{Sym, rule, Grammar, IsNext}
-use Rattle.cfg_theory.specs.Derivation.{Replaces}
+use Rattle.cfg_theory.specs.Grammar.{Sym, rule, token, Grammar, IsNext}
 use Rattle.lr_theory.specs.Canonical.{Act, from_dot}
 use Rattle.lr_theory.specs.Graph.{Graph, Leads}
-use Rattle.cfg_numbered.specs.Symbols.{syms_of}
-use Rattle.conflict_examples.specs.Spines.{Item, IsSpine, before_dots, around, AreForms, Begins, ShowsAct}
+use Rattle.cfg_numbered.specs.Symbols.{syms_of, numbers_of}
+use Rattle.conflict_examples.specs.Spines.{Item, IsSpine, before_dots, around, AreSteps, Begins, ShowsAct}
 use Rattle.conflict_examples.specs.ExampleViews.{spine_of, shown_of}
 use Rattle.conflict_examples.specs.declared.opened.Opened.{Opened}
+use Rattle.conflict_examples.specs.declared.checked.Side.{Side}
 use Rattle.conflict_examples.specs.declared.checked.Spines.{Spines}
-use Rattle.conflict_examples.specs.declared.forms.Forms.{Forms}
+use Rattle.conflict_examples.specs.declared.known.Known.{Known}
 use Rattle.conflict_examples.specs.declared.led.Led.{Led}
+use Rattle.conflict_examples.specs.declared.replaced.Replaced.{Replaced}
 use Rattle.conflict_examples.specs.declared.shown.Part.{Part}
 use Rattle.conflict_examples.specs.declared.whole.Inner.{Inner}
 use Rattle.conflict_examples.specs.declared.whole.Whole.{Whole}
@@ -48,29 +49,38 @@ IsWhole number G x = IsOpen number G x.outer × IfSome x.inner (λ b. IsInner nu
 abbrev pub IsLed : {S : Type 0} → (S → ℕ) → Graph → Led S → Type 0
 IsLed number g l = Leads g (reverse (syms_of number l.symbols.items)) (number l.stidx.0)
 
--- what is open is, for both actions, and the symbols that are kept lead to their state
+-- productions from the list to one that begins with the token
+pub record AreStepsTo (G : Grammar) (t : ℕ) (a : List Sym) (steps : List ℕ) : Type 0 where
+  pub last : List Sym
+  pub steps_are : AreSteps G a steps last
+  pub begins : Begins G t last
+
+-- the list has come by these productions to the one that is there
+abbrev pub ComeBy : {S : Type 0} → (S → ℕ) → Grammar → List Sym → Replaced S → Type 0
+ComeBy number G a r = AreSteps G a (numbers_of number r.steps.items) (reverse (syms_of number r.form.items))
+
+-- the productions lead from what stood behind, whose last symbol comes first, to a list that begins with the token
+abbrev pub IsKnown : {S : Type 0} → (S → ℕ) → Grammar → Known S → Type 0
+IsKnown number G k = AreStepsTo G (number k.token.0) (reverse (syms_of number k.rest.items)) (numbers_of number k.steps.items)
+
+-- what is open for an action is, and what is known of it is right
+abbrev pub IsSide : {S : Type 0} → (S → ℕ) → Grammar → Side S → Type 0
+IsSide number G s = IfSome s.opened (IsWhole number G) × IfSome s.known (IsKnown number G)
+
+-- so for both actions, and the symbols that are kept lead to their state
 abbrev pub AreOpen : {S : Type 0} → (S → ℕ) → Grammar → Graph → Spines S → Type 0
-AreOpen number G g o = IfSome o.first (IsWhole number G) × IfSome o.second (IsWhole number G) × IfSome o.led (IsLed number g)
+AreOpen number G g o = IsSide number G o.first × IsSide number G o.second × IfSome o.led (IsLed number g)
 
 -- the last one of a list, the innermost of its productions
 pub record IsInnermost {S : Type 0} (x : PIdx S × SIdx S) (items : List (PIdx S × SIdx S)) : Type 0 where
   pub outer : List (PIdx S × SIdx S)
   pub is : items ≡ outer ++ x ∷ []
 
--- each of the forms gives the next one by a replacement, and the last one gives c
-pub data Leaves (G : Grammar) : List Sym → List (List Sym) → List Sym → Type 0 where
-  none : {a : List Sym} → Leaves G a [] a
-  one : {a b c : List Sym} {forms : List (List Sym)} → Replaces G a b → Leaves G b forms c → Leaves G a (a ∷ forms) c
-
--- so far
-abbrev pub LeaveForm : {S : Type 0} → (S → ℕ) → Grammar → List Sym → Forms S → Type 0
-LeaveForm number G a f = Leaves G a (map (λ x. syms_of number x.items) f.before.items) (syms_of number f.form.items)
-
--- forms from the first one to one that begins with the token
-pub record AreFormsTo (G : Grammar) (t : ℕ) (a : List Sym) (forms : List (List Sym)) : Type 0 where
-  pub last : List Sym
-  pub forms_are : AreForms G a forms last
-  pub begins : Begins G t last
+-- a rule stands first
+abbrev pub has_rule_first : List Sym → Bool
+has_rule_first [] = false
+has_rule_first (rule A ∷ a) = true
+has_rule_first (token t ∷ a) = false
 
 -- what is shown of the action on the token after the symbols
 abbrev pub PartShows : {S : Type 0} → (S → ℕ) → Grammar → ℕ → Act → Part S → Type 0

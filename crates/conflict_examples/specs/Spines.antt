@@ -38,6 +38,18 @@ abbrev pub around : Grammar → List Item → List Sym
 around G [] = []
 around G (i ∷ is) = behind G is
 
+-- productions that lead from the one list to the other, each put in the place of the first symbol, which is its rule
+pub data AreSteps (G : Grammar) : List Sym → List ℕ → List Sym → Type 0 where
+  none : {a : List Sym} → AreSteps G a [] a
+  step : {rest c : List Sym} {steps : List ℕ} (A p : ℕ) → IsOf G p A → AreSteps G (body_of G p ++ rest) steps c → AreSteps G (rule A ∷ rest) (p ∷ steps) c
+
+-- the forms from a list, each with the next production in the place of its first symbol, as far as that is a rule
+abbrev pub forms_by : Grammar → List Sym → List ℕ → List (List Sym)
+forms_by G a [] = a ∷ []
+forms_by G [] (p ∷ steps) = [] ∷ []
+forms_by G (token t ∷ a) (p ∷ steps) = (token t ∷ a) ∷ []
+forms_by G (rule A ∷ a) (p ∷ steps) = (rule A ∷ a) ∷ forms_by G (body_of G p ++ a) steps
+
 -- the forms from the first list to the last one, where each comes from the one before by replacing one rule by one of its
 -- productions
 pub data AreForms (G : Grammar) : List Sym → List (List Sym) → List Sym → Type 0 where
@@ -49,10 +61,14 @@ pub data Begins (G : Grammar) (t : ℕ) : List Sym → Type 0 where
   opens : (rest : List Sym) → Begins G t (token t ∷ rest)
   ends : IsEnd G t → Begins G t []
 
--- what is shown of an action: a spine, and how the token comes to stand behind it
+-- what is shown of an action: a spine, and the productions by which the token comes to stand behind it
 pub record Shown : Type 0 where
   pub spine : List Item
-  pub forms : List (List Sym)
+  pub steps : List ℕ
+
+-- the forms from what stands behind the innermost production, by these productions
+abbrev pub forms_of : Grammar → Shown → List (List Sym)
+forms_of G x = forms_by G (around G x.spine) x.steps
 
 -- the item i stands innermost in a spine before whose dots the string stands
 pub record Stands (G : Grammar) (w : List Sym) (spine : List Item) (i : Item) : Type 0 where
@@ -64,12 +80,12 @@ pub record Stands (G : Grammar) (w : List Sym) (spine : List Item) (i : Item) : 
 -- what is shown allows the action on t after the string
 pub data ShowsAct (G : Grammar) (w : List Sym) (t : ℕ) (x : Shown) : Act → Type 0 where
   -- t is the symbol after the innermost dot
-  shifts : (i : Item) → Stands G w x.spine i → IsNext G i.production i.dot (token t) → x.forms ≡ [] → ShowsAct G w t x shift
+  shifts : (i : Item) → Stands G w x.spine i → IsNext G i.production i.dot (token t) → x.steps ≡ [] → ShowsAct G w t x shift
   -- the innermost production is complete, and what stands behind it derives a list that begins with t
   reduces : (i : Item) (last : List Sym) → Stands G w x.spine i → i.production ≢ G.start → i.dot ≡ length (body_of G i.production) →
-      AreForms G (around G x.spine) x.forms last → Begins G t last → ShowsAct G w t x (reduce i.production)
+      AreSteps G (around G x.spine) x.steps last → Begins G t last → ShowsAct G w t x (reduce i.production)
   -- the innermost production is that of the start, complete, before the end token
-  accepts : (i : Item) → Stands G w x.spine i → i.production ≡ G.start → i.dot ≡ length (body_of G G.start) → IsEnd G t → x.forms ≡ [] → ShowsAct G w t x accept
+  accepts : (i : Item) → Stands G w x.spine i → i.production ≡ G.start → i.dot ≡ length (body_of G G.start) → IsEnd G t → x.steps ≡ [] → ShowsAct G w t x accept
 
 -- a string, a token, and what is shown of two actions
 pub record Example : Type 0 where
@@ -102,3 +118,7 @@ pub record ExamplesAreContests : Type 0 where
   pub contest : (G : Grammar) (x : Example) (a b : Act) → IsExample G x a b → Contest G (Present G x.string) (Look G x.string) x.token a b
   pub shown : (G : Grammar) (w : List Sym) (t : ℕ) (a b : Act) → Contest G (Present G w) (Look G w) t a b →
       (x : Example) × (x.string ≡ w) × (x.token ≡ t) × IsExample G x a b
+
+-- The forms of what shows a reduction lead from what stands behind the innermost production to one that begins with the token.
+pub record StepsMakeForms : Type 0 where
+  pub forms : (G : Grammar) (w : List Sym) (t p : ℕ) (x : Shown) → ShowsAct G w t x (reduce p) → (last : List Sym) × AreForms G (around G x.spine) (forms_of G x) last × Begins G t last

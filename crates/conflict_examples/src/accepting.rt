@@ -2,18 +2,19 @@
 //! search goes over its productions alone: from that of the start in, and over the symbol that this one has. What it comes
 //! to may be wrong: an example is checked.
 
-ghost use Rattle.std.specs.Prelude.{◌≡◌, IfOk, IfSome};
+ghost use Rattle.std.specs.Prelude.{◌≡◌, reverse, IfOk, IfSome};
 ghost use Rattle.cfg_theory.specs.Grammar.{end_token};
 ghost use Rattle.lr_theory.specs.Canonical.{accept, reduce};
+ghost use Rattle.cfg_numbered.specs.Symbols.{syms_of, numbers_of};
 ghost use Rattle.conflict_examples.specs.ExampleViews.{example_of};
-ghost use Rattle.conflict_examples.specs.Opening.{PartShows};
+ghost use Rattle.conflict_examples.specs.Opening.{AreStepsTo, PartShows};
 ghost use Rattle.conflict_examples.specs.Spines.{IsExample};
 
 use crate::examples::ConflictExample;
 use crate::opened::{open_all, open_start};
 use crate::reading::{has_production, symbol_after, symbols_behind};
+use crate::replaced::{Replaced, first_of};
 use crate::shown::{Part, paired, shown_accept, shown_reduce};
-use crate::steps::{MOST_SYMBOLS, first_of, step};
 use crate::tables::{all_vanish, entry, vanishing_by};
 use cfg_base::index::IndexStorage;
 use cfg_base::symbol::{PIdx, SIdx, Symbol, TIdx};
@@ -209,28 +210,27 @@ fn items_to<'a, S: IndexStorage>(
     Ok(None)
 }
 
-/// The productions by which a list, with its first symbol last, vanishes. It doesn't where the forms would have more symbols
-/// than they may.
+/// The productions by which a list, with its first symbol last, vanishes, where the token is the end token. None where it doesn't
+/// come there, or the forms would have more symbols than they may.
 fn steps_to_nothing<'a, S: IndexStorage>(
     alloc: Global,
+    grm: &NumberedGrammar<S>,
     reading: &Reading<'a, S>,
+    token: TIdx<S>,
     rest: &[Symbol<S>],
-) -> Result<Vec<PIdx<S>>, AllocError> {
-    let mut steps = Vec::new(alloc);
-    let mut form = Vec::from_slice(alloc, rest)?;
-    let mut left = MOST_SYMBOLS;
+) -> Result<Option<Vec<PIdx<S>>>, AllocError>
+    ensures { IfOk result (λ o. IfSome o (λ v. AreStepsTo grm.now.grammar (S.number token.0) (reverse (syms_of S.number rest.now)) (numbers_of S.number v.items))) }
+{
+    let mut replaced = Replaced::new(alloc, rest)?;
     'steps: for _ in 0..usize::MAX {
-        let Some(pidx) = reading.next_step(form.as_slice()) else {
-            return Ok(steps);
+        let Some(pidx) = reading.next_step(replaced.form.as_slice()) else {
+            return Ok(replaced.steps_to(grm, token));
         };
-        let Some(less) = left.checked_sub(form.len()) else {
-            return Ok(steps);
-        };
-        left = less;
-        steps.push(pidx)?;
-        step(reading.grm, pidx, &mut form)?;
+        if !replaced.replace(grm, pidx)? {
+            return Ok(None);
+        }
     }
-    Ok(steps)
+    Ok(None)
 }
 
 /// What is shown of the production behind the start's symbol, before the token.
@@ -249,8 +249,11 @@ fn reduce_part<'a, S: IndexStorage>(
     let Some(opened) = open_all(alloc, grm, items.as_slice())? else {
         return Ok(None);
     };
-    let steps = steps_to_nothing(alloc, reading, opened.rest.as_slice())?;
-    shown_reduce(alloc, grm, opened, steps.as_slice(), token, pidx)
+    let rest = opened.rest.as_slice();
+    let Some(steps) = steps_to_nothing(alloc, grm, reading, token, rest)? else {
+        return Ok(None);
+    };
+    Ok(shown_reduce(grm, opened, steps, token, pidx))
 }
 
 /// What is shown of the end of the text.

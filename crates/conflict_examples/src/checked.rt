@@ -6,16 +6,16 @@ ghost use Rattle.lr_theory.specs.Canonical.{Act, shift, reduce};
 ghost use Rattle.lr_theory.specs.Graph.{Graph, Leads};
 ghost use Rattle.lrtable.specs.Graphs.{graph_of};
 ghost use Rattle.conflict_examples.specs.ExampleViews.{example_of};
-ghost use Rattle.conflict_examples.specs.Opening.{IsOpen, IsWhole, IsLed, AreOpen, PartShows};
+ghost use Rattle.conflict_examples.specs.Opening.{IsOpen, IsWhole, IsLed, IsKnown, IsSide, AreOpen, PartShows};
 ghost use Rattle.conflict_examples.specs.Spines.{IsExample};
 
 use crate::examples::ConflictExample;
 use crate::kept::Path;
+use crate::known::{Known, Told, told_steps};
 use crate::led::{Led, Walked, leads_to};
 use crate::opened::Opened;
 use crate::shown::{Part, paired, shown_reduce, shown_shift};
 use crate::source::Source;
-use crate::steps::steps_behind;
 use crate::whole::{Whole, joined, reopened};
 use cfg_base::index::IndexStorage;
 use cfg_base::symbol::PIdx;
@@ -23,11 +23,18 @@ use cfg_numbered::yacc::NumberedGrammar;
 use lrtable::stidx::StIdx;
 use std::alloc::{AllocError, Global};
 
-/// What is open after the string of the last example, for the first action and for the second, and where that string leads.
+/// What is open for an action after the string of the last example, and what is known of how a token came to stand behind it.
+#[derive(Drop)]
+pub(crate) struct Side<S> {
+    pub opened: Option<Whole<S>>,
+    pub known: Option<Known<S>>,
+}
+
+/// The first action, the second one, and where that string leads.
 #[derive(Drop)]
 pub(crate) struct Spines<S> {
-    pub first: Option<Whole<S>>,
-    pub second: Option<Whole<S>>,
+    pub first: Side<S>,
+    pub second: Side<S>,
     pub led: Option<Led<S>>,
 }
 
@@ -38,11 +45,18 @@ pub(crate) struct Found<S> {
     pub example: Option<ConflictExample<S>>,
 }
 
-/// What is open for one action, and what is shown of it, if that is.
+/// What is shown of an action, if that is, and what is open for it and known of it from now on.
 #[derive(Drop)]
-struct Side<S> {
-    opened: Option<Whole<S>>,
+struct Shown<S> {
+    side: Side<S>,
     part: Option<Part<S>>,
+}
+
+/// What is shown of a reduction, if that is, and what is known of it from now on.
+#[derive(Drop)]
+struct Reduced<S> {
+    part: Option<Part<S>>,
+    known: Option<Known<S>>,
 }
 
 /// Where the string of an example leads, and the example, if it is one.
@@ -52,13 +66,23 @@ struct Joined<S> {
     example: Option<ConflictExample<S>>,
 }
 
+/// Nothing of an action.
+fn no_side<S: IndexStorage>() -> Side<S>
+    ensures { (G : Grammar) → IsSide S.number G result }
+{
+    Side {
+        opened: None,
+        known: None,
+    }
+}
+
 /// Nothing.
 pub(crate) fn no_spines<S: IndexStorage>() -> Spines<S>
     ensures { (G : Grammar) (g : Graph) → AreOpen S.number G g result }
 {
     Spines {
-        first: None,
-        second: None,
+        first: no_side(),
+        second: no_side(),
         led: None,
     }
 }
@@ -100,73 +124,89 @@ fn reduce_part<'a, S: IndexStorage>(
     alloc: Global,
     source: &Source<'a, S>,
     whole: &Whole<S>,
+    known: Option<Known<S>>,
+    like: &Option<Known<S>>,
     production: PIdx<S>,
-) -> Result<Option<Part<S>>, AllocError>
-    requires { IsWhole S.number source.now.grm.now.grammar whole.now }
-    ensures { IfOk result (λ o. IfSome o (PartShows S.number source.now.grm.now.grammar (S.number source.now.token.0) (reduce (S.number production.0)))) }
+) -> Result<Reduced<S>, AllocError>
+    requires whole { IsWhole S.number source.now.grm.now.grammar whole.now }
+    requires known { IfSome known (IsKnown S.number source.now.grm.now.grammar) }
+    requires like { IfSome like.now (IsKnown S.number source.now.grm.now.grammar) }
+    ensures part { IfOk result (λ r. IfSome r.part (PartShows S.number source.now.grm.now.grammar (S.number source.now.token.0) (reduce (S.number production.0)))) }
+    ensures known { IfOk result (λ r. IfSome r.known (IsKnown S.number source.now.grm.now.grammar)) }
 {
     let Some(opened) = opened_of(alloc, source.grm, whole)? else {
-        return Ok(None);
+        return Ok(Reduced { part: None, known });
     };
-    let steps = steps_behind(alloc, source, opened.rest.as_slice())?;
-    shown_reduce(
-        alloc,
-        source.grm,
-        opened,
-        steps.as_slice(),
-        source.token,
-        production,
-    )
+    let rest = opened.rest.as_slice();
+    let Told { steps, known } = told_steps(alloc, source, known, like, rest)?;
+    let Some(steps) = steps else {
+        return Ok(Reduced { part: None, known });
+    };
+    let part = shown_reduce(source.grm, opened, steps, source.token, production);
+    Ok(Reduced { part, known })
 }
 
 /// What is shown of a shift of the token by the productions of a path.
-fn shift_side<'a, S: IndexStorage>(
+fn shift_shown<'a, S: IndexStorage>(
     alloc: Global,
     source: &Source<'a, S>,
-    opened: Option<Whole<S>>,
+    side: Side<S>,
     path: &Path<S>,
-) -> Result<Side<S>, AllocError>
-    requires { IfSome opened (IsWhole S.number source.now.grm.now.grammar) }
-    ensures spines { IfOk result (λ r. IfSome r.opened (IsWhole S.number source.now.grm.now.grammar)) }
+) -> Result<Shown<S>, AllocError>
+    requires { IsSide S.number source.now.grm.now.grammar side }
+    ensures side { IfOk result (λ r. IsSide S.number source.now.grm.now.grammar r.side) }
     ensures part { IfOk result (λ r. IfSome r.part (PartShows S.number source.now.grm.now.grammar (S.number source.now.token.0) shift)) }
 {
-    let Some(opened) = reopened(alloc, source.grm, opened, &None, path)? else {
-        return Ok(Side {
-            opened: None,
+    let Side { opened, known } = side;
+    let Some(whole) = reopened(alloc, source.grm, opened, &None, path)? else {
+        let opened = None;
+        return Ok(Shown {
+            side: Side { opened, known },
             part: None,
         });
     };
-    let part = shift_part(alloc, source, &opened)?;
-    Ok(Side {
-        opened: Some(opened),
+    let part = shift_part(alloc, source, &whole)?;
+    let opened = Some(whole);
+    Ok(Shown {
+        side: Side { opened, known },
         part,
     })
 }
 
-/// What is shown of a reduction on the token by the productions of a path, where these are open for the
-/// other action.
-fn reduce_side<'a, S: IndexStorage>(
+/// What is shown of a reduction on the token by the productions of a path, where these may be open for the other action, and
+/// what stands behind them known of it.
+fn reduce_shown<'a, S: IndexStorage>(
     alloc: Global,
     source: &Source<'a, S>,
-    opened: Option<Whole<S>>,
-    like: &Option<Whole<S>>,
+    side: Side<S>,
+    like: &Side<S>,
     path: &Path<S>,
     production: PIdx<S>,
-) -> Result<Side<S>, AllocError>
-    requires opened { IfSome opened (IsWhole S.number source.now.grm.now.grammar) }
-    requires like { IfSome like.now (IsWhole S.number source.now.grm.now.grammar) }
-    ensures spines { IfOk result (λ r. IfSome r.opened (IsWhole S.number source.now.grm.now.grammar)) }
+) -> Result<Shown<S>, AllocError>
+    requires side { IsSide S.number source.now.grm.now.grammar side }
+    requires like { IsSide S.number source.now.grm.now.grammar like.now }
+    ensures side { IfOk result (λ r. IsSide S.number source.now.grm.now.grammar r.side) }
     ensures part { IfOk result (λ r. IfSome r.part (PartShows S.number source.now.grm.now.grammar (S.number source.now.token.0) (reduce (S.number production.0)))) }
 {
-    let Some(opened) = reopened(alloc, source.grm, opened, like, path)? else {
-        return Ok(Side {
-            opened: None,
+    let Side { opened, known } = side;
+    let Some(whole) = reopened(alloc, source.grm, opened, &like.opened, path)? else {
+        let opened = None;
+        return Ok(Shown {
+            side: Side { opened, known },
             part: None,
         });
     };
-    let part = reduce_part(alloc, source, &opened, production)?;
-    Ok(Side {
-        opened: Some(opened),
+    let Reduced { part, known } = reduce_part(
+        alloc,
+        source,
+        &whole,
+        known,
+        &like.known,
+        production,
+    )?;
+    let opened = Some(whole);
+    Ok(Shown {
+        side: Side { opened, known },
         part,
     })
 }
@@ -218,14 +258,14 @@ pub(crate) fn shift_example<'a, S: IndexStorage>(
     ensures state { IfOk result (λ r. IfSome r.example (λ x. Leads (graph_of source.now.graph.now) (example_of S.number x).string (S.number stidx.0))) }
 {
     let Spines { first, second, led } = spines;
-    let Side {
-        opened: first,
+    let Shown {
+        side: first,
         part: one,
-    } = shift_side(alloc, source, first, &paths.0)?;
-    let Side {
-        opened: second,
+    } = shift_shown(alloc, source, first, &paths.0)?;
+    let Shown {
+        side: second,
         part: other,
-    } = reduce_side(alloc, source, second, &first, &paths.1, production)?;
+    } = reduce_shown(alloc, source, second, &first, &paths.1, production)?;
     let same = paths.0.same;
     let joined = joined_parts(alloc, source, stidx, led, same, one, other)?;
     let spines = Spines {
@@ -259,14 +299,14 @@ pub(crate) fn pair_example<'a, S: IndexStorage>(
         });
     }
     let Spines { first, second, led } = spines;
-    let Side {
-        opened: first,
+    let Shown {
+        side: first,
         part: one,
-    } = reduce_side(alloc, source, first, &None, &paths.0, production)?;
-    let Side {
-        opened: second,
+    } = reduce_shown(alloc, source, first, &no_side(), &paths.0, production)?;
+    let Shown {
+        side: second,
         part: other,
-    } = reduce_side(alloc, source, second, &first, &paths.1, other_production)?;
+    } = reduce_shown(alloc, source, second, &first, &paths.1, other_production)?;
     let same = paths.0.same;
     let joined = joined_parts(alloc, source, stidx, led, same, one, other)?;
     let spines = Spines {

@@ -1,6 +1,15 @@
 //! What is shown of a conflict.
 
+ghost use Rattle.std.specs.Prelude.{◌≡◌, map, IfOk};
+ghost use Rattle.cfg_numbered.specs.Symbols.{syms_of};
+ghost use Rattle.conflict_examples.specs.ExampleViews.{shown_of};
+ghost use Rattle.conflict_examples.specs.Spines.{forms_of};
+
+use crate::forms::forms_behind;
+use cfg_base::index::IndexStorage;
 use cfg_base::symbol::{PIdx, SIdx, Symbol, TIdx};
+use cfg_numbered::yacc::NumberedGrammar;
+use std::alloc::{AllocError, Global};
 
 /// A conflict by an example: after the symbols the token leaves both actions. Contracts see it as an example of the
 /// grammar of numbers, its string with the last symbol first.
@@ -20,7 +29,25 @@ pub struct ActionExample<S> {
     /// The productions that are open, from that of the start to the innermost, each with its dot. Each is of the rule after
     /// the dot of the one before it; the symbols before the dots, one list behind the other, are those of the example.
     pub spine: Vec<(PIdx<S>, SIdx<S>)>,
-    /// For a reduction the forms from what stands behind the innermost production to one that begins with the token, or to
-    /// the empty one where the token is the end token: each comes from the one before by one replacement. None for a shift.
-    pub forms: Vec<Vec<Symbol<S>>>,
+    /// For a reduction the productions by which what stands behind the innermost production comes to begin with the token, or
+    /// to be empty where the token is the end token: each is put in the place of the first symbol, which is its rule. None for
+    /// a shift.
+    pub steps: Vec<PIdx<S>>,
+}
+
+impl<S: IndexStorage> ActionExample<S> {
+    /// The forms from what stands behind the innermost production, each with the next of `steps` in the place of its first
+    /// symbol. Of a reduction in an example the last one begins with the token, or is empty where the token is the end token
+    /// (`laws::steps_make_forms`). They are written out, so that they may have as many symbols as steps and symbols behind the
+    /// innermost production multiply to. Of other values they end where no rule stands first, and a production that the
+    /// grammar hasn't counts as one without symbols.
+    pub fn forms(
+        &self,
+        alloc: Global,
+        grm: &NumberedGrammar<S>,
+    ) -> Result<Vec<Vec<Symbol<S>>>, AllocError>
+        ensures { IfOk result (λ v. map (λ f. syms_of S.number f.items) v.items ≡ forms_of grm.now.grammar (shown_of S.number self.now)) }
+    {
+        forms_behind(alloc, grm, self.spine.as_slice(), self.steps.as_slice())
+    }
 }

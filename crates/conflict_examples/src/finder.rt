@@ -226,7 +226,7 @@ fn shift_found<'a, S: IndexStorage>(
         });
     };
     let found = shift_example(alloc, source, spines, &paths, production, stidx)?;
-    kept.whole = found.spines.first.is_some() && found.spines.second.is_some();
+    kept.whole = found.spines.first.opened.is_some() && found.spines.second.opened.is_some();
     Ok(found)
 }
 
@@ -252,6 +252,6 @@ fn pair_found<'a, S: IndexStorage>(
         });
     };
     let found = pair_example(alloc, source, spines, &paths, first, second, stidx)?;
-    kept.whole = found.spines.first.is_some() && found.spines.second.is_some();
+    kept.whole = found.spines.first.opened.is_some() && found.spines.second.opened.is_some();
     Ok(found)
 }

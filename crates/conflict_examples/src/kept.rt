@@ -616,10 +616,11 @@ impl<S: IndexStorage> Kept<S> {
     ) -> Result<Option<(Path<S>, Path<S>)>, AllocError> {
         let (first_free, second_free) = (self.first_free, self.second_free);
         let (first, second) = (one.around, other.around);
-        let Some(one) = self.path(alloc, source, &spines.first, first_free, one)? else {
+        let Some(one) = self.path(alloc, source, &spines.first.opened, first_free, one)? else {
             return Ok(None);
         };
-        let Some(other) = self.path(alloc, source, &spines.second, second_free, other)? else {
+        let Some(other) = self.path(alloc, source, &spines.second.opened, second_free, other)?
+        else {
             return Ok(None);
         };
         self.first_free = one.free;

@@ -1,8 +1,8 @@
 //! Reads productions that need not be those of the grammar.
 
 ghost use Rattle.std.specs.Prelude.{◌≡◌, ◌<◌, ◌≤◌, ℕ, suc, take, drop, length, IsTrue, IfSome};
-ghost use Rattle.cfg_theory.specs.Grammar.{IsNext, IsOf};
-ghost use Rattle.cfg_numbered.specs.Symbols.{sym_of};
+ghost use Rattle.cfg_theory.specs.Grammar.{body_of, IsNext, IsOf};
+ghost use Rattle.cfg_numbered.specs.Symbols.{sym_of, syms_of};
 
 use cfg_base::index::IndexStorage;
 use cfg_base::symbol::{PIdx, RIdx, SIdx, Symbol};
@@ -23,6 +23,16 @@ pub(crate) fn is_of<S: IndexStorage>(grm: &NumberedGrammar<S>, pidx: PIdx<S>, ri
         return false;
     }
     grm.prod_to_rule(pidx).0.to_usize() == ridx.0.to_usize()
+}
+
+/// The symbols of a production; none where the grammar hasn't got it.
+pub(crate) fn symbols_of<S: IndexStorage>(grm: &NumberedGrammar<S>, pidx: PIdx<S>) -> &[Symbol<S>]
+    ensures { syms_of S.number result.now ≡ body_of grm.now.grammar (S.number pidx.0) }
+{
+    if pidx.0.to_usize() >= grm.prods_len().0.to_usize() {
+        return &[];
+    }
+    grm.prod(pidx)
 }
 
 /// The symbol after the dot, if there is one.

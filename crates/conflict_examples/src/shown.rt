@@ -3,13 +3,12 @@
 ghost use Rattle.std.specs.Prelude.{◌≡◌, ◌≢◌, ◌∷◌, ℕ, length, reverse, IsTrue, IfOk, IfSome};
 ghost use Rattle.cfg_theory.specs.Grammar.{token, Grammar, body_of, end_token, IsNext};
 ghost use Rattle.lr_theory.specs.Canonical.{Act, shift, reduce, accept};
-ghost use Rattle.cfg_numbered.specs.Symbols.{sym_of, syms_of};
+ghost use Rattle.cfg_numbered.specs.Symbols.{sym_of, syms_of, numbers_of};
 ghost use Rattle.conflict_examples.specs.ExampleViews.{example_of};
-ghost use Rattle.conflict_examples.specs.Opening.{IsOpen, PartShows};
+ghost use Rattle.conflict_examples.specs.Opening.{IsOpen, AreStepsTo, PartShows};
 ghost use Rattle.conflict_examples.specs.Spines.{IsExample};
 
 use crate::examples::{ActionExample, ConflictExample};
-use crate::forms::forms_to;
 use crate::opened::{Opened, innermost, push_turned};
 use crate::reading::{has_production, symbol_after};
 use cfg_base::index::IndexStorage;
@@ -75,11 +74,11 @@ fn accepts<S: IndexStorage>(grm: &NumberedGrammar<S>, pidx: PIdx<S>, dot: SIdx<S
     dot.0.to_usize() == grm.prod(start).len()
 }
 
-/// What is shown by these forms after what is open.
-fn closed<S: IndexStorage>(opened: Opened<S>, forms: Vec<Vec<Symbol<S>>>) -> Part<S>
+/// What is shown by these productions after what is open.
+fn closed<S: IndexStorage>(opened: Opened<S>, steps: Vec<PIdx<S>>) -> Part<S>
     ensures symbols { result.symbols.items ≡ opened.symbols.items }
     ensures spine { result.shown.spine.items ≡ opened.items.items }
-    ensures forms { result.shown.forms ≡ forms }
+    ensures steps { result.shown.steps ≡ steps }
 {
     let Opened {
         items,
@@ -91,7 +90,7 @@ fn closed<S: IndexStorage>(opened: Opened<S>, forms: Vec<Vec<Symbol<S>>>) -> Par
         symbols,
         shown: ActionExample {
             spine: items,
-            forms,
+            steps,
         },
     }
 }
@@ -134,7 +133,7 @@ pub(crate) fn shown_accept<S: IndexStorage>(
 }
 
 /// The symbols with the last one first.
-fn turned<S: IndexStorage>(
+pub(crate) fn turned<S: IndexStorage>(
     alloc: Global,
     symbols: &[Symbol<S>],
 ) -> Result<Vec<Symbol<S>>, AllocError>
@@ -146,29 +145,25 @@ fn turned<S: IndexStorage>(
 }
 
 /// What is shown of a reduction on the token, by productions one after the other in the place of the first symbol of what stands
-/// behind. None where what is open and these don't show it.
+/// behind. None where what is open doesn't show it.
 pub(crate) fn shown_reduce<S: IndexStorage>(
-    alloc: Global,
     grm: &NumberedGrammar<S>,
     opened: Opened<S>,
-    steps: &[PIdx<S>],
+    steps: Vec<PIdx<S>>,
     token: TIdx<S>,
     production: PIdx<S>,
-) -> Result<Option<Part<S>>, AllocError>
-    requires { IsOpen S.number grm.now.grammar opened }
-    ensures { IfOk result (λ o. IfSome o (PartShows S.number grm.now.grammar (S.number token.0) (reduce (S.number production.0)))) }
+) -> Option<Part<S>>
+    requires opened { IsOpen S.number grm.now.grammar opened }
+    requires steps { AreStepsTo grm.now.grammar (S.number token.0) (reverse (syms_of S.number opened.rest.items)) (numbers_of S.number steps.items) }
+    ensures { IfSome result (PartShows S.number grm.now.grammar (S.number token.0) (reduce (S.number production.0))) }
 {
     let Some((pidx, dot)) = innermost(opened.items.as_slice()) else {
-        return Ok(None);
+        return None;
     };
     if !reduces(grm, pidx, dot, production) {
-        return Ok(None);
+        return None;
     }
-    let rest = turned(alloc, opened.rest.as_slice())?;
-    let Some(forms) = forms_to(alloc, grm, rest, steps, token)? else {
-        return Ok(None);
-    };
-    Ok(Some(closed(opened, forms)))
+    Some(closed(opened, steps))
 }
 
 /// Whether two symbols are one.

@@ -1,36 +1,45 @@
 //! Finds the productions by which a list derives one that begins with a token, each put in the place of the first symbol. The
 //! lists have their first symbol last.
 
-use crate::opened::push_turned;
-use crate::reading::has_production;
+ghost use Rattle.std.specs.Prelude.{reverse, IfOk, IfSome};
+ghost use Rattle.cfg_numbered.specs.Symbols.{syms_of, numbers_of};
+ghost use Rattle.conflict_examples.specs.Opening.{AreStepsTo};
+
+use crate::reading::{has_production, symbols_of};
+use crate::replaced::{Replaced, first_of};
 use crate::source::Source;
 use cfg_base::index::IndexStorage;
 use cfg_base::symbol::{PIdx, RIdx, Symbol};
-use cfg_numbered::yacc::NumberedGrammar;
 use std::alloc::{AllocError, Global};
 
-/// How many symbols the forms of an example may have, all together, but for the last one. Where a rule vanishes only by a
-/// chain in which each is twice the next, they would have as many as doublings make.
-pub(crate) const MOST_SYMBOLS: usize = 262_144;
-
 /// How many productions each rule needs to begin with the token; `usize::MAX` where it doesn't, or needs more than was asked.
+/// Which rules are asked for, and whether one of these was come to.
 #[derive(Drop)]
 struct Ways {
     ranks: Vec<usize>,
+    asked: Vec<bool>,
+    reached: bool,
 }
 
-/// Where the token comes from in a list: how many symbols stand before, which may all vanish, and how many productions are
-/// needed there.
+/// Where the token comes from in a list: how many symbols the list has where those before it, which may all vanish, are gone,
+/// and how many productions are needed there.
 #[derive(Clone, Copy)]
 struct Origin {
-    index: usize,
+    height: usize,
     rank: usize,
 }
 
 const NOWHERE: Origin = Origin {
-    index: 0,
+    height: 0,
     rank: usize::MAX,
 };
+
+/// What a list needs to begin with the token.
+#[derive(Drop)]
+struct Plan {
+    ways: Ways,
+    origin: Origin,
+}
 
 impl Ways {
     /// How many productions a symbol needs to begin with the token; `usize::MAX` where it doesn't.
@@ -74,17 +83,17 @@ impl Ways {
         None
     }
 
-    /// The better of an origin and that of a symbol at an index.
+    /// The better of an origin and that of a symbol with which a list of this height begins.
     fn better<'a, S: IndexStorage>(
         &self,
         source: &Source<'a, S>,
         best: Origin,
         symbol: Symbol<S>,
-        index: usize,
+        height: usize,
     ) -> Origin {
         let rank = self.rank(source, symbol);
         if rank < best.rank {
-            Origin { index, rank }
+            Origin { height, rank }
         } else {
             best
         }
@@ -99,7 +108,7 @@ impl Ways {
         let mut best = NOWHERE;
         'symbols: for index in 0..symbols.len() {
             let symbol = symbols[index];
-            best = self.better(source, best, symbol, index);
+            best = self.better(source, best, symbol, symbols.len() - index);
             if !source.vanishes(symbol) {
                 return best;
             }
@@ -112,12 +121,62 @@ impl Ways {
         let mut best = NOWHERE;
         'symbols: for index in 0..form.len() {
             let symbol = form[form.len() - 1 - index];
-            best = self.better(source, best, symbol, index);
+            best = self.better(source, best, symbol, form.len() - index);
             if !source.vanishes(symbol) {
                 return best;
             }
         }
         best
+    }
+
+    /// The origin where the production was put in the place of the first symbol of a list, which is so long now: within the
+    /// production, unless what stands behind it is nearer to the token.
+    fn moved<'a, S: IndexStorage>(
+        &self,
+        source: &Source<'a, S>,
+        origin: Origin,
+        pidx: PIdx<S>,
+        length: usize,
+    ) -> Origin {
+        let body = symbols_of(source.grm, pidx);
+        let within = self.origin_in(source, body);
+        if within.rank == usize::MAX || within.rank > origin.rank {
+            return origin;
+        }
+        let behind = length.saturating_sub(body.len());
+        Origin {
+            height: behind.saturating_add(within.height),
+            rank: within.rank,
+        }
+    }
+
+    /// Asks for a rule.
+    fn ask_rule<S: IndexStorage>(&mut self, symbol: Symbol<S>) {
+        let Symbol::Rule(ridx) = symbol else {
+            return;
+        };
+        let number = ridx.0.to_usize();
+        if number < self.asked.len() {
+            self.asked[number] = true;
+        }
+    }
+
+    /// Asks for the rules that a list, which has its first symbol last, may begin with.
+    fn ask<'a, S: IndexStorage>(&mut self, source: &Source<'a, S>, form: &[Symbol<S>]) {
+        'symbols: for index in 0..form.len() {
+            let symbol = form[form.len() - 1 - index];
+            self.ask_rule(symbol);
+            if !source.vanishes(symbol) {
+                return;
+            }
+        }
+    }
+
+    fn is_asked(&self, number: usize) -> bool {
+        if number >= self.asked.len() {
+            return false;
+        }
+        self.asked[number]
     }
 
     /// Notes that a rule needs so many productions, where it doesn't need fewer, and tells whether that is new.
@@ -130,6 +189,9 @@ impl Ways {
             return false;
         }
         self.ranks[number] = rank;
+        if self.is_asked(number) {
+            self.reached = true;
+        }
         true
     }
 
@@ -181,12 +243,18 @@ fn ways_for<'a, S: IndexStorage>(
     let rules = source.grm.rules_len().0.to_usize();
     let mut ranks = Vec::new(alloc);
     ranks.resize(rules, usize::MAX)?;
-    let mut ways = Ways { ranks };
+    let mut asked = Vec::new(alloc);
+    asked.resize(rules, false)?;
+    let mut ways = Ways {
+        ranks,
+        asked,
+        reached: false,
+    };
+    ways.ask(source, form);
     let mut nearest = Vec::new(alloc);
     nearest.push(Symbol::Token(source.token))?;
     'ranks: for rank in 0..rules {
-        let origin = ways.origin(source, form);
-        if origin.rank <= rank || nearest.is_empty() {
+        if ways.reached || nearest.is_empty() {
             return Ok(ways);
         }
         nearest = ways.next(alloc, source, nearest.as_slice(), rank + 1)?;
@@ -194,68 +262,71 @@ fn ways_for<'a, S: IndexStorage>(
     Ok(ways)
 }
 
-/// The first symbol of a list that has it last.
-pub(crate) fn first_of<S: IndexStorage>(form: &[Symbol<S>]) -> Option<Symbol<S>> {
-    if form.is_empty() {
-        return None;
-    }
-    Some(form[form.len() - 1])
-}
-
-/// The production that is to be put in the place of the first symbol, if one is.
-fn next_step<'a, S: IndexStorage>(
+/// What the form needs to begin with the token. Where this stands in it, behind symbols that vanish, no rule is looked at.
+fn plan_for<'a, S: IndexStorage>(
+    alloc: Global,
     source: &Source<'a, S>,
-    ways: &Ways,
     form: &[Symbol<S>],
-) -> Option<PIdx<S>> {
-    let Symbol::Rule(ridx) = first_of(form)? else {
-        return None;
+) -> Result<Plan, AllocError> {
+    let none = Ways {
+        ranks: Vec::new(alloc),
+        asked: Vec::new(alloc),
+        reached: false,
     };
+    let origin = none.origin(source, form);
+    if origin.rank == 0 {
+        return Ok(Plan { ways: none, origin });
+    }
+    let ways = ways_for(alloc, source, form)?;
     let origin = ways.origin(source, form);
-    if origin.index == 0 && origin.rank < usize::MAX {
-        ways.way(source, ridx)
-    } else {
-        source.tables.vanishing(ridx)
+    Ok(Plan { ways, origin })
+}
+
+impl Plan {
+    /// The production that is to be put in the place of the first symbol, if one is.
+    fn next_step<'a, S: IndexStorage>(
+        &self,
+        source: &Source<'a, S>,
+        form: &[Symbol<S>],
+    ) -> Option<PIdx<S>> {
+        let Symbol::Rule(ridx) = first_of(form)? else {
+            return None;
+        };
+        if form.len() == self.origin.height {
+            self.ways.way(source, ridx)
+        } else {
+            source.tables.vanishing(ridx)
+        }
+    }
+
+    /// Notes that the production was put there; the list is so long now.
+    fn note<'a, S: IndexStorage>(&mut self, source: &Source<'a, S>, pidx: PIdx<S>, length: usize) {
+        self.origin = self.ways.moved(source, self.origin, pidx, length);
     }
 }
 
-/// Puts the production in the place of the first symbol.
-pub(crate) fn step<S: IndexStorage>(
-    grm: &NumberedGrammar<S>,
-    pidx: PIdx<S>,
-    form: &mut Vec<Symbol<S>>,
-) -> Result<(), AllocError> {
-    let _first = form.pop();
-    if !has_production(grm, pidx) {
-        return Ok(());
-    }
-    push_turned(grm.prod(pidx), form)
-}
-
-/// The productions by which what stands behind the innermost production comes to begin with the token, or to be empty. They don't
-/// come there where the forms would have more symbols than they may.
+/// The productions by which what stands behind the innermost production comes to begin with the token, or to be empty. None
+/// where it doesn't come there, or the forms would have more symbols than they may.
 pub(crate) fn steps_behind<'a, S: IndexStorage>(
     alloc: Global,
     source: &Source<'a, S>,
     rest: &[Symbol<S>],
-) -> Result<Vec<PIdx<S>>, AllocError> {
-    let mut steps = Vec::new(alloc);
+) -> Result<Option<Vec<PIdx<S>>>, AllocError>
+    ensures { IfOk result (λ o. IfSome o (λ v. AreStepsTo source.now.grm.now.grammar (S.number source.now.token.0) (reverse (syms_of S.number rest.now)) (numbers_of S.number v.items))) }
+{
+    let mut replaced = Replaced::new(alloc, rest)?;
     let Some(Symbol::Rule(_)) = first_of(rest) else {
-        return Ok(steps);
+        return Ok(replaced.steps_to(source.grm, source.token));
     };
-    let ways = ways_for(alloc, source, rest)?;
-    let mut form = Vec::from_slice(alloc, rest)?;
-    let mut left = MOST_SYMBOLS;
+    let mut plan = plan_for(alloc, source, rest)?;
     'steps: for _ in 0..usize::MAX {
-        let Some(pidx) = next_step(source, &ways, form.as_slice()) else {
-            return Ok(steps);
+        let Some(pidx) = plan.next_step(source, replaced.form.as_slice()) else {
+            return Ok(replaced.steps_to(source.grm, source.token));
         };
-        let Some(less) = left.checked_sub(form.len()) else {
-            return Ok(steps);
-        };
-        left = less;
-        steps.push(pidx)?;
-        step(source.grm, pidx, &mut form)?;
+        if !replaced.replace(source.grm, pidx)? {
+            return Ok(None);
+        }
+        plan.note(source, pidx, replaced.form.len());
     }
-    Ok(steps)
+    Ok(None)
 }

@@ -1,7 +1,7 @@
 //! Examples of conflicts as a person reads them.
 
 use crate::names::{Grammar, push_body, push_item, push_prod, push_symbols, push_token, push_word};
-use cfg_base::symbol::{PIdx, SIdx, Symbol};
+use cfg_base::symbol::{PIdx, SIdx};
 use conflict_examples::{ActionExample, ConflictExample};
 use std::alloc::{AllocError, Global};
 
@@ -38,15 +38,17 @@ fn push_spine(
 
 /// Adds the forms behind a reduction, unless the first begins with the token at once.
 fn push_forms(
+    alloc: Global,
     text: &mut String,
     grm: &Grammar,
-    forms: &[Vec<Symbol<u32>>],
+    action: &ActionExample<u32>,
 ) -> Result<(), AllocError> {
-    if forms.len() < 2 {
+    if action.steps.is_empty() {
         return Ok(());
     }
+    let forms = action.forms(alloc, grm)?;
     let mut front = "    behind it:";
-    'forms: for form in forms {
+    'forms: for form in &forms {
         text.push_str(front)?;
         push_body(text, grm, form.as_slice())?;
         text.push('\n')?;
@@ -64,7 +66,7 @@ fn push_action(
 ) -> Result<(), AllocError> {
     text.push('\n')?;
     push_spine(alloc, text, grm, action.spine.as_slice())?;
-    push_forms(text, grm, action.forms.as_slice())
+    push_forms(alloc, text, grm, action)
 }
 
 fn push_shift(

@@ -37,36 +37,73 @@ fn push_spine<S: IndexStorage>(
     Ok(())
 }
 
-/// What is shown of an action: the open productions, and the forms.
-fn push_action<S: IndexStorage>(
+/// What is shown of a shift: the open productions.
+fn push_shift<S: IndexStorage>(
     alloc: Global,
     out: &mut String,
     action: &ActionExample<S>,
 ) -> Result<(), AllocError> {
+    out.push_str("  ")?;
     push_spine(alloc, out, action.spine.as_slice())?;
-    for form in &action.forms {
+    out.push('\n')
+}
+
+/// What is shown of a reduction: the open productions, and the forms.
+fn push_reduction<S: IndexStorage>(
+    alloc: Global,
+    out: &mut String,
+    grm: &YaccGrammar<S>,
+    action: &ActionExample<S>,
+) -> Result<(), AllocError> {
+    out.push_str("  ")?;
+    push_spine(alloc, out, action.spine.as_slice())?;
+    for form in &action.forms(alloc, grm)? {
         out.push_str(" =>")?;
         push_symbols(alloc, out, form.as_slice())?;
     }
     out.push('\n')
 }
 
-/// The symbols before the token, the token, and what is shown of each action.
-fn push_example<S: IndexStorage>(
+/// The symbols before the token, and the token.
+fn push_string<S: IndexStorage>(
     alloc: Global,
     out: &mut String,
+    example: &ConflictExample<S>,
+) -> Result<(), AllocError> {
+    out.push(':')?;
+    push_symbols(alloc, out, example.symbols.as_slice())?;
+    push_number(alloc, out, " before t", usize::from(example.token))?;
+    out.push('\n')
+}
+
+/// The example of a shift against a reduction.
+fn push_shift_example<S: IndexStorage>(
+    alloc: Global,
+    out: &mut String,
+    grm: &YaccGrammar<S>,
     example: &Option<ConflictExample<S>>,
 ) -> Result<(), AllocError> {
     let Some(example) = example else {
         return out.push_str(": none\n");
     };
-    out.push(':')?;
-    push_symbols(alloc, out, example.symbols.as_slice())?;
-    push_number(alloc, out, " before t", usize::from(example.token))?;
-    out.push_str("\n  ")?;
-    push_action(alloc, out, &example.first)?;
-    out.push_str("  ")?;
-    push_action(alloc, out, &example.second)
+    push_string(alloc, out, example)?;
+    push_shift(alloc, out, &example.first)?;
+    push_reduction(alloc, out, grm, &example.second)
+}
+
+/// The example of a pair of reductions.
+fn push_pair_example<S: IndexStorage>(
+    alloc: Global,
+    out: &mut String,
+    grm: &YaccGrammar<S>,
+    example: &Option<ConflictExample<S>>,
+) -> Result<(), AllocError> {
+    let Some(example) = example else {
+        return out.push_str(": none\n");
+    };
+    push_string(alloc, out, example)?;
+    push_reduction(alloc, out, grm, &example.first)?;
+    push_reduction(alloc, out, grm, &example.second)
 }
 
 /// Each shift against a reduction as state, token and production, with its example.
@@ -83,7 +120,7 @@ fn push_shifts<S: IndexStorage>(
         push_number(alloc, out, " t", usize::from(tidx))?;
         push_number(alloc, out, " p", usize::from(pidx))?;
         let example = graph.shift_reduce_example(alloc, grm, entry)?;
-        push_example(alloc, out, &example)?;
+        push_shift_example(alloc, out, grm, &example)?;
     }
     Ok(())
 }
@@ -103,7 +140,7 @@ fn push_pairs<S: IndexStorage>(
         push_number(alloc, out, " p", usize::from(first))?;
         push_number(alloc, out, " p", usize::from(second))?;
         let example = graph.reduce_reduce_example(alloc, grm, entry)?;
-        push_example(alloc, out, &example)?;
+        push_pair_example(alloc, out, grm, &example)?;
     }
     Ok(())
 }

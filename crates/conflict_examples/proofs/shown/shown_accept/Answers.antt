@@ -1,6 +1,6 @@
-use Rattle.std.proofs.Common.{map, refl, ap, ◌∙◌}
+use Rattle.std.proofs.Common.{refl, ap, ◌∙◌}
 use Rattle.cfg_theory.specs.Grammar.{end_token}
-use Rattle.cfg_numbered.specs.Symbols.{sym_of, syms_of}
+use Rattle.cfg_numbered.specs.Symbols.{sym_of, numbers_of}
 use Rattle.conflict_examples.specs.ExampleViews.{open_item}
 use Rattle.conflict_examples.proofs.Shows.{kept_accept}
 use Rattle.conflict_examples.proofs.shown.shown_accept.Goals as goal
@@ -11,6 +11,6 @@ returns g c =
     let o = c.args.opened in
     let part = c.closed.result in
     let inner = rw c.as_slice.ensures.value at c.in-Some.ensures in
-    let none = ap (λ v. map (λ l. syms_of number l.items) v.items) c.closed.ensures.forms ∙ ap (map (λ l. syms_of number l.items)) c.new.ensures.items in
-    kept_accept (open_item number) (sym_of number) c.args.grm.now.grammar (end_token c.args.grm.now.grammar) (c.in-Some.pidx, c.in-Some.dot) inner.outer o.items.items part.shown.spine.items o.symbols.items part.symbols.items o.rest.items (map (λ l. syms_of number l.items) part.shown.forms.items)
+    let none = ap (λ v. numbers_of number v.items) c.closed.ensures.steps ∙ ap (numbers_of number) c.new.ensures.items in
+    kept_accept (open_item number) (sym_of number) c.args.grm.now.grammar (end_token c.args.grm.now.grammar) (c.in-Some.pidx, c.in-Some.dot) inner.outer o.items.items part.shown.spine.items o.symbols.items part.symbols.items o.rest.items (numbers_of number part.shown.steps.items)
     inner.is c.requires c.closed.ensures.spine c.closed.ensures.symbols none (c.if-not-accepts.ensures.production refl) (c.if-not-accepts.ensures.complete refl) refl

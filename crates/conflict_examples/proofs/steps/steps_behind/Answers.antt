@@ -1,0 +1,14 @@
+use Rattle.std.proofs.Common.{reverse}
+use Rattle.std.proofs.lemmas.Option.{IfSome_then}
+use Rattle.cfg_numbered.specs.Symbols.{syms_of}
+use Rattle.conflict_examples.proofs.steps.steps_behind.Goals as goal
+
+pub steps-init : goal.steps-init
+steps-init g c = c.in_ok-replaced.ensures c.args.source.now.grm.now.grammar
+
+pub returns-in_default : goal.returns-in_default
+returns-in_default g c = IfSome_then c.steps_to.result c.steps_to.ensures (λ _ h. h (reverse (syms_of g.S.IndexStorage.number c.args.rest.now)) (c.in_ok-replaced.ensures c.args.source.now.grm.now.grammar))
+
+pub returns-in_default-next_step : goal.returns-in_default-next_step
+returns-in_default-next_step g c =
+    IfSome_then c.steps_to-in_default-next_step.result c.steps_to-in_default-next_step.ensures (λ _ h. h (reverse (syms_of g.S.IndexStorage.number c.args.rest.now)) c.steps.invariant)

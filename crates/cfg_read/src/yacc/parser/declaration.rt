@@ -1,6 +1,7 @@
 //! The declarations of a grammar text.
 
 ghost use Rattle.std.specs.Prelude.{◌≡◌};
+ghost use Rattle.std.specs.Str.{bytes_eq};
 ghost use Rattle.cfg_read.specs.Declarations.{declaration_named, knows};
 
 use crate::yacc::{AssocKind, YaccKind};
@@ -40,38 +41,46 @@ pub enum LineText {
     ParseGenerics,
 }
 
+/// Tells whether two words are one. Most that aren't differ in their lengths.
+#[inline(always)]
+fn is_word(word: &str, other: &str) -> bool
+    ensures { result ≡ bytes_eq word.now other.now }
+{
+    word.len() == other.len() && word == other
+}
+
 /// Answers the declaration of a word.
 #[tactic(auto, unfolding(crate::specs::Declarations::declaration_named))]
 pub(crate) fn declaration_named(word: &str) -> Option<Declaration>
     ensures { result ≡ declaration_named word.now }
 {
-    if word == "token" {
+    if is_word(word, "token") {
         Some(Declaration::Token)
-    } else if word == "left" {
+    } else if is_word(word, "left") {
         Some(Declaration::Items(LineList::Level(AssocKind::Left)))
-    } else if word == "right" {
+    } else if is_word(word, "right") {
         Some(Declaration::Items(LineList::Level(AssocKind::Right)))
-    } else if word == "nonassoc" {
+    } else if is_word(word, "nonassoc") {
         Some(Declaration::Items(LineList::Level(AssocKind::Nonassoc)))
-    } else if word == "avoid_insert" {
+    } else if is_word(word, "avoid_insert") {
         Some(Declaration::Items(LineList::AvoidInsert))
-    } else if word == "implicit_tokens" {
+    } else if is_word(word, "implicit_tokens") {
         Some(Declaration::Items(LineList::ImplicitTokens))
-    } else if word == "expect-unused" {
+    } else if is_word(word, "expect-unused") {
         Some(Declaration::Items(LineList::ExpectUnused))
-    } else if word == "start" {
+    } else if is_word(word, "start") {
         Some(Declaration::Start)
-    } else if word == "expect" {
+    } else if is_word(word, "expect") {
         Some(Declaration::Number(Count::Expect))
-    } else if word == "expect-rr" {
+    } else if is_word(word, "expect-rr") {
         Some(Declaration::Number(Count::ExpectRR))
-    } else if word == "epp" {
+    } else if is_word(word, "epp") {
         Some(Declaration::Epp)
-    } else if word == "actiontype" {
+    } else if is_word(word, "actiontype") {
         Some(Declaration::Rest(LineText::ActionType))
-    } else if word == "parse-param" {
+    } else if is_word(word, "parse-param") {
         Some(Declaration::Rest(LineText::ParseParam))
-    } else if word == "parse-generics" {
+    } else if is_word(word, "parse-generics") {
         Some(Declaration::Rest(LineText::ParseGenerics))
     } else {
         None

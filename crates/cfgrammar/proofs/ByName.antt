@@ -83,7 +83,7 @@ token_text k = option_or_default k.name
     option_or_default None = []
     option_or_default (Some n) = n
 
-token_texts : (ast : Ast) (ws : List WordText) → map token_text (map (file_token_facts ast) ws) ≡ texts ws
+pub token_texts : (ast : Ast) (ws : List WordText) → map token_text (map (file_token_facts ast) ws) ≡ texts ws
 token_texts ast [] = refl
 token_texts ast (w ∷ ws) = ap (λ l. w.text ∷ l) (token_texts ast ws)
 

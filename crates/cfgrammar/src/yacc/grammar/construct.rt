@@ -15,7 +15,12 @@ fn of_kept<S: IndexStorage>(
 ) -> Result<YaccGrammar<S>, YaccGrammarMakeError>
     ensures { Makes S.MAX info result }
 {
-    YaccGrammar::new_from_ast_with_validity_info(alloc, &info)
+    if info.is_valid() {
+        let kind = info.yacc_kind();
+        from_ast::of_valid_taken(alloc, kind, info.into_ast())
+    } else {
+        from_ast::refused(alloc, info.errors())
+    }
 }
 
 impl YaccGrammar<u32> {

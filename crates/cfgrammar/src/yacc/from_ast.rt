@@ -147,20 +147,20 @@ pub(crate) fn of_valid<S: IndexStorage>(
     }
 }
 
-/// The grammar of the tree of a valid text, which takes over the names and texts of the tree.
+/// The grammar of the tree of a valid text, whose names and texts are taken over.
 pub(crate) fn of_valid_taken<S: IndexStorage>(
     alloc: Global,
     kind: YaccKind,
-    mut ast: GrammarAST,
+    ast: &mut GrammarAST,
 ) -> Result<YaccGrammar<S>, YaccGrammarMakeError>
-    requires sound { IsWellFormedAst ast }
-    requires names { NamesAreWords ast }
-    ensures { MakesTree S.MAX kind ast result }
+    requires sound { IsWellFormedAst ast.old }
+    requires names { NamesAreWords ast.old }
+    ensures { MakesTree S.MAX kind ast.old result }
 {
-    let implicit = adds_implicit(kind, &ast);
-    match counts::too_many::<S>(&ast, implicit) {
+    let implicit = adds_implicit(kind, ast);
+    match counts::too_many::<S>(ast, implicit) {
         Some(count) => Err(YaccGrammarMakeError::TooMany(count)),
-        None => match of_taken(alloc, &mut ast, implicit) {
+        None => match of_taken(alloc, ast, implicit) {
             Ok(grm) => Ok(YaccGrammar::of_numbered(grm)),
             Err(e) => Err(YaccGrammarMakeError::Memory(e)),
         },

@@ -1,5 +1,5 @@
 -- Names of symbols in the lists of rules and tokens, and the precedences of tokens.
-use Rattle.std.proofs.Common.{◌≡◌, ℕ, Bool, true, false, cond, List, [], ◌∷◌, length, map, fold, get_or, slice_get, Option, Some, None, option_map, All, Contains, if◌then◌else◌, refl, sym, ap, ◌∙◌, subst}
+use Rattle.std.proofs.Common.{◌≡◌, ℕ, Bool, true, false, cond, List, [], ◌∷◌, length, map, fold, get_or, slice_get, Option, Some, None, option_map, All, Contains, if◌then◌else◌, sym, ap, ◌∙◌, subst}
 use Rattle.std.specs.List.{position}
 use Rattle.std.specs.Str.{bytes_eq}
 use Rattle.std.proofs.lemmas.Bool.{lt-ltb}

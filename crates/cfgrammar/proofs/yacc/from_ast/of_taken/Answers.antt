@@ -1,4 +1,4 @@
-use Rattle.std.proofs.Common.{◌≡◌, IfOk, sym, ◌∙◌, subst, length, arith}
+use Rattle.std.proofs.Common.{◌≡◌, IfOk, sym, ◌∙◌, subst, arith}
 use Rattle.cfg_numbered.specs.Value.{GrammarValue, IsGrammar}
 use Rattle.cfgrammar.proofs.FromAstRests.{rules_stay, rules_stay_apart, tokens_stay, tokens_stay_apart, levels_stay}
 use Rattle.cfgrammar.proofs.FromAstValues.{value_is, start_fits}

@@ -1,4 +1,4 @@
-use Rattle.std.proofs.Common.{◌≡◌, IfOk, sym, ap, ◌∙◌, subst, length, arith}
+use Rattle.std.proofs.Common.{◌≡◌, IfOk, sym, subst, arith}
 use Rattle.cfg_numbered.specs.Value.{GrammarValue, IsGrammar}
 use Rattle.cfgrammar.proofs.FromAstValues.{value_is, start_fits}
 use Rattle.cfgrammar.proofs.FromAstWell.{made_well, apart_by, count_tokens}

@@ -5,7 +5,6 @@ use Rattle.std.specs.declared.string.String.{String}
 use Rattle.cfg_base.specs.SpanModel.{SpanModel}
 use Rattle.cfg_read.specs.Names.{texts}
 use Rattle.cfg_read.specs.AstModels.{named_span}
-use Rattle.cfg_read.specs.WellFormedAst.{names_of_tokens}
 use Rattle.cfgrammar.specs.FromAst.{precedence_of}
 use Rattle.cfgrammar.proofs.yacc.from_ast.info.levels.Goals as goal
 

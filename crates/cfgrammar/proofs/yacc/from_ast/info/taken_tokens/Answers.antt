@@ -1,4 +1,4 @@
-use Rattle.std.proofs.Common.{◌≡◌, ◌∷◌, ◌++◌, List, ℕ, Some, false, length, map, option_map, slice_get, get_or, All, refl, sym, ap, ◌∙◌, subst, arith}
+use Rattle.std.proofs.Common.{◌≡◌, ◌∷◌, ◌++◌, Some, false, length, map, option_map, slice_get, get_or, All, refl, sym, ap, ◌∙◌, subst, arith}
 use Rattle.std.specs.Str.{bytes_eq}
 use Rattle.std.specs.String.{string_bytes}
 use Rattle.std.specs.declared.alloc.Global.{Global}
@@ -12,7 +12,7 @@ use Rattle.cfg_read.specs.Asts.{Ast}
 use Rattle.cfg_read.specs.AstModels.{named_span, named_epps}
 use Rattle.cfg_read.specs.WellFormedAst.{names_of_tokens}
 use Rattle.cfg_numbered.specs.Info.{token_facts}
-use Rattle.cfgrammar.specs.FromAst.{epp_in, epp_of, precedence_of, file_token_facts}
+use Rattle.cfgrammar.specs.FromAst.{epp_in, epp_of, file_token_facts}
 use Rattle.cfgrammar.proofs.ByName.{token_text, token_texts, tokens_apart}
 use Rattle.cfgrammar.proofs.FromAstTaken.{one_taken, next_of, next_is_free, others_differ}
 use Rattle.cfgrammar.proofs.FromAstTokens.{levels_count, level_at}

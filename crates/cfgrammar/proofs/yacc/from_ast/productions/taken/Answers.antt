@@ -1,4 +1,4 @@
-use Rattle.std.proofs.Common.{◌≡◌, ◌++◌, ◌∷◌, [], ◌≤◌, ℕ, List, suc, length, map, get_or, All, Contains, IsSomeAnd, if◌then◌else◌, sym, ap, ◌∙◌, subst, arith}
+use Rattle.std.proofs.Common.{◌≡◌, ◌++◌, ◌∷◌, [], ◌≤◌, List, suc, length, map, get_or, All, Contains, IsSomeAnd, if◌then◌else◌, sym, ap, ◌∙◌, subst, arith}
 use Rattle.std.proofs.lemmas.List.{length-map}
 use Rattle.cfg_read.specs.Asts.{Ast, ProductionAst}
 use Rattle.cfg_read.specs.AstModels as views

@@ -1,5 +1,5 @@
 -- Names in the order of their numbers, with what stands beside each.
-use Rattle.std.proofs.Common.{◌≡◌, ℕ, zero, suc, ◌+◌, ◌<◌, ◌≤◌, Bool, false, ◌||◌, List, [], ◌∷◌, ◌++◌, length, take, Option, Some, None, if◌then◌else◌, refl, sym, ap, ◌∙◌, subst, arith}
+use Rattle.std.proofs.Common.{◌≡◌, ℕ, zero, suc, ◌≤◌, Bool, false, ◌||◌, List, [], ◌∷◌, ◌++◌, length, take, Option, Some, None, if◌then◌else◌, refl, sym, ap, ◌∙◌, subst, arith}
 use Rattle.std.specs.Prelude.{map, option_map, slice_get}
 use Rattle.std.specs.List.{list_any}
 use Rattle.std.specs.Str.{bytes_eq}
@@ -83,7 +83,7 @@ token_text k = option_or_default k.name
     option_or_default None = []
     option_or_default (Some n) = n
 
-token_texts : (ast : Ast) (ws : List WordText) → map token_text (map (file_token_facts ast) ws) ≡ texts ws
+pub token_texts : (ast : Ast) (ws : List WordText) → map token_text (map (file_token_facts ast) ws) ≡ texts ws
 token_texts ast [] = refl
 token_texts ast (w ∷ ws) = ap (λ l. w.text ∷ l) (token_texts ast ws)
 

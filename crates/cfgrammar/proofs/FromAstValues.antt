@@ -6,7 +6,7 @@ use Rattle.std.proofs.lemmas.List.{length-map}
 use Rattle.cfg_read.specs.Asts.{Ast}
 use Rattle.cfg_read.specs.WellFormedAst.{IsWellFormedAst}
 use Rattle.cfg_numbered.specs.Info.{rule_facts, token_facts, production_of, production_facts, kept_facts, value_of}
-use Rattle.cfgrammar.specs.FromAst.{rules_of, tokens_of, file_token_facts, productions_of, production_facts_of, kept_of, grammar_of, value_by, too_many, NamesNoAdded}
+use Rattle.cfgrammar.specs.FromAst.{rules_of, file_token_facts, productions_of, production_facts_of, kept_of, grammar_of, value_by, too_many, NamesNoAdded}
 use Rattle.std.specs.declared.alloc.Global.{Global}
 use Rattle.std.specs.declared.string.String.{String}
 use Rattle.cfg_numbered.specs.declared.yacc.info.RuleInfo.{RuleInfo}

@@ -11,3 +11,5 @@ pub mod FromAstProductions
 pub mod FromAstValues
 pub mod AddedNames
 pub mod FromAstTexts
+pub mod FromAstTaken
+pub mod FromAstRests

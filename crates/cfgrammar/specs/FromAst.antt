@@ -116,8 +116,11 @@ rules_of implicit ast =
 abbrev pub precedence_of : Ast → List ℕ → Option Precedence
 precedence_of ast name = option_map (λ (p : PrecedenceAst). record { level = p.level; kind = p.kind }) (find (λ (p : PrecedenceAst). bytes_eq name p.token.text) ast.precedences)
 
+abbrev pub epp_in : List EppText → List ℕ → Option (List ℕ)
+epp_in es name = option_map (λ (e : EppText). e.text.text) (find (λ (e : EppText). bytes_eq name e.token.text) es)
+
 abbrev pub epp_of : Ast → List ℕ → Option (List ℕ)
-epp_of ast name = option_map (λ (e : EppText). e.text.text) (find (λ (e : EppText). bytes_eq name e.token.text) ast.epp)
+epp_of ast name = epp_in ast.epp name
 
 abbrev pub file_token_facts : Ast → WordText → TokenFacts
 file_token_facts ast w = record {

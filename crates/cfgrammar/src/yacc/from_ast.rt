@@ -1,6 +1,6 @@
 //! Makes grammars of syntax trees.
 
-ghost use Rattle.std.specs.Prelude.{◌≡◌, ℕ, Bool, None, [], IfOk};
+ghost use Rattle.std.specs.Prelude.{◌≡◌, ℕ, ◌≤◌, Bool, None, [], length, IfOk};
 ghost use Rattle.cfg_read.specs.declared.yacc.YaccKind.{YaccKind};
 ghost use Rattle.cfg_read.specs.ErrorModels.{failures_in};
 ghost use Rattle.cfg_read.specs.Asts.{Ast};
@@ -79,6 +79,14 @@ fn adds_implicit(kind: YaccKind, ast: &GrammarAST) -> bool
     }
 }
 
+/// The production of `^`, which stands behind those of the file.
+fn start_prod<S: IndexStorage>(ast: &GrammarAST) -> PIdx<S>
+    requires { length ast.now.productions ≤ S.MAX }
+    ensures { S.number result.0 ≡ length ast.now.productions }
+{
+    PIdx(index_of(ast.prods().len()))
+}
+
 /// The grammar of a tree whose counts fit.
 fn of_tree<S: IndexStorage>(
     alloc: Global,
@@ -90,11 +98,32 @@ fn of_tree<S: IndexStorage>(
     requires fits { too_many S.MAX (grammar_of implicit ast.now) ≡ None }
     ensures { IfOk result (λ g. g ≡ value_by implicit ast.now) }
 {
+    let levels = info::levels(alloc, ast)?;
     let rules = info::rules(alloc, ast, implicit)?;
-    let tokens = info::tokens(alloc, ast)?;
-    let prods = productions::all(alloc, ast, &tokens, implicit)?;
+    let tokens = info::tokens(alloc, ast, &levels)?;
+    let prods = productions::all(alloc, ast, &levels, implicit)?;
     let kept = info::kept(ast, implicit)?;
-    let start = PIdx(index_of(ast.prods().len()));
+    let start = start_prod(ast);
+    NumberedGrammar::of_parts(alloc, rules, tokens, prods, start, kept)
+}
+
+/// The grammar of a tree whose counts fit, whose names and texts are taken over.
+fn of_taken<S: IndexStorage>(
+    alloc: Global,
+    ast: &mut GrammarAST,
+    implicit: bool,
+) -> Result<NumberedGrammar<S>, AllocError>
+    requires sound { IsWellFormedAst ast.old }
+    requires free { NamesNoAdded ast.old }
+    requires fits { too_many S.MAX (grammar_of implicit ast.old) ≡ None }
+    ensures { IfOk result (λ g. g ≡ value_by implicit ast.old) }
+{
+    let kept = info::kept(ast, implicit)?;
+    let start = start_prod(ast);
+    let levels = info::levels(alloc, ast)?;
+    let prods = productions::taken(alloc, ast, &levels, implicit)?;
+    let rules = info::taken_rules(alloc, ast, implicit)?;
+    let tokens = info::taken_tokens(alloc, ast, &levels)?;
     NumberedGrammar::of_parts(alloc, rules, tokens, prods, start, kept)
 }
 
@@ -112,6 +141,26 @@ pub(crate) fn of_valid<S: IndexStorage>(
     match counts::too_many::<S>(ast, implicit) {
         Some(count) => Err(YaccGrammarMakeError::TooMany(count)),
         None => match of_tree(alloc, ast, implicit) {
+            Ok(grm) => Ok(YaccGrammar::of_numbered(grm)),
+            Err(e) => Err(YaccGrammarMakeError::Memory(e)),
+        },
+    }
+}
+
+/// The grammar of the tree of a valid text, whose names and texts are taken over.
+pub(crate) fn of_valid_taken<S: IndexStorage>(
+    alloc: Global,
+    kind: YaccKind,
+    ast: &mut GrammarAST,
+) -> Result<YaccGrammar<S>, YaccGrammarMakeError>
+    requires sound { IsWellFormedAst ast.old }
+    requires names { NamesAreWords ast.old }
+    ensures { MakesTree S.MAX kind ast.old result }
+{
+    let implicit = adds_implicit(kind, ast);
+    match counts::too_many::<S>(ast, implicit) {
+        Some(count) => Err(YaccGrammarMakeError::TooMany(count)),
+        None => match of_taken(alloc, ast, implicit) {
             Ok(grm) => Ok(YaccGrammar::of_numbered(grm)),
             Err(e) => Err(YaccGrammarMakeError::Memory(e)),
         },

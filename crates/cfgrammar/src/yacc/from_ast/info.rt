@@ -5,6 +5,11 @@ ghost use Rattle.std.specs.List.{list_any};
 ghost use Rattle.std.specs.Option.{option_copied};
 ghost use Rattle.std.specs.String.{string_bytes};
 ghost use Rattle.std.specs.Str.{bytes_eq};
+ghost use Rattle.std.specs.declared.alloc.Global.{Global};
+ghost use Rattle.std.specs.declared.string.String.{String};
+ghost use Rattle.cfg_read.specs.Asts.{Ast};
+ghost use Rattle.cfg_read.specs.AstChanges.{without_rules};
+ghost use Rattle.cfg_read.specs.AstModels.{named_rule, named_epps};
 ghost use Rattle.cfg_read.specs.WellFormedAst.{AreDistinct, names_of_tokens};
 ghost use Rattle.cfg_numbered.specs.Info.{rule_facts, token_facts, kept_facts, param_facts};
 ghost use Rattle.cfgrammar.specs.FromAst as tree;
@@ -15,7 +20,7 @@ use cfg_base::index::IndexStorage;
 use cfg_base::span::Span;
 use cfg_numbered::yacc::info::{KeptInfo, RuleInfo, TokenInfo};
 use cfg_read::yacc::Precedence;
-use cfg_read::yacc::ast::GrammarAST;
+use cfg_read::yacc::ast::{GrammarAST, Rule};
 use indexmap::IndexMap;
 use std::alloc::{AllocError, Global};
 
@@ -39,6 +44,37 @@ pub(crate) fn precedence_of(ast: &GrammarAST, name: &str) -> Option<Precedence>
     }
 }
 
+/// The precedences of the tokens of these names, in order.
+fn levels_of(
+    alloc: Global,
+    ast: &GrammarAST,
+    names: &[String],
+) -> Result<Vec<Option<Precedence>>, AllocError>
+    ensures { IfOk result (λ v. v.items ≡ map (tree.precedence_of ast.now) (map string_bytes names.now)) }
+{
+    let mut levels = Vec::with_capacity(alloc, names.len())?;
+    'names: for name in names {
+        levels.push(precedence_of(ast, name.as_str()))?;
+    }
+    Ok(levels)
+}
+
+/// The precedences of the tokens, in order.
+pub(crate) fn levels(alloc: Global, ast: &GrammarAST) -> Result<Vec<Option<Precedence>>, AllocError>
+    ensures { IfOk result (λ v. v.items ≡ map (tree.precedence_of ast.now) (names_of_tokens ast.now)) }
+{
+    let names = ast.tokens().keys();
+    levels_of(alloc, ast, names.as_slice())
+}
+
+/// The precedence of the token of this number.
+pub(crate) fn level_of(levels: &[Option<Precedence>], number: usize) -> Option<Precedence>
+    requires { number < length levels.now }
+    ensures { slice_get levels.now number ≡ Some result }
+{
+    levels[number]
+}
+
 fn epp_of(ast: &GrammarAST, name: &str) -> Result<Option<String>, AllocError>
     ensures { IfOk result (λ text. option_map string_bytes text ≡ tree.epp_of ast.now name.now) }
 {
@@ -60,6 +96,21 @@ fn file_rule(ast: &GrammarAST, index: usize) -> Result<(String, RuleInfo), Alloc
         action_type,
     };
     Ok((name, rule))
+}
+
+/// What stands beside the name of a rule of the file, taken over.
+fn info_of(rule: Rule) -> RuleInfo
+    ensures { (name : String Global) → rule_facts (name, result) ≡ tree.file_rule_facts (named_rule (name, rule)) }
+{
+    let Rule {
+        name,
+        pidxs: _,
+        actiont,
+    } = rule;
+    RuleInfo {
+        span: name.1,
+        action_type: actiont,
+    }
 }
 
 /// Puts a rule that the text doesn't have behind the others.
@@ -110,8 +161,35 @@ pub(crate) fn rules(
     Ok(rules)
 }
 
-fn file_token(ast: &GrammarAST, index: usize) -> Result<(String, TokenInfo), AllocError>
-    requires { index < length ast.now.tokens }
+/// The rules by their names, which are taken out of the tree.
+pub(crate) fn taken_rules(
+    alloc: Global,
+    ast: &mut GrammarAST,
+    implicit: bool,
+) -> Result<IndexMap<String, RuleInfo>, AllocError>
+    requires { AreDistinct (map (λ r. r.name) (tree.rules_of implicit ast.old)) }
+    ensures rules { IfOk result (λ m. map rule_facts m.entries ≡ tree.rules_of implicit ast.old) }
+    ensures rest { ast.new ≡ without_rules ast.old }
+{
+    let from = ast.take_rules(alloc);
+    let mut rules = IndexMap::with_capacity(alloc, from.len().saturating_add(3))?;
+    add_rule(alloc, &mut rules, "^")?;
+    'rules: for (name, rule) in from {
+        put_last(&mut rules, name, info_of(rule))?;
+    }
+    if implicit {
+        add_implicit(alloc, &mut rules)?;
+    }
+    Ok(rules)
+}
+
+fn file_token(
+    ast: &GrammarAST,
+    levels: &[Option<Precedence>],
+    index: usize,
+) -> Result<(String, TokenInfo), AllocError>
+    requires told { levels.now ≡ map (tree.precedence_of ast.now) (names_of_tokens ast.now) }
+    requires index { index < length ast.now.tokens }
     ensures { IfOk result (λ t. slice_get (map (tree.file_token_facts ast.now) ast.now.tokens) index ≡ Some (token_facts t)) }
 {
     let (name, span) = ast.tokens().get_index(index).unwrap();
@@ -120,7 +198,7 @@ fn file_token(ast: &GrammarAST, index: usize) -> Result<(String, TokenInfo), All
     let token = TokenInfo {
         span: *span,
         epp,
-        precedence: precedence_of(ast, name.as_str()),
+        precedence: level_of(levels, index),
         is_avoided: ast.avoid_insert().contains_key(name.as_str()),
     };
     Ok((copy, token))
@@ -130,13 +208,68 @@ fn file_token(ast: &GrammarAST, index: usize) -> Result<(String, TokenInfo), All
 pub(crate) fn tokens(
     alloc: Global,
     ast: &GrammarAST,
+    levels: &[Option<Precedence>],
 ) -> Result<IndexMap<String, TokenInfo>, AllocError>
-    requires { AreDistinct (names_of_tokens ast.now) }
+    requires apart { AreDistinct (names_of_tokens ast.now) }
+    requires told { levels.now ≡ map (tree.precedence_of ast.now) (names_of_tokens ast.now) }
     ensures { IfOk result (λ m. map token_facts m.entries ≡ map (tree.file_token_facts ast.now) ast.now.tokens) }
 {
     let mut tokens = IndexMap::with_capacity(alloc, ast.tokens().len().saturating_add(1))?;
     'tokens: for index in 0..ast.tokens().len() {
-        let (name, token) = file_token(ast, index)?;
+        let (name, token) = file_token(ast, levels, index)?;
+        put_last(&mut tokens, name, token)?;
+    }
+    Ok(tokens)
+}
+
+/// The printed text of a token, taken over.
+fn taken_epp(epps: &mut IndexMap<String, (Span, (String, Span))>, name: &str) -> Option<String>
+    ensures text { option_map string_bytes result ≡ tree.epp_in (named_epps epps.old) name.now }
+    ensures others { (q : String Global) → bytes_eq name.now (string_bytes q) ≡ false → tree.epp_in (named_epps epps.new) (string_bytes q) ≡ tree.epp_in (named_epps epps.old) (string_bytes q) }
+{
+    match epps.swap_remove(name) {
+        Some((_span, (text, _))) => Some(text),
+        None => None,
+    }
+}
+
+/// What stands beside the name of a token of the file, with its printed text taken over.
+fn taken_token(
+    ast: &GrammarAST,
+    epps: &mut IndexMap<String, (Span, (String, Span))>,
+    precedence: Option<Precedence>,
+    name: &str,
+    span: Span,
+) -> TokenInfo
+    ensures token { (from : Ast) (key : String Global) → string_bytes key ≡ name.now
+        → from.avoid_insert ≡ ast.now.avoid_insert → tree.epp_in (named_epps epps.old) name.now ≡ tree.epp_of from name.now → precedence ≡ tree.precedence_of from name.now
+        → token_facts (key, result) ≡ tree.file_token_facts from (record { text = name.now; span = span }) }
+    ensures others { (q : String Global) → bytes_eq name.now (string_bytes q) ≡ false → tree.epp_in (named_epps epps.new) (string_bytes q) ≡ tree.epp_in (named_epps epps.old) (string_bytes q) }
+{
+    TokenInfo {
+        span,
+        epp: taken_epp(epps, name),
+        precedence,
+        is_avoided: ast.avoid_insert().contains_key(name),
+    }
+}
+
+/// The tokens of the text by their names, which are taken out of the tree with their printed texts.
+pub(crate) fn taken_tokens(
+    alloc: Global,
+    ast: &mut GrammarAST,
+    levels: &[Option<Precedence>],
+) -> Result<IndexMap<String, TokenInfo>, AllocError>
+    requires apart { AreDistinct (names_of_tokens ast.old) }
+    requires told { levels.now ≡ map (tree.precedence_of ast.old) (names_of_tokens ast.old) }
+    ensures { IfOk result (λ m. map token_facts m.entries ≡ map (tree.file_token_facts ast.old) ast.old.tokens) }
+{
+    let from = ast.take_tokens(alloc);
+    let mut epps = ast.take_epp(alloc);
+    let mut tokens = IndexMap::with_capacity(alloc, from.len().saturating_add(1))?;
+    'tokens: for (name, span) in from {
+        let precedence = level_of(levels, tokens.len());
+        let token = taken_token(ast, &mut epps, precedence, name.as_str(), span);
         put_last(&mut tokens, name, token)?;
     }
     Ok(tokens)

@@ -1,12 +1,39 @@
 //! Grammars of texts.
 
-ghost use Rattle.cfgrammar.specs.FromAst.{Makes, MakesText, MakesFile};
+ghost use Rattle.std.specs.Prelude.{◌≡◌, true};
+ghost use Rattle.cfg_read.specs.ValidityInfo.{is_valid};
+ghost use Rattle.cfgrammar.specs.FromAst.{Makes, MakesTree, Refuses, MakesText, MakesFile};
 
 use super::YaccGrammar;
 use crate::yacc::from_ast::{self, YaccGrammarMakeError};
 use cfg_base::index::IndexStorage;
 use cfg_read::yacc::{ASTWithValidityInfo, YaccGrammarFailure, YaccKind, one_file, one_kind};
 use std::alloc::Global;
+
+/// The grammar of what is kept of a valid text, which is let go.
+fn of_valid_kept<S: IndexStorage>(
+    alloc: Global,
+    info: ASTWithValidityInfo,
+) -> Result<YaccGrammar<S>, YaccGrammarMakeError>
+    requires { is_valid info.errors ≡ true }
+    ensures { MakesTree S.MAX info.kind info.ast result }
+{
+    let kind = info.yacc_kind();
+    let mut ast = info.into_ast();
+    let made = from_ast::of_valid_taken(alloc, kind, &mut ast);
+    drop(ast);
+    made
+}
+
+/// The answer for what is kept of an invalid text, which is let go.
+fn refused_kept<S: IndexStorage>(
+    alloc: Global,
+    info: ASTWithValidityInfo,
+) -> Result<YaccGrammar<S>, YaccGrammarMakeError>
+    ensures { Refuses info.errors result }
+{
+    from_ast::refused(alloc, info.errors())
+}
 
 /// The grammar of what is kept of a text, which is let go.
 fn of_kept<S: IndexStorage>(
@@ -15,7 +42,11 @@ fn of_kept<S: IndexStorage>(
 ) -> Result<YaccGrammar<S>, YaccGrammarMakeError>
     ensures { Makes S.MAX info result }
 {
-    YaccGrammar::new_from_ast_with_validity_info(alloc, &info)
+    if info.is_valid() {
+        of_valid_kept(alloc, info)
+    } else {
+        refused_kept(alloc, info)
+    }
 }
 
 impl YaccGrammar<u32> {

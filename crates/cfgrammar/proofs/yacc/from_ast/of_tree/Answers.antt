@@ -1,35 +1,24 @@
-use Rattle.std.proofs.Common.{◌≡◌, IfOk, sym, ap, ◌∙◌, subst, length, arith}
-use Rattle.std.proofs.lemmas.List.{length-map}
-use Rattle.cfg_read.specs.AstModels as views
+use Rattle.std.proofs.Common.{◌≡◌, IfOk, sym, subst, arith}
 use Rattle.cfg_numbered.specs.Value.{GrammarValue, IsGrammar}
 use Rattle.cfgrammar.proofs.FromAstValues.{value_is, start_fits}
 use Rattle.cfgrammar.proofs.FromAstWell.{made_well, apart_by, count_tokens}
 use Rattle.cfgrammar.proofs.yacc.from_ast.of_tree.Goals as goal
 
-pub index_of-requires : goal.index_of-requires
-index_of-requires g c =
-    let ast = c.args.ast.now in
-    let low = start_fits g.S.IndexStorage.MAX c.args.implicit ast c.requires.sound c.requires.free c.requires.fits in
-    let count = length-map c.prods.result.now views.production_of in
-    let same = ap length c.prods.ensures in
-    omega (arith, low, count, same)
+pub start_prod-start-requires : goal.start_prod-start-requires
+start_prod-start-requires g c = start_fits g.S.IndexStorage.MAX c.args.implicit c.args.ast.now c.requires.sound c.requires.free c.requires.fits
 
 pub of_parts-requires : goal.of_parts-requires
 of_parts-requires g c =
     let ast = c.args.ast.now in
-    let count = length-map c.prods.result.now views.production_of in
-    let same = ap length c.prods.ensures in
-    let is = value_is g.S.IndexStorage.number c.args.implicit ast c.in_ok-rules.rules.entries c.in_ok-tokens.tokens.entries c.in_ok-prods.prods.items (g.S.IndexStorage.number c.index_of.result) c.in_ok-kept.kept
-    c.in_ok-rules.ensures c.in_ok-tokens.ensures c.in_ok-prods.ensures.productions c.in_ok-prods.ensures.facts (c.index_of.ensures ∙ sym count ∙ same) c.in_ok-kept.ensures in
+    let is = value_is g.S.IndexStorage.number c.args.implicit ast c.in_ok-rules.rules.entries c.in_ok-tokens.tokens.entries c.in_ok-prods.prods.items (g.S.IndexStorage.number c.start_prod-start.result.0) c.in_ok-kept.kept
+    c.in_ok-rules.ensures c.in_ok-tokens.ensures c.in_ok-prods.ensures.productions c.in_ok-prods.ensures.facts c.start_prod-start.ensures c.in_ok-kept.ensures in
     subst (IsGrammar g.S.IndexStorage.MAX) (sym is) (made_well g.S.IndexStorage.MAX c.args.implicit ast c.requires.sound c.requires.free c.requires.fits)
 
 pub returns : goal.returns
 returns g c =
     let ast = c.args.ast.now in
-    let count = length-map c.prods.result.now views.production_of in
-    let same = ap length c.prods.ensures in
-    let is = value_is g.S.IndexStorage.number c.args.implicit ast c.in_ok-rules.rules.entries c.in_ok-tokens.tokens.entries c.in_ok-prods.prods.items (g.S.IndexStorage.number c.index_of.result) c.in_ok-kept.kept
-    c.in_ok-rules.ensures c.in_ok-tokens.ensures c.in_ok-prods.ensures.productions c.in_ok-prods.ensures.facts (c.index_of.ensures ∙ sym count ∙ same) c.in_ok-kept.ensures in
+    let is = value_is g.S.IndexStorage.number c.args.implicit ast c.in_ok-rules.rules.entries c.in_ok-tokens.tokens.entries c.in_ok-prods.prods.items (g.S.IndexStorage.number c.start_prod-start.result.0) c.in_ok-kept.kept
+    c.in_ok-rules.ensures c.in_ok-tokens.ensures c.in_ok-prods.ensures.productions c.in_ok-prods.ensures.facts c.start_prod-start.ensures c.in_ok-kept.ensures in
     subst (λ (v : GrammarValue). IfOk c.of_parts.result (λ g. g ≡ v)) is c.of_parts.ensures
 
 pub rules-requires : goal.rules-requires

@@ -11,7 +11,7 @@ put_last-requires c =
     let ast = c.args.ast.now in
     let i = c.tokens.index in
     let f = token_facts (c.in_ok-name.name, c.in_ok-name.token) in
-    later_is_free token_facts token_text (λ e. refl) (map (file_token_facts ast) ast.tokens) (tokens_apart ast c.requires) c.tokens.tokens.entries i i f c.tokens.invariant (omega arith) c.in_ok-name.ensures
+    later_is_free token_facts token_text (λ e. refl) (map (file_token_facts ast) ast.tokens) (tokens_apart ast c.requires.apart) c.tokens.tokens.entries i i f c.tokens.invariant (omega arith) c.in_ok-name.ensures
 
 pub tokens-preserved : goal.tokens-preserved
 tokens-preserved c =

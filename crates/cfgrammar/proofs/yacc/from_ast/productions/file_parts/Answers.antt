@@ -1,17 +1,14 @@
 use Rattle.std.proofs.Common.{◌≡◌, ◌+◌, ◌<◌, ◌∷◌, [], ◌++◌, List, suc, All, take, length, map, slice_get, option_map, Some, sym, ap, ◌∙◌, subst, arith}
-use Rattle.std.proofs.lemmas.List.{map-append, length-map, length-take-le}
+use Rattle.std.proofs.lemmas.List.{length-map, length-take-le}
 use Rattle.std.proofs.lemmas.Option.{slice_get-get_or, slice_get-map}
-use Rattle.cfg_theory.specs.Grammar.{Production}
 use Rattle.cfg_read.specs.Asts.{ProductionAst}
 use Rattle.cfg_read.specs.AstModels as views
 use Rattle.cfg_read.specs.WellFormedAst.{NamesOne}
-use Rattle.cfg_numbered.specs.Info.{production_of, production_facts}
-use Rattle.cfg_numbered.specs.Value.{ProductionFacts}
-use Rattle.cfgrammar.specs.FromAst.{file_head, file_body, file_productions, file_production_facts}
+use Rattle.cfgrammar.specs.FromAst.{file_head, file_productions, file_production_facts}
 use Rattle.cfgrammar.proofs.FromAstSymbols.{under}
 use Rattle.cfgrammar.proofs.FromAstHeads.{head_within}
 use Rattle.cfgrammar.proofs.FromAstLookups.{take_next, get_or_any}
-use Rattle.cfgrammar.proofs.FromAstProductions.{files_more}
+use Rattle.cfgrammar.proofs.FromAstProductions.{file_made}
 use Rattle.cfgrammar.proofs.yacc.from_ast.productions.file_parts.Goals as goal
 
 pub file_part-requires-clause-known : goal.file_part-requires-clause-known
@@ -57,18 +54,5 @@ prods-preserved g c =
     let count = c.in_ok-heads.ensures.count in
     let head : suc c.index.result.now ≡ file_head ast n = ap suc (c.index.ensures ∙ get_or_any c.in_ok-heads.heads.items n c.index.result.now 0 (omega (arith, count, lt))) ∙ c.in_ok-heads.ensures.each n lt in
     let front = length-take-le n ps (omega (arith, lt)) in
-    let named : Production = record { head = file_head ast n; body = file_body implicit ast p } in
-    let of_made : production_of number made ≡ named = c.in_ok-file_part.ensures.production ∙ (λ i. record { head = head i; body = file_body implicit ast p }) in (
-      ap (map (production_of number)) c.in_ok-push.ensures.items
-          ∙ map-append (production_of number) old (made ∷ [])
-          ∙ ap (λ l. l ++ production_of number made ∷ []) c.prods.invariant.0
-          ∙ ap (λ (q : Production). file_productions implicit ast 0 (take n ps) ++ q ∷ []) of_made
-          ∙ sym (files_more implicit ast 0 (take n ps) p n (omega (arith, front)))
-          ∙ ap (file_productions implicit ast 0) next,
-      ap (map production_facts) c.in_ok-push.ensures.items
-          ∙ map-append production_facts old (made ∷ [])
-          ∙ ap (λ l. l ++ production_facts made ∷ []) c.prods.invariant.1
-          ∙ ap (λ (f : ProductionFacts). map (file_production_facts ast) (take n ps) ++ f ∷ []) c.in_ok-file_part.ensures.facts
-          ∙ sym (map-append (file_production_facts ast) (take n ps) (p ∷ []))
-          ∙ ap (map (file_production_facts ast)) next,
-    )
+    let step = file_made number implicit ast old _ made (take n ps) p n c.index.result.now c.in_ok-push.ensures.items (omega (arith, front)) head c.in_ok-file_part.ensures.production c.in_ok-file_part.ensures.facts c.prods.invariant.0 c.prods.invariant.1 in
+    (step.0 ∙ ap (file_productions implicit ast 0) next, step.1 ∙ ap (map (file_production_facts ast)) next)

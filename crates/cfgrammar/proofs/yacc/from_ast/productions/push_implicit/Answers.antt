@@ -17,7 +17,7 @@ token_named-requires-clause-known g c =
     let ast = c.args.ast.now in
     let e = deref_pair c.unwrap.result in
     let at = entry_at named_span (λ (w : WordText). w.text) c.implicit_tokens.result.now.entries ast.implicit_tokens c.args.index (option_map deref_pair c.get_index.result) e c.implicit_tokens.ensures c.get_index.ensures.entry (ap (option_map deref_pair) c.unwrap.ensures) in
-    subst (Contains (names_of_tokens ast)) (sym c.as_str.ensures.value) (all_at (Contains (names_of_tokens ast)) (texts ast.implicit_tokens) c.args.index (string_bytes e.0) c.requires.sound.implicit_are_tokens at)
+    subst (Contains (names_of_tokens ast)) (sym c.as_str.ensures.value) (all_at (Contains (names_of_tokens ast)) (texts ast.implicit_tokens) c.args.index (string_bytes e.0) c.requires.named at)
 
 pub returns : goal.returns
 returns g c =

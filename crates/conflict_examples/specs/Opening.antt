@@ -65,7 +65,7 @@ IsKnown number G k = AreStepsTo G (number k.token.0) (reverse (syms_of number k.
 
 -- what is open for an action is, and what is known of it is right
 abbrev pub IsSide : {S : Type 0} → (S → ℕ) → Grammar → Side S → Type 0
-IsSide number G s = IfSome s.opened (IsWhole number G) × IfSome s.known (IsKnown number G)
+IsSide number G s = IfSome s.opened (IsWhole number G) × IfSome s.known (λ b. IsKnown number G b.value)
 
 -- so for both actions, and the symbols that are kept lead to their state
 abbrev pub AreOpen : {S : Type 0} → (S → ℕ) → Grammar → Graph → Spines S → Type 0

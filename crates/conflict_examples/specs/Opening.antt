@@ -1,5 +1,5 @@
 -- What is open while an example is put together.
-use Rattle.std.specs.Prelude.{◌≡◌, ℕ, suc, List, [], ◌∷◌, ◌++◌, Bool, true, false, reverse, map, IfSome}
+use Rattle.std.specs.Prelude.{◌≡◌, ℕ, suc, List, [], ◌∷◌, ◌++◌, Bool, true, false, reverse, IfSome}
 use Rattle.cfg_base.specs.declared.symbol.PIdx.{PIdx}
 use Rattle.cfg_base.specs.declared.symbol.SIdx.{SIdx}
 use Rattle.cfg_theory.specs.Grammar.{Sym, rule, token, Grammar, IsNext}

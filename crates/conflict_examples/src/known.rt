@@ -31,8 +31,8 @@ pub(crate) struct Told<S> {
 /// Of how many productions on they are worth to be kept.
 const MANY_STEPS: usize = 16;
 
-/// Whether it is known of this list before the token.
-fn is_of_both<S: IndexStorage>(known: &Known<S>, rest: &[Symbol<S>], token: TIdx<S>) -> bool
+/// Whether what is known is of this list before the token.
+fn is_known_of<S: IndexStorage>(known: &Known<S>, rest: &[Symbol<S>], token: TIdx<S>) -> bool
     ensures token { IsTrue result → S.number known.now.token.0 ≡ S.number token.0 }
     ensures rest { IsTrue result → syms_of S.number known.now.rest.items ≡ syms_of S.number rest.now }
 {
@@ -56,7 +56,7 @@ fn known_steps<S: IndexStorage>(
     let Some(known) = known else {
         return Ok(None);
     };
-    if !is_of_both(known, rest, token) {
+    if !is_known_of(known, rest, token) {
         return Ok(None);
     }
     let steps = Vec::from_slice(alloc, known.steps.as_slice())?;

@@ -1,5 +1,5 @@
 -- Examples are contests.
-use Rattle.std.proofs.Common.{◌≢◌, ℕ, inl, inr, List, [], ◌∷◌, length, refl, subst}
+use Rattle.std.proofs.Common.{◌≢◌, ℕ, inl, inr, List, [], length, refl, subst}
 use Rattle.cfg_theory.specs.Grammar.{Sym, token, Grammar, body_of, end_token, IsNext, IsEnd}
 use Rattle.cfg_theory.specs.Derivation.{Derives, IsFirstBefore}
 use Rattle.lr_theory.specs.Canonical.{Present, Look, Act, shift, reduce, accept, Allows}

@@ -9,6 +9,7 @@ use Rattle.cfg_numbered.specs.Symbols.{syms_of}
 use Rattle.conflict_examples.specs.ExampleViews.{spine_of}
 use Rattle.conflict_examples.specs.Opening.{IsOpened, IsOpen, StaysOpen}
 use Rattle.conflict_examples.specs.declared.opened.Opened.{Opened}
+use Rattle.conflict_examples.proofs.SymbolLists.{last_turned}
 
 back_is : (n : ℕ) (a w : List Sym) → back_over n a w ≡ reverse (take n a) ++ w
 back_is zero a w = refl
@@ -72,11 +73,8 @@ module _ {A B : Type 0} (f : A → Item) (h : B → Sym) (G : Grammar) where
   abbrev pub Kept : List A → List B → List B → Type 0
   Kept items symbols rest = IsOpened G (reverse (map f items)) (reverse (map h symbols)) (reverse (map h rest))
 
-  pub one_more : (outer items : List A) (x : A) → items ≡ outer ++ x ∷ [] → reverse (map f items) ≡ f x ∷ reverse (map f outer)
-  one_more outer items x e = ap (λ l. reverse (map f l)) e ∙ ap reverse (map-append f outer (x ∷ [])) ∙ reverse-append (map f outer) (f x ∷ [])
-
   two_more : (outer items now : List A) (x i : A) → items ≡ outer ++ x ∷ [] → now ≡ items ++ i ∷ [] → reverse (map f now) ≡ f i ∷ f x ∷ reverse (map f outer)
-  two_more outer items now x i e m = one_more items now i m ∙ ap (λ l. f i ∷ l) (one_more outer items x e)
+  two_more outer items now x i e m = last_turned f items now i m ∙ ap (λ l. f i ∷ l) (last_turned f outer items x e)
 
   within : (i : Item) (body : List B) → map h body ≡ body_of G i.production → i.dot ≤ length body → i.dot ≤ length (body_of G i.production)
   within i body m le = subst (λ k. i.dot ≤ k) (sym (length-map body h) ∙ ap length m) le
@@ -87,7 +85,7 @@ module _ {A B : Type 0} (f : A → Item) (h : B → Sym) (G : Grammar) where
   pub start_kept : (x : A) (none items : List A) (symbols rest body : List B) → (f x).production ≡ G.start → map h body ≡ body_of G (f x).production → (f x).dot ≤ length body →
       none ≡ [] → items ≡ none ++ x ∷ [] → rest ≡ [] → symbols ≡ take (f x).dot body → Kept items symbols rest
   start_kept x none items symbols rest body e m le n one r t =
-      start_opened G (f x) (reverse (map f items)) (map h symbols) (reverse (map h rest)) e (within (f x) body m le) (one_more none items x one ∙ ap (λ l. f x ∷ reverse (map f l)) n) (ap (λ l. reverse (map h l)) r)
+      start_opened G (f x) (reverse (map f items)) (map h symbols) (reverse (map h rest)) e (within (f x) body m le) (last_turned f none items x one ∙ ap (λ l. f x ∷ reverse (map f l)) n) (ap (λ l. reverse (map h l)) r)
       (ap (map h) t ∙ taken (f x).dot body (body_of G (f x).production) m)
 
   -- within others
@@ -107,7 +105,7 @@ module _ {A B : Type 0} (f : A → Item) (h : B → Sym) (G : Grammar) where
       let ends = reverse (map h rest) ++ others in
       let inside : IsOpened G (f x ∷ reverse (map f outer) ++ js) (reverse before) ends =
       subst (λ l. IsOpened G (f x ∷ reverse (map f outer) ++ js) l ends) (sym (turned_back v (map h w)))
-      (subst (λ l. IsOpened G (l ++ js) (reverse (map h w) ++ v) ends) (one_more outer items x e) was) in
+      (subst (λ l. IsOpened G (l ++ js) (reverse (map h w) ++ v) ends) (last_turned f outer items x e) was) in
       let read : string ≡ before ++ take (f i).dot (body_of G (f i).production) =
       ap (λ l. reverse v ++ l) (ap (map h) t ∙ map-append h w (take (f i).dot body) ∙ ap (λ l. map h w ++ l) (taken (f i).dot body (body_of G (f i).production) b))
       ∙ sym (append_assoc (reverse v) (map h w) (take (f i).dot (body_of G (f i).production))) in
@@ -122,7 +120,7 @@ module _ {A B : Type 0} (f : A → Item) (h : B → Sym) (G : Grammar) where
       KeptIn (x ∷ js) w (from_dot G x.production (suc x.dot) ++ others) items symbols rest
   first_kept n i none items symbols rest body b le e one r t o x js w others was next =
       let behind_x = from_dot G x.production (suc x.dot) ++ others in
-      let spine : reverse (map f items) ++ (x ∷ js) ≡ f i ∷ x ∷ js = ap (λ l. l ++ (x ∷ js)) (one_more none items i one ∙ ap (λ l. f i ∷ reverse (map f l)) e) in
+      let spine : reverse (map f items) ++ (x ∷ js) ≡ f i ∷ x ∷ js = ap (λ l. l ++ (x ∷ js)) (last_turned f none items i one ∙ ap (λ l. f i ∷ reverse (map f l)) e) in
       let read : reverse w ++ map h symbols ≡ reverse w ++ take (f i).dot (body_of G (f i).production) = ap (λ l. reverse w ++ l) (ap (map h) t ∙ taken (f i).dot body (body_of G (f i).production) b) in
       let left : reverse (map h rest) ++ behind_x ≡ behind_x = ap (λ l. reverse (map h l) ++ behind_x) r in
       subst (λ l. IsOpened G (reverse (map f items) ++ (x ∷ js)) l (reverse (map h rest) ++ behind_x)) (turned_back w (map h symbols))
@@ -141,9 +139,9 @@ module _ {A B : Type 0} (f : A → Item) (h : B → Sym) (G : Grammar) where
   joined_kept x outer items inner all w front string rest back turned after ends e was part a t r n k =
       let outside = f x ∷ reverse (map f outer) in
       let next = from_dot G (f x).production (suc (f x).dot) in
-      let was_out : IsOpened G outside (reverse (map h w)) (reverse (map h rest)) = subst (λ l. IsOpened G l (reverse (map h w)) (reverse (map h rest))) (one_more outer items x e) was in
+      let was_out : IsOpened G outside (reverse (map h w)) (reverse (map h rest)) = subst (λ l. IsOpened G l (reverse (map h w)) (reverse (map h rest))) (last_turned f outer items x e) was in
       let now = part was_out in
-      let spine : reverse (map f inner) ++ outside ≡ reverse (map f all) = sym (ap (λ l. reverse (map f l)) a ∙ both f items inner ∙ ap (λ l. reverse (map f inner) ++ l) (one_more outer items x e)) in
+      let spine : reverse (map f inner) ++ outside ≡ reverse (map f all) = sym (ap (λ l. reverse (map f l)) a ∙ both f items inner ∙ ap (λ l. reverse (map f inner) ++ l) (last_turned f outer items x e)) in
       let read : reverse (map h front) ++ reverse (map h w) ≡ reverse (map h string) = sym (ap (λ l. reverse (map h l)) t ∙ both h w front) in
       let left : reverse (map h after) ++ (next ++ reverse (map h rest)) ≡ reverse (map h ends) =
       sym (ap (λ l. reverse (map h l)) n ∙ both h turned after ∙ ap (λ l. reverse (map h after) ++ l) (ap reverse r ∙ reverse-append (map h rest) (reverse (map h back)) ∙ ap (λ l. l ++ reverse (map h rest)) (reverse-reverse (map h back) ∙ k))) in
@@ -169,7 +167,7 @@ module _ {A B : Type 0} (f : A → Item) (h : B → Sym) (G : Grammar) where
       let one : drop (f i).dot all ≡ reverse (map h front) = fewer (f i).dot w front t (omega (arith, dots_fit G (f i) (f x) (reverse (map f outer)) all ends both, length-reverse (map h w), length-map w h)) in
       let other : drop (length b) ends ≡ reverse (map h after) =
       fewer (length b) rest after (r ∙ ap (λ n. take (length rest - n) rest) (sym same)) (omega (arith, rest_fits G (f i) (f x) (reverse (map f outer)) all ends both, length-reverse (map h rest), length-map rest h)) in
-      subst (λ l. IsOpened G l (reverse (map h front)) (reverse (map h after))) (sym (one_more outer now x e)) (subst (λ l. IsOpened G (f x ∷ reverse (map f outer)) (reverse (map h front)) l) other (subst (λ l. IsOpened G (f x ∷ reverse (map f outer)) l (drop (length b) ends)) one less))
+      subst (λ l. IsOpened G l (reverse (map h front)) (reverse (map h after))) (sym (last_turned f outer now x e)) (subst (λ l. IsOpened G (f x ∷ reverse (map f outer)) (reverse (map h front)) l) other (subst (λ l. IsOpened G (f x ∷ reverse (map f outer)) l (drop (length b) ends)) one less))
 
   pub behind_is : (body back : List B) (d p : ℕ) → map h body ≡ body_of G p → back ≡ drop d body → map h back ≡ from_dot G p d
   behind_is body back d p m e = ap (map h) e ∙ sym (drop-map h d body) ∙ ap (drop d) m

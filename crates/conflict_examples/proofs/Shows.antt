@@ -4,7 +4,8 @@ use Rattle.cfg_theory.specs.Grammar.{Sym, token, Grammar, body_of, IsNext, IsEnd
 use Rattle.lr_theory.specs.Canonical.{shift, reduce, accept}
 use Rattle.conflict_examples.specs.Spines.{Item, IsSpine, before_dots, around, AreSteps, Shown, Stands, ShowsAct}
 use Rattle.conflict_examples.specs.Opening.{IsOpened, AreStepsTo}
-use Rattle.conflict_examples.proofs.Openings.{Kept, one_more}
+use Rattle.conflict_examples.proofs.SymbolLists.{last_turned}
+use Rattle.conflict_examples.proofs.Openings.{Kept}
 
 module _ (G : Grammar) where
   stands_open : (i : Item) (js spine : List Item) (w others : List Sym) → IsOpened G (i ∷ js) w others → spine ≡ i ∷ js → Stands G w spine i
@@ -32,10 +33,10 @@ module _ {A B : Type 0} (f : A → Item) (h : B → Sym) (G : Grammar) (t : ℕ)
   seen_open : IsOpened G (f x ∷ reverse (map f outer)) (reverse (map h symbols)) (reverse (map h rest))
   seen_open =
       subst (λ l. IsOpened G (f x ∷ reverse (map f outer)) (reverse (map h l)) (reverse (map h rest))) (sym string)
-      (subst (λ l. IsOpened G l (reverse (map h w)) (reverse (map h rest))) (one_more f h G outer items x last) kept)
+      (subst (λ l. IsOpened G l (reverse (map h w)) (reverse (map h rest))) (last_turned f outer items x last) kept)
 
   seen_spine : reverse (map f spine) ≡ f x ∷ reverse (map f outer)
-  seen_spine = ap (λ l. reverse (map f l)) same ∙ one_more f h G outer items x last
+  seen_spine = ap (λ l. reverse (map f l)) same ∙ last_turned f outer items x last
 
   pub kept_shift : steps ≡ [] → IsNext G (f x).production (f x).dot (token t) → ShowsAct G (reverse (map h symbols)) t Seen shift
   kept_shift none n = shows_shift G t (f x) (reverse (map f outer)) (reverse (map h symbols)) (reverse (map h rest)) Seen seen_open seen_spine none n

@@ -1,14 +1,14 @@
 -- Productions in the place of first symbols, one after the other.
-use Rattle.std.proofs.Common.{arith, ◌≡◌, ℕ, zero, suc, ◌+◌, ◌-◌, ◌<◌, ◌≤◌, Bool, true, false, ◌⊎◌, inl, inr, List, [], ◌∷◌, ◌++◌, length, map, take, drop, reverse, get_or, refl, sym, ap, ◌∙◌, subst, append_assoc, append-nil}
+use Rattle.std.proofs.Common.{arith, ◌≡◌, ℕ, zero, suc, ◌+◌, ◌-◌, ◌<◌, ◌≤◌, true, false, inl, inr, List, [], ◌∷◌, ◌++◌, length, map, take, drop, reverse, get_or, refl, sym, ap, ◌∙◌, subst, append_assoc, append-nil}
 use Rattle.std.proofs.lemmas.List.{map-append, drop-map, drop_more, drop_all, length-map, reverse-append, reverse-reverse, take_more}
 use Rattle.cfg_theory.specs.Grammar.{Sym, rule, token, Grammar, body_of, end_token, IsOf, IsEnd}
-use Rattle.cfg_theory.specs.Derivation.{Derives, Nullable, IsFirst, IsFirstBefore}
+use Rattle.cfg_theory.specs.Derivation.{Derives, IsFirstBefore}
 use Rattle.cfg_theory.specs.First.{AllOf, FirstOf}
 use Rattle.cfg_theory.proofs.Derivation.{all_nullable, first_is_first}
 use Rattle.lr_theory.specs.Canonical.{from_dot}
 use Rattle.conflict_examples.specs.Spines.{Item, behind, around, AreSteps, forms_by, AreForms, Begins}
-use Rattle.conflict_examples.specs.Opening.{AreStepsTo, has_rule_first}
-use Rattle.conflict_examples.proofs.SymbolLists.{all_taken, last_is, none_is}
+use Rattle.conflict_examples.specs.Opening.{has_rule_first}
+use Rattle.conflict_examples.proofs.SymbolLists.{all_taken, last_is, last_turned, none_is}
 
 module _ (G : Grammar) where
   pub steps_derive : {a c : List Sym} {steps : List ℕ} → AreSteps G a steps c → Derives G a c
@@ -118,14 +118,11 @@ module _ (G : Grammar) where
     forms_end forms last form k le e left = e ∙ sym (left ∙ ap (λ l. map h forms ++ forms_by G form l) (drop_all k (map number all) (omega (arith, le, length-map all number))))
 
   module _ {A : Type 0} (f : A → Item) where
-    turned_back : (outer items : List A) (x : A) → items ≡ outer ++ x ∷ [] → reverse (map f items) ≡ f x ∷ reverse (map f outer)
-    turned_back outer items x e = ap (λ l. reverse (map f l)) e ∙ ap reverse (map-append f outer (x ∷ [])) ∙ reverse-append (map f outer) (f x ∷ [])
-
     pub behind_more : (items : List A) (k : ℕ) (x : A) (old now : List Sym) → k < length items → x ≡ get_or items k x → now ≡ from_dot G (f x).production (suc (f x).dot) ++ old →
         old ≡ behind G (reverse (map f (take k items))) → now ≡ behind G (reverse (map f (take (k + 1) items)))
     behind_more items k x old now lt at n before =
         n ∙ ap (λ l. from_dot G (f x).production (suc (f x).dot) ++ l) before
-        ∙ sym (ap (behind G) (turned_back (take k items) (take (k + 1) items) x (take_more items k x lt ∙ ap (λ y. take k items ++ y ∷ []) (sym at))))
+        ∙ sym (ap (behind G) (last_turned f (take k items) (take (k + 1) items) x (take_more items k x lt ∙ ap (λ y. take k items ++ y ∷ []) (sym at))))
 
     pub around_all : (items : List A) (k : ℕ) (a : List Sym) → k ≡ length items - 1 → a ≡ behind G (reverse (map f (take k items))) → a ≡ around G (reverse (map f items))
     around_all [] zero a e h = h
@@ -135,14 +132,14 @@ module _ (G : Grammar) where
         let x = get_or items k y in
         let lt : k < length items = omega (arith, e) in
         let all : items ≡ take k items ++ x ∷ [] = sym (all_taken items (k + 1) (omega (arith, e))) ∙ take_more items k y lt in
-        h ∙ sym (ap (around G) (turned_back (take k items) items x all))
+        h ∙ sym (ap (around G) (last_turned f (take k items) items x all))
 
 -- the first symbol, where it stands last
 module _ {A B : Type 0} (f : A → B) where
   pub last_first : (xs : List A) (x : A) → x ≡ get_or xs (length xs - 1) x → (length xs ≡ 0 → ⊥) → (rest : List B) × (reverse (map f xs) ≡ f x ∷ rest)
   last_first xs x e n =
       let outer = take (length xs - 1) xs in
-      (reverse (map f outer), ap (λ l. reverse (map f l)) (last_is xs x e n) ∙ ap reverse (map-append f outer (x ∷ [])) ∙ reverse-append (map f outer) (f x ∷ []))
+      (reverse (map f outer), last_turned f outer xs x (last_is xs x e n))
 
   -- without it
   pub less_first : (xs less : List A) → less ≡ take (length xs - 1) xs → reverse (map f less) ≡ drop 1 (reverse (map f xs))
@@ -152,7 +149,7 @@ module _ {A B : Type 0} (f : A → B) where
       let x = get_or xs (length xs - 1) y in
       let outer = take (length xs - 1) xs in
       let all : xs ≡ outer ++ x ∷ [] = sym (all_taken xs (length xs - 1 + 1) (omega arith)) ∙ take_more xs (length xs - 1) y (omega arith) in
-      ap (λ l. reverse (map f l)) e ∙ sym (ap (drop 1) (ap (λ l. reverse (map f l)) all ∙ ap reverse (map-append f outer (x ∷ [])) ∙ reverse-append (map f outer) (f x ∷ [])))
+      ap (λ l. reverse (map f l)) e ∙ sym (ap (drop 1) (last_turned f outer xs x all))
 
   -- a list put before it, as the code keeps them
   pub put_before : (old less now body : List A) (b : List B) → less ≡ take (length old - 1) old → map f body ≡ b → map f now ≡ map f less ++ reverse (map f body) → reverse (map f now) ≡ b ++ drop 1 (reverse (map f old))

@@ -8,10 +8,6 @@ module _ {A B : Type 0} (f : A → B) where
   pub map_at : (xs : List A) (k : ℕ) (x : A) (d : B) → k < length xs → x ≡ get_or xs k x → get_or (map f xs) k d ≡ f x
   map_at xs k x d lt e = get_or-map f xs k x d lt ∙ ap f (sym e)
 
-  pub first_is : (xs : List A) (x : A) → x ≡ get_or xs 0 x → (length xs ≡ 0 → ⊥) → (rest : List B) × (map f xs ≡ f x ∷ rest)
-  first_is [] x e n = absurd (n refl)
-  first_is (y ∷ xs) x e n = (map f xs, ap (λ z. f z ∷ map f xs) (sym e))
-
   pub none_is : (xs : List A) → length xs ≡ 0 → map f xs ≡ []
   none_is [] e = refl
   none_is (x ∷ xs) e = absurd (omega (arith, e))
@@ -87,3 +83,7 @@ pub last_is : {A : Type 0} (xs : List A) (x : A) → x ≡ get_or xs (length xs 
 last_is xs x e n =
     let one : length xs - 1 < length xs = omega (arith, n) in
     sym (all_taken xs (length xs - 1 + 1) (omega arith)) ∙ take_more xs (length xs - 1) x one ∙ ap (λ y. take (length xs - 1) xs ++ y ∷ []) (sym e)
+
+-- the last one of a list, where that is turned
+pub last_turned : {A B : Type 0} (f : A → B) (outer items : List A) (x : A) → items ≡ outer ++ x ∷ [] → reverse (map f items) ≡ f x ∷ reverse (map f outer)
+last_turned f outer items x e = ap (λ l. reverse (map f l)) e ∙ ap reverse (map-append f outer (x ∷ [])) ∙ reverse-append (map f outer) (f x ∷ [])

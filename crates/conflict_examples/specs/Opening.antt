@@ -1,5 +1,5 @@
 -- What is open while an example is put together.
-use Rattle.std.specs.Prelude.{◌≡◌, ℕ, suc, List, [], ◌∷◌, ◌++◌, Bool, true, false, reverse, map, IfSome}
+use Rattle.std.specs.Prelude.{◌≡◌, ℕ, suc, List, [], ◌∷◌, ◌++◌, Bool, true, false, reverse, IfSome}
 use Rattle.cfg_base.specs.declared.symbol.PIdx.{PIdx}
 use Rattle.cfg_base.specs.declared.symbol.SIdx.{SIdx}
 use Rattle.cfg_theory.specs.Grammar.{Sym, rule, token, Grammar, IsNext}
@@ -65,7 +65,7 @@ IsKnown number G k = AreStepsTo G (number k.token.0) (reverse (syms_of number k.
 
 -- what is open for an action is, and what is known of it is right
 abbrev pub IsSide : {S : Type 0} → (S → ℕ) → Grammar → Side S → Type 0
-IsSide number G s = IfSome s.opened (IsWhole number G) × IfSome s.known (IsKnown number G)
+IsSide number G s = IfSome s.opened (IsWhole number G) × IfSome s.known (λ b. IsKnown number G b.value)
 
 -- so for both actions, and the symbols that are kept lead to their state
 abbrev pub AreOpen : {S : Type 0} → (S → ℕ) → Grammar → Graph → Spines S → Type 0

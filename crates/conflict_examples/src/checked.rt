@@ -27,7 +27,7 @@ use std::alloc::{AllocError, Global};
 #[derive(Drop)]
 pub(crate) struct Side<S> {
     pub opened: Option<Whole<S>>,
-    pub known: Option<Known<S>>,
+    pub known: Option<Box<Known<S>>>,
 }
 
 /// The first action, the second one, and where that string leads.
@@ -56,7 +56,7 @@ struct Shown<S> {
 #[derive(Drop)]
 struct Reduced<S> {
     part: Option<Part<S>>,
-    known: Option<Known<S>>,
+    known: Option<Box<Known<S>>>,
 }
 
 /// Where the string of an example leads, and the example, if it is one.
@@ -124,15 +124,15 @@ fn reduce_part<'a, S: IndexStorage>(
     alloc: Global,
     source: &Source<'a, S>,
     whole: &Whole<S>,
-    known: Option<Known<S>>,
-    like: &Option<Known<S>>,
+    known: Option<Box<Known<S>>>,
+    like: &Option<Box<Known<S>>>,
     production: PIdx<S>,
 ) -> Result<Reduced<S>, AllocError>
     requires whole { IsWhole S.number source.now.grm.now.grammar whole.now }
-    requires known { IfSome known (IsKnown S.number source.now.grm.now.grammar) }
-    requires like { IfSome like.now (IsKnown S.number source.now.grm.now.grammar) }
+    requires known { IfSome known (λ b. IsKnown S.number source.now.grm.now.grammar b.value) }
+    requires like { IfSome like.now (λ b. IsKnown S.number source.now.grm.now.grammar b.value) }
     ensures part { IfOk result (λ r. IfSome r.part (PartShows S.number source.now.grm.now.grammar (S.number source.now.token.0) (reduce (S.number production.0)))) }
-    ensures known { IfOk result (λ r. IfSome r.known (IsKnown S.number source.now.grm.now.grammar)) }
+    ensures known { IfOk result (λ r. IfSome r.known (λ b. IsKnown S.number source.now.grm.now.grammar b.value)) }
 {
     let Some(opened) = opened_of(alloc, source.grm, whole)? else {
         return Ok(Reduced { part: None, known });

@@ -26,7 +26,8 @@ fn push_behind<S: IndexStorage>(
 ) -> Result<(), AllocError>
     ensures { IfOk result (λ _. reverse (syms_of S.number rest.new.items) ≡ from_dot grm.now.grammar (S.number pidx.0) (suc (S.number dot.0)) ++ reverse (syms_of S.number rest.old.items)) }
 {
-    push_turned(symbols_behind(symbols_of(grm, pidx), dot.0.to_usize()), rest)
+    let behind = symbols_behind(symbols_of(grm, pidx), dot.0.to_usize());
+    push_turned(behind, rest)
 }
 
 /// What stands behind the innermost production, its first symbol last.

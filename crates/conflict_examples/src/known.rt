@@ -25,14 +25,14 @@ pub(crate) struct Known<S> {
 #[derive(Drop)]
 pub(crate) struct Told<S> {
     pub steps: Option<Vec<PIdx<S>>>,
-    pub known: Option<Known<S>>,
+    pub known: Option<Box<Known<S>>>,
 }
 
 /// Of how many productions on they are worth to be kept.
 const MANY_STEPS: usize = 16;
 
-/// Whether it is known of this list before the token.
-fn is_of_both<S: IndexStorage>(known: &Known<S>, rest: &[Symbol<S>], token: TIdx<S>) -> bool
+/// Whether what is known is of this list before the token.
+fn is_known_of<S: IndexStorage>(known: &Known<S>, rest: &[Symbol<S>], token: TIdx<S>) -> bool
     ensures token { IsTrue result → S.number known.now.token.0 ≡ S.number token.0 }
     ensures rest { IsTrue result → syms_of S.number known.now.rest.items ≡ syms_of S.number rest.now }
 {
@@ -46,17 +46,17 @@ fn is_of_both<S: IndexStorage>(known: &Known<S>, rest: &[Symbol<S>], token: TIdx
 fn known_steps<S: IndexStorage>(
     alloc: Global,
     grm: &NumberedGrammar<S>,
-    known: &Option<Known<S>>,
+    known: &Option<Box<Known<S>>>,
     rest: &[Symbol<S>],
     token: TIdx<S>,
 ) -> Result<Option<Vec<PIdx<S>>>, AllocError>
-    requires { IfSome known.now (IsKnown S.number grm.now.grammar) }
+    requires { IfSome known.now (λ b. IsKnown S.number grm.now.grammar b.value) }
     ensures { IfOk result (λ o. IfSome o (λ v. AreStepsTo grm.now.grammar (S.number token.0) (reverse (syms_of S.number rest.now)) (numbers_of S.number v.items))) }
 {
     let Some(known) = known else {
         return Ok(None);
     };
-    if !is_of_both(known, rest, token) {
+    if !is_known_of(known, rest, token) {
         return Ok(None);
     }
     let steps = Vec::from_slice(alloc, known.steps.as_slice())?;
@@ -67,21 +67,22 @@ fn known_steps<S: IndexStorage>(
 fn kept<S: IndexStorage>(
     alloc: Global,
     grm: &NumberedGrammar<S>,
-    known: Option<Known<S>>,
+    known: Option<Box<Known<S>>>,
     rest: &[Symbol<S>],
     token: TIdx<S>,
     steps: &[PIdx<S>],
-) -> Result<Option<Known<S>>, AllocError>
-    requires known { IfSome known (IsKnown S.number grm.now.grammar) }
+) -> Result<Option<Box<Known<S>>>, AllocError>
+    requires known { IfSome known (λ b. IsKnown S.number grm.now.grammar b.value) }
     requires steps { AreStepsTo grm.now.grammar (S.number token.0) (reverse (syms_of S.number rest.now)) (numbers_of S.number steps.now) }
-    ensures { IfOk result (λ o. IfSome o (IsKnown S.number grm.now.grammar)) }
+    ensures { IfOk result (λ o. IfSome o (λ b. IsKnown S.number grm.now.grammar b.value)) }
 {
     if steps.len() < MANY_STEPS {
         return Ok(known);
     }
     let rest = Vec::from_slice(alloc, rest)?;
     let steps = Vec::from_slice(alloc, steps)?;
-    Ok(Some(Known { rest, token, steps }))
+    let kept = Box::new(alloc, Known { rest, token, steps })?;
+    Ok(Some(kept))
 }
 
 /// The productions by which the list, which has its first symbol last, comes to begin with the token, or to be empty before the
@@ -89,14 +90,14 @@ fn kept<S: IndexStorage>(
 pub(crate) fn told_steps<'a, S: IndexStorage>(
     alloc: Global,
     source: &Source<'a, S>,
-    known: Option<Known<S>>,
-    like: &Option<Known<S>>,
+    known: Option<Box<Known<S>>>,
+    like: &Option<Box<Known<S>>>,
     rest: &[Symbol<S>],
 ) -> Result<Told<S>, AllocError>
-    requires known { IfSome known (IsKnown S.number source.now.grm.now.grammar) }
-    requires like { IfSome like.now (IsKnown S.number source.now.grm.now.grammar) }
+    requires known { IfSome known (λ b. IsKnown S.number source.now.grm.now.grammar b.value) }
+    requires like { IfSome like.now (λ b. IsKnown S.number source.now.grm.now.grammar b.value) }
     ensures steps { IfOk result (λ r. IfSome r.steps (λ v. AreStepsTo source.now.grm.now.grammar (S.number source.now.token.0) (reverse (syms_of S.number rest.now)) (numbers_of S.number v.items))) }
-    ensures known { IfOk result (λ r. IfSome r.known (IsKnown S.number source.now.grm.now.grammar)) }
+    ensures known { IfOk result (λ r. IfSome r.known (λ b. IsKnown S.number source.now.grm.now.grammar b.value)) }
 {
     let token = source.token;
     if let Some(steps) = known_steps(alloc, source.grm, &known, rest, token)? {

@@ -27,18 +27,19 @@
 //! For `%start s %% s: 'if' e 'then' s | 'if' e 'then' s 'else' s | 'x'; e: 'e';` the list holds 6 alone: the example is
 //! `if e then if e then s` before `else`. Its spine for the shift is `^ -> . s`, `s -> if e then . s` and
 //! `s -> if e then s . else s`; for the reduction it is `^ -> . s`, `s -> if e then . s else s` and `s -> if e then s .`,
-//! with the one form `else s`.
+//! with no further productions, since what stands behind is `else s`, its one form.
 //!
 //! A graph may be asked itself, where one example is wanted: with `ConflictExamples` in scope
 //! `graph.shift_reduce_example(alloc, grm, entry)` makes a finder and asks it once.
 //!
 //! A search over the finished graph (`strings`, `groups`, `steps`) comes to the open productions; what it comes to is checked
-//! against the grammar (`opened`, `whole`, `forms`, `shown`, `led`), and only what passes is answered. A finder keeps what the
-//! last search came to (`kept`), so that the next one goes on where that one and it part, and one long search (`trunk`), from
-//! which those for other tokens (`alike`) and other actions go on. Where no table is made, since a production may be reduced
+//! against the grammar (`opened`, `whole`, `replaced`, `shown`, `led`), and only what passes is answered. A finder keeps what the
+//! last search came to (`kept`, `known`), so that the next one goes on where that one and it part, and one long search (`trunk`),
+//! from which those for other tokens (`alike`) and other actions go on. Where no table is made, since a production may be reduced
 //! where a text has ended, `accept_reduce` searches over the productions. Where the forms would have more than 262,144 symbols
-//! all together none is found (`steps`). The contracts that matter most are those of `finder::ExampleFinder` and of
-//! `graph_examples::ConflictExamples`; the laws that tie examples to canonical LR(1) are in `laws`.
+//! all together none is found (`replaced`); they are written out on request alone (`forms`). The contracts that matter most are
+//! those of `finder::ExampleFinder` and of `graph_examples::ConflictExamples`; the laws that tie examples to canonical LR(1) are
+//! in `laws`.
 #![tactic(auto)]
 
 mod accepting;

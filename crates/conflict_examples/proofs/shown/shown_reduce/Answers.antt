@@ -1,4 +1,4 @@
-use Rattle.std.proofs.Common.{◌≡◌, reverse, refl, sym, ap, subst}
+use Rattle.std.proofs.Common.{reverse, refl, sym, subst}
 use Rattle.cfg_numbered.specs.Symbols.{sym_of, syms_of, numbers_of}
 use Rattle.conflict_examples.specs.ExampleViews.{open_item}
 use Rattle.conflict_examples.specs.Opening.{AreStepsTo}

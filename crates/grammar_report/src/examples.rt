@@ -1,9 +1,16 @@
 //! Examples of conflicts as a person reads them.
 
-use crate::names::{Grammar, push_body, push_item, push_prod, push_symbols, push_token, push_word};
+use crate::names::{
+    Grammar, body_len, push_body, push_item, push_prod, push_symbols, push_token, push_word,
+};
+use cfg_base::index::IndexStorage;
 use cfg_base::symbol::{PIdx, SIdx};
 use conflict_examples::{ActionExample, ConflictExample};
 use std::alloc::{AllocError, Global};
+
+/// How many symbols the forms behind a reduction may have, all together, but for the last one. Where they would have more,
+/// their productions are listed.
+const MOST_SYMBOLS: usize = 262_144;
 
 /// Adds the string, a dot and the token.
 fn push_string(
@@ -36,7 +43,49 @@ fn push_spine(
     Ok(())
 }
 
-/// Adds the forms behind a reduction, unless the first begins with the token at once.
+/// How many symbols stand behind the innermost production.
+fn behind_len(grm: &Grammar, spine: &[(PIdx<u32>, SIdx<u32>)]) -> usize {
+    let mut length: usize = 0;
+    'items: for index in 0..spine.len().saturating_sub(1) {
+        let (pidx, dot) = spine[index];
+        let passed = dot.0.to_usize().saturating_add(1);
+        length = length.saturating_add(body_len(grm, pidx).saturating_sub(passed));
+    }
+    length
+}
+
+/// How many symbols the forms from one of this length have, all together, but for the last one. Each production takes the
+/// place of one symbol.
+fn forms_len(grm: &Grammar, first: usize, steps: &[PIdx<u32>]) -> usize {
+    let mut length = first;
+    let mut all: usize = 0;
+    'steps: for index in 0..steps.len() {
+        all = all.saturating_add(length);
+        let behind = length.saturating_sub(1);
+        length = behind.saturating_add(body_len(grm, steps[index]));
+    }
+    all
+}
+
+/// Whether the forms behind a reduction have too many symbols to be written out.
+fn has_long_forms(grm: &Grammar, action: &ActionExample<u32>) -> bool {
+    let first = behind_len(grm, action.spine.as_slice());
+    forms_len(grm, first, action.steps.as_slice()) > MOST_SYMBOLS
+}
+
+/// Adds the productions by which each form behind a reduction comes from the one before.
+fn push_steps(text: &mut String, grm: &Grammar, steps: &[PIdx<u32>]) -> Result<(), AllocError> {
+    text.push_str("    behind it, each in the place of the first symbol:\n")?;
+    'steps: for index in 0..steps.len() {
+        text.push_str("      ")?;
+        push_prod(text, grm, steps[index])?;
+        text.push('\n')?;
+    }
+    Ok(())
+}
+
+/// Adds the forms behind a reduction, or their productions where they are long, unless the first begins with the token at
+/// once.
 fn push_forms(
     alloc: Global,
     text: &mut String,
@@ -45,6 +94,9 @@ fn push_forms(
 ) -> Result<(), AllocError> {
     if action.steps.is_empty() {
         return Ok(());
+    }
+    if has_long_forms(grm, action) {
+        return push_steps(text, grm, action.steps.as_slice());
     }
     let forms = action.forms(alloc, grm)?;
     let mut front = "    behind it:";

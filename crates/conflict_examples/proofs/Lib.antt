@@ -1,4 +1,5 @@
 pub mod Firsts
+pub mod Gones
 pub mod Items
 pub mod Contests
 pub mod SymbolLists

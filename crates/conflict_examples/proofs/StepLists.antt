@@ -23,6 +23,12 @@ module _ (G : Grammar) where
   steps_on AreSteps.none t = t
   steps_on (AreSteps.step A p o s) t = AreSteps.step A p o (steps_on s t)
 
+  -- whatever stands behind
+  steps_within : {a c : List Sym} {steps : List ℕ} (others : List Sym) → AreSteps G a steps c → AreSteps G (a ++ others) steps (c ++ others)
+  steps_within others AreSteps.none = AreSteps.none
+  steps_within others (AreSteps.step {rest = rest} {c = c} {steps = steps} A p o s) =
+      AreSteps.step A p o (subst (λ l. AreSteps G l steps (c ++ others)) (append_assoc (body_of G p) rest others) (steps_within others s))
+
   -- steps from a rule to nothing, and to a list that begins with a token, whatever stands behind it
   Gone : ℕ → Type 0
   Gone A = (rest : List Sym) → (steps : List ℕ) × AreSteps G (rule A ∷ rest) steps rest
@@ -81,6 +87,15 @@ module _ (G : Grammar) where
       let there : now ≡ body_of G (number p) ++ rest = n ∙ ap (λ l. body_of G (number p) ++ drop 1 l) e in
       let steps : map number after ≡ map number before ++ number p ∷ [] = ap (map number) more ∙ map-append number before (p ∷ []) in
       subst (λ l. AreSteps G a (map number after) l) (sym there) (subst (λ l. AreSteps G a l (body_of G (number p) ++ rest)) (sym steps) (steps_more A (number p) here o))
+
+  -- those by which the first symbol vanishes, as the code keeps them
+  pub come_gone : {P : Type 0} (number : P → ℕ) (before after list : List P) (a old now : List Sym) (A : ℕ) → (rest : List Sym) × (old ≡ rule A ∷ rest) → AreSteps G (rule A ∷ []) (map number list) [] →
+      now ≡ drop 1 old → after ≡ before ++ list → AreSteps G a (map number before) old → AreSteps G a (map number after) now
+  come_gone number before after list a old now A (rest, e) gone n more s =
+      let here : AreSteps G a (map number before) (rule A ∷ rest) = subst (AreSteps G a (map number before)) e s in
+      let there : now ≡ rest = n ∙ ap (drop 1) e in
+      let steps : map number after ≡ map number before ++ map number list = ap (map number) more ∙ map-append number before list in
+      subst (λ l. AreSteps G a (map number after) l) (sym there) (subst (λ l. AreSteps G a l rest) (sym steps) (steps_on here (steps_within rest gone)))
 
   forms_go : (a : List Sym) (p : ℕ) (steps : List ℕ) → has_rule_first a ≡ true → forms_by G a (p ∷ steps) ≡ a ∷ forms_by G (body_of G p ++ drop 1 a) steps
   forms_go [] p steps e = cc

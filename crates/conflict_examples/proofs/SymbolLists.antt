@@ -26,6 +26,11 @@ all_taken [] (suc k) h = refl
 all_taken (x ∷ xs) zero h = absurd (omega (arith, h))
 all_taken (x ∷ xs) (suc k) h = ap (λ l. x ∷ l) (all_taken xs k (omega (arith, h)))
 
+pub one_is : {A : Type 0} (xs : List A) (x : A) → length xs ≡ 1 → x ≡ get_or xs 0 x → xs ≡ x ∷ []
+one_is [] x e at = absurd (omega (arith, e))
+one_is (y ∷ []) x e at = ap (λ z. z ∷ []) (sym at)
+one_is (y ∷ z ∷ xs) x e at = absurd (omega (arith, e))
+
 pub same_all : {A B : Type 0} (f : A → B) (xs ys : List A) (k : ℕ) → length xs ≤ k → length xs ≡ length ys → take k (map f xs) ≡ take k (map f ys) → map f xs ≡ map f ys
 same_all f xs ys k h same e =
     sym (all_taken (map f xs) k (omega (arith, h, length-map xs f))) ∙ e ∙ all_taken (map f ys) k (omega (arith, h, same, length-map ys f))

@@ -1,5 +1,7 @@
 -- What is open while an example is put together.
-use Rattle.std.specs.Prelude.{◌≡◌, ℕ, suc, List, [], ◌∷◌, ◌++◌, Bool, true, false, reverse, IfSome}
+use Rattle.std.specs.Prelude.{◌≡◌, ◌<◌, ℕ, suc, List, [], ◌∷◌, ◌++◌, Bool, true, false, length, get_or, reverse, IfSome}
+use Rattle.std.specs.declared.alloc.Global.{Global}
+use Rattle.std.specs.declared.vec.Vec.{Vec}
 use Rattle.cfg_base.specs.declared.symbol.PIdx.{PIdx}
 use Rattle.cfg_base.specs.declared.symbol.SIdx.{SIdx}
 use Rattle.cfg_theory.specs.Grammar.{Sym, rule, token, Grammar, IsNext}
@@ -11,10 +13,12 @@ use Rattle.conflict_examples.specs.ExampleViews.{spine_of, shown_of}
 use Rattle.conflict_examples.specs.declared.opened.Opened.{Opened}
 use Rattle.conflict_examples.specs.declared.checked.Side.{Side}
 use Rattle.conflict_examples.specs.declared.checked.Spines.{Spines}
+use Rattle.conflict_examples.specs.declared.gone.Gone.{Gone}
 use Rattle.conflict_examples.specs.declared.known.Known.{Known}
 use Rattle.conflict_examples.specs.declared.led.Led.{Led}
 use Rattle.conflict_examples.specs.declared.replaced.Replaced.{Replaced}
 use Rattle.conflict_examples.specs.declared.shown.Part.{Part}
+use Rattle.conflict_examples.specs.declared.steps.Begun.{Begun}
 use Rattle.conflict_examples.specs.declared.whole.Inner.{Inner}
 use Rattle.conflict_examples.specs.declared.whole.Whole.{Whole}
 
@@ -59,9 +63,18 @@ pub record AreStepsTo (G : Grammar) (t : ℕ) (a : List Sym) (steps : List ℕ) 
 abbrev pub ComeBy : {S : Type 0} → (S → ℕ) → Grammar → List Sym → Replaced S → Type 0
 ComeBy number G a r = AreSteps G a (numbers_of number r.steps.items) (reverse (syms_of number r.form.items))
 
--- the productions lead from what stood behind, whose last symbol comes first, to a list that begins with the token
+-- each list that is there leads from its rule alone to nothing
+abbrev pub AreGone : {S : Type 0} → (S → ℕ) → Grammar → Gone S → Type 0
+AreGone {S = S} number G g = (A : ℕ) (v : Vec (PIdx S) Global) → A < length g.lists.items → v ≡ get_or g.lists.items A v → 0 < length v.items → AreSteps G (rule A ∷ []) (numbers_of number v.items) []
+
+-- the list has come to what is there, and to the branch, if one is kept
+abbrev pub IsBegun : {S : Type 0} → (S → ℕ) → Grammar → List Sym → Begun S → Type 0
+IsBegun number G a x = ComeBy number G a x.replaced × IfSome x.branch (λ b. ComeBy number G a b.replaced)
+
+-- the productions lead from what stood behind, whose last symbol comes first, to a list that begins with the token, and the list
+-- has come to the branch, if one is kept
 abbrev pub IsKnown : {S : Type 0} → (S → ℕ) → Grammar → Known S → Type 0
-IsKnown number G k = AreStepsTo G (number k.token.0) (reverse (syms_of number k.rest.items)) (numbers_of number k.steps.items)
+IsKnown number G k = AreStepsTo G (number k.token.0) (reverse (syms_of number k.rest.items)) (numbers_of number k.steps.items) × IfSome k.branch (λ b. ComeBy number G (reverse (syms_of number k.rest.items)) b.replaced)
 
 -- what is open for an action is, and what is known of it is right
 abbrev pub IsSide : {S : Type 0} → (S → ℕ) → Grammar → Side S → Type 0

@@ -12,10 +12,11 @@ ghost use Rattle.conflict_examples.specs.Spines.{IsExample};
 
 use crate::examples::ConflictExample;
 use crate::opened::{open_all, open_start};
+use crate::places::Places;
 use crate::reading::{has_production, symbol_after, symbols_behind};
 use crate::replaced::{Replaced, first_of};
 use crate::shown::{Part, paired, shown_accept, shown_reduce};
-use crate::tables::{all_vanish, entry, vanishing_by};
+use crate::vanishing::Vanishing;
 use cfg_base::index::IndexStorage;
 use cfg_base::symbol::{PIdx, SIdx, Symbol, TIdx};
 use cfg_numbered::yacc::NumberedGrammar;
@@ -43,7 +44,7 @@ struct Frames<S> {
 #[derive(Drop)]
 struct Reading<'a, S: IndexStorage> {
     grm: &'a NumberedGrammar<S>,
-    vanishing: Vec<Option<PIdx<S>>>,
+    vanishing: Vanishing<S>,
     nought: SIdx<S>,
     one: SIdx<S>,
 }
@@ -56,7 +57,8 @@ impl<'a, S: IndexStorage> Reading<'a, S> {
         let (Some(nought), Some(one)) = (S::from_usize(0), S::from_usize(1)) else {
             return Ok(None);
         };
-        let vanishing = vanishing_by(alloc, grm)?;
+        let places = Places::new(alloc, grm)?;
+        let vanishing = Vanishing::new(alloc, grm, &places)?;
         Ok(Some(Reading {
             grm,
             vanishing,
@@ -71,7 +73,7 @@ impl<'a, S: IndexStorage> Reading<'a, S> {
             return false;
         }
         let rest = symbols_behind(self.grm.prod(pidx), dot.0.to_usize());
-        all_vanish(self.vanishing.as_slice(), rest)
+        self.vanishing.all(rest)
     }
 
     /// Whether the dot stands before a symbol, which is that of the start.
@@ -101,7 +103,7 @@ impl<'a, S: IndexStorage> Reading<'a, S> {
     /// The production by which the first symbol of a list, which stands last, vanishes.
     fn next_step(&self, form: &[Symbol<S>]) -> Option<PIdx<S>> {
         match first_of(form)? {
-            Symbol::Rule(ridx) => entry(self.vanishing.as_slice(), ridx.0.to_usize()),
+            Symbol::Rule(ridx) => self.vanishing.of(ridx),
             Symbol::Token(_) => None,
         }
     }

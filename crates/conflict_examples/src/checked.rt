@@ -6,7 +6,7 @@ ghost use Rattle.lr_theory.specs.Canonical.{Act, shift, reduce};
 ghost use Rattle.lr_theory.specs.Graph.{Graph, Leads};
 ghost use Rattle.lrtable.specs.Graphs.{graph_of};
 ghost use Rattle.conflict_examples.specs.ExampleViews.{example_of};
-ghost use Rattle.conflict_examples.specs.Opening.{IsOpen, IsWhole, IsLed, IsKnown, IsSide, AreOpen, PartShows};
+ghost use Rattle.conflict_examples.specs.Opening.{AreGone, IsOpen, IsWhole, IsLed, IsKnown, IsSide, AreOpen, PartShows};
 ghost use Rattle.conflict_examples.specs.Spines.{IsExample};
 
 use crate::examples::ConflictExample;
@@ -14,6 +14,7 @@ use crate::kept::Path;
 use crate::known::{Known, Told, told_steps};
 use crate::led::{Led, Walked, leads_to};
 use crate::opened::Opened;
+use crate::roots::Roots;
 use crate::shown::{Part, paired, shown_reduce, shown_shift};
 use crate::source::Source;
 use crate::whole::{Whole, joined, reopened};
@@ -123,11 +124,13 @@ fn shift_part<'a, S: IndexStorage>(
 fn reduce_part<'a, S: IndexStorage>(
     alloc: Global,
     source: &Source<'a, S>,
+    roots: &mut Roots<S>,
     whole: &Whole<S>,
     known: Option<Box<Known<S>>>,
     like: &Option<Box<Known<S>>>,
     production: PIdx<S>,
 ) -> Result<Reduced<S>, AllocError>
+    requires gone { AreGone S.number source.now.grm.now.grammar source.now.tables.now.gone }
     requires whole { IsWhole S.number source.now.grm.now.grammar whole.now }
     requires known { IfSome known (λ b. IsKnown S.number source.now.grm.now.grammar b.value) }
     requires like { IfSome like.now (λ b. IsKnown S.number source.now.grm.now.grammar b.value) }
@@ -138,7 +141,7 @@ fn reduce_part<'a, S: IndexStorage>(
         return Ok(Reduced { part: None, known });
     };
     let rest = opened.rest.as_slice();
-    let Told { steps, known } = told_steps(alloc, source, known, like, rest)?;
+    let Told { steps, known } = told_steps(alloc, source, roots, known, like, rest)?;
     let Some(steps) = steps else {
         return Ok(Reduced { part: None, known });
     };
@@ -178,11 +181,13 @@ fn shift_shown<'a, S: IndexStorage>(
 fn reduce_shown<'a, S: IndexStorage>(
     alloc: Global,
     source: &Source<'a, S>,
+    roots: &mut Roots<S>,
     side: Side<S>,
     like: &Side<S>,
     path: &Path<S>,
     production: PIdx<S>,
 ) -> Result<Shown<S>, AllocError>
+    requires gone { AreGone S.number source.now.grm.now.grammar source.now.tables.now.gone }
     requires side { IsSide S.number source.now.grm.now.grammar side }
     requires like { IsSide S.number source.now.grm.now.grammar like.now }
     ensures side { IfOk result (λ r. IsSide S.number source.now.grm.now.grammar r.side) }
@@ -199,6 +204,7 @@ fn reduce_shown<'a, S: IndexStorage>(
     let Reduced { part, known } = reduce_part(
         alloc,
         source,
+        roots,
         &whole,
         known,
         &like.known,
@@ -246,12 +252,14 @@ fn joined_parts<'a, S: IndexStorage>(
 pub(crate) fn shift_example<'a, S: IndexStorage>(
     alloc: Global,
     source: &Source<'a, S>,
+    roots: &mut Roots<S>,
     spines: Spines<S>,
     paths: &(Path<S>, Path<S>),
     production: PIdx<S>,
     stidx: StIdx<S>,
 ) -> Result<Found<S>, AllocError>
-    requires { AreOpen S.number source.now.grm.now.grammar (graph_of source.now.graph.now) spines }
+    requires gone { AreGone S.number source.now.grm.now.grammar source.now.tables.now.gone }
+    requires spines { AreOpen S.number source.now.grm.now.grammar (graph_of source.now.graph.now) spines }
     ensures spines { IfOk result (λ r. AreOpen S.number source.now.grm.now.grammar (graph_of source.now.graph.now) r.spines) }
     ensures example { IfOk result (λ r. IfSome r.example (λ x. IsExample source.now.grm.now.grammar (example_of S.number x) shift (reduce (S.number production.0)))) }
     ensures token { IfOk result (λ r. IfSome r.example (λ x. x.token ≡ source.now.token)) }
@@ -265,7 +273,7 @@ pub(crate) fn shift_example<'a, S: IndexStorage>(
     let Shown {
         side: second,
         part: other,
-    } = reduce_shown(alloc, source, second, &first, &paths.1, production)?;
+    } = reduce_shown(alloc, source, roots, second, &first, &paths.1, production)?;
     let same = paths.0.same;
     let joined = joined_parts(alloc, source, stidx, led, same, one, other)?;
     let spines = Spines {
@@ -281,13 +289,15 @@ pub(crate) fn shift_example<'a, S: IndexStorage>(
 pub(crate) fn pair_example<'a, S: IndexStorage>(
     alloc: Global,
     source: &Source<'a, S>,
+    roots: &mut Roots<S>,
     spines: Spines<S>,
     paths: &(Path<S>, Path<S>),
     production: PIdx<S>,
     other_production: PIdx<S>,
     stidx: StIdx<S>,
 ) -> Result<Found<S>, AllocError>
-    requires { AreOpen S.number source.now.grm.now.grammar (graph_of source.now.graph.now) spines }
+    requires gone { AreGone S.number source.now.grm.now.grammar source.now.tables.now.gone }
+    requires spines { AreOpen S.number source.now.grm.now.grammar (graph_of source.now.graph.now) spines }
     ensures spines { IfOk result (λ r. AreOpen S.number source.now.grm.now.grammar (graph_of source.now.graph.now) r.spines) }
     ensures example { IfOk result (λ r. IfSome r.example (λ x. IsExample source.now.grm.now.grammar (example_of S.number x) (reduce (S.number production.0)) (reduce (S.number other_production.0)))) }
     ensures state { IfOk result (λ r. IfSome r.example (λ x. Leads (graph_of source.now.graph.now) (example_of S.number x).string (S.number stidx.0))) }
@@ -302,11 +312,11 @@ pub(crate) fn pair_example<'a, S: IndexStorage>(
     let Shown {
         side: first,
         part: one,
-    } = reduce_shown(alloc, source, first, &no_side(), &paths.0, production)?;
+    } = reduce_shown(alloc, source, roots, first, &no_side(), &paths.0, production)?;
     let Shown {
         side: second,
         part: other,
-    } = reduce_shown(alloc, source, second, &first, &paths.1, other_production)?;
+    } = reduce_shown(alloc, source, roots, second, &first, &paths.1, other_production)?;
     let same = paths.0.same;
     let joined = joined_parts(alloc, source, stidx, led, same, one, other)?;
     let spines = Spines {

@@ -5,7 +5,7 @@ ghost use Rattle.lr_theory.specs.Canonical.{shift, reduce};
 ghost use Rattle.lr_theory.specs.Graph.{Leads};
 ghost use Rattle.lrtable.specs.Graphs.{graph_of};
 ghost use Rattle.conflict_examples.specs.ExampleViews.{FinderValue, example_of};
-ghost use Rattle.conflict_examples.specs.Opening.{AreOpen};
+ghost use Rattle.conflict_examples.specs.Opening.{AreGone, AreOpen};
 ghost use Rattle.conflict_examples.specs.Spines.{IsExample};
 
 use crate::checked::{Found, Spines, no_spines, pair_example, shift_example};
@@ -38,14 +38,14 @@ pub struct ExampleFinder<'a, S: IndexStorage> {
 
 impl<'a, S: IndexStorage> Model for ExampleFinder<'a, S> {
     ghost use Rattle.conflict_examples.specs.ExampleViews.{FinderValue};
-    ghost use Rattle.conflict_examples.specs.Opening.{AreOpen};
+    ghost use Rattle.conflict_examples.specs.Opening.{AreGone, AreOpen};
     ghost use Rattle.lrtable.specs.Graphs.{graph_of};
 
     ghost Value = { FinderValue };
 
     ghost view = { λ f. record { grammar = f.grm.now; graph = f.graph.now } };
 
-    ghost invariant = { λ f. AreOpen S.number f.grm.now.grammar (graph_of f.graph.now) f.spines };
+    ghost invariant = { λ f. AreGone S.number f.grm.now.grammar f.tables.gone × AreOpen S.number f.grm.now.grammar (graph_of f.graph.now) f.spines };
 }
 
 impl<'a, S: IndexStorage> ExampleFinder<'a, S> {
@@ -213,7 +213,8 @@ fn shift_found<'a, S: IndexStorage>(
     production: PIdx<S>,
     stidx: StIdx<S>,
 ) -> Result<Found<S>, AllocError>
-    requires { AreOpen S.number source.now.grm.now.grammar (graph_of source.now.graph.now) spines }
+    requires gone { AreGone S.number source.now.grm.now.grammar source.now.tables.now.gone }
+    requires spines { AreOpen S.number source.now.grm.now.grammar (graph_of source.now.graph.now) spines }
     ensures spines { IfOk result (λ r. AreOpen S.number source.now.grm.now.grammar (graph_of source.now.graph.now) r.spines) }
     ensures example { IfOk result (λ r. IfSome r.example (λ x. IsExample source.now.grm.now.grammar (example_of S.number x) shift (reduce (S.number production.0)))) }
     ensures token { IfOk result (λ r. IfSome r.example (λ x. x.token ≡ source.now.token)) }
@@ -225,7 +226,15 @@ fn shift_found<'a, S: IndexStorage>(
             example: None,
         });
     };
-    let found = shift_example(alloc, source, spines, &paths, production, stidx)?;
+    let found = shift_example(
+        alloc,
+        source,
+        &mut kept.roots,
+        spines,
+        &paths,
+        production,
+        stidx,
+    )?;
     kept.whole = found.spines.first.opened.is_some() && found.spines.second.opened.is_some();
     Ok(found)
 }
@@ -240,7 +249,8 @@ fn pair_found<'a, S: IndexStorage>(
     second: PIdx<S>,
     stidx: StIdx<S>,
 ) -> Result<Found<S>, AllocError>
-    requires { AreOpen S.number source.now.grm.now.grammar (graph_of source.now.graph.now) spines }
+    requires gone { AreGone S.number source.now.grm.now.grammar source.now.tables.now.gone }
+    requires spines { AreOpen S.number source.now.grm.now.grammar (graph_of source.now.graph.now) spines }
     ensures spines { IfOk result (λ r. AreOpen S.number source.now.grm.now.grammar (graph_of source.now.graph.now) r.spines) }
     ensures example { IfOk result (λ r. IfSome r.example (λ x. IsExample source.now.grm.now.grammar (example_of S.number x) (reduce (S.number first.0)) (reduce (S.number second.0)))) }
     ensures state { IfOk result (λ r. IfSome r.example (λ x. Leads (graph_of source.now.graph.now) (example_of S.number x).string (S.number stidx.0))) }
@@ -251,7 +261,16 @@ fn pair_found<'a, S: IndexStorage>(
             example: None,
         });
     };
-    let found = pair_example(alloc, source, spines, &paths, first, second, stidx)?;
+    let found = pair_example(
+        alloc,
+        source,
+        &mut kept.roots,
+        spines,
+        &paths,
+        first,
+        second,
+        stidx,
+    )?;
     kept.whole = found.spines.first.opened.is_some() && found.spines.second.opened.is_some();
     Ok(found)
 }

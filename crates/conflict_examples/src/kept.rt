@@ -7,6 +7,7 @@ use crate::checked::Spines;
 use crate::groups::Groups;
 use crate::opened::Opened;
 use crate::reading::has_production;
+use crate::roots::Roots;
 use crate::source::Source;
 use crate::strings::{End, Visits};
 use crate::visit::{Met, Visit};
@@ -63,6 +64,7 @@ pub(crate) struct Kept<S> {
     common: usize,
     first_free: usize,
     second_free: usize,
+    pub roots: Roots<S>,
     pub whole: bool,
 }
 
@@ -178,6 +180,7 @@ impl<S: IndexStorage> Kept<S> {
             common: 0,
             first_free: 0,
             second_free: 0,
+            roots: Roots::new(),
             whole: false,
         })
     }

@@ -44,10 +44,12 @@
 
 mod accepting;
 mod alike;
+mod branch;
 mod checked;
 pub mod examples;
 pub mod finder;
 mod forms;
+mod gone;
 pub mod graph_examples;
 mod groups;
 mod kept;
@@ -60,6 +62,8 @@ mod opened;
 mod places;
 mod reading;
 mod replaced;
+mod roots;
+mod route;
 mod shown;
 mod source;
 mod steps;
@@ -67,8 +71,10 @@ mod strings;
 mod tables;
 mod traces;
 mod trunk;
+mod vanishing;
 mod visit;
 mod way;
+mod ways;
 mod whole;
 
 pub use accepting::accept_reduce;

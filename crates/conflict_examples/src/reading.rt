@@ -35,6 +35,19 @@ pub(crate) fn symbols_of<S: IndexStorage>(grm: &NumberedGrammar<S>, pidx: PIdx<S
     grm.prod(pidx)
 }
 
+/// The symbol of a production at an index, if there is one.
+pub(crate) fn symbol_at<S: IndexStorage>(
+    grm: &NumberedGrammar<S>,
+    pidx: PIdx<S>,
+    index: usize,
+) -> Option<Symbol<S>> {
+    let symbols = symbols_of(grm, pidx);
+    if index >= symbols.len() {
+        return None;
+    }
+    Some(symbols[index])
+}
+
 /// The symbol after the dot, if there is one.
 pub(crate) fn symbol_after<S: IndexStorage>(
     grm: &NumberedGrammar<S>,

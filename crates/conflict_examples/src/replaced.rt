@@ -4,21 +4,22 @@
 ghost use Rattle.std.specs.Prelude.{◌≡◌, ◌∷◌, ◌++◌, ℕ, List, [], drop, reverse, IsTrue, IfOk, IfSome, MatchOption};
 ghost use Rattle.cfg_theory.specs.Grammar.{Sym, rule, Grammar, body_of, IsOf};
 ghost use Rattle.cfg_numbered.specs.Symbols.{sym_of, syms_of, numbers_of};
-ghost use Rattle.conflict_examples.specs.Opening.{ComeBy, AreStepsTo};
-ghost use Rattle.conflict_examples.specs.Spines.{Begins};
+ghost use Rattle.conflict_examples.specs.Opening.{ComeBy, AreStepsTo, AreGone};
+ghost use Rattle.conflict_examples.specs.Spines.{AreSteps, Begins};
 
+use crate::gone::Gone;
 use crate::opened::push_turned;
 use crate::reading::{is_of, symbols_of};
 use cfg_base::index::IndexStorage;
-use cfg_base::symbol::{PIdx, Symbol, TIdx};
+use cfg_base::symbol::{PIdx, RIdx, Symbol, TIdx};
 use cfg_numbered::yacc::NumberedGrammar;
 use std::alloc::{AllocError, Global};
 
-/// How many symbols the forms of an example may have, all together, but for the last one. Where a rule vanishes only by a
-/// chain in which each is twice the next, they would have as many as doublings make.
-const MOST_SYMBOLS: usize = 262_144;
+/// How many productions may be put, and symbols of these, all together. Where a rule vanishes only by a chain in which each is twice
+/// the next, there would be as many as doublings make.
+const MOST_PUT: usize = 262_144;
 
-/// What a list has come to, its first symbol last, by which productions, and how many symbols the further forms may have.
+/// What a list has come to, its first symbol last, by which productions, and how many further ones and symbols may be put.
 #[derive(Drop)]
 pub(crate) struct Replaced<S> {
     pub form: Vec<Symbol<S>>,
@@ -51,6 +52,31 @@ fn begins_with_rule_of<S: IndexStorage>(
     }
 }
 
+/// Adds productions, of which there mostly is one, to the end.
+fn push_all<S: IndexStorage>(list: &[PIdx<S>], steps: &mut Vec<PIdx<S>>) -> Result<(), AllocError>
+    ensures { IfOk result (λ _. steps.new.items ≡ steps.old.items ++ list.now) }
+{
+    if list.len() == 1 {
+        steps.push(list[0])?;
+        return Ok(());
+    }
+    steps.extend_from_slice(list)
+}
+
+/// Puts symbols in the place of the first one.
+fn put_body<S: IndexStorage>(
+    body: &[Symbol<S>],
+    form: &mut Vec<Symbol<S>>,
+) -> Result<(), AllocError>
+    ensures { IfOk result (λ _. reverse (syms_of S.number form.new.items) ≡ syms_of S.number body.now ++ drop 1 (reverse (syms_of S.number form.old.items))) }
+{
+    let _first = form.pop();
+    if body.is_empty() {
+        return Ok(());
+    }
+    push_turned(body, form)
+}
+
 /// Puts the production in the place of the first symbol, and nothing where there is no such production.
 pub(crate) fn put_first<S: IndexStorage>(
     grm: &NumberedGrammar<S>,
@@ -59,12 +85,7 @@ pub(crate) fn put_first<S: IndexStorage>(
 ) -> Result<(), AllocError>
     ensures { IfOk result (λ _. reverse (syms_of S.number form.new.items) ≡ body_of grm.now.grammar (S.number pidx.0) ++ drop 1 (reverse (syms_of S.number form.old.items))) }
 {
-    let _first = form.pop();
-    let body = symbols_of(grm, pidx);
-    if body.is_empty() {
-        return Ok(());
-    }
-    push_turned(body, form)
+    put_body(symbols_of(grm, pidx), form)
 }
 
 /// Whether the list begins with the token, or is empty and the token is the end token.
@@ -86,11 +107,36 @@ impl<S: IndexStorage> Replaced<S> {
         Ok(Replaced {
             form: Vec::from_slice(alloc, form)?,
             steps: Vec::new(alloc),
-            room: MOST_SYMBOLS,
+            room: MOST_PUT,
         })
     }
 
-    /// Puts the production in the place of the first symbol, and tells whether that is its rule and there is room for the form.
+    /// The list of a rule alone.
+    pub(crate) fn of_rule(alloc: Global, ridx: RIdx<S>) -> Result<Replaced<S>, AllocError>
+        ensures { IfOk result (λ r. (G : Grammar) → ComeBy S.number G (rule (S.number ridx.0) ∷ []) r) }
+    {
+        let mut form = Vec::new(alloc);
+        form.push(Symbol::Rule(ridx))?;
+        Ok(Replaced {
+            form,
+            steps: Vec::new(alloc),
+            room: MOST_PUT,
+        })
+    }
+
+    /// The same.
+    pub(crate) fn copy(&self, alloc: Global) -> Result<Replaced<S>, AllocError>
+        ensures form { IfOk result (λ r. r.form.items ≡ self.now.form.items) }
+        ensures steps { IfOk result (λ r. r.steps.items ≡ self.now.steps.items) }
+    {
+        Ok(Replaced {
+            form: Vec::from_slice(alloc, self.form.as_slice())?,
+            steps: Vec::from_slice(alloc, self.steps.as_slice())?,
+            room: self.room,
+        })
+    }
+
+    /// Puts the production in the place of the first symbol, and tells whether that is its rule and there is room for it.
     pub(crate) fn replace(
         &mut self,
         grm: &NumberedGrammar<S>,
@@ -98,16 +144,62 @@ impl<S: IndexStorage> Replaced<S> {
     ) -> Result<bool, AllocError>
         ensures { IfOk result (λ b. IsTrue b → (a : List Sym) → ComeBy S.number grm.now.grammar a self.old → ComeBy S.number grm.now.grammar a self.new) }
     {
-        let Some(room) = self.room.checked_sub(self.form.len()) else {
-            return Ok(false);
-        };
         if !begins_with_rule_of(grm, self.form.as_slice(), pidx) {
             return Ok(false);
         }
+        let body = symbols_of(grm, pidx);
+        let Some(room) = self.room.checked_sub(body.len().saturating_add(1)) else {
+            return Ok(false);
+        };
         self.room = room;
-        put_first(grm, pidx, &mut self.form)?;
+        put_body(body, &mut self.form)?;
         self.steps.push(pidx)?;
         Ok(true)
+    }
+
+    /// Takes the first symbol away, and tells whether it is a rule that vanishes by listed productions and there is room for these.
+    fn vanish_first(&mut self, gone: &Gone<S>) -> Result<bool, AllocError>
+        ensures { IfOk result (λ _. (G : Grammar) (a : List Sym) → AreGone S.number G gone.now → ComeBy S.number G a self.old → ComeBy S.number G a self.new) }
+    {
+        let Some(Symbol::Rule(ridx)) = first_of(self.form.as_slice()) else {
+            return Ok(false);
+        };
+        let Some(list) = gone.list(ridx) else {
+            return Ok(false);
+        };
+        let Some(room) = self.room.checked_sub(list.len()) else {
+            return Ok(false);
+        };
+        self.room = room;
+        push_all(list, &mut self.steps)?;
+        let _first = self.form.pop();
+        Ok(true)
+    }
+
+    /// Takes first symbols away that vanish by listed productions, as long as there are more than so many and there is room.
+    pub(crate) fn vanish_listed(
+        &mut self,
+        gone: &Gone<S>,
+        height: usize,
+    ) -> Result<(), AllocError>
+        ensures { IfOk result (λ _. (G : Grammar) (a : List Sym) → AreGone S.number G gone.now → ComeBy S.number G a self.old → ComeBy S.number G a self.new) }
+    {
+        'symbols: for _ in height..self.form.len() {
+            if !self.vanish_first(gone)? {
+                return Ok(());
+            }
+        }
+        Ok(())
+    }
+
+    /// The productions, if the list is empty now.
+    pub(crate) fn steps_to_nothing(self) -> Option<Vec<PIdx<S>>>
+        ensures { IfSome result (λ v. (G : Grammar) (a : List Sym) → ComeBy S.number G a self → AreSteps G a (numbers_of S.number v.items) []) }
+    {
+        if !self.form.is_empty() {
+            return None;
+        }
+        Some(self.steps)
     }
 
     /// The productions, if the list begins with the token now, or is empty and the token is the end token.

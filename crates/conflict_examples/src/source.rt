@@ -170,7 +170,7 @@ impl<'a, S: IndexStorage> Source<'a, S> {
         }
         match rest[0] {
             Symbol::Token(tidx) => Rest::Begins(tidx),
-            Symbol::Rule(_) if self.tables.all_vanish(rest) => Rest::Vanishes,
+            Symbol::Rule(_) if self.tables.vanishing.all(rest) => Rest::Vanishes,
             Symbol::Rule(_) => Rest::Stays,
         }
     }
@@ -291,10 +291,7 @@ impl<'a, S: IndexStorage> Source<'a, S> {
 
     /// Whether the symbol vanishes.
     pub(crate) fn vanishes(&self, symbol: Symbol<S>) -> bool {
-        match symbol {
-            Symbol::Rule(ridx) => self.tables.vanishing(ridx).is_some(),
-            Symbol::Token(_) => false,
-        }
+        self.tables.vanishing.has(symbol)
     }
 
     /// Whether the production is there, and all symbols before the dot vanish.
@@ -309,7 +306,7 @@ impl<'a, S: IndexStorage> Source<'a, S> {
         if index > body.len() {
             return false;
         }
-        self.tables.all_vanish(symbols_before(body, index))
+        self.tables.vanishing.all(symbols_before(body, index))
     }
 
     /// Whether the token is the end token.

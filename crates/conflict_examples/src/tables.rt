@@ -1,8 +1,13 @@
-//! What the searches for all conflicts of a graph share. What it tells need not be right: an example is checked.
+//! What the searches for all conflicts of a graph share. Most of what it tells need not be right: an example is checked.
 
+ghost use Rattle.std.specs.Prelude.{IfOk};
+ghost use Rattle.conflict_examples.specs.Opening.{AreGone};
+
+use crate::gone::Gone;
 use crate::lists::Lists;
 use crate::places::Places;
 use crate::reading::{has_production, symbols_behind};
+use crate::vanishing::Vanishing;
 use cfg_base::index::IndexStorage;
 use cfg_base::symbol::{PIdx, RIdx, Symbol, TIdx};
 use cfg_numbered::yacc::NumberedGrammar;
@@ -11,13 +16,15 @@ use lrtable::stidx::StIdx;
 use std::alloc::{AllocError, Global};
 use vob::Vob;
 
-/// For each rule the tokens that it begins with and a production by which it vanishes, if there is one; for each symbol where
-/// it stands; for each state those from which an edge leads to it, and a shortest string to it.
+/// For each rule the tokens that it begins with and by which productions it vanishes, if it does; for each symbol where it stands;
+/// for each state those from which an edge leads to it, and a shortest string to it. The lists of productions by which rules
+/// vanish are right; the others need not be.
 #[derive(Drop)]
 pub(crate) struct Tables<S> {
     pub places: Places<S>,
     firsts: Vec<Vob>,
-    vanishing: Vec<Option<PIdx<S>>>,
+    pub vanishing: Vanishing<S>,
+    pub gone: Gone<S>,
     back: Lists<StIdx<S>>,
     shortest: Shortest<S>,
 }
@@ -60,7 +67,7 @@ pub(crate) fn entry<T: Copy>(list: &[Option<T>], index: usize) -> Option<T> {
 }
 
 /// Puts an entry in the place of None, and tells whether that was so.
-fn put_first<T: Copy>(list: &mut [Option<T>], index: usize, value: T) -> bool {
+pub(crate) fn put_first<T: Copy>(list: &mut [Option<T>], index: usize, value: T) -> bool {
     if index >= list.len() {
         return false;
     }
@@ -69,55 +76,6 @@ fn put_first<T: Copy>(list: &mut [Option<T>], index: usize, value: T) -> bool {
     }
     list[index] = Some(value);
     true
-}
-
-/// Whether all symbols are rules that vanish by what was found so far.
-pub(crate) fn all_vanish<S: IndexStorage>(
-    vanishing: &[Option<PIdx<S>>],
-    symbols: &[Symbol<S>],
-) -> bool {
-    'symbols: for k in 0..symbols.len() {
-        let vanishes = match symbols[k] {
-            Symbol::Rule(ridx) => entry(vanishing, ridx.0.to_usize()).is_some(),
-            Symbol::Token(_) => false,
-        };
-        if !vanishes {
-            return false;
-        }
-    }
-    true
-}
-
-/// Goes through the productions, from the last one, and tells whether a rule was found to vanish.
-fn vanish_more<S: IndexStorage>(
-    grm: &NumberedGrammar<S>,
-    vanishing: &mut [Option<PIdx<S>>],
-) -> bool {
-    let mut changed = false;
-    let count = grm.prods_len().0.to_usize();
-    'prods: for back in 0..count {
-        let pidx = grm.prod_at(count - 1 - back);
-        if all_vanish(vanishing, grm.prod(pidx)) {
-            changed |= put_first(vanishing, grm.prod_to_rule(pidx).0.to_usize(), pidx);
-        }
-    }
-    changed
-}
-
-/// The productions by which rules vanish, by rules.
-pub(crate) fn vanishing_by<S: IndexStorage>(
-    alloc: Global,
-    grm: &NumberedGrammar<S>,
-) -> Result<Vec<Option<PIdx<S>>>, AllocError> {
-    let rules = grm.rules_len().0.to_usize();
-    let mut vanishing = Vec::new(alloc);
-    vanishing.resize(rules, None)?;
-    'passes: for _ in 0..rules {
-        if !vanish_more(grm, vanishing.as_mut_slice()) {
-            return Ok(vanishing);
-        }
-    }
-    Ok(vanishing)
 }
 
 /// Counts a state for each of those that its edges lead to.
@@ -246,23 +204,24 @@ impl<S: IndexStorage> Tables<S> {
         alloc: Global,
         grm: &NumberedGrammar<S>,
         graph: &StateGraph<S>,
-    ) -> Result<Tables<S>, AllocError> {
+    ) -> Result<Tables<S>, AllocError>
+        ensures { IfOk result (λ r. AreGone S.number grm.now.grammar r.gone) }
+    {
+        let places = Places::new(alloc, grm)?;
+        let vanishing = Vanishing::new(alloc, grm, &places)?;
+        let gone = Gone::new(alloc, grm, &vanishing)?;
         Ok(Tables {
-            places: Places::new(alloc, grm)?,
+            places,
             firsts: first_sets(alloc, grm)?,
-            vanishing: vanishing_by(alloc, grm)?,
+            vanishing,
+            gone,
             back: states_back(alloc, graph)?,
             shortest: shortest_strings(alloc, graph)?,
         })
     }
 
-    /// A production by which the rule vanishes, if there is one.
-    pub(crate) fn vanishing(&self, ridx: RIdx<S>) -> Option<PIdx<S>> {
-        entry(self.vanishing.as_slice(), ridx.0.to_usize())
-    }
-
     /// Whether the rule begins with the token.
-    fn begins(&self, ridx: RIdx<S>, token: TIdx<S>) -> bool {
+    pub(crate) fn begins(&self, ridx: RIdx<S>, token: TIdx<S>) -> bool {
         let number = ridx.0.to_usize();
         if number >= self.firsts.len() {
             return false;
@@ -284,7 +243,7 @@ impl<S: IndexStorage> Tables<S> {
         match symbol {
             Symbol::Rule(ridx) => Start {
                 has: self.begins(ridx, token),
-                vanishes: self.vanishing(ridx).is_some(),
+                vanishes: self.vanishing.of(ridx).is_some(),
             },
             Symbol::Token(tidx) => Start {
                 has: tidx.0.to_usize() == token.0.to_usize(),
@@ -350,11 +309,7 @@ impl<S: IndexStorage> Tables<S> {
             if self.meets(symbols[k], tokens) {
                 return true;
             }
-            let vanishes = match symbols[k] {
-                Symbol::Rule(ridx) => self.vanishing(ridx).is_some(),
-                Symbol::Token(_) => false,
-            };
-            if !vanishes {
+            if !self.vanishing.has(symbols[k]) {
                 return false;
             }
         }
@@ -374,10 +329,5 @@ impl<S: IndexStorage> Tables<S> {
     /// How long a shortest string to the state is; `usize::MAX` where none leads there.
     pub(crate) fn length(&self, stidx: StIdx<S>) -> usize {
         number_at(self.shortest.lengths.as_slice(), stidx.0.to_usize())
-    }
-
-    /// Whether all symbols are rules that vanish.
-    pub(crate) fn all_vanish(&self, symbols: &[Symbol<S>]) -> bool {
-        all_vanish(self.vanishing.as_slice(), symbols)
     }
 }

@@ -1,10 +1,10 @@
 use Rattle.std.proofs.Common.{reverse}
 use Rattle.cfg_numbered.specs.Symbols.{syms_of}
-use Rattle.conflict_examples.specs.Opening.{ComeBy}
+use Rattle.conflict_examples.specs.Opening.{IsBegun}
 use Rattle.conflict_examples.proofs.steps.steps_behind.Given as goal
 
--- the list came by the productions to the one that is there
-abbrev pub invariant-steps : goal.invariant-steps
-invariant-steps g l =
+-- the list has come to what is there, and to the branch
+abbrev pub invariant-links : goal.invariant-links
+invariant-links g l =
     let number = g.S.IndexStorage.number in
-    ComeBy number l.source.grm.now.grammar (reverse (syms_of number l.rest)) l.replaced
+    IsBegun number l.source.grm.now.grammar (reverse (syms_of number l.rest)) l.begun

@@ -13,7 +13,7 @@ pub invariant_of-self : goal.invariant_of-self
 invariant_of-self g c =
     let G = c.self.inside.grm.now.grammar in
     let graph = graph_of c.self.inside.graph.now in
-    subst (AreOpen g.S.IndexStorage.number G graph) (sym c.replace-spines.ensures.after) (c.no_spines.ensures G graph)
+    (c.self.invariant.0, subst (AreOpen g.S.IndexStorage.number G graph) (sym c.replace-spines.ensures.after) (c.no_spines.ensures G graph))
 
 pub returns-clause-example : goal.returns-clause-example
 returns-clause-example g c =

@@ -107,14 +107,14 @@ fn are_of_one_rule<'a, S: IndexStorage>(
 }
 
 impl<S: IndexStorage> Chain<S> {
-    fn new(alloc: Global, around: Option<usize>) -> Chain<S> {
-        Chain {
-            items: Vec::new(alloc),
+    fn new(alloc: Global, around: Option<usize>, room: usize) -> Result<Chain<S>, AllocError> {
+        Ok(Chain {
+            items: Vec::with_capacity(alloc, room)?,
             place: 0,
             around,
             stays: false,
             within: None,
-        }
+        })
     }
 
     /// Parts the items from an index on from the others, as the inner part, if that is asked.
@@ -266,7 +266,7 @@ impl<S: IndexStorage> Kept<S> {
         end: End,
         needs: (bool, bool),
     ) -> Result<Ends<S>, AllocError> {
-        let mut ends = ends_at(alloc, end);
+        let mut ends = ends_at(alloc, end, self.length().max(self.old_states.len()))?;
         let shared = self.visits.shared();
         self.read_to(&mut ends, shared)?;
         if ends.next < shared && ends.are_around(needs) {
@@ -648,7 +648,7 @@ fn cut<T: Copy>(list: &mut Vec<T>, index: usize) -> Result<Vec<T>, AllocError> {
 }
 
 /// Where a search ended, of which nothing is read.
-fn ends_at<S: IndexStorage>(alloc: Global, end: End) -> Ends<S> {
+fn ends_at<S: IndexStorage>(alloc: Global, end: End, room: usize) -> Result<Ends<S>, AllocError> {
     let mut first = None;
     let mut second = None;
     if let Some(mark) = end.mark {
@@ -659,10 +659,10 @@ fn ends_at<S: IndexStorage>(alloc: Global, end: End) -> Ends<S> {
             second = Some(mark.second);
         }
     }
-    Ends {
-        first: Chain::new(alloc, first),
-        second: Chain::new(alloc, second),
+    Ok(Ends {
+        first: Chain::new(alloc, first, room)?,
+        second: Chain::new(alloc, second, room)?,
         steps: end.step,
         next: end.index,
-    }
+    })
 }

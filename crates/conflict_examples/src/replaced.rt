@@ -106,7 +106,7 @@ impl<S: IndexStorage> Replaced<S> {
     {
         Ok(Replaced {
             form: Vec::from_slice(alloc, form)?,
-            steps: Vec::new(alloc),
+            steps: Vec::with_capacity(alloc, form.len())?,
             room: MOST_PUT,
         })
     }
@@ -177,11 +177,7 @@ impl<S: IndexStorage> Replaced<S> {
     }
 
     /// Takes first symbols away that vanish by listed productions, as long as there are more than so many and there is room.
-    pub(crate) fn vanish_listed(
-        &mut self,
-        gone: &Gone<S>,
-        height: usize,
-    ) -> Result<(), AllocError>
+    pub(crate) fn vanish_listed(&mut self, gone: &Gone<S>, height: usize) -> Result<(), AllocError>
         ensures { IfOk result (λ _. (G : Grammar) (a : List Sym) → AreGone S.number G gone.now → ComeBy S.number G a self.old → ComeBy S.number G a self.new) }
     {
         'symbols: for _ in height..self.form.len() {

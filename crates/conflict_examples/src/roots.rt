@@ -29,13 +29,17 @@ pub(crate) struct Way<S> {
 /// Of how many productions on it is worth to go on from a point on a way.
 const MANY_LINKS: usize = 16;
 
-/// The rule that was asked for last, how many symbols were met for it from tokens up, and its ways, once these are more than it
-/// has rules to go through.
+/// Of how many productions on from such a point another one behind it is kept in its place.
+const FAR_LINKS: usize = 64;
+
+/// The rule that was asked for last, how many symbols were met for it from tokens up, and its ways, once these are more than the
+/// grammar has rules; and whether the last way was straight, over symbols that vanish alone.
 #[derive(Drop)]
 pub(crate) struct Roots<S> {
     root: usize,
     met: usize,
     tree: Option<Tree<S>>,
+    pub straight: bool,
 }
 
 impl<S: IndexStorage> Tree<S> {
@@ -161,8 +165,9 @@ impl<S: IndexStorage> Tree<S> {
         };
         let goes_on = past.is_some() && begin_of(links.as_slice()) == past;
         let part = match past {
-            _ if links.len() < MANY_LINKS => 0,
             Some(rule) if !goes_on => self.parting(alloc, links.as_slice(), rule)?,
+            Some(_) if links.len() < FAR_LINKS => 0,
+            _ if links.len() < MANY_LINKS => 0,
             _ => 1,
         };
         Ok(Some(Way {
@@ -220,6 +225,7 @@ impl<S: IndexStorage> Roots<S> {
             root: usize::MAX,
             met: 0,
             tree: None,
+            straight: true,
         }
     }
 

@@ -138,9 +138,23 @@ fn kept_branch<S: IndexStorage>(
     Ok(())
 }
 
-/// The productions by which what stands behind the innermost production comes to begin with the token, or to be empty. None
-/// where it doesn't come there, or more productions and symbols would be put than may be.
-pub(crate) fn steps_behind<'a, S: IndexStorage>(
+/// The productions by which a list comes to begin with the token where all its first symbols are gone that vanish by listed
+/// productions.
+fn straight_steps<'a, S: IndexStorage>(
+    alloc: Global,
+    source: &Source<'a, S>,
+    rest: &[Symbol<S>],
+) -> Result<Option<Vec<PIdx<S>>>, AllocError>
+    requires { AreGone S.number source.now.grm.now.grammar source.now.tables.now.gone }
+    ensures { IfOk result (λ o. IfSome o (λ v. AreStepsTo source.now.grm.now.grammar (S.number source.now.token.0) (reverse (syms_of S.number rest.now)) (numbers_of S.number v.items))) }
+{
+    let mut replaced = Replaced::new(alloc, rest)?;
+    replaced.vanish_listed(&source.tables.gone, 0)?;
+    Ok(replaced.steps_to(source.grm, source.token))
+}
+
+/// The productions by which a list comes to begin with the token on a way that need not be straight.
+fn steps_on_way<'a, S: IndexStorage>(
     alloc: Global,
     source: &Source<'a, S>,
     roots: &mut Roots<S>,
@@ -155,6 +169,7 @@ pub(crate) fn steps_behind<'a, S: IndexStorage>(
     let Some(route) = route_for(alloc, source, roots, branch, rest)? else {
         return Ok(None);
     };
+    roots.straight = route.way.links.is_empty();
     let Some(mut begun) = start_on(alloc, source, &route, branch, rest)? else {
         return Ok(None);
     };
@@ -171,4 +186,27 @@ pub(crate) fn steps_behind<'a, S: IndexStorage>(
         return Ok(None);
     };
     Ok(Some(Stepped { steps, branch }))
+}
+
+/// The productions by which what stands behind the innermost production comes to begin with the token, or to be empty. None
+/// where it doesn't come there, or more productions and symbols would be put than may be.
+pub(crate) fn steps_behind<'a, S: IndexStorage>(
+    alloc: Global,
+    source: &Source<'a, S>,
+    roots: &mut Roots<S>,
+    branch: Option<&Branch<S>>,
+    rest: &[Symbol<S>],
+) -> Result<Option<Stepped<S>>, AllocError>
+    requires gone { AreGone S.number source.now.grm.now.grammar source.now.tables.now.gone }
+    requires branch { IfSome branch (λ b. ComeBy S.number source.now.grm.now.grammar (reverse (syms_of S.number rest.now)) b.now.replaced) }
+    ensures steps { IfOk result (λ o. IfSome o (λ r. AreStepsTo source.now.grm.now.grammar (S.number source.now.token.0) (reverse (syms_of S.number rest.now)) (numbers_of S.number r.steps.items))) }
+    ensures branch { IfOk result (λ o. IfSome o (λ r. IfSome r.branch (λ b. ComeBy S.number source.now.grm.now.grammar (reverse (syms_of S.number rest.now)) b.replaced))) }
+{
+    if roots.straight {
+        if let Some(steps) = straight_steps(alloc, source, rest)? {
+            let branch = None;
+            return Ok(Some(Stepped { steps, branch }));
+        }
+    }
+    steps_on_way(alloc, source, roots, branch, rest)
 }

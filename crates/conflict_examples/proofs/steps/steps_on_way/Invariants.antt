@@ -1,7 +1,7 @@
 use Rattle.std.proofs.Common.{reverse}
 use Rattle.cfg_numbered.specs.Symbols.{syms_of}
 use Rattle.conflict_examples.specs.Opening.{IsBegun}
-use Rattle.conflict_examples.proofs.steps.steps_behind.Given as goal
+use Rattle.conflict_examples.proofs.steps.steps_on_way.Given as goal
 
 -- the list has come to what is there, and to the branch
 abbrev pub invariant-links : goal.invariant-links

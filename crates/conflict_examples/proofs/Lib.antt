@@ -1,5 +1,4 @@
 pub mod Firsts
-pub mod Gones
 pub mod Items
 pub mod Contests
 pub mod SymbolLists

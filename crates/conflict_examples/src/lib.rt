@@ -32,14 +32,15 @@
 //! A graph may be asked itself, where one example is wanted: with `ConflictExamples` in scope
 //! `graph.shift_reduce_example(alloc, grm, entry)` makes a finder and asks it once.
 //!
-//! A search over the finished graph (`strings`, `groups`, `steps`) comes to the open productions; what it comes to is checked
-//! against the grammar (`opened`, `whole`, `replaced`, `shown`, `led`), and only what passes is answered. A finder keeps what the
-//! last search came to (`kept`, `known`), so that the next one goes on where that one and it part, and one long search (`trunk`),
-//! from which those for other tokens (`alike`) and other actions go on. Where no table is made, since a production may be reduced
-//! where a text has ended, `accept_reduce` searches over the productions. Where the forms would have more than 262,144 symbols
-//! all together none is found (`replaced`); they are written out on request alone (`forms`). The contracts that matter most are
-//! those of `finder::ExampleFinder` and of `graph_examples::ConflictExamples`; the laws that tie examples to canonical LR(1) are
-//! in `laws`.
+//! A search over the finished graph (`strings`, `groups`) comes to the open productions, and one over the productions (`route`,
+//! `ways`, `roots`) to how a token comes from what stands behind them; what these come to is checked against the grammar
+//! (`opened`, `whole`, `steps`, `replaced`, `shown`, `led`), and only what passes is answered. The productions by which rules vanish
+//! are chosen once (`vanishing`) and listed (`gone`). A finder keeps what the last search came to (`kept`, `known`), so that the
+//! next one goes on where that one and it part, and one long search (`trunk`), from which those for other tokens (`alike`) and
+//! other actions go on. Where no table is made, since a production may be reduced where a text has ended, `accept_reduce` searches
+//! over the productions. Where a token comes from what stands behind only by more than 262,144 productions and symbols of these
+//! none is found (`replaced`); the forms are written out on request alone (`forms`). The contracts that matter most are those of
+//! `finder::ExampleFinder` and of `graph_examples::ConflictExamples`; the laws that tie examples to canonical LR(1) are in `laws`.
 #![tactic(auto)]
 
 mod accepting;

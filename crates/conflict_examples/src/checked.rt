@@ -312,11 +312,27 @@ pub(crate) fn pair_example<'a, S: IndexStorage>(
     let Shown {
         side: first,
         part: one,
-    } = reduce_shown(alloc, source, roots, first, &no_side(), &paths.0, production)?;
+    } = reduce_shown(
+        alloc,
+        source,
+        roots,
+        first,
+        &no_side(),
+        &paths.0,
+        production,
+    )?;
     let Shown {
         side: second,
         part: other,
-    } = reduce_shown(alloc, source, roots, second, &first, &paths.1, other_production)?;
+    } = reduce_shown(
+        alloc,
+        source,
+        roots,
+        second,
+        &first,
+        &paths.1,
+        other_production,
+    )?;
     let same = paths.0.same;
     let joined = joined_parts(alloc, source, stidx, led, same, one, other)?;
     let spines = Spines {

@@ -150,7 +150,15 @@ pub(crate) fn told_steps<'a, S: IndexStorage>(
         return Ok(Told { steps: None, known });
     };
     let Stepped { steps, branch } = stepped;
-    let known = kept(alloc, source.grm, known, rest, token, steps.as_slice(), branch)?;
+    let known = kept(
+        alloc,
+        source.grm,
+        known,
+        rest,
+        token,
+        steps.as_slice(),
+        branch,
+    )?;
     Ok(Told {
         steps: Some(steps),
         known,

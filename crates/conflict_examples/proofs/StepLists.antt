@@ -23,12 +23,6 @@ module _ (G : Grammar) where
   steps_on AreSteps.none t = t
   steps_on (AreSteps.step A p o s) t = AreSteps.step A p o (steps_on s t)
 
-  -- whatever stands behind
-  steps_within : {a c : List Sym} {steps : List ℕ} (others : List Sym) → AreSteps G a steps c → AreSteps G (a ++ others) steps (c ++ others)
-  steps_within others AreSteps.none = AreSteps.none
-  steps_within others (AreSteps.step {rest = rest} {c = c} {steps = steps} A p o s) =
-      AreSteps.step A p o (subst (λ l. AreSteps G l steps (c ++ others)) (append_assoc (body_of G p) rest others) (steps_within others s))
-
   -- steps from a rule to nothing, and to a list that begins with a token, whatever stands behind it
   Gone : ℕ → Type 0
   Gone A = (rest : List Sym) → (steps : List ℕ) × AreSteps G (rule A ∷ rest) steps rest
@@ -87,15 +81,6 @@ module _ (G : Grammar) where
       let there : now ≡ body_of G (number p) ++ rest = n ∙ ap (λ l. body_of G (number p) ++ drop 1 l) e in
       let steps : map number after ≡ map number before ++ number p ∷ [] = ap (map number) more ∙ map-append number before (p ∷ []) in
       subst (λ l. AreSteps G a (map number after) l) (sym there) (subst (λ l. AreSteps G a l (body_of G (number p) ++ rest)) (sym steps) (steps_more A (number p) here o))
-
-  -- those by which the first symbol vanishes, as the code keeps them
-  pub come_gone : {P : Type 0} (number : P → ℕ) (before after list : List P) (a old now : List Sym) (A : ℕ) → (rest : List Sym) × (old ≡ rule A ∷ rest) → AreSteps G (rule A ∷ []) (map number list) [] →
-      now ≡ drop 1 old → after ≡ before ++ list → AreSteps G a (map number before) old → AreSteps G a (map number after) now
-  come_gone number before after list a old now A (rest, e) gone n more s =
-      let here : AreSteps G a (map number before) (rule A ∷ rest) = subst (AreSteps G a (map number before)) e s in
-      let there : now ≡ rest = n ∙ ap (drop 1) e in
-      let steps : map number after ≡ map number before ++ map number list = ap (map number) more ∙ map-append number before list in
-      subst (λ l. AreSteps G a (map number after) l) (sym there) (subst (λ l. AreSteps G a l rest) (sym steps) (steps_on here (steps_within rest gone)))
 
   forms_go : (a : List Sym) (p : ℕ) (steps : List ℕ) → has_rule_first a ≡ true → forms_by G a (p ∷ steps) ≡ a ∷ forms_by G (body_of G p ++ drop 1 a) steps
   forms_go [] p steps e = cc
@@ -157,7 +142,7 @@ module _ {A B : Type 0} (f : A → B) where
       (reverse (map f outer), last_turned f outer xs x (last_is xs x e n))
 
   -- without it
-  pub less_first : (xs less : List A) → less ≡ take (length xs - 1) xs → reverse (map f less) ≡ drop 1 (reverse (map f xs))
+  less_first : (xs less : List A) → less ≡ take (length xs - 1) xs → reverse (map f less) ≡ drop 1 (reverse (map f xs))
   less_first [] less e = ap (λ l. reverse (map f l)) e
   less_first (y ∷ ys) less e =
       let xs = y ∷ ys in
@@ -170,9 +155,6 @@ module _ {A B : Type 0} (f : A → B) where
   pub put_before : (old less now body : List A) (b : List B) → less ≡ take (length old - 1) old → map f body ≡ b → map f now ≡ map f less ++ reverse (map f body) → reverse (map f now) ≡ b ++ drop 1 (reverse (map f old))
   put_before old less now body b l e n =
       ap reverse n ∙ reverse-append (map f less) (reverse (map f body)) ∙ ap (λ x. x ++ reverse (map f less)) (reverse-reverse (map f body) ∙ e) ∙ ap (λ x. b ++ x) (less_first old less l)
-
-  pub put_none : (old less body : List A) (b : List B) → less ≡ take (length old - 1) old → map f body ≡ b → length body ≡ 0 → reverse (map f less) ≡ b ++ drop 1 (reverse (map f old))
-  put_none old less body b l e n = less_first old less l ∙ ap (λ x. x ++ drop 1 (reverse (map f old))) (sym (none_is f body n) ∙ e)
 
   pub pushed_behind : (old now body back : List A) (b : List B) (d : ℕ) → map f body ≡ b → back ≡ drop d body → map f now ≡ map f old ++ reverse (map f back) → reverse (map f now) ≡ drop d b ++ reverse (map f old)
   pushed_behind old now body back b d e k n =

@@ -38,30 +38,15 @@ same_all f xs ys k h same e =
 pub all_of : {A B : Type 0} (f : A → B) (xs : List A) (k : ℕ) → length xs ≤ k → take k (map f xs) ≡ map f xs
 all_of f xs k h = all_taken (map f xs) k (omega (arith, h, length-map xs f))
 
-pub leads_more : {A : Type 0} (f : A → Sym) (g : Graph) (w : List Sym) (xs : List A) (k : ℕ) (x : A) (s t : ℕ) → k < length xs → x ≡ get_or xs k x → g.edge s (f x) ≡ Some t →
-    Leads g (reverse (take k (map f xs)) ++ w) s → Leads g (reverse (take (k + 1) (map f xs)) ++ w) t
-leads_more f g w xs k x s t lt e edge before =
+pub leads_more : {A : Type 0} (f : A → Sym) (g : Graph) (xs : List A) (k : ℕ) (x : A) (s t : ℕ) → k < length xs → x ≡ get_or xs k x → g.edge s (f x) ≡ Some t →
+    Leads g (reverse (take k (map f xs))) s → Leads g (reverse (take (k + 1) (map f xs))) t
+leads_more f g xs k x s t lt e edge before =
     let inside : k < length (map f xs) = omega (arith, lt, length-map xs f) in
     let one : take (k + 1) (map f xs) ≡ take k (map f xs) ++ f x ∷ [] = take_more (map f xs) k (f x) inside ∙ ap (λ y. take k (map f xs) ++ y ∷ []) (map_at f xs k x (f x) lt e) in
-    subst (λ v. Leads g (v ++ w) t) (sym (ap reverse one ∙ reverse-append (take k (map f xs)) (f x ∷ []))) (Leads.on before edge)
+    subst (λ w. Leads g w t) (sym (ap reverse one ∙ reverse-append (take k (map f xs)) (f x ∷ []))) (Leads.on before edge)
 
-pub leads_all : {A : Type 0} (f : A → Sym) (g : Graph) (w : List Sym) (xs : List A) (k s : ℕ) → length xs ≤ k → Leads g (reverse (take k (map f xs)) ++ w) s → Leads g (reverse (map f xs) ++ w) s
-leads_all f g w xs k s h l = subst (λ v. Leads g (reverse v ++ w) s) (all_of f xs k h) l
-
-pub leads_start : {A : Type 0} (f : A → Sym) (g : Graph) (xs : List A) (s t : ℕ) → s ≡ g.start → ((w : List Sym) → Leads g w s → Leads g (reverse (map f xs) ++ w) t) → Leads g (reverse (map f xs)) t
-leads_start f g xs s t e on = subst (λ v. Leads g v t) (append-nil (reverse (map f xs))) (on [] (Leads.none e))
-
--- the rest as the code cuts it
-rest_is : {A : Type 0} (xs : List A) (k : ℕ) → take (length xs - k) (drop k xs) ≡ drop k xs
-rest_is xs k = all_taken (drop k xs) (length xs - k) (omega (arith, length-drop k xs))
-
-pub leads_on : {A : Type 0} (f : A → Sym) (g : Graph) (first xs : List A) (k s t : ℕ) → map f first ≡ map f (take k xs) → Leads g (reverse (map f first)) s →
-    ((w : List Sym) → Leads g w s → Leads g (reverse (map f (take (length xs - k) (drop k xs))) ++ w) t) → Leads g (reverse (map f xs)) t
-leads_on f g first xs k s t e before on =
-    let rest = map f (drop k xs) in
-    let whole : map f xs ≡ map f (take k xs) ++ rest = ap (map f) (sym (take-append-drop k xs)) ∙ map-append f (take k xs) (drop k xs) in
-    let now : Leads g (reverse rest ++ reverse (map f first)) t = subst (λ l. Leads g (reverse (map f l) ++ reverse (map f first)) t) (rest_is xs k) (on (reverse (map f first)) before) in
-    subst (λ v. Leads g v t) (ap (λ l. reverse rest ++ reverse l) e ∙ sym (ap reverse whole ∙ reverse-append (map f (take k xs)) rest)) now
+pub leads_all : {A : Type 0} (f : A → Sym) (g : Graph) (xs : List A) (k s : ℕ) → length xs ≤ k → Leads g (reverse (take k (map f xs))) s → Leads g (reverse (map f xs)) s
+leads_all f g xs k s h l = subst (λ v. Leads g (reverse v) s) (all_of f xs k h) l
 
 -- a list whose last one comes first, put behind others
 module _ {A B : Type 0} (f : A → B) where

@@ -1,4 +1,4 @@
-//! What is shown of a conflict.
+//! The example of a conflict.
 
 ghost use Rattle.std.specs.Prelude.{◌≡◌, map, IfOk};
 ghost use Rattle.cfg_numbered.specs.Symbols.{syms_of};
@@ -26,21 +26,19 @@ pub struct ConflictExample<S> {
 /// Why an action is right after the symbols on the token.
 #[derive(Drop)]
 pub struct ActionExample<S> {
-    /// The productions that are open, from that of the start to the innermost, each with its dot. Each is of the rule after
-    /// the dot of the one before it; the symbols before the dots, one list behind the other, are those of the example.
+    /// The open productions, from that of the start to the innermost, each with its dot. Each is of the rule after the dot of
+    /// the one before it. The symbols before the dots, one list behind the other, are those of the example.
     pub spine: Vec<(PIdx<S>, SIdx<S>)>,
-    /// For a reduction the productions by which what stands behind the innermost production comes to begin with the token, or
-    /// to be empty where the token is the end token: each is put in the place of the first symbol, which is its rule. None for
-    /// a shift.
+    /// For a reduction the productions by which what follows the innermost production comes to begin with the token, or to be
+    /// empty where the token is the end token. Each replaces the first symbol, which is its rule. None for a shift.
     pub steps: Vec<PIdx<S>>,
 }
 
 impl<S: IndexStorage> ActionExample<S> {
-    /// The forms from what stands behind the innermost production, each with the next of `steps` in the place of its first
+    /// Writes out the forms from what follows the innermost production, each with the next of `steps` in the place of its first
     /// symbol. Of a reduction in an example the last one begins with the token, or is empty where the token is the end token
-    /// (`laws::steps_make_forms`). They are written out, so that they may have as many symbols as steps and symbols behind the
-    /// innermost production multiply to. Of other values they end where no rule stands first, and a production that the
-    /// grammar hasn't counts as one without symbols.
+    /// (`laws::steps_make_forms`). They may have as many symbols as steps and symbols of a form multiply to. Of other values
+    /// they end where no rule comes first, and a production that the grammar doesn't have counts as one without symbols.
     pub fn forms(
         &self,
         alloc: Global,

@@ -1,5 +1,4 @@
-//! Makes the forms of an example: from what stands behind its innermost production, one for each production that is put in the
-//! place of the first symbol.
+//! Writes out the forms of an example: what follows its innermost production, and one form for each step from there.
 
 ghost use Rattle.std.specs.Prelude.{◌≡◌, ◌∷◌, ◌++◌, suc, [], map, reverse, IfOk};
 ghost use Rattle.lr_theory.specs.Canonical.{from_dot};
@@ -8,16 +7,15 @@ ghost use Rattle.conflict_examples.specs.ExampleViews.{spine_of};
 ghost use Rattle.conflict_examples.specs.Opening.{has_rule_first};
 ghost use Rattle.conflict_examples.specs.Spines.{around, forms_by};
 
-use crate::opened::push_turned;
-use crate::reading::{symbols_behind, symbols_of};
-use crate::replaced::{first_of, put_first};
-use crate::shown::turned;
+use crate::derivation::{first_of, put_first};
+use crate::productions::{symbols_behind, symbols_of};
+use crate::symbols::{push_reversed, reversed};
 use cfg_base::index::IndexStorage;
 use cfg_base::symbol::{PIdx, SIdx, Symbol};
 use cfg_numbered::yacc::NumberedGrammar;
 use std::alloc::{AllocError, Global};
 
-/// Adds what stands behind the symbol after a dot, before what is there.
+/// Adds the symbols behind the one after a dot, before those that are there.
 fn push_behind<S: IndexStorage>(
     grm: &NumberedGrammar<S>,
     pidx: PIdx<S>,
@@ -27,11 +25,11 @@ fn push_behind<S: IndexStorage>(
     ensures { IfOk result (λ _. reverse (syms_of S.number rest.new.items) ≡ from_dot grm.now.grammar (S.number pidx.0) (suc (S.number dot.0)) ++ reverse (syms_of S.number rest.old.items)) }
 {
     let behind = symbols_behind(symbols_of(grm, pidx), dot.0.to_usize());
-    push_turned(behind, rest)
+    push_reversed(behind, rest)
 }
 
-/// What stands behind the innermost production, its first symbol last.
-fn behind_innermost<S: IndexStorage>(
+/// Returns the symbols that follow the innermost production, the first of them last.
+pub(crate) fn behind_innermost<S: IndexStorage>(
     alloc: Global,
     grm: &NumberedGrammar<S>,
     items: &[(PIdx<S>, SIdx<S>)],
@@ -46,7 +44,7 @@ fn behind_innermost<S: IndexStorage>(
     Ok(rest)
 }
 
-/// Whether the list, which has its first symbol last, begins with a rule.
+/// Returns whether the form, which has its first symbol last, begins with a rule.
 fn begins_with_rule<S: IndexStorage>(form: &[Symbol<S>]) -> bool
     ensures { result ≡ has_rule_first (reverse (syms_of S.number form.now)) }
 {
@@ -57,7 +55,7 @@ fn begins_with_rule<S: IndexStorage>(form: &[Symbol<S>]) -> bool
     }
 }
 
-/// Puts a form to the end.
+/// Appends a form, which has its first symbol last.
 fn with_form<S: IndexStorage>(
     alloc: Global,
     forms: Vec<Vec<Symbol<S>>>,
@@ -66,11 +64,11 @@ fn with_form<S: IndexStorage>(
     ensures { IfOk result (λ v. map (λ f. syms_of S.number f.items) v.items ≡ map (λ f. syms_of S.number f.items) forms.items ++ reverse (syms_of S.number form.now) ∷ []) }
 {
     let mut forms = forms;
-    forms.push(turned(alloc, form)?)?;
+    forms.push(reversed(alloc, form)?)?;
     Ok(forms)
 }
 
-/// The forms from a list, which has its first symbol last, by these productions, as far as a rule stands first.
+/// Returns the forms from one, which has its first symbol last, by these steps, as far as a rule stands first.
 fn forms_from<S: IndexStorage>(
     alloc: Global,
     grm: &NumberedGrammar<S>,
@@ -85,13 +83,13 @@ fn forms_from<S: IndexStorage>(
         if !begins_with_rule(form.as_slice()) {
             return with_form(alloc, forms, form.as_slice());
         }
-        forms.push(turned(alloc, form.as_slice())?)?;
+        forms.push(reversed(alloc, form.as_slice())?)?;
         put_first(grm, steps[k], &mut form)?;
     }
     with_form(alloc, forms, form.as_slice())
 }
 
-/// The forms from what stands behind the innermost production.
+/// Returns the forms from the symbols that follow the innermost production, by these steps.
 pub(crate) fn forms_behind<S: IndexStorage>(
     alloc: Global,
     grm: &NumberedGrammar<S>,

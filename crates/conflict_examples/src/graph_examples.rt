@@ -24,7 +24,7 @@ pub trait ConflictExamples<S: IndexStorage> {
     /// The graph that is asked.
     ghost graph: { Self → GraphValue };
 
-    /// An example of a listed shift against a reduction: on its own token, after symbols that lead to its state and leave the
+    /// Returns an example of a listed shift against a reduction: on its own token, after symbols that lead to its state and leave the
     /// token both actions of canonical LR(1). None where the search finds none; that it finds one for each entry that a table
     /// lists is not proved.
     fn shift_reduce_example(
@@ -38,7 +38,7 @@ pub trait ConflictExamples<S: IndexStorage> {
         ensures token { IfOk result (λ o. IfSome o (λ x. S.number x.token.0 ≡ S.number entry.now.0.0)) }
         ensures state { IfOk result (λ o. IfSome o (λ x. Leads (graph_of (graph self.now)) (example_of S.number x).string (S.number entry.now.2.0))) };
 
-    /// An example of a listed pair of reductions, after symbols that lead to its state and leave its token both actions of
+    /// Returns an example of a listed pair of reductions, after symbols that lead to its state and leave its token both actions of
     /// canonical LR(1). Its token may be another than the listed one: states that were merged share lookaheads that no single
     /// string has. None where the search finds none; that it finds one for each entry that a table lists is not proved.
     fn reduce_reduce_example(
@@ -62,7 +62,7 @@ impl<S: IndexStorage> ConflictExamples<S> for StateGraph<S> {
         entry: &(TIdx<S>, PIdx<S>, StIdx<S>),
     ) -> Result<Option<ConflictExample<S>>, AllocError> {
         examples_are_contests();
-        let mut finder = ExampleFinder::new(alloc, grm, self)?;
+        let finder = ExampleFinder::new(alloc, grm, self)?;
         let found = finder.shift_reduce(alloc, entry)?;
         Ok(found)
     }
@@ -74,7 +74,7 @@ impl<S: IndexStorage> ConflictExamples<S> for StateGraph<S> {
         entry: &(TIdx<S>, PIdx<S>, PIdx<S>, StIdx<S>),
     ) -> Result<Option<ConflictExample<S>>, AllocError> {
         examples_are_contests();
-        let mut finder = ExampleFinder::new(alloc, grm, self)?;
+        let finder = ExampleFinder::new(alloc, grm, self)?;
         let found = finder.reduce_reduce(alloc, entry)?;
         Ok(found)
     }

@@ -13,7 +13,7 @@
 //!     graph: &StateGraph<u32>,
 //!     conflicts: &Conflicts<u32>,
 //! ) -> Result<Vec<usize>, AllocError> {
-//!     let mut finder = ExampleFinder::new(alloc, grm, graph)?;
+//!     let finder = ExampleFinder::new(alloc, grm, graph)?;
 //!     let mut lengths = Vec::new(alloc);
 //!     for entry in conflicts.sr_conflicts() {
 //!         if let Some(example) = finder.shift_reduce(alloc, entry)? {
@@ -32,53 +32,42 @@
 //! A graph may be asked itself, where one example is wanted: with `ConflictExamples` in scope
 //! `graph.shift_reduce_example(alloc, grm, entry)` makes a finder and asks it once.
 //!
-//! A search over the finished graph (`strings`, `groups`) comes to the open productions, and one over the productions (`route`,
-//! `ways`, `roots`) to how a token comes from what stands behind them; what these come to is checked against the grammar
-//! (`opened`, `whole`, `steps`, `replaced`, `shown`, `led`), and only what passes is answered. The productions by which rules vanish
-//! are chosen once (`vanishing`) and listed (`gone`). A finder keeps what the last search came to (`kept`, `known`), so that the
-//! next one goes on where that one and it part, and one long search (`trunk`), from which those for other tokens (`alike`) and
-//! other actions go on. Where no table is made, since a production may be reduced where a text has ended, `accept_reduce` searches
-//! over the productions. Where a token comes from what stands behind only by more than 262,144 productions and symbols of these
-//! none is found (`replaced`); the forms are written out on request alone (`forms`). The contracts that matter most are those of
-//! `finder::ExampleFinder` and of `graph_examples::ConflictExamples`; the laws that tie examples to canonical LR(1) are in `laws`.
+//! A backward search over the finished graph finds a path to the conflict (`backward_search`), a second search the open
+//! productions along this path (`spine_search`), and a third one how the token comes to stand behind them (`left_corner`). None
+//! of this is trusted: each result is a candidate (`witness::Candidate`) that is checked against the grammar (`spine`,
+//! `derivation`, `witness`), and only what passes is returned (`example_check`). Where a production may be reduced where a text has
+//! ended no table is made, and `accept_reduce` searches over the productions alone (`end_search`). An example isn't found where
+//! its derivation would have more than 262,144 steps and symbols (`derivation`); the forms are written out only when asked
+//! for (`forms`).
+//!
+//! The contracts that matter most are those of `finder::ExampleFinder` and of `graph_examples::ConflictExamples`; the laws that
+//! tie examples to canonical LR(1) are in `laws`.
 #![tactic(auto)]
 
-mod accepting;
-mod alike;
-mod branch;
-mod checked;
+mod backward_search;
+mod beginnings;
+mod candidates;
+mod derivation;
+mod end_search;
+mod example_check;
 pub mod examples;
 pub mod finder;
 mod forms;
-mod gone;
+mod goto;
 pub mod graph_examples;
-mod groups;
-mod kept;
-mod known;
 pub mod laws;
-mod led;
-mod lists;
-mod needs;
-mod opened;
-mod places;
-mod reading;
-mod replaced;
-mod roots;
-mod route;
-mod shown;
+mod left_corner;
+mod nullable;
+mod predecessors;
+mod productions;
 mod source;
-mod steps;
-mod strings;
+mod spine;
+mod spine_search;
+mod symbols;
 mod tables;
-mod traces;
-mod trunk;
-mod vanishing;
-mod visit;
-mod way;
-mod ways;
-mod whole;
+mod witness;
 
-pub use accepting::accept_reduce;
+pub use end_search::accept_reduce;
 pub use examples::{ActionExample, ConflictExample};
 pub use finder::ExampleFinder;
 pub use graph_examples::ConflictExamples;

@@ -9,5 +9,5 @@ pub returns : goal.returns
 returns g c =
     let number = g.S.IndexStorage.number in
     let body = c.symbols_of.result.now in
-    IfOk-weaker c.push_turned.result _ _ (λ _ e. pushed_behind (sym_of number) c.args.rest.now.items c.push_turned.new.rest.items body c.symbols_behind-behind.result.now (body_of c.args.grm.now.grammar (number c.args.pidx.0)) (suc (number c.args.dot.0))
-    c.symbols_of.ensures (c.symbols_behind-behind.ensures ∙ ap (λ k. drop (suc k) body) c.to_usize.ensures.value) e) c.push_turned.ensures
+    IfOk-weaker c.push_reversed.result _ _ (λ _ e. pushed_behind (sym_of number) c.args.rest.now.items c.push_reversed.new.list.items body c.symbols_behind-behind.result.now (body_of c.args.grm.now.grammar (number c.args.pidx.0)) (suc (number c.args.dot.0))
+    c.symbols_of.ensures (c.symbols_behind-behind.ensures ∙ ap (λ k. drop (suc k) body) c.to_usize.ensures.value) e) c.push_reversed.ensures

@@ -1,6 +1,0 @@
-use Rattle.conflict_examples.specs.Opening.{IsOpen}
-use Rattle.conflict_examples.proofs.opened.Opened.close_to.Given as goal
-
--- what is open so far
-abbrev pub invariant-items : goal.invariant-items
-invariant-items g l = IsOpen g.S.IndexStorage.number l.grm.grammar l.self

@@ -1,0 +1,348 @@
+//! Searches backwards for a path after which items have the token as lookahead, by the fewest edges.
+//!
+//! An item past dot 0 goes back over an edge. An item at dot 0 is replaced by one before its rule, which needs the token only if
+//! what follows the rule is nullable. Where nothing is needed any more, a shortest path from the start state comes before.
+
+use crate::productions::has_production;
+use crate::source::{Source, Wanted};
+use cfg_base::index::IndexStorage;
+use cfg_base::symbol::{PIdx, RIdx, SIdx, Symbol};
+use lrtable::stidx::StIdx;
+use std::alloc::{AllocError, Global};
+use std::collections::BTreeSet;
+
+/// How many steps a search may have.
+const MOST_STEPS: usize = 1_048_576;
+
+/// An item that needs the token as lookahead, or none.
+pub(crate) type Need<S> = Option<(PIdx<S>, SIdx<S>)>;
+
+/// A replacement: the state, the rule of the item at dot 0, the other needed item, and whether the item is the first of both.
+type Key = (usize, usize, usize, usize, bool);
+
+/// A state with the items that need the token there, the visit that comes behind it, and whether an edge leads to that one.
+#[derive(Clone, Copy)]
+struct Visit<S> {
+    stidx: StIdx<S>,
+    first: Need<S>,
+    second: Need<S>,
+    next: usize,
+    by_edge: bool,
+}
+
+/// A visit on the way back to dot 0: its index, the number of edges left, and the next of the predecessors.
+#[derive(Clone, Copy)]
+struct Step {
+    index: usize,
+    left: usize,
+    next: usize,
+}
+
+/// The visits so far; the steps back from the nearest one, and its distance; those that wait, each with its distance; the
+/// replacements; and the visit that needs nothing.
+#[derive(Drop)]
+struct Search<S> {
+    visits: Vec<Visit<S>>,
+    way: Vec<Step>,
+    distance: usize,
+    queue: BTreeSet<(usize, usize)>,
+    seen: BTreeSet<Key>,
+    done: Option<usize>,
+}
+
+/// Returns the numbers of a needed item.
+fn numbers_of<S: IndexStorage>(need: Need<S>) -> (usize, usize) {
+    match need {
+        Some((pidx, dot)) => (pidx.0.to_usize(), dot.0.to_usize()),
+        None => (usize::MAX, usize::MAX),
+    }
+}
+
+/// Returns the number of edges back to dot 0; `usize::MAX` where nothing is needed.
+fn edges_of<S: IndexStorage>(need: Need<S>) -> usize {
+    match need {
+        Some((_, dot)) => dot.0.to_usize(),
+        None => usize::MAX,
+    }
+}
+
+/// Returns the number of edges back until one of both items is at dot 0.
+fn edges_back<S: IndexStorage>(visit: &Visit<S>) -> usize {
+    edges_of(visit.first).min(edges_of(visit.second))
+}
+
+/// Moves the dot of the item back.
+fn moved_back<S: IndexStorage>(need: Need<S>) -> Need<S> {
+    let (pidx, dot) = need?;
+    let number = S::from_usize(dot.0.to_usize().saturating_sub(1))?;
+    Some((pidx, SIdx(number)))
+}
+
+/// Returns whether the state has the item with the token, if one is needed.
+fn has_need<'a, S: IndexStorage>(source: &Source<'a, S>, stidx: StIdx<S>, need: Need<S>) -> bool {
+    match need {
+        Some((pidx, dot)) => source.has_look(stidx, pidx, dot),
+        None => true,
+    }
+}
+
+/// Returns whether the state has both items with the token.
+fn has_needs<'a, S: IndexStorage>(source: &Source<'a, S>, visit: &Visit<S>) -> bool {
+    has_need(source, visit.stidx, visit.first) && has_need(source, visit.stidx, visit.second)
+}
+
+/// Returns whether the first of both items is at dot 0.
+fn is_first_at_zero<S: IndexStorage>(visit: &Visit<S>) -> bool {
+    edges_of(visit.first) == 0
+}
+
+/// Returns the production of the item at dot 0: of the first one, if it is there, else of the second.
+fn production_at_zero<S: IndexStorage>(visit: &Visit<S>) -> Option<PIdx<S>> {
+    let is_first = is_first_at_zero(visit);
+    let need = if is_first { visit.first } else { visit.second };
+    let (pidx, _) = need?;
+    Some(pidx)
+}
+
+/// Returns the key of a replacement of the items of a rule.
+fn key_of<S: IndexStorage>(visit: &Visit<S>, ridx: RIdx<S>) -> Key {
+    let is_first = is_first_at_zero(visit);
+    let other = if is_first { visit.second } else { visit.first };
+    let (production, dot) = numbers_of(other);
+    let state = visit.stidx.0.to_usize();
+    (state, ridx.0.to_usize(), production, dot, is_first)
+}
+
+/// Replaces the item at dot 0.
+fn replaced<S: IndexStorage>(visit: &Visit<S>, index: usize, need: Need<S>) -> Visit<S> {
+    let (first, second) = if is_first_at_zero(visit) {
+        (need, visit.second)
+    } else {
+        (visit.first, need)
+    };
+    Visit {
+        stidx: visit.stidx,
+        first,
+        second,
+        next: index,
+        by_edge: false,
+    }
+}
+
+impl<S: IndexStorage> Search<S> {
+    /// Has a visit wait: on the way where an item is at dot 0, and else in the queue.
+    fn put(&mut self, visit: Visit<S>) -> Result<(), AllocError> {
+        let index = self.visits.len();
+        self.visits.push(visit)?;
+        if visit.first.is_none() && visit.second.is_none() {
+            self.done = Some(index);
+            return Ok(());
+        }
+        let left = edges_back(&visit);
+        if left == 0 {
+            self.way.push(Step {
+                index,
+                left,
+                next: 0,
+            })?;
+        } else {
+            let distance = self.distance.saturating_add(left);
+            self.queue.insert((distance, index))?;
+        }
+        Ok(())
+    }
+
+    /// Takes the nearest visit from the queue, and returns whether there was one.
+    fn take_nearest(&mut self) -> Result<bool, AllocError> {
+        let Some((distance, index)) = self.queue.pop_first() else {
+            return Ok(false);
+        };
+        if index < self.visits.len() {
+            let left = edges_back(&self.visits[index]);
+            self.distance = distance;
+            self.way.push(Step {
+                index,
+                left,
+                next: 0,
+            })?;
+        }
+        Ok(true)
+    }
+
+    /// Goes back to the next predecessor of a visit, if that has the needed items.
+    fn step_back<'a>(
+        &mut self,
+        source: &Source<'a, S>,
+        visit: &Visit<S>,
+        step: Step,
+    ) -> Result<(), AllocError> {
+        let Step { index, left, next } = step;
+        let states = source.tables.predecessors.of(visit.stidx);
+        if next >= states.len() {
+            return Ok(());
+        }
+        self.way.push(Step {
+            index,
+            left,
+            next: next + 1,
+        })?;
+        let before = Visit {
+            stidx: states[next],
+            first: moved_back(visit.first),
+            second: moved_back(visit.second),
+            next: index,
+            by_edge: true,
+        };
+        if has_needs(source, &before) {
+            self.way.push(Step {
+                index: self.visits.len(),
+                left: left.saturating_sub(1),
+                next: 0,
+            })?;
+            self.visits.push(before)?;
+        }
+        Ok(())
+    }
+
+    /// Replaces the item at dot 0 of a visit, unless one of its rule was replaced there.
+    fn go_out<'a>(
+        &mut self,
+        source: &Source<'a, S>,
+        visit: &Visit<S>,
+        index: usize,
+        outer: &mut Vec<(PIdx<S>, SIdx<S>)>,
+    ) -> Result<(), AllocError> {
+        let Some(pidx) = production_at_zero(visit) else {
+            return Ok(());
+        };
+        if !has_production(source.grm, pidx) {
+            return Ok(());
+        }
+        let ridx = source.grm.prod_to_rule(pidx);
+        if !self.seen.insert(key_of(visit, ridx))? {
+            return Ok(());
+        }
+        if source.is_start(pidx) {
+            if source.is_end() {
+                self.put(replaced(visit, index, None))?;
+            }
+            return Ok(());
+        }
+        source.items_before(visit.stidx, Symbol::Rule(ridx), Wanted::All, outer)?;
+        self.put_each(source, visit, index, outer.as_slice())
+    }
+
+    /// Puts each of the items in the place of the one at dot 0, and nothing where the token may follow at once.
+    fn put_each<'a>(
+        &mut self,
+        source: &Source<'a, S>,
+        visit: &Visit<S>,
+        index: usize,
+        outer: &[(PIdx<S>, SIdx<S>)],
+    ) -> Result<(), AllocError> {
+        let mut follows = false;
+        'outer: for back in 0..outer.len() {
+            let (pidx, dot) = outer[outer.len() - 1 - back];
+            let start = source.start_behind(pidx, dot);
+            if start.has {
+                if !follows {
+                    self.put(replaced(visit, index, None))?;
+                }
+                follows = true;
+            } else if start.vanishes && source.has_look(visit.stidx, pidx, dot) {
+                self.put(replaced(visit, index, Some((pidx, dot))))?;
+            }
+            if self.done.is_some() {
+                return Ok(());
+            }
+        }
+        Ok(())
+    }
+
+    /// Goes on from the last visit on the way, or the nearest in the queue, and returns whether there was one.
+    fn go_on<'a>(
+        &mut self,
+        source: &Source<'a, S>,
+        outer: &mut Vec<(PIdx<S>, SIdx<S>)>,
+    ) -> Result<bool, AllocError> {
+        let Some(step) = self.way.pop() else {
+            return self.take_nearest();
+        };
+        if step.index >= self.visits.len() {
+            return Ok(true);
+        }
+        let visit = self.visits[step.index];
+        if step.left == 0 {
+            self.go_out(source, &visit, step.index, outer)?;
+        } else {
+            self.step_back(source, &visit, step)?;
+        }
+        Ok(true)
+    }
+}
+
+/// Returns the states of a shortest path to the state of a visit, and those from there on.
+fn path_from<'a, S: IndexStorage>(
+    alloc: Global,
+    source: &Source<'a, S>,
+    visits: &[Visit<S>],
+    index: usize,
+) -> Result<Vec<StIdx<S>>, AllocError> {
+    if index >= visits.len() {
+        return Ok(Vec::new(alloc));
+    }
+    let predecessors = &source.tables.predecessors;
+    let mut path = predecessors.shortest_path(alloc, source.graph, visits[index].stidx)?;
+    let mut at = index;
+    'visits: for _ in 0..visits.len() {
+        if at >= visits.len() {
+            return Ok(path);
+        }
+        let visit = visits[at];
+        if visit.by_edge && visit.next < visits.len() {
+            path.push(visits[visit.next].stidx)?;
+        }
+        at = visit.next;
+    }
+    Ok(path)
+}
+
+/// Returns the states of a path to the state, the start state first, after which the needed items have the token as lookahead.
+pub(crate) fn path_to<'a, S: IndexStorage>(
+    alloc: Global,
+    source: &Source<'a, S>,
+    stidx: StIdx<S>,
+    first: Need<S>,
+    second: Need<S>,
+) -> Result<Option<Vec<StIdx<S>>>, AllocError> {
+    let start = Visit {
+        stidx,
+        first,
+        second,
+        next: usize::MAX,
+        by_edge: false,
+    };
+    if !has_needs(source, &start) {
+        return Ok(None);
+    }
+    let mut search = Search {
+        visits: Vec::with_capacity(alloc, 16)?,
+        way: Vec::with_capacity(alloc, 16)?,
+        distance: 0,
+        queue: BTreeSet::new(alloc),
+        seen: BTreeSet::new(alloc),
+        done: None,
+    };
+    search.put(start)?;
+    let mut outer = Vec::with_capacity(alloc, 16)?;
+    'steps: for _ in 0..MOST_STEPS {
+        if let Some(index) = search.done {
+            let path = path_from(alloc, source, search.visits.as_slice(), index)?;
+            return Ok(Some(path));
+        }
+        if !search.go_on(source, &mut outer)? {
+            return Ok(None);
+        }
+    }
+    Ok(None)
+}

@@ -64,8 +64,11 @@ judged_is x valid u prods hs ts are own heads tokens =
     ∙ ap (λ l. tree_of x valid (productions_of x) (map (rule_ast x) (rule_words x)) l) (tokens ∙ are.tokens_is)
 
 -- a tree before its productions, and one with all that was judged
+abbrev pub filled : SyntaxText → Ast → Ast
+filled x a = with_expected_of (ast_of true x) (with_parts_of (ast_of true x) (with_headings_of x a))
+
 abbrev pub begun : SyntaxText → Ast
-begun x = with_expected_of (ast_of true x) (with_parts_of (ast_of true x) (with_headings_of x no_ast))
+begun x = filled x no_ast
 
 pub judged_whole : (x : SyntaxText) (valid : Bool) (u : UsesText) (old new : Ast) (ts : List WordText) → IsJudged x u old new → old ≡ begun x → ts ≡ u.known.tokens
     → with_lines_of (ast_of true x) (with_tokens ts valid new) ≡ ast_of valid x

@@ -78,9 +78,16 @@ fn one_error(
 ) -> Result<Vec<YaccGrammarError>, AllocError>
     ensures { IfOk result (λ es. failures_in es.items ≡ failure_at (kind_of kind) span ∷ []) }
 {
-    let spans = vec![in alloc; span]?;
-    let errors = vec![in alloc; YaccGrammarError { kind, spans }]?;
-    Ok(errors)
+    match vec![in alloc; span] {
+        Ok(spans) => {
+            let errors = vec![in alloc; YaccGrammarError { kind, spans }]?;
+            Ok(errors)
+        }
+        Err(e) => {
+            drop(kind);
+            Err(e.into())
+        }
+    }
 }
 
 /// Makes the failure of a text that doesn't read.

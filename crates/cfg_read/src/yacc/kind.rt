@@ -176,9 +176,9 @@ fn misfit_error<T: Clone>(
 ) -> Result<HeaderError<T>, AllocError>
     ensures { IfOk result (λ e. RefusesKind T.is_clone (unfit why.now location.now) e) }
 {
-    let kind = HeaderErrorKind::ConversionError("YaccKind", why);
     let mut locations = Vec::new(alloc);
     locations.push(location.clone()?)?;
+    let kind = HeaderErrorKind::ConversionError("YaccKind", why);
     Ok(HeaderError { kind, locations })
 }
 

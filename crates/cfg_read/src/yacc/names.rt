@@ -7,7 +7,7 @@ ghost use Rattle.cfg_read.specs.Names.{is_among, distinct, texts, words_in, decl
 ghost use Rattle.cfg_read.specs.Validity.{precs_in};
 ghost use Rattle.cfg_read.specs.SyntaxModels.{boxed_word, line_of, symbols_of, alternative_of, rule_of, level_of, epp_of, syntax_of};
 ghost use Rattle.cfg_read.specs.NameModels.{words_at, symbols_at, names_in, has_name};
-ghost use Rattle.cfg_read.specs.NameTables.{known_of, with_declared, with_rule_name, with_token, known_before};
+ghost use Rattle.cfg_read.specs.NameTables.{known_of, no_names, with_declared, with_rule_name, with_token, known_before};
 
 use crate::yacc::name::NameSet;
 use crate::yacc::name_table::NameTable;
@@ -300,15 +300,29 @@ fn note_tokens(alloc: Global, table: &mut NameTable, symbols: &[&Symbol]) -> Res
     Ok(())
 }
 
+/// Notes what the names of a text stand for, as far as it is known before its alternatives.
+fn note_all(alloc: Global, table: &mut NameTable, x: &Syntax) -> Result<(), AllocError>
+    requires { known_of table.old ≡ no_names }
+    ensures { OnOk result (known_of table.new ≡ known_before (syntax_of x.now)) }
+{
+    note_declared(table, &x.tokens)?;
+    note_rules(table, &x.rules)?;
+    let told = told_tokens(alloc, x)?;
+    note_tokens(alloc, table, &told)?;
+    Ok(())
+}
+
 /// What the names of a text stand for, as far as it is known before its alternatives.
 pub(crate) fn table_of(alloc: Global, names: NameSet, x: &Syntax) -> Result<NameTable, AllocError>
     ensures { IfOk result (λ t. known_of t ≡ known_before (syntax_of x.now)) }
 {
     let room = names.len().saturating_sub(x.rules.len());
     let mut table = NameTable::of(alloc, names, room)?;
-    note_declared(&mut table, &x.tokens)?;
-    note_rules(&mut table, &x.rules)?;
-    let told = told_tokens(alloc, x)?;
-    note_tokens(alloc, &mut table, &told)?;
-    Ok(table)
+    match note_all(alloc, &mut table, x) {
+        Ok(()) => Ok(table),
+        Err(e) => {
+            drop(table);
+            Err(e)
+        }
+    }
 }

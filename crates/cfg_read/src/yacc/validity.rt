@@ -80,8 +80,8 @@ impl Clone for YaccGrammarError {
     ghost is_clone = { λ e copy. failure_of copy ≡ failure_of e };
 
     fn clone(&self) -> Result<YaccGrammarError, AllocError> {
-        let kind = self.kind.clone()?;
         let spans = self.spans.clone()?;
+        let kind = self.kind.clone()?;
         Ok(YaccGrammarError { kind, spans })
     }
 }
@@ -125,9 +125,16 @@ fn push_failure(
 ) -> Result<(), AllocError>
     ensures { OnOk result (failures_in errors.new.items ≡ failures_in errors.old.items ++ failure_at (kind_of kind) span ∷ []) }
 {
-    let spans = vec![in alloc; span]?;
-    errors.push(YaccGrammarError { kind, spans })?;
-    Ok(())
+    match vec![in alloc; span] {
+        Ok(spans) => {
+            errors.push(YaccGrammarError { kind, spans })?;
+            Ok(())
+        }
+        Err(e) => {
+            drop(kind);
+            Err(e.into())
+        }
+    }
 }
 
 /// Puts the failure of a text without `%start` and rules behind the others.

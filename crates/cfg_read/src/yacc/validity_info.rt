@@ -7,9 +7,9 @@ ghost use Rattle.cfg_read.specs.SyntaxModels.{syntax_of};
 ghost use Rattle.cfg_read.specs.AstModels.{named_rules, named_spans};
 ghost use Rattle.cfg_read.specs.NameTables.{known_before};
 ghost use Rattle.cfg_read.specs.Settling.{uses_of};
-ghost use Rattle.cfg_read.specs.Judging.{IsJudged, with_rules};
+ghost use Rattle.cfg_read.specs.Judging.{IsJudged, with_rules, with_lines_of};
 ghost use Rattle.cfg_read.specs.LinesByName.{AreLinesOf};
-ghost use Rattle.cfg_read.specs.Asts.{ast_of};
+ghost use Rattle.cfg_read.specs.Asts.{no_ast, ast_of};
 ghost use Rattle.cfg_read.specs.Validity.{FailureText, failures};
 ghost use Rattle.cfg_read.specs.ErrorModels.{failures_in};
 ghost use Rattle.cfg_read.specs.Files.{HasSection, FailsFile, TellsKind, LacksKind, IsFailure};
@@ -136,18 +136,82 @@ fn take_rules(
     Ok(errors)
 }
 
+/// Fills an empty tree with what a text says but for the lines that name tokens, and lists the failures of the text.
+fn take_names(
+    alloc: Global,
+    ast: &mut GrammarAST,
+    x: &mut Syntax,
+    lines: &Lines,
+) -> Result<Vec<YaccGrammarError>, AllocError>
+    requires empty { ast.old ≡ no_ast }
+    requires lines { AreLinesOf (syntax_of x.old) lines.now }
+    ensures errors { IfOk result (λ errors. failures_in errors.items ≡ failures (syntax_of x.old)) }
+    ensures ast { IfOk result (λ errors. with_lines_of (ast_of true (syntax_of x.old)) ast.new ≡ ast_of (is_valid (failures_in errors.items)) (syntax_of x.old)) }
+    ensures rest { OnOk result (syntax_of x.new ≡ with_rules (syntax_of x.old) []) }
+{
+    let mut uses = uses_before(alloc, x)?;
+    match ast.fill(alloc, x, uses.table.rules_len()) {
+        Ok(()) => {}
+        Err(e) => {
+            drop(uses);
+            return Err(e);
+        }
+    }
+    match take_rules(alloc, ast, x, &mut uses, lines) {
+        Ok(errors) => {
+            ast.set_tokens(tokens_in(uses), none_of(&errors));
+            Ok(errors)
+        }
+        Err(e) => {
+            drop(uses);
+            Err(e)
+        }
+    }
+}
+
+/// Fills an empty tree with what a text says, and lists the failures of the text.
+fn take_all(
+    alloc: Global,
+    ast: &mut GrammarAST,
+    mut x: Syntax,
+) -> Result<Vec<YaccGrammarError>, AllocError>
+    requires { ast.old ≡ no_ast }
+    ensures errors { IfOk result (λ errors. failures_in errors.items ≡ failures (syntax_of x)) }
+    ensures ast { IfOk result (λ errors. ast.new ≡ ast_of (is_valid (failures_in errors.items)) (syntax_of x)) }
+{
+    let lines = match first_lines(alloc, &x) {
+        Ok(lines) => lines,
+        Err(e) => {
+            drop(x);
+            return Err(e);
+        }
+    };
+    match take_names(alloc, ast, &mut x, &lines) {
+        Ok(errors) => {
+            ast.take_words(alloc, x, lines)?;
+            Ok(errors)
+        }
+        Err(e) => {
+            drop(lines);
+            drop(x);
+            Err(e)
+        }
+    }
+}
+
 /// Makes the tree of a text that reads, and lists its failures.
-fn judged(alloc: Global, mut x: Syntax) -> Result<(GrammarAST, Vec<YaccGrammarError>), AllocError>
+fn judged(alloc: Global, x: Syntax) -> Result<(GrammarAST, Vec<YaccGrammarError>), AllocError>
     ensures errors { IfOk result (λ r. failures_in r.1.items ≡ failures (syntax_of x)) }
     ensures ast { IfOk result (λ r. r.0 ≡ ast_of (is_valid (failures_in r.1.items)) (syntax_of x)) }
 {
-    let mut uses = uses_before(alloc, &mut x)?;
-    let mut ast = GrammarAST::of_syntax(alloc, &x, uses.table.rules_len())?;
-    let lines = first_lines(alloc, &x)?;
-    let errors = take_rules(alloc, &mut ast, &mut x, &mut uses, &lines)?;
-    ast.set_tokens(tokens_in(uses), none_of(&errors));
-    ast.take_words(alloc, x, lines)?;
-    Ok((ast, errors))
+    let mut ast = GrammarAST::empty(alloc, false);
+    match take_all(alloc, &mut ast, x) {
+        Ok(errors) => Ok((ast, errors)),
+        Err(e) => {
+            drop(ast);
+            Err(e)
+        }
+    }
 }
 
 impl ASTWithValidityInfo {

@@ -4,7 +4,7 @@ ghost use Rattle.std.specs.Prelude.{◌≡◌, ◌+◌, ◌-◌, ◌≤◌, ◌^
 ghost use Rattle.std.specs.List.{flat_map};
 ghost use Rattle.std.specs.Option.{option_or};
 ghost use Rattle.std.specs.String.{string_bytes};
-ghost use Rattle.cfg_read.specs.Asts.{first_item, last_text, text_of, param_texts, expected_ast, heads_in, start_of, no_ast, ast_of};
+ghost use Rattle.cfg_read.specs.Asts.{first_item, last_text, text_of, param_texts, expected_ast, heads_in, start_of, ast_of};
 ghost use Rattle.cfg_read.specs.AstModels.{ast_symbol_of, production_of, named_span, named_spans, named_rules, rule_entry_of, rule_keys, own_names, number_with_span, param_pair};
 ghost use Rattle.cfg_read.specs.Validity.{expected_symbols};
 ghost use Rattle.cfg_read.specs.SyntaxModels.{word_of, boxed_word, words_of, symbol_of, param_of, rule_of, number_text, syntax_of};
@@ -24,6 +24,7 @@ use crate::yacc::parser::syntax::{self, Epp, Number, Param, Syntax, Word};
 use cfg_base::span::Span;
 use indexmap::IndexMap;
 use std::alloc::{AllocError, Global};
+use std::mem;
 
 /// The first heading.
 fn first_heading(
@@ -294,11 +295,12 @@ fn number_fresh(
     Ok(())
 }
 
-/// The printed texts.
-fn epp_in(x: Syntax) -> Vec<Epp>
+/// The printed texts, taken over.
+fn epp_in(alloc: Global, mut x: Syntax) -> Vec<Epp>
     ensures { result ≡ x.epp }
 {
-    let Syntax { epp, .. } = x;
+    let epp = mem::replace(&mut x.epp, Vec::new(alloc));
+    drop(x);
     epp
 }
 
@@ -307,10 +309,8 @@ impl GrammarAST {
     fn fill_rules(&mut self, alloc: Global, x: &Syntax, room: usize) -> Result<(), AllocError>
         ensures { OnOk result (self.new ≡ with_headings_of (syntax_of x.now) self.old) }
     {
-        let start = start_word(alloc, x)?;
-        let rules = headed_rules(alloc, &x.rules, shared_type(&x.action_types), room)?;
-        self.start = start;
-        self.rules = rules;
+        self.start = start_word(alloc, x)?;
+        self.rules = headed_rules(alloc, &x.rules, shared_type(&x.action_types), room)?;
         Ok(())
     }
 
@@ -353,7 +353,13 @@ impl GrammarAST {
         requires { AreLinesOf (syntax_of x) lines }
         ensures { OnOk result (self.new ≡ with_lines_of (ast_of true (syntax_of x)) self.old) }
     {
-        let epp = parts::first_epps(alloc, epp_in(x))?;
+        let epp = match parts::first_epps(alloc, epp_in(alloc, x)) {
+            Ok(epp) => epp,
+            Err(e) => {
+                drop(lines);
+                return Err(e);
+            }
+        };
         let Lines {
             precs,
             avoid_insert,
@@ -370,12 +376,9 @@ impl GrammarAST {
     fn fill_texts(&mut self, alloc: Global, x: &Syntax) -> Result<(), AllocError>
         ensures { OnOk result (self.new ≡ with_parts_of (ast_of true (syntax_of x.now)) self.old) }
     {
-        let parse_param = to_param(&x.parse_param)?;
-        let parse_generics = parts::to_text(&x.parse_generics)?;
-        let programs = parts::to_text(&x.programs)?;
-        self.parse_param = parse_param;
-        self.parse_generics = parse_generics;
-        self.programs = programs;
+        self.parse_param = to_param(&x.parse_param)?;
+        self.parse_generics = parts::to_text(&x.parse_generics)?;
+        self.programs = parts::to_text(&x.programs)?;
         Ok(())
     }
 
@@ -390,18 +393,12 @@ impl GrammarAST {
         Ok(())
     }
 
-    /// Makes the tree of what a text says, but for its productions and tokens.
-    pub(crate) fn of_syntax(
-        alloc: Global,
-        x: &Syntax,
-        room: usize,
-    ) -> Result<GrammarAST, AllocError>
-        ensures { IfOk result (λ a. a ≡ with_expected_of (ast_of true (syntax_of x.now)) (with_parts_of (ast_of true (syntax_of x.now)) (with_headings_of (syntax_of x.now) no_ast))) }
+    /// Puts in what a text says, but for its productions, its tokens and the lines that name tokens.
+    pub(crate) fn fill(&mut self, alloc: Global, x: &Syntax, room: usize) -> Result<(), AllocError>
+        ensures { OnOk result (self.new ≡ with_expected_of (ast_of true (syntax_of x.now)) (with_parts_of (ast_of true (syntax_of x.now)) (with_headings_of (syntax_of x.now) self.old))) }
     {
-        let mut tree = GrammarAST::empty(alloc, false);
-        tree.fill_rules(alloc, x, room)?;
-        tree.fill_texts(alloc, x)?;
-        tree.fill_expected(alloc, x)?;
-        Ok(tree)
+        self.fill_rules(alloc, x, room)?;
+        self.fill_texts(alloc, x)?;
+        self.fill_expected(alloc, x)
     }
 }

@@ -44,8 +44,20 @@ impl GrammarAST {
         ensures added { OnOk result (self.new ≡ with_production self.old rule_name.now (production_of production)) }
         ensures kept { OnErr result (self.new ≡ self.old) }
     {
-        self.prods.reserve(1)?;
-        build::push_number(&mut self.rules, rule_name, self.prods.len())?;
+        match self.prods.reserve(1) {
+            Ok(()) => {}
+            Err(e) => {
+                drop(production);
+                return Err(e);
+            }
+        }
+        match build::push_number(&mut self.rules, rule_name, self.prods.len()) {
+            Ok(()) => {}
+            Err(e) => {
+                drop(production);
+                return Err(e);
+            }
+        }
         self.prods.push(production).unwrap();
         Ok(())
     }

@@ -245,12 +245,9 @@ impl GrammarAST {
     fn copy_rules_of(&mut self, from: &GrammarAST) -> Result<(), AllocError>
         ensures { OnOk result (self.new ≡ with_rules_of from.now self.old) }
     {
-        let start = copy_start(&from.start)?;
-        let rules = copy_rules(&from.rules)?;
-        let prods = copy_prods(&from.prods)?;
-        self.start = start;
-        self.rules = rules;
-        self.prods = prods;
+        self.start = copy_start(&from.start)?;
+        self.rules = copy_rules(&from.rules)?;
+        self.prods = copy_prods(&from.prods)?;
         Ok(())
     }
 
@@ -258,14 +255,10 @@ impl GrammarAST {
     fn copy_tokens_of(&mut self, from: &GrammarAST) -> Result<(), AllocError>
         ensures { OnOk result (self.new ≡ with_tokens_of from.now self.old) }
     {
-        let tokens = copy_spans(&from.tokens)?;
-        let precs = copy_precs(&from.precs)?;
-        let avoid_insert = copy_spans(&from.avoid_insert)?;
-        let implicit_tokens = copy_spans(&from.implicit_tokens)?;
-        self.tokens = tokens;
-        self.precs = precs;
-        self.avoid_insert = avoid_insert;
-        self.implicit_tokens = implicit_tokens;
+        self.tokens = copy_spans(&from.tokens)?;
+        self.precs = copy_precs(&from.precs)?;
+        self.avoid_insert = copy_spans(&from.avoid_insert)?;
+        self.implicit_tokens = copy_spans(&from.implicit_tokens)?;
         Ok(())
     }
 
@@ -273,14 +266,10 @@ impl GrammarAST {
     fn copy_texts_of(&mut self, from: &GrammarAST) -> Result<(), AllocError>
         ensures { OnOk result (self.new ≡ with_texts_of from.now self.old) }
     {
-        let epp = copy_epp(&from.epp)?;
-        let parse_param = copy_param(&from.parse_param)?;
-        let parse_generics = copy_text(&from.parse_generics)?;
-        let programs = copy_text(&from.programs)?;
-        self.epp = epp;
-        self.parse_param = parse_param;
-        self.parse_generics = parse_generics;
-        self.programs = programs;
+        self.epp = copy_epp(&from.epp)?;
+        self.parse_param = copy_param(&from.parse_param)?;
+        self.parse_generics = copy_text(&from.parse_generics)?;
+        self.programs = copy_text(&from.programs)?;
         Ok(())
     }
 
@@ -315,7 +304,12 @@ impl Clone for GrammarAST {
 
     fn clone(&self) -> Result<GrammarAST, AllocError> {
         let mut copy = GrammarAST::empty(*self.prods.allocator(), self.is_valid);
-        copy.copy_all_of(self)?;
-        Ok(copy)
+        match copy.copy_all_of(self) {
+            Ok(()) => Ok(copy),
+            Err(e) => {
+                drop(copy);
+                Err(e)
+            }
+        }
     }
 }

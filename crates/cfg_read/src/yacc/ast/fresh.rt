@@ -66,8 +66,7 @@ pub(super) fn insert_fresh_rules(
 fn to_production(alloc: Global, symbols: Vec<Symbol>, span: Span) -> Result<Production, AllocError>
     ensures { IfOk result (λ p. production_of p ≡ fresh_production span (map ast_symbol_of symbols.items)) }
 {
-    let made = Production::new(alloc, symbols, None, None, span)?;
-    Ok(made)
+    Production::new(alloc, symbols, None, None, span)
 }
 
 /// Puts the two productions of the fresh rule of a symbol behind the others.
@@ -76,11 +75,11 @@ fn push_both(alloc: Global, made: &mut Vec<Production>, fresh: &Fresh) -> Result
         ≡ map production_of made.old.items ++ both_at fresh.now.span (ast_symbol_of fresh.now.inner)) }
 {
     let span = fresh.span;
-    let inner = fresh.inner.plain()?;
-    let symbols = vec![in alloc; inner]?;
+    let mut symbols = Vec::new(alloc);
+    symbols.push(fresh.inner.plain()?)?;
     let full = to_production(alloc, symbols, span)?;
-    let empty = to_production(alloc, Vec::new(alloc), span)?;
     made.push(full)?;
+    let empty = to_production(alloc, Vec::new(alloc), span)?;
     made.push(empty)?;
     Ok(())
 }

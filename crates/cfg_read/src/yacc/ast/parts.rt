@@ -184,8 +184,21 @@ pub(crate) fn first_lines(alloc: Global, x: &Syntax) -> Result<Lines, AllocError
     ensures { IfOk result (λ l. AreLinesOf (syntax_of x.now) l) }
 {
     let precs = first_precedences(alloc, &x.levels)?;
-    let avoid_insert = first_spans(alloc, &x.avoid_insert)?;
-    let implicit_tokens = first_spans(alloc, &x.implicit_tokens)?;
+    let avoid_insert = match first_spans(alloc, &x.avoid_insert) {
+        Ok(spans) => spans,
+        Err(e) => {
+            drop(precs);
+            return Err(e);
+        }
+    };
+    let implicit_tokens = match first_spans(alloc, &x.implicit_tokens) {
+        Ok(spans) => spans,
+        Err(e) => {
+            drop(precs);
+            drop(avoid_insert);
+            return Err(e);
+        }
+    };
     Ok(Lines {
         precs,
         avoid_insert,

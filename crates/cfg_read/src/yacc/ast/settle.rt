@@ -52,6 +52,16 @@ fn fresh_name(alloc: Global, text: &str, is_token: bool) -> Result<String, Alloc
     }
 }
 
+/// The name of the fresh rule of a symbol, as the rule's own and as that of a symbol.
+fn fresh_names(alloc: Global, inner: &Symbol) -> Result<(String, Name), AllocError>
+    ensures name { IfOk result (λ names. string_bytes names.0 ≡ fresh_name (ast_symbol_of inner.now).is_token (ast_symbol_of inner.now).word.text) }
+    ensures same { IfOk result (λ names. name_text names.1 ≡ string_bytes names.0) }
+{
+    let name = fresh_name(alloc, inner.name().as_str(), inner.is_quoted())?;
+    let shared = Name::new(alloc, name.as_str())?;
+    Ok((name, shared))
+}
+
 /// Notes the symbol of an optional one by this name, where that isn't there yet.
 fn insert_fresh(
     fresh: &mut IndexMap<String, Fresh>,
@@ -63,6 +73,7 @@ fn insert_fresh(
         (record { word = record { text = string_bytes name; span = span }; inner = ast_symbol_of inner })) }
 {
     if fresh.contains_key(name.as_str()) {
+        drop(inner);
         return Ok(());
     }
     fresh.insert(name, Fresh { span, inner })?;
@@ -89,10 +100,16 @@ impl Uses {
         ensures known { OnOk result (self.new.table ≡ self.old.table) }
         ensures unknown { OnOk result (self.new.unknown ≡ self.old.unknown) }
     {
-        let name = fresh_name(alloc, inner.name().as_str(), inner.is_quoted())?;
-        let shared = Name::new(alloc, name.as_str())?;
-        insert_fresh(&mut self.fresh, name, span, inner)?;
-        Ok(Symbol::Rule(shared, span))
+        match fresh_names(alloc, &inner) {
+            Ok((name, shared)) => {
+                insert_fresh(&mut self.fresh, name, span, inner)?;
+                Ok(Symbol::Rule(shared, span))
+            }
+            Err(e) => {
+                drop(inner);
+                Err(e)
+            }
+        }
     }
 
     /// Makes a name that isn't a token one of a tree, and notes it where it stands for nothing.
@@ -174,18 +191,33 @@ impl Uses {
     {
         let kept = match alternative {
             Alternative::Blank(offset) => Alternative::Blank(offset),
-            Alternative::Single(mut single) => {
-                self.settle_all(alloc, &mut single.symbols)?;
-                Alternative::Single(single)
-            }
-            Alternative::Plain(mut plain) => {
-                self.settle_all(alloc, plain.symbols.as_mut_slice())?;
-                Alternative::Plain(plain)
-            }
-            Alternative::Body(mut body) => {
-                self.settle_all(alloc, body.symbols.as_mut_slice())?;
-                Alternative::Body(body)
-            }
+            Alternative::Single(mut single) => match self.settle_all(alloc, &mut single.symbols) {
+                Ok(()) => Alternative::Single(single),
+                Err(e) => {
+                    drop(single);
+                    return Err(e);
+                }
+            },
+            Alternative::Plain(mut plain) => match self.settle_all(
+                alloc,
+                plain.symbols.as_mut_slice(),
+            ) {
+                Ok(()) => Alternative::Plain(plain),
+                Err(e) => {
+                    drop(plain);
+                    return Err(e);
+                }
+            },
+            Alternative::Body(mut body) => match self.settle_all(
+                alloc,
+                body.symbols.as_mut_slice(),
+            ) {
+                Ok(()) => Alternative::Body(body),
+                Err(e) => {
+                    drop(body);
+                    return Err(e);
+                }
+            },
         };
         Ok(Production { kept })
     }

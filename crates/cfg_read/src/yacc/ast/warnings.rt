@@ -325,14 +325,21 @@ impl GrammarAST {
         let expected = expected_rules(alloc, &self.expect_unused)?;
         'rules: for (name, rule) in &self.rules {
             let is_silent = is_silent_rule(name.as_str(), reached, &expected);
-            push_if(
+            match push_if(
                 alloc,
                 warnings,
                 YaccGrammarWarningKind::UnusedRule,
                 rule.name.1,
                 !is_silent,
-            )?;
+            ) {
+                Ok(()) => {}
+                Err(e) => {
+                    drop(expected);
+                    return Err(e);
+                }
+            }
         }
+        drop(expected);
         Ok(())
     }
 
@@ -349,15 +356,37 @@ impl GrammarAST {
         let expected = expected_tokens(alloc, &self.expect_unused)?;
         'tokens: for (name, span) in &self.tokens {
             let is_silent = is_silent(name.as_str(), used, &self.implicit_tokens, &expected);
-            push_if(
+            match push_if(
                 alloc,
                 warnings,
                 YaccGrammarWarningKind::UnusedToken,
                 *span,
                 !is_silent,
-            )?;
+            ) {
+                Ok(()) => {}
+                Err(e) => {
+                    drop(expected);
+                    return Err(e);
+                }
+            }
         }
+        drop(expected);
         Ok(())
+    }
+
+    /// Puts a warning for each unused rule, then one for each unused token, behind the others.
+    fn push_unused(
+        &self,
+        alloc: Global,
+        warnings: &mut Vec<YaccGrammarWarning>,
+        reached: &IndexSet<&str>,
+        used: &IndexSet<&str>,
+    ) -> Result<(), AllocError>
+        ensures { OnOk result (warnings_in warnings.new.items
+            ≡ (warnings_in warnings.old.items ++ warnings_at UnusedRule (unused_rules (has_name reached.now) self.now)) ++ warnings_at UnusedToken (unused_tokens (has_name used.now) self.now)) }
+    {
+        self.push_unused_rules(alloc, warnings, reached)?;
+        self.push_unused_tokens(alloc, warnings, used)
     }
 
     /// Lists all unused rules, then all unused tokens, by number: none that `%expect-unused` names, no fresh rules and no
@@ -367,10 +396,25 @@ impl GrammarAST {
     {
         let mut warnings = Vec::new(alloc);
         let reached = self.reached(alloc)?;
-        let used = self.used(alloc, &reached)?;
-        self.push_unused_rules(alloc, &mut warnings, &reached)?;
-        self.push_unused_tokens(alloc, &mut warnings, &used)?;
-        Ok(warnings)
+        let used = match self.used(alloc, &reached) {
+            Ok(used) => used,
+            Err(e) => {
+                drop(reached);
+                return Err(e);
+            }
+        };
+        match self.push_unused(alloc, &mut warnings, &reached, &used) {
+            Ok(()) => {
+                drop(used);
+                drop(reached);
+                Ok(warnings)
+            }
+            Err(e) => {
+                drop(used);
+                drop(reached);
+                Err(e)
+            }
+        }
     }
 
     /// Lists the rules, then the tokens, that the start rule doesn't lead to, by number: none that `%expect-unused` names, no

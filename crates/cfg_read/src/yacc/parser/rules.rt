@@ -9,7 +9,7 @@ ghost use Rattle.cfg_read.specs.Words.{token_kind_at};
 ghost use Rattle.cfg_read.specs.SyntaxTexts.{WordText, RuleText, SyntaxText};
 ghost use Rattle.cfg_read.specs.SyntaxUpdates.{word, mark_end, marked, Part, no_part, alternative, heading, append_rule};
 ghost use Rattle.cfg_read.specs.Declarations.{is_grmtools};
-ghost use Rattle.cfg_read.specs.Reading.{RuleName, RuleColon, More, PrecToken, Nothing, Spaced, At, IsLiteral, Steps, Reads};
+ghost use Rattle.cfg_read.specs.Reading.{Declared, RuleName, RuleColon, More, PrecToken, Nothing, Spaced, At, IsLiteral, Steps, Reads};
 ghost use Rattle.cfg_read.specs.SyntaxErrors.{token_fault, rule_fault, alternative_fault, FailsFrom, IsErrorOf};
 ghost use Rattle.cfg_read.specs.SyntaxModels.{word_of, boxed_word, symbol_of, alternative_of, rule_of, part_of, syntax_of};
 ghost use Rattle.cfg_read.specs.Scanning.{IsMemory, StartsBy, Encloses, FitsToken, IsFaultAt, is_part, ends_alternative, bar_or_semicolon, rule_text, ends_rules, end_or_separator, begins_name};
@@ -420,6 +420,28 @@ impl<'a> Scanner<'a> {
         }
     }
 
+    /// Reads all rules and the gap behind them, each alternative into this draft.
+    fn parse_rules_by(
+        &self,
+        alloc: Global,
+        syntax: &mut Syntax,
+        draft: &mut Draft,
+        offset: usize,
+    ) -> Result<usize, ReadError>
+        requires blank { part_of draft.old ≡ no_part }
+        ensures ok { IfOk result (λ b. Steps self.now.kind self.now.text.now (Spaced RuleName (syntax_of syntax.old) offset) (At RuleName (syntax_of syntax.new) b)) }
+        ensures end { IfOk result (λ b. ends_rules (token_kind_at self.now.text.now b) ≡ true) }
+        ensures err { IfErr result (λ e. FailsFrom self.now.kind self.now.text.now (Spaced RuleName (syntax_of syntax.old) offset) e) }
+    {
+        let mut end = self.parse_ws(offset)?;
+        'rules: while self.begins_rule(end)? {
+            let (rule, after) = self.parse_rule(alloc, &mut syntax.names, draft, end)?;
+            syntax.rules.push(rule)?;
+            end = self.parse_ws(after)?;
+        }
+        Ok(end)
+    }
+
     /// Reads all rules and the gap behind them.
     fn parse_rules(
         &self,
@@ -432,13 +454,9 @@ impl<'a> Scanner<'a> {
         ensures err { IfErr result (λ e. FailsFrom self.now.kind self.now.text.now (Spaced RuleName (syntax_of syntax.old) offset) e) }
     {
         let mut draft = Draft::new(alloc);
-        let mut end = self.parse_ws(offset)?;
-        'rules: while self.begins_rule(end)? {
-            let (rule, after) = self.parse_rule(alloc, &mut syntax.names, &mut draft, end)?;
-            syntax.rules.push(rule)?;
-            end = self.parse_ws(after)?;
-        }
-        Ok(end)
+        let read = self.parse_rules_by(alloc, syntax, &mut draft, offset);
+        drop(draft);
+        read
     }
 
     /// Tells whether `%%` stands where the rules end; else the text ends.
@@ -478,6 +496,17 @@ impl<'a> Scanner<'a> {
         syntax.programs = Some(word);
         Ok(())
     }
+
+    /// Reads all that a text says from an offset on, behind its section.
+    fn parse_all(&self, alloc: Global, syntax: &mut Syntax, start: usize) -> Result<(), ReadError>
+        ensures ok { IfOk result (λ _. (b : ℕ) × Steps self.now.kind self.now.text.now (Spaced Declared (syntax_of syntax.old) start) (At Nothing (syntax_of syntax.new) b)) }
+        ensures err { IfErr result (λ e. FailsFrom self.now.kind self.now.text.now (Spaced Declared (syntax_of syntax.old) start) e) }
+    {
+        let rules = self.parse_declarations(alloc, syntax, start)?;
+        let end = self.parse_rules(alloc, syntax, rules)?;
+        self.parse_last_part(alloc, syntax, end)?;
+        Ok(())
+    }
 }
 
 /// Reads what a text of a kind says from an offset on, behind its section: answers its one reading, or
@@ -499,8 +528,11 @@ pub fn read_syntax(
     };
     let names = NameSet::with_room(alloc, text.len() / BYTES_A_NAME)?;
     let mut syntax = Syntax::new(alloc, names);
-    let rules = scanner.parse_declarations(alloc, &mut syntax, start)?;
-    let end = scanner.parse_rules(alloc, &mut syntax, rules)?;
-    scanner.parse_last_part(alloc, &mut syntax, end)?;
-    Ok(syntax)
+    match scanner.parse_all(alloc, &mut syntax, start) {
+        Ok(()) => Ok(syntax),
+        Err(e) => {
+            drop(syntax);
+            Err(e)
+        }
+    }
 }

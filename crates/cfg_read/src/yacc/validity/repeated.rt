@@ -88,9 +88,22 @@ fn grouped(alloc: Global, words: &[(&str, Span)]) -> Result<Vec<Vec<Span>>, Allo
     let mut names = IndexSet::new(alloc);
     let mut groups = Vec::new(alloc);
     'words: for word in words {
-        let (index, _) = names.insert_full(word.0)?;
-        add_span(alloc, &mut groups, index, word.1)?;
+        let index = match names.insert_full(word.0) {
+            Ok((index, _)) => index,
+            Err(e) => {
+                drop(names);
+                return Err(e.into());
+            }
+        };
+        match add_span(alloc, &mut groups, index, word.1) {
+            Ok(()) => {}
+            Err(e) => {
+                drop(names);
+                return Err(e);
+            }
+        }
     }
+    drop(names);
     Ok(groups)
 }
 
@@ -146,8 +159,16 @@ fn push_repeated_names(
         ≡ failures_in errors.old.items ++ repeated_names (repeated_failure what) (words_at words.now)) }
 {
     let names = names::distinct_names(alloc, words)?;
-    push_repeated_among(alloc, errors, what, words, &names)?;
-    Ok(())
+    match push_repeated_among(alloc, errors, what, words, &names) {
+        Ok(()) => {
+            drop(names);
+            Ok(())
+        }
+        Err(e) => {
+            drop(names);
+            Err(e)
+        }
+    }
 }
 
 /// Puts a failure for each token with more than one precedence behind the others.
@@ -179,8 +200,7 @@ fn push_repeated_epps(
         ≡ failures_in errors.old.items ++ repeated_names DuplicateEPP (epp_tokens (syntax_of x.now))) }
 {
     let words = names::epp_words(alloc, &x.epp)?;
-    push_repeated_names(alloc, errors, Repeated::Epp, &words)?;
-    Ok(())
+    push_repeated_names(alloc, errors, Repeated::Epp, &words)
 }
 
 /// Puts a failure for each token that stands more than once in `%avoid_insert` behind the others.
@@ -277,6 +297,5 @@ pub(super) fn push_repeated_declarations(
     push_if_repeated(errors, Repeated::Start, starts)?;
     push_if_repeated(errors, Repeated::Expect, expect)?;
     push_if_repeated(errors, Repeated::ExpectRR, expect_rr)?;
-    push_if_repeated(errors, Repeated::ActionType, types)?;
-    Ok(())
+    push_if_repeated(errors, Repeated::ActionType, types)
 }

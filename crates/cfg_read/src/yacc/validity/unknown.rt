@@ -213,8 +213,7 @@ fn push_unknown_epps(
         ≡ failures_in errors.old.items ++ unknown_by UnknownEPP (is_among (named_spans known.now)) (epp_tokens (syntax_of x.now))) }
 {
     let words = names::epp_words(alloc, &x.epp)?;
-    push_unknown(alloc, errors, &words, known, Unknown::Epp)?;
-    Ok(())
+    push_unknown(alloc, errors, &words, known, Unknown::Epp)
 }
 
 /// Puts a failure for each of these symbols behind the others, whose name isn't that of a token.

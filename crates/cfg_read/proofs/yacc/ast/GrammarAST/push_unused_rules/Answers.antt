@@ -24,6 +24,6 @@ rules-preserved c =
     ∙ ap (λ t. is_fresh_name t || (has_name set t || has_name c.in_ok-expected.expected t)) c.as_str.ensures.value
     ∙ ap (λ b. is_fresh_name q || (has_name set q || b)) (c.in_ok-expected.ensures q ∙ ap (λ ss. expects_rule ss q) symbols) in
     told_more UnusedRule ws (warnings_in c.push_if.new.warnings.items) (not (is_fresh_name q || (has_name set q || expects_rule ast.expect_unused q))) w (unused_rules (has_name set) (with_rules ast (map named_rule c.next.new.self)))
-    (c.in_ok-push_if.ensures ∙ ap (λ b. ws ++ (if not b then one ∷ [] else [])) silent)
+    (c.in-Ok.ensures ∙ ap (λ b. ws ++ (if not b then one ∷ [] else [])) silent)
     ∙ ap (λ es. ws ++ warnings_at UnusedRule (unused_rules (has_name set) (with_rules ast (map named_rule es)))) (sym c.in-Some.ensures.steps)
     ∙ c.rules.invariant

@@ -26,6 +26,6 @@ tokens-preserved c =
     ∙ ap (λ ws. has_name set q || (is_among ws q || has_name c.in_ok-expected.expected q)) implicit
     ∙ ap (λ b. has_name set q || (is_among ast.implicit_tokens q || b)) (c.in_ok-expected.ensures q ∙ ap (λ ss. expects_token ss q) symbols) in
     told_more UnusedToken ws (warnings_in c.push_if.new.warnings.items) (not (has_name set q || (is_among ast.implicit_tokens q || expects_token ast.expect_unused q))) w (unused_tokens (has_name set) (with_tokens ast (map named_span c.next.new.self)))
-    (c.in_ok-push_if.ensures ∙ ap (λ b. ws ++ (if not b then one ∷ [] else [])) silent)
+    (c.in-Ok.ensures ∙ ap (λ b. ws ++ (if not b then one ∷ [] else [])) silent)
     ∙ ap (λ es. ws ++ warnings_at UnusedToken (unused_tokens (has_name set) (with_tokens ast (map named_span es)))) (sym c.in-Some.ensures.steps)
     ∙ c.tokens.invariant

@@ -11,6 +11,6 @@ use Rattle.cfg_read.proofs.yacc.ast.GrammarAST.take_words.Goals as goal
 pub returns : goal.returns
 returns c =
     let x = syntax_of c.args.x in
-    let texts = c.in_ok-epp.ensures ∙ ap (λ (es : Vec Epp Global). fold with_epp_of [] (map epp_of es.items)) c.epp_in.ensures in
+    let texts = c.in-Ok.ensures ∙ ap (λ (es : Vec Epp Global). fold with_epp_of [] (map epp_of es.items)) c.epp_in.ensures in
     lines_put (the_view c.self.inside) c.requires.precedences_is c.requires.avoided_is c.requires.implicit_is texts
     ∙ ap (with_lines_of (ast_of true x)) c.self.view_is

@@ -1,21 +1,7 @@
-use Rattle.std.proofs.lemmas.Result.{err_from_is_err_and}
-use Rattle.cfg_read.proofs.Chains.{join, join_fails}
 use Rattle.cfg_read.proofs.yacc.parser.rules.read_syntax.Goals as goal
 
-pub returns-in_err-rules-clause-err : goal.returns-in_err-rules-clause-err
-returns-in_err-rules-clause-err c =
-    let p = err_from_is_err_and c.from_residual-in_err-rules.result c.from_residual-in_err-rules.ensures.1 in
-    let fails = rw c.new-syntax.ensures at c.in_err-rules.ensures.err in
-    rw (p.1, p.2) fails
+pub returns-clause-err : goal.returns-clause-err
+returns-clause-err c = rw c.new-syntax.ensures at c.in-Err.ensures.err
 
-pub returns-in_err-end-clause-err : goal.returns-in_err-end-clause-err
-returns-in_err-end-clause-err c =
-    let p = err_from_is_err_and c.from_residual-in_err-end.result c.from_residual-in_err-end.ensures.1 in
-    let declarations = rw c.new-syntax.ensures at c.in_ok-rules.ensures.ok in
-    rw (p.1, p.2) (join_fails _ declarations c.in_err-end.ensures.err)
-
-pub returns-clause-ok : goal.returns-clause-ok
-returns-clause-ok c =
-    let declarations = rw c.new-syntax.ensures at c.in_ok-rules.ensures.ok in
-    let last_part = c.in_ok-parse_last_part.ensures.ok in
-    (last_part.0, join declarations (join c.in_ok-end.ensures.ok last_part.1))
+pub returns-in-Ok-clause-ok : goal.returns-in-Ok-clause-ok
+returns-in-Ok-clause-ok c = rw c.new-syntax.ensures at c.in-Ok.ensures.ok

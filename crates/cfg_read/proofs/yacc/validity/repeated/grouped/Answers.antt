@@ -18,13 +18,13 @@ words-preserved c =
     let ws = words_at (take i xs) in
     let more : take (i + 1) xs ≡ take i xs ++ x ∷ [] = take_more xs i x (omega arith) ∙ ap (λ y. take i xs ++ y ∷ []) (sym c.word-item.is) in
     let all : ws ++ mention_of x ∷ [] ≡ words_at (take (i + 1) xs) = sym (map-append mention_of (take i xs) (x ∷ [])) ∙ sym (ap words_at more) in
-    let index : c.in_ok-index.index ≡ position_or_len (λ (k : Bor (List ℕ)). bytes_eq x.0.now k.now) c.words.names.keys = c.in_ok-index.ensures.index in
+    let index : c.in-Ok.index ≡ position_or_len (λ (k : Bor (List ℕ)). bytes_eq x.0.now k.now) c.words.names.keys = c.in-Ok.ensures.index in
     record {
-      names = ap (map (λ (k : Bor (List ℕ)). k.now)) c.in_ok-index.ensures.keys
+      names = ap (map (λ (k : Bor (List ℕ)). k.now)) c.in-Ok.ensures.keys
           ∙ names_step c.words.names.keys ws x.0 (mention_of x) c.words.invariant.names refl
           ∙ ap (λ l. texts (distinct l)) all;
-      groups = c.in_ok-add_span.ensures
-          ∙ ap (λ gs. with_span gs c.in_ok-index.index x.1) c.words.invariant.groups
+      groups = c.in-Ok-add_span.ensures
+          ∙ ap (λ gs. with_span gs c.in-Ok.index x.1) c.words.invariant.groups
           ∙ ap (λ n. with_span (groups_of ws) n x.1) (index ∙ number_at c.words.names.keys (distinct ws) x.0.now c.words.invariant.names)
           ∙ sym (groups_step ws (mention_of x))
           ∙ ap groups_of all;
@@ -32,7 +32,7 @@ words-preserved c =
 
 pub add_span-requires : goal.add_span-requires
 add_span-requires c =
-    let index : c.in_ok-index.index ≡ position_or_len (λ (k : Bor (List ℕ)). bytes_eq c.word-item.result.0.now k.now) c.words.names.keys = c.in_ok-index.ensures.index in
+    let index : c.in-Ok.index ≡ position_or_len (λ (k : Bor (List ℕ)). bytes_eq c.word-item.result.0.now k.now) c.words.names.keys = c.in-Ok.ensures.index in
     let bound = position_le (λ (k : Bor (List ℕ)). bytes_eq c.word-item.result.0.now k.now) c.words.names.keys in
     let counted = groups_counted c.words.names.keys c.words.groups.items (words_at (take c.words.word-index c.args.words.now)) c.words.invariant.names c.words.invariant.groups in
     omega (arith, index, bound, counted)

@@ -5,7 +5,7 @@ use Rattle.cfg_read.specs.SyntaxModels.{rule_of}
 use Rattle.cfg_read.specs.SyntaxErrors.{no_rule_name}
 use Rattle.cfg_read.proofs.Chains.{join, join_fails, fails_at}
 use Rattle.std.proofs.lemmas.Result.{err_from_is_err_and}
-use Rattle.cfg_read.proofs.yacc.parser.scan.Scanner.parse_rules.Goals as goal
+use Rattle.cfg_read.proofs.yacc.parser.scan.Scanner.parse_rules_by.Goals as goal
 
 pub returns-in_err-end-clause-err : goal.returns-in_err-end-clause-err
 returns-in_err-end-clause-err c =

@@ -2,7 +2,7 @@ use Rattle.std.proofs.Common.{◌≡◌, ◌-◌, ◌≤◌, length}
 use Rattle.cfg_read.specs.SyntaxModels.{part_of, syntax_of}
 use Rattle.cfg_read.specs.SyntaxUpdates.{no_part}
 use Rattle.cfg_read.specs.Reading.{Spaced, At, RuleName, Steps}
-use Rattle.cfg_read.proofs.yacc.parser.scan.Scanner.parse_rules.Given as goal
+use Rattle.cfg_read.proofs.yacc.parser.scan.Scanner.parse_rules_by.Given as goal
 
 abbrev pub invariant-rules : goal.invariant-rules
 invariant-rules l = record {

@@ -1,6 +1,8 @@
 //! Inputs read to their ends.
 
+use crate::same::same;
 use byte_streams::{Counted, InputFault, Source, read_text};
+use std::alloc::{AllocError, Global};
 use std::io;
 use std::io::{ErrorKind, Read};
 use std::test::Fail;
@@ -53,17 +55,24 @@ fn source(bytes: &[u8], at_once: usize, fault: Option<ErrorKind>) -> Counted<Par
     })
 }
 
+/// Returns the text of an input, or what it fails by behind a question mark.
+fn told<S: Source>(alloc: Global, input: &mut S) -> Result<String, AllocError> {
+    match read_text(alloc, input) {
+        Ok(text) => Ok(text),
+        Err(InputFault::Memory(e)) => Err(e),
+        Err(InputFault::Read) => String::from_str(alloc, "? read"),
+        Err(InputFault::NotUtf8) => String::from_str(alloc, "? no text"),
+        Err(InputFault::TooLong) => String::from_str(alloc, "? too long"),
+    }
+}
+
 #[test]
 fn texts_come_whole(rt: HostRuntime) -> Result<(), Fail> {
     for at_once in [1, 3, 8192, 10_000] {
         for text in ["", "a", "ID + ID\n", "é\u{1F600}"] {
             let mut input = source(text.as_bytes(), at_once, None);
-            match read_text(rt.alloc(), &mut input) {
-                Ok(read) => assert_eq!(rt; read.as_str(), text),
-                Err(InputFault::Memory(e)) => return Err(e.into()),
-                Err(_) => assert!(rt; false),
-            }
-            assert_eq!(rt; Source::failures(&input), 0);
+            same(&rt, "text", told(rt.alloc(), &mut input)?.as_str(), text);
+            same(&rt, "failures", Source::failures(&input), 0);
         }
     }
     Ok(())
@@ -74,11 +83,8 @@ fn a_failing_read_is_told_and_counted(rt: HostRuntime) -> Result<(), Fail> {
     for kind in [ErrorKind::Interrupted, ErrorKind::NotFound] {
         for text in ["", "ID"] {
             let mut input = source(text.as_bytes(), 1, Some(kind));
-            match read_text(rt.alloc(), &mut input) {
-                Err(InputFault::Read) => assert_eq!(rt; Source::failures(&input), 1),
-                Err(InputFault::Memory(e)) => return Err(e.into()),
-                _ => assert!(rt; false),
-            }
+            same(&rt, text, told(rt.alloc(), &mut input)?.as_str(), "? read");
+            same(&rt, "failures", Source::failures(&input), 1);
         }
     }
     Ok(())
@@ -89,11 +95,13 @@ fn bytes_that_are_no_text_are_told(rt: HostRuntime) -> Result<(), Fail> {
     let cases: [&[u8]; 3] = [b"\xFF", b"ab\xC3", b"\xE2\x82 "];
     for bytes in cases {
         let mut input = source(bytes, 2, None);
-        match read_text(rt.alloc(), &mut input) {
-            Err(InputFault::NotUtf8) => assert_eq!(rt; Source::failures(&input), 0),
-            Err(InputFault::Memory(e)) => return Err(e.into()),
-            _ => assert!(rt; false),
-        }
+        same(
+            &rt,
+            "bytes",
+            told(rt.alloc(), &mut input)?.as_str(),
+            "? no text",
+        );
+        same(&rt, "failures", Source::failures(&input), 0);
     }
     Ok(())
 }
@@ -101,10 +109,12 @@ fn bytes_that_are_no_text_are_told(rt: HostRuntime) -> Result<(), Fail> {
 #[test]
 fn an_input_can_be_too_long(rt: HostRuntime) -> Result<(), Fail> {
     let mut input = Counted::new(Endless { given: 0 });
-    match read_text(rt.alloc(), &mut input) {
-        Err(InputFault::TooLong) => assert_eq!(rt; input.into_inner().given, 67_108_865),
-        Err(InputFault::Memory(e)) => return Err(e.into()),
-        _ => assert!(rt; false),
-    }
+    same(
+        &rt,
+        "input",
+        told(rt.alloc(), &mut input)?.as_str(),
+        "? too long",
+    );
+    same(&rt, "given", input.into_inner().given, 67_108_865);
     Ok(())
 }

@@ -5,3 +5,5 @@
 mod inputs;
 #[cfg(test)]
 mod outputs;
+#[cfg(test)]
+mod same;

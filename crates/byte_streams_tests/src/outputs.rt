@@ -1,6 +1,8 @@
 //! Texts written whole, and texts written as they are made.
 
+use crate::same::same;
 use byte_streams::{Counted, MOST_WAITING, Sink, write_all, write_long};
+use std::alloc::{AllocError, Global};
 use std::io;
 use std::io::{ErrorKind, Write};
 use std::test::Fail;
@@ -32,18 +34,29 @@ impl Write for Bounded {
     }
 }
 
+/// A writer of so much room that takes so many bytes at once.
+fn writer(
+    alloc: Global,
+    room: usize,
+    at_once: usize,
+    fails: bool,
+) -> Result<Counted<Bounded>, AllocError> {
+    let taken = Vec::with_capacity(alloc, 65_536)?;
+    Ok(Counted::new(Bounded {
+        taken,
+        room,
+        at_once,
+        fails,
+    }))
+}
+
 #[test]
 fn a_writer_may_take_few_bytes_a_call(rt: HostRuntime) -> Result<(), Fail> {
     for at_once in [1, 3, 100] {
-        let mut out = Counted::new(Bounded {
-            taken: Vec::with_capacity(rt.alloc(), 65_536)?,
-            room: 1000,
-            at_once,
-            fails: true,
-        });
-        assert!(rt; write_all(&mut out, TEXT).is_ok());
-        assert_eq!(rt; Sink::failures(&out), 0);
-        assert_eq!(rt; out.into_inner().taken.as_slice(), TEXT);
+        let mut out = writer(rt.alloc(), 1000, at_once, true)?;
+        same(&rt, "written", write_all(&mut out, TEXT).is_ok(), true);
+        same(&rt, "failures", Sink::failures(&out), 0);
+        same(&rt, "taken", out.into_inner().taken.as_slice(), TEXT);
     }
     Ok(())
 }
@@ -53,15 +66,15 @@ fn a_writer_may_take_few_bytes_a_call(rt: HostRuntime) -> Result<(), Fail> {
 fn a_failing_write_leaves_a_beginning(rt: HostRuntime) -> Result<(), Fail> {
     for fails in [false, true] {
         for room in 0..TEXT.len() {
-            let mut out = Counted::new(Bounded {
-                taken: Vec::with_capacity(rt.alloc(), 65_536)?,
-                room,
-                at_once: 5,
-                fails,
-            });
-            assert!(rt; write_all(&mut out, TEXT).is_err());
-            assert_eq!(rt; Sink::failures(&out), 1);
-            assert_eq!(rt; out.into_inner().taken.as_slice(), &TEXT[..room]);
+            let mut out = writer(rt.alloc(), room, 5, fails)?;
+            same(&rt, "written", write_all(&mut out, TEXT).is_ok(), false);
+            same(&rt, "failures", Sink::failures(&out), 1);
+            same(
+                &rt,
+                "taken",
+                out.into_inner().taken.as_slice(),
+                &TEXT[..room],
+            );
         }
     }
     Ok(())
@@ -69,40 +82,45 @@ fn a_failing_write_leaves_a_beginning(rt: HostRuntime) -> Result<(), Fail> {
 
 #[test]
 fn nothing_is_written_of_an_empty_text(rt: HostRuntime) -> Result<(), Fail> {
-    let mut out = Counted::new(Bounded {
-        taken: Vec::with_capacity(rt.alloc(), 65_536)?,
-        room: 0,
-        at_once: 1,
-        fails: true,
-    });
-    assert!(rt; write_all(&mut out, b"").is_ok());
-    assert_eq!(rt; Sink::failures(&out), 0);
+    let mut out = writer(rt.alloc(), 0, 1, true)?;
+    same(&rt, "written", write_all(&mut out, b"").is_ok(), true);
+    same(&rt, "failures", Sink::failures(&out), 0);
     Ok(())
 }
 
 // One byte too few waits; one more, and all of it goes out.
 #[test]
 fn a_long_text_goes_out_once_it_is_long(rt: HostRuntime) -> Result<(), Fail> {
-    let mut out = Counted::new(Bounded {
-        taken: Vec::with_capacity(rt.alloc(), 65_536)?,
-        room: 65_536,
-        at_once: 1000,
-        fails: true,
-    });
+    let mut out = writer(rt.alloc(), 65_536, 1000, true)?;
     let mut waiting = Vec::new(rt.alloc());
     waiting.resize(MOST_WAITING - 1, b' ')?;
-    assert!(rt; write_long(&mut out, &mut waiting).is_ok());
-    assert_eq!(rt; waiting.len(), 65_535);
+    same(
+        &rt,
+        "short",
+        write_long(&mut out, &mut waiting).is_ok(),
+        true,
+    );
+    same(&rt, "waiting", waiting.len(), 65_535);
 
     waiting.push(b'E')?;
-    assert!(rt; write_long(&mut out, &mut waiting).is_ok());
-    assert_eq!(rt; waiting.len(), 0);
+    same(
+        &rt,
+        "long",
+        write_long(&mut out, &mut waiting).is_ok(),
+        true,
+    );
+    same(&rt, "gone", waiting.len(), 0);
 
     waiting.resize(MOST_WAITING + 1, b' ')?;
-    assert!(rt; write_long(&mut out, &mut waiting).is_err());
-    assert_eq!(rt; Sink::failures(&out), 1);
+    same(
+        &rt,
+        "too long",
+        write_long(&mut out, &mut waiting).is_ok(),
+        false,
+    );
+    same(&rt, "failures", Sink::failures(&out), 1);
     let taken = out.into_inner().taken;
-    assert_eq!(rt; taken.len(), 65_536);
-    assert_eq!(rt; taken.last().copied(), Some(b'E'));
+    same(&rt, "taken", taken.len(), 65_536);
+    same(&rt, "last", taken.last().copied(), Some(b'E'));
     Ok(())
 }

@@ -2,6 +2,7 @@
 
 ghost use Rattle.std.specs.Prelude.{◌<◌};
 
+use crate::same::{printed, same};
 use cfg_base::header::{
     GrmtoolsSectionParser, Header, HeaderError, HeaderErrorKind, HeaderValue, KeyValueError,
     Namespaced, SectionError, Setting, Value,
@@ -112,17 +113,27 @@ fn render_error(
     text.push_str(";")
 }
 
+fn render_errors(alloc: Global, errors: &[HeaderError<Span>]) -> Result<String, AllocError> {
+    let mut text = String::new(alloc);
+    'errors: for error in errors {
+        render_error(alloc, &mut text, error)?;
+    }
+    Ok(text)
+}
+
 /// Renders what a text's section says, or its errors.
 fn read(alloc: Global, text: &str, required: bool) -> Result<String, AllocError> {
     match GrmtoolsSectionParser::new(text, required).parse(alloc) {
-        Ok((header, end)) => render_header(alloc, &header, end),
+        Ok((header, end)) => {
+            let rendered = render_header(alloc, &header, end);
+            drop(header);
+            rendered
+        }
         Err(SectionError::Memory(e)) => Err(e),
         Err(SectionError::Invalid(errors)) => {
-            let mut rendered = String::new(alloc);
-            'errors: for error in &errors {
-                render_error(alloc, &mut rendered, error)?;
-            }
-            Ok(rendered)
+            let rendered = render_errors(alloc, errors.as_slice());
+            drop(errors);
+            rendered
         }
     }
 }
@@ -134,7 +145,7 @@ fn reads_as(
     required: bool,
     expected: &str,
 ) -> Result<(), AllocError> {
-    assert_eq!(rt; read(alloc, text, required)?.as_str(), expected);
+    same(rt, text, read(alloc, text, required)?.as_str(), expected);
     Ok(())
 }
 
@@ -334,16 +345,23 @@ fn nested(alloc: Global, depth: usize) -> Result<String, AllocError> {
 /// Answers where a text's section ends, if it reads.
 fn end_of(alloc: Global, text: &str) -> Result<Option<usize>, AllocError> {
     match GrmtoolsSectionParser::new(text, false).parse(alloc) {
-        Ok((_header, end)) => Ok(Some(end)),
+        Ok((header, end)) => {
+            drop(header);
+            Ok(Some(end))
+        }
         Err(SectionError::Memory(e)) => Err(e),
-        Err(SectionError::Invalid(_errors)) => Ok(None),
+        Err(SectionError::Invalid(errors)) => {
+            drop(errors);
+            Ok(None)
+        }
     }
 }
 
 #[test]
 fn nesting(rt: HostRuntime) -> Result<(), AllocError> {
     let text = nested(rt.alloc(), 64)?;
-    assert_eq!(rt; end_of(rt.alloc(), text.as_str())?, Some(141));
+    let end = end_of(rt.alloc(), text.as_str())?;
+    same(&rt, "64 arrays", end, Some(141));
     let text = nested(rt.alloc(), 65)?;
     reads_as(
         &rt,
@@ -354,34 +372,46 @@ fn nesting(rt: HostRuntime) -> Result<(), AllocError> {
     )
 }
 
+/// Renders a key, its span and value, and the offset behind it.
 fn render_pair(
     alloc: Global,
-    rendered: &mut String,
+    key: &str,
     span: &Span,
     value: &Value<Span>,
     end: usize,
-) -> Result<(), AllocError> {
+) -> Result<String, AllocError> {
+    let mut rendered = String::from_str(alloc, key)?;
     rendered.push_str("@")?;
-    render_span(alloc, rendered, span)?;
+    render_span(alloc, &mut rendered, span)?;
     rendered.push_str("=")?;
-    render_value(alloc, rendered, value)?;
-    rendered.push_str(format!(in alloc; " |{end}")?.as_str())
+    render_value(alloc, &mut rendered, value)?;
+    rendered.push_str(format!(in alloc; " |{end}")?.as_str())?;
+    Ok(rendered)
+}
+
+fn render_only_error(alloc: Global, error: &HeaderError<Span>) -> Result<String, AllocError> {
+    let mut rendered = String::new(alloc);
+    render_error(alloc, &mut rendered, error)?;
+    Ok(rendered)
 }
 
 fn read_pair(alloc: Global, text: &str, i: usize) -> Result<String, AllocError> {
-    let mut rendered = String::new(alloc);
     if i > text.len() {
-        return Ok(rendered);
+        return Ok(String::new(alloc));
     }
     match GrmtoolsSectionParser::new(text, false).parse_key_value(alloc, i) {
         Ok((key, span, value, end)) => {
-            rendered.push_str(key.as_str())?;
-            render_pair(alloc, &mut rendered, &span, &value, end)?;
+            let rendered = render_pair(alloc, key.as_str(), &span, &value, end);
+            drop(value);
+            rendered
         }
-        Err(KeyValueError::Memory(e)) => return Err(e),
-        Err(KeyValueError::Invalid(error)) => render_error(alloc, &mut rendered, &error)?,
+        Err(KeyValueError::Memory(e)) => Err(e),
+        Err(KeyValueError::Invalid(error)) => {
+            let rendered = render_only_error(alloc, &error);
+            drop(error);
+            rendered
+        }
     }
-    Ok(rendered)
 }
 
 const SINGLE_PAIRS: &[(&str, usize, &str)] = &[
@@ -397,19 +427,9 @@ const SINGLE_PAIRS: &[(&str, usize, &str)] = &[
 #[test]
 fn single_pairs(rt: HostRuntime) -> Result<(), AllocError> {
     'cases: for (text, i, expected) in SINGLE_PAIRS {
-        pair_reads_as(&rt, rt.alloc(), text, *i, expected)?;
+        let found = read_pair(rt.alloc(), text, *i)?;
+        same(&rt, text, found.as_str(), *expected);
     }
-    Ok(())
-}
-
-fn pair_reads_as(
-    rt: &impl Abort,
-    alloc: Global,
-    text: &str,
-    i: usize,
-    expected: &str,
-) -> Result<(), AllocError> {
-    assert_eq!(rt; read_pair(alloc, text, i)?.as_str(), expected);
     Ok(())
 }
 
@@ -438,19 +458,10 @@ const TEXTS_OF_ERRORS: &[(HeaderErrorKind, &str)] = &[
 #[test]
 fn texts_of_errors(rt: HostRuntime) -> Result<(), AllocError> {
     'cases: for (kind, expected) in TEXTS_OF_ERRORS {
-        kind_is_shown(&rt, rt.alloc(), *kind, expected)?;
+        let found = printed(rt.alloc(), *kind)?;
+        same(&rt, "kind", found.as_str(), *expected);
         error_is_shown(&rt, rt.alloc(), *kind, expected)?;
     }
-    Ok(())
-}
-
-fn kind_is_shown(
-    rt: &impl Abort,
-    alloc: Global,
-    kind: HeaderErrorKind,
-    expected: &str,
-) -> Result<(), AllocError> {
-    assert_eq!(rt; format!(in alloc; "{kind}")?.as_str(), expected);
     Ok(())
 }
 
@@ -462,22 +473,21 @@ fn error_is_shown(
 ) -> Result<(), AllocError> {
     let locations: Vec<Span> = Vec::new(alloc);
     let error = HeaderError { kind, locations };
-    assert_eq!(rt; format!(in alloc; "{error}")?.as_str(), expected);
-    let is_duplicate = kind == HeaderErrorKind::DuplicateEntry;
-    assert_eq!(rt;
-        error.spanskind() == SpansKind::DuplicationError,
-        is_duplicate
-    );
+    let is_duplicate = error.spanskind() == SpansKind::DuplicationError;
+    let is_of_keys = kind == HeaderErrorKind::DuplicateEntry;
+    same(rt, "error", printed(alloc, error)?.as_str(), expected);
+    same(rt, expected, is_duplicate, is_of_keys);
     Ok(())
 }
 
-fn is_shown<E: Display>(
+/// Ends the test unless an error prints this.
+fn prints<E: Display + Drop>(
     rt: &impl Abort,
     alloc: Global,
-    error: &E,
+    error: E,
     expected: &str,
 ) -> Result<(), AllocError> {
-    assert_eq!(rt; format!(in alloc; "{error}")?.as_str(), expected);
+    same(rt, "error", printed(alloc, error)?.as_str(), expected);
     Ok(())
 }
 
@@ -485,24 +495,22 @@ fn is_shown<E: Display>(
 #[test]
 fn errors_of_calls_print_their_kind(rt: HostRuntime) -> Result<(), AllocError> {
     let alloc = rt.alloc();
-    is_shown(&rt, alloc, &SectionError::Memory(AllocError), "Memory")?;
-    is_shown(
-        &rt,
-        alloc,
-        &SectionError::Invalid(Vec::new(alloc)),
-        "Invalid",
-    )?;
-    is_shown(&rt, alloc, &KeyValueError::Memory(AllocError), "Memory")?;
+    prints(&rt, alloc, SectionError::Memory(AllocError), "Memory")?;
+    let errors = SectionError::Invalid(Vec::new(alloc));
+    prints(&rt, alloc, errors, "Invalid")?;
+    prints(&rt, alloc, KeyValueError::Memory(AllocError), "Memory")?;
     let error = HeaderError {
         kind: HeaderErrorKind::IllegalName,
         locations: Vec::new(alloc),
     };
-    is_shown(&rt, alloc, &KeyValueError::Invalid(error), "Invalid")?;
-    Ok(())
+    prints(&rt, alloc, KeyValueError::Invalid(error), "Invalid")
 }
 
-fn stands_at(rt: &impl Abort, value: &Value<Span>, at: Span) {
-    assert!(rt; *value.primary_location() == at);
+/// Returns the primary location of a value, and drops it.
+fn place_of(value: Value<Span>) -> Span {
+    let place = *value.primary_location();
+    drop(value);
+    place
 }
 
 fn path_value(alloc: Global, at: Span, elsewhere: Span) -> Result<Value<Span>, AllocError> {
@@ -517,12 +525,13 @@ fn path_value(alloc: Global, at: Span, elsewhere: Span) -> Result<Value<Span>, A
 fn primary_locations(rt: HostRuntime) -> Result<(), AllocError> {
     let at = Span::new(3, 5);
     let elsewhere = Span::new(0, 1);
-    stands_at(&rt, &Value::Flag(true, at), at);
-    stands_at(&rt, &Value::Setting(Setting::Num(1, at)), at);
-    let array = Value::Setting(Setting::Array(Vec::new(rt.alloc()), at, elsewhere));
-    stands_at(&rt, &array, at);
     let path = path_value(rt.alloc(), at, elsewhere)?;
-    stands_at(&rt, &path, at);
+    same(&rt, "path", place_of(path), at);
+    same(&rt, "flag", place_of(Value::Flag(true, at)), at);
+    let number = Value::Setting(Setting::Num(1, at));
+    same(&rt, "number", place_of(number), at);
+    let array = Value::Setting(Setting::Array(Vec::new(rt.alloc()), at, elsewhere));
+    same(&rt, "array", place_of(array), at);
     Ok(())
 }
 
@@ -549,6 +558,7 @@ fn ten_thousand_pairs(rt: HostRuntime) -> Result<(), AllocError> {
         add_pair(&mut text, i)?;
     }
     text.push_str("}")?;
-    assert_eq!(rt; end_of(rt.alloc(), text.as_str())?, Some(50_011));
+    let end = end_of(rt.alloc(), text.as_str())?;
+    same(&rt, "pairs", end, Some(50_011));
     Ok(())
 }

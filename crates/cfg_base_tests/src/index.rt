@@ -1,7 +1,7 @@
 //! Tests of the types that indices are stored in.
 
+use crate::same::same;
 use cfg_base::index::IndexStorage;
-use std::process::Abort;
 
 fn round_trip<S: IndexStorage>(n: usize) -> Option<usize> {
     S::from_usize(n).map(|index| index.to_usize())
@@ -21,12 +21,8 @@ const NUMBERS: &[(usize, bool, bool, bool)] = &[
 #[test]
 fn numbers_up_to_the_greatest_fit(rt: HostRuntime) {
     'numbers: for (n, narrow, middle, wide) in NUMBERS {
-        fits::<u8>(&rt, *n, *narrow, "u8");
-        fits::<u16>(&rt, *n, *middle, "u16");
-        fits::<u32>(&rt, *n, *wide, "u32");
+        same(&rt, "u8", round_trip::<u8>(*n), narrow.then_some(*n));
+        same(&rt, "u16", round_trip::<u16>(*n), middle.then_some(*n));
+        same(&rt, "u32", round_trip::<u32>(*n), wide.then_some(*n));
     }
-}
-
-fn fits<S: IndexStorage>(rt: &impl Abort, n: usize, does: bool, kind: &str) {
-    assert_eq!(rt; round_trip::<S>(n), does.then_some(n), "{kind} at {n}");
 }

@@ -12,6 +12,8 @@ mod markmap;
 #[cfg(test)]
 mod newlinecache;
 #[cfg(test)]
+mod same;
+#[cfg(test)]
 mod span;
 #[cfg(test)]
 mod symbol;

@@ -1,5 +1,6 @@
 //! Tests of lines and columns.
 
+use crate::same::same;
 use cfg_base::newlinecache::NewlineCache;
 use cfg_base::span::Span;
 use std::alloc::AllocError;
@@ -40,12 +41,12 @@ fn stands_in_line(
     line: Option<usize>,
     start: Option<usize>,
 ) {
-    assert_eq!(rt; cache.byte_to_line_num(byte), line, "line of {byte}");
-    assert_eq!(rt;
+    let found = (
+        byte,
+        cache.byte_to_line_num(byte),
         cache.byte_to_line_byte(byte),
-        start,
-        "start of the line of {byte}"
     );
+    same(rt, "byte, line and start", found, (byte, line, start));
 }
 
 fn stands_at(
@@ -55,11 +56,8 @@ fn stands_at(
     byte: usize,
     column: Option<(usize, usize)>,
 ) {
-    assert_eq!(rt;
-        cache.byte_to_line_num_and_col_num(text, byte),
-        column,
-        "at {byte}"
-    );
+    let found = (byte, cache.byte_to_line_num_and_col_num(text, byte));
+    same(rt, "byte, line and column", found, (byte, column));
 }
 
 #[test]
@@ -84,11 +82,8 @@ fn spans_take_whole_lines(rt: HostRuntime) -> Result<(), AllocError> {
     let cache = NewlineCache::from_str(rt.alloc(), "aé\nb")?;
     'spans: for (start, end, lines) in LINES_OF_SPANS {
         assert!(rt; *end <= 5 && *start <= *end);
-        assert_eq!(rt;
-            cache.span_line_bytes(Span::new(*start, *end)),
-            *lines,
-            "of {start} to {end}"
-        );
+        let found = (*start, *end, cache.span_line_bytes(Span::new(*start, *end)));
+        same(&rt, "span and lines", found, (*start, *end, *lines));
     }
     Ok(())
 }
@@ -97,13 +92,9 @@ fn spans_take_whole_lines(rt: HostRuntime) -> Result<(), AllocError> {
 fn pieces_are_gathered(rt: HostRuntime) -> Result<(), Fail> {
     let cache = NewlineCache::from_iter(rt.alloc(), ["a", "é\n", "", "b"])?;
     for (byte, column) in [(0, (1, 1)), (3, (1, 3)), (4, (2, 1)), (5, (2, 2))] {
-        assert_eq!(rt;
-            cache.byte_to_line_num_and_col_num("aé\nb", byte),
-            Some(column),
-            "at {byte}"
-        );
+        stands_at(&rt, &cache, "aé\nb", byte, Some(column));
     }
-    assert_eq!(rt; cache.byte_to_line_num(6), None);
+    same(&rt, "6", cache.byte_to_line_num(6), None);
     Ok(())
 }
 
@@ -111,7 +102,7 @@ fn pieces_are_gathered(rt: HostRuntime) -> Result<(), Fail> {
 #[test]
 fn pieces_are_gathered_by_the_trait(rt: HostRuntime) -> Result<(), Fail> {
     let cache = <NewlineCache as FromIterator<&str>>::from_iter(rt.alloc(), ["a", "\nb"])?;
-    assert_eq!(rt; cache.byte_to_line_num_and_col_num("a\nb", 2), Some((2, 1)));
+    stands_at(&rt, &cache, "a\nb", 2, Some((2, 1)));
     Ok(())
 }
 
@@ -131,8 +122,8 @@ fn a_refused_feed_changes_nothing(rt: HostRuntime) -> Result<(), Fail> {
         Ok(()) => Some(3),
         Err(_) => None,
     };
-    assert_eq!(rt; cache.byte_to_line_num(3), Some(2));
-    assert_eq!(rt; cache.byte_to_line_num(5), lines);
+    same(&rt, "3", cache.byte_to_line_num(3), Some(2));
+    same(&rt, "5", cache.byte_to_line_num(5), lines);
     Ok(())
 }
 

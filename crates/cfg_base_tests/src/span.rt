@@ -1,23 +1,22 @@
 //! Tests of spans and of what spans of an error are.
 
+use crate::same::same;
 use cfg_base::span::{Span, SpansKind};
 use std::test::Fail;
 
 #[test]
 fn spans_answer_their_offsets(rt: HostRuntime) -> Result<(), Fail> {
     let span = Span::new(3, 7);
-    assert_eq!(rt; span.start(), 3);
-    assert_eq!(rt; span.end(), 7);
-    assert_eq!(rt; span.len(), 4);
-    assert!(rt; !span.is_empty());
-    assert!(rt; Span::new(3, 3).is_empty());
+    same(&rt, "start", span.start(), 3);
+    same(&rt, "end", span.end(), 7);
+    same(&rt, "length", span.len(), 4);
+    same(&rt, "four bytes", span.is_empty(), false);
+    same(&rt, "no byte", Span::new(3, 3).is_empty(), true);
     assert!(rt; span == Span::new(3, 7) && span != Span::new(3, 8) && span != Span::new(2, 7));
     let copy = span;
     let text = format!(in rt.alloc(); "{copy:?} {span:?}")?;
-    assert_eq!(rt;
-        text.as_str(),
-        "Span { start: 3, end: 7 } Span { start: 3, end: 7 }"
-    );
+    let wanted = "Span { start: 3, end: 7 } Span { start: 3, end: 7 }";
+    same(&rt, "text", text.as_str(), wanted);
     Ok(())
 }
 

@@ -1,31 +1,42 @@
 //! Tests of indices and symbols.
 
+use crate::same::same;
 use cfg_base::symbol::{PIdx, RIdx, SIdx, Symbol, TIdx};
 use std::collections::BTreeMap;
 use std::test::Fail;
 
 #[test]
 fn indices_give_their_numbers(rt: HostRuntime) {
-    assert_eq!(rt; RIdx(7u8).as_storaget(), 7);
-    assert_eq!(rt; PIdx(8u16).as_storaget(), 8);
-    assert_eq!(rt; SIdx(9u32).as_storaget(), 9);
-    assert_eq!(rt; TIdx(10u8).as_storaget(), 10);
+    same(&rt, "rule", RIdx(7u8).as_storaget(), 7);
+    same(&rt, "production", PIdx(8u16).as_storaget(), 8);
+    same(&rt, "place", SIdx(9u32).as_storaget(), 9);
+    same(&rt, "token", TIdx(10u8).as_storaget(), 10);
 }
 
 #[test]
 fn indices_are_numbers_of_any_size(rt: HostRuntime) {
-    assert_eq!(rt; usize::from(RIdx(255u8)), 255);
-    assert_eq!(rt; usize::from(PIdx(65_535u16)), 65_535);
-    assert_eq!(rt; usize::from(SIdx(4_294_967_295u32)), 4_294_967_295);
-    assert_eq!(rt; usize::from(TIdx(1u16)), 1);
+    same(&rt, "rule", usize::from(RIdx(255u8)), 255);
+    same(&rt, "production", usize::from(PIdx(65_535u16)), 65_535);
+    same(
+        &rt,
+        "place",
+        usize::from(SIdx(4_294_967_295u32)),
+        4_294_967_295,
+    );
+    same(&rt, "token", usize::from(TIdx(1u16)), 1);
 }
 
 #[test]
 fn indices_are_wide_numbers(rt: HostRuntime) {
-    assert_eq!(rt; u32::from(RIdx(4_294_967_295u32)), 4_294_967_295);
-    assert_eq!(rt; u32::from(PIdx(2u8)), 2);
-    assert_eq!(rt; u32::from(SIdx(3u16)), 3);
-    assert_eq!(rt; u32::from(TIdx(4u32)), 4);
+    same(
+        &rt,
+        "rule",
+        u32::from(RIdx(4_294_967_295u32)),
+        4_294_967_295,
+    );
+    same(&rt, "production", u32::from(PIdx(2u8)), 2);
+    same(&rt, "place", u32::from(SIdx(3u16)), 3);
+    same(&rt, "token", u32::from(TIdx(4u32)), 4);
 }
 
 #[test]
@@ -41,10 +52,10 @@ fn symbols_are_keys(rt: HostRuntime) -> Result<(), Fail> {
         numbers.insert(*symbol, number)?;
     }
     let in_order: Vec<usize> = numbers.values().copied().collect(rt.alloc())?;
-    assert_eq!(rt; in_order.as_slice(), [3, 1, 0, 2].as_slice());
+    same(&rt, "order", in_order.as_slice(), [3, 1, 0, 2].as_slice());
     assert!(rt; Symbol::Rule(RIdx(9u8)) < Symbol::Token(TIdx(0)));
     assert!(rt; Symbol::Rule(RIdx(3u8)) != Symbol::Token(TIdx(3)));
     let text = format!(in rt.alloc(); "{:?}", Symbol::Rule(RIdx(3u8)))?;
-    assert_eq!(rt; text.as_str(), "Rule(RIdx(3))");
+    same(&rt, "text", text.as_str(), "Rule(RIdx(3))");
     Ok(())
 }

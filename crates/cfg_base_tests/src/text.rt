@@ -1,5 +1,6 @@
 //! Tests of the bytes of a text.
 
+use crate::same::same;
 use cfg_base::text;
 use cfg_base::text::GapPart;
 use std::process::Abort;
@@ -24,16 +25,8 @@ const GAPS: &[(&str, usize, GapPart)] = &[
 #[test]
 fn gaps_are_found(rt: HostRuntime) {
     'gaps: for (source, offset, expected) in GAPS {
-        gap_is(&rt, source, *offset, *expected);
+        same(&rt, source, text::gap_at(source, *offset), *expected);
     }
-}
-
-fn gap_is(rt: &impl Abort, source: &str, offset: usize, expected: GapPart) {
-    assert_eq!(rt;
-        text::gap_at(source, offset),
-        expected,
-        "{source} at {offset}"
-    );
 }
 
 #[test]
@@ -50,5 +43,5 @@ fn ends_are(rt: &impl Abort, source: &str, offset: usize, expected: (usize, usiz
     let white = text::white_end(source, offset);
     let digits = text::digits_end(source, offset);
     let line = text::line_end(source, offset);
-    assert_eq!(rt; (white, digits, line), expected, "{source} at {offset}");
+    same(rt, source, (white, digits, line), expected);
 }

@@ -1,5 +1,6 @@
 //! What errors print, each seen as a `std::error::Error`.
 
+use crate::same::same;
 use cfg_base::header::Value;
 use cfg_base::span::{Span, Spanned};
 use cfg_read::yacc::parser::error::ReadError;
@@ -13,26 +14,28 @@ use cfg_read::yacc::{
 };
 use std::alloc::{AllocError, Global};
 use std::error::Error;
-use std::process::Abort;
 use std::test::*;
 
 const TREE: YaccKind = YaccKind::Original(YaccOriginalActionKind::GenericParseTree);
 
-fn shown<E: Error>(alloc: Global, error: &E) -> Result<String, AllocError> {
-    format!(in alloc; "{error}")
+/// Returns what an error prints, and drops it.
+fn shown<E: Error + Drop>(alloc: Global, error: E) -> Result<String, AllocError> {
+    let text = format!(in alloc; "{error}");
+    drop(error);
+    text
 }
 
 #[test]
 fn want_of_memory(rt: HostRuntime) -> Result<(), Fail> {
     let alloc = rt.alloc();
-    let reading = shown(alloc, &ReadError::Memory(AllocError))?;
-    assert_eq!(rt; reading.as_str(), "Memory");
-    let failure = shown(alloc, &YaccGrammarFailure::Memory(AllocError))?;
-    assert_eq!(rt; failure.as_str(), "Memory");
-    let kind = shown(alloc, &KindError::<Span>::Memory(AllocError))?;
-    assert_eq!(rt; kind.as_str(), "Memory");
-    let change = shown(alloc, &ASTModificationError::Memory(AllocError))?;
-    assert_eq!(rt; change.as_str(), "Memory");
+    let reading = shown(alloc, ReadError::Memory(AllocError))?;
+    same(&rt, "reading", reading.as_str(), "Memory");
+    let failure = shown(alloc, YaccGrammarFailure::Memory(AllocError))?;
+    same(&rt, "failure", failure.as_str(), "Memory");
+    let kind = shown(alloc, KindError::<Span>::Memory(AllocError))?;
+    same(&rt, "kind", kind.as_str(), "Memory");
+    let change = shown(alloc, ASTModificationError::Memory(AllocError))?;
+    same(&rt, "change", change.as_str(), "Memory");
     Ok(())
 }
 
@@ -40,7 +43,7 @@ fn reading(alloc: Global, text: &str) -> Result<String, AllocError> {
     match read_syntax(alloc, TREE, text, 0) {
         Ok(_) => String::from_str(alloc, "reads"),
         Err(ReadError::Memory(e)) => Err(e),
-        Err(e) => shown(alloc, &e),
+        Err(e) => shown(alloc, e),
     }
 }
 
@@ -53,7 +56,7 @@ const READINGS: &[(&str, &str)] = &[
 fn faults_of_reading(rt: HostRuntime) -> Result<(), Fail> {
     for (text, expected) in READINGS {
         let found = reading(rt.alloc(), text)?;
-        assert_eq!(rt; found.as_str(), *expected, "{text}");
+        same(&rt, text, found.as_str(), *expected);
     }
     Ok(())
 }
@@ -65,7 +68,7 @@ fn failure(alloc: Global, text: &str) -> Result<String, AllocError> {
             String::from_str(alloc, "kept")
         }
         Err(YaccGrammarFailure::Memory(e)) => Err(e),
-        Err(e) => shown(alloc, &e),
+        Err(e) => shown(alloc, e),
     }
 }
 
@@ -80,7 +83,7 @@ const FAILURES: &[(&str, &str)] = &[
 fn texts_without_a_kind(rt: HostRuntime) -> Result<(), Fail> {
     for (text, expected) in FAILURES {
         let found = failure(rt.alloc(), text)?;
-        assert_eq!(rt; found.as_str(), *expected, "{text}");
+        same(&rt, text, found.as_str(), *expected);
     }
     Ok(())
 }
@@ -92,25 +95,37 @@ fn values_without_a_kind(rt: HostRuntime) -> Result<(), Fail> {
     let found = match YaccKind::try_from_value(alloc, &value) {
         Ok(_) => String::from_str(alloc, "a kind")?,
         Err(KindError::Memory(e)) => return Err(e.into()),
-        Err(e) => shown(alloc, &e)?,
+        Err(e) => shown(alloc, e)?,
     };
-    assert_eq!(rt; found.as_str(), "Invalid");
+    same(&rt, "value", found.as_str(), "Invalid");
     Ok(())
+}
+
+fn unknown_token(alloc: Global) -> Result<YaccGrammarError, AllocError> {
+    let name = String::from_str(alloc, "x")?;
+    let spans = vec![in alloc; Span::new(3, 4)]?;
+    let kind = YaccGrammarErrorKind::UnknownToken(name);
+    Ok(YaccGrammarError { kind, spans })
 }
 
 /// Errors, warnings and what their spans are have names in the module of the parser too.
 #[test]
 fn names_in_the_parser(rt: HostRuntime) -> Result<(), Fail> {
     let alloc = rt.alloc();
-    let name = String::from_str(alloc, "x")?;
-    let kind = YaccGrammarErrorKind::UnknownToken(name);
-    let spans = vec![in alloc; Span::new(3, 4)]?;
-    let error = YaccGrammarError { kind, spans };
-    assert_eq!(rt; shown(alloc, &error)?.as_str(), "Unknown token 'x'");
-    assert_eq!(rt; error.spanskind(), SpansKind::Error);
+    let error = unknown_token(alloc)?;
+    let of_spans = error.spanskind();
+    let found = shown(alloc, error)?;
+    same(&rt, "error", found.as_str(), "Unknown token 'x'");
+    same(&rt, "spans", of_spans, SpansKind::Error);
     let kind = YaccGrammarWarningKind::UnusedToken;
     let spans = vec![in alloc; Span::new(3, 4)]?;
-    let warning = YaccGrammarWarning { kind, spans };
-    assert_eq!(rt; format!(in alloc; "{warning}")?.as_str(), "Unused token");
+    let found = warning_shown(alloc, YaccGrammarWarning { kind, spans })?;
+    same(&rt, "warning", found.as_str(), "Unused token");
     Ok(())
+}
+
+fn warning_shown(alloc: Global, warning: YaccGrammarWarning) -> Result<String, AllocError> {
+    let text = format!(in alloc; "{warning}");
+    drop(warning);
+    text
 }

@@ -1,5 +1,6 @@
 //! Kinds, and the values that stand for them.
 
+use crate::same::same;
 use crate::spell::spell_spans;
 use cfg_base::header::{
     GrmtoolsSectionParser, HeaderError, HeaderValue, Namespaced, SectionError, Setting, Value,
@@ -45,7 +46,7 @@ fn answer(alloc: Global, text: &str) -> Result<String, AllocError> {
 fn compare(rt: &(impl Abort + AllocGlobal), cases: &[(&str, &str)]) -> Result<(), Fail> {
     for (text, expected) in cases {
         let found = answer(rt.alloc(), text)?;
-        assert_eq!(rt; found.as_str(), *expected, "{text}");
+        same(rt, text, found.as_str(), *expected);
     }
     Ok(())
 }
@@ -132,7 +133,7 @@ fn compare_value(
     expected: &str,
 ) -> Result<(), Fail> {
     let found = spell_value(rt.alloc(), value)?;
-    assert_eq!(rt; found.as_str(), expected);
+    same(rt, "value", found.as_str(), expected);
     let back = YaccKind::try_from_value(rt.alloc(), value).ok();
     assert!(rt; back == Some(kind));
     Ok(())

@@ -9,6 +9,8 @@ mod error_texts;
 #[cfg(test)]
 mod kinds;
 #[cfg(test)]
+mod same;
+#[cfg(test)]
 mod spell;
 #[cfg(test)]
 mod texts;

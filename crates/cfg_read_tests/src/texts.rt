@@ -1,5 +1,6 @@
 //! What texts say or the faults that they have, as texts.
 
+use crate::same::same;
 use cfg_base::span::Span;
 use cfg_read::yacc::parser::error::{ReadError, YaccGrammarErrorKind};
 use cfg_read::yacc::parser::read_syntax;
@@ -231,7 +232,7 @@ fn answer(alloc: Global, kind: YaccKind, text: &str) -> Result<String, AllocErro
 fn compare(rt: &(impl Abort + AllocGlobal), cases: &[(YaccKind, &str, &str)]) -> Result<(), Fail> {
     for (kind, text, expected) in cases {
         let found = answer(rt.alloc(), *kind, text)?;
-        assert_eq!(rt; found.as_str(), *expected, "{text}");
+        same(rt, text, found.as_str(), *expected);
     }
     Ok(())
 }

@@ -2,6 +2,7 @@
 
 ghost use Rattle.std.specs.Prelude.{◌<◌};
 
+use crate::same::same;
 use crate::spell::spell_names;
 use cfg_base::span::Span;
 use cfg_read::yacc::ast::{GrammarAST, Production};
@@ -69,7 +70,7 @@ fn compare_names(
     wanted: &str,
 ) -> Result<(), Fail> {
     let found = names_of(rt.alloc(), ast)?;
-    assert_eq!(rt; found.as_str(), wanted, "{text}");
+    same(rt, text, found.as_str(), wanted);
     Ok(())
 }
 
@@ -80,7 +81,7 @@ fn compare_single(
     wanted: &str,
 ) -> Result<(), Fail> {
     let found = single_of(rt.alloc(), ast)?;
-    assert_eq!(rt; found.as_str(), wanted, "{text}");
+    same(rt, text, found.as_str(), wanted);
     Ok(())
 }
 
@@ -139,7 +140,7 @@ fn compare_changes(rt: &(impl Abort + AllocGlobal), ast: &mut GrammarAST) -> Res
     compare_names(rt, ast, "replaced rule", "S 7-8 ->u8; T 2-3 1; | ")?;
     set_texts(rt.alloc(), ast)?;
     compare_single(rt, ast, "set programs", "programs q; ")?;
-    assert_eq!(rt; ast.prods().len(), 3);
+    same(rt, "productions", ast.prods().len(), 3);
     assert!(rt; ast.get_rule("U").is_none() && !ast.has_token("a"));
     Ok(())
 }

@@ -1,5 +1,6 @@
 //! Texts that read, and what is wrong with them.
 
+use crate::same::same;
 use crate::spell::spell_errors;
 use cfg_read::yacc::parser::error::{ReadError, YaccGrammarErrorKind};
 use cfg_read::yacc::parser::read_syntax;
@@ -34,7 +35,7 @@ fn answer(alloc: Global, kind: YaccKind, text: &str) -> Result<String, AllocErro
 fn compare(rt: &(impl Abort + AllocGlobal), cases: &[(YaccKind, &str, &str)]) -> Result<(), Fail> {
     for (kind, text, expected) in cases {
         let found = answer(rt.alloc(), *kind, text)?;
-        assert_eq!(rt; found.as_str(), *expected, "{text}");
+        same(rt, text, found.as_str(), *expected);
     }
     Ok(())
 }
@@ -62,7 +63,7 @@ fn shows(
 ) -> Result<(), Fail> {
     let text = format!(in rt.alloc(); "{kind}");
     drop(kind);
-    assert_eq!(rt; text?.as_str(), expected);
+    same(rt, expected, text?.as_str(), expected);
     Ok(())
 }
 

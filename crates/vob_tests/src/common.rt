@@ -3,43 +3,42 @@
 ghost use Rattle.std.specs.Prelude.{◌<◌};
 
 use std::alloc::{AllocError, Global};
-use std::iter::DoubleEndedIterator;
+use std::fmt::Debug;
 use std::process::Abort;
 use vob::Vob;
 use vob::block::Block;
 use vob::error::VobError;
-use vob::iter::IterSetBits;
 
-pub fn shows<T: Block>(rt: &impl Abort, list: &Vob<T>, items: &[bool]) {
-    assert_eq!(rt; list.len(), items.len());
+/// Ends the test unless two values are the same, with a word that says where.
+pub fn same<V: PartialEq + Debug + Copy>(rt: &impl Abort, word: &str, found: V, wanted: V) {
+    assert!(rt;
+        found == wanted,
+        "{word}: found {found:?}, wanted {wanted:?}"
+    );
+}
+
+/// Returns the first index at which a list differs from these items, and `None` where it has just these.
+fn difference<T: Block>(list: &Vob<T>, items: &[bool]) -> Option<usize> {
     for (index, item) in items.iter().enumerate() {
-        assert_eq!(rt; list.get(index), Some(*item));
+        if list.get(index) != Some(*item) {
+            return Some(index);
+        }
     }
-    assert_eq!(rt; list.get(items.len()), None);
+    let is_whole = list.len() == items.len() && list.get(items.len()).is_none();
+    (!is_whole).then_some(items.len())
 }
 
-pub fn holds_blocks(rt: &impl Abort, list: &Vob<u8>, blocks: &[u8]) {
-    assert_eq!(rt; list.get_storage(), blocks);
+/// Ends the test unless a list has just these items.
+pub fn shows<T: Block>(rt: &impl Abort, word: &str, list: &Vob<T>, items: &[bool]) {
+    same(rt, word, difference(list, items), None);
 }
 
-pub fn set_count<T: Block>(rt: &impl Abort, list: &Vob<T>, count: usize) {
-    assert_eq!(rt; list.iter_set_bits(..).count(), count);
+pub fn set_in<T: Block>(list: &Vob<T>) -> usize {
+    list.iter_set_bits(..).count()
 }
 
-pub fn unset_count<T: Block>(rt: &impl Abort, list: &Vob<T>, count: usize) {
-    assert_eq!(rt; list.iter_unset_bits(..).count(), count);
-}
-
-pub fn comes_first<T: Block>(rt: &impl Abort, walk: &mut IterSetBits<'_, T>, index: Option<usize>) {
-    assert_eq!(rt; walk.next(), index);
-}
-
-pub fn comes_last<T: Block>(rt: &impl Abort, walk: &mut IterSetBits<'_, T>, index: Option<usize>) {
-    assert_eq!(rt; walk.next_back(), index);
-}
-
-pub fn pops<T: Block>(rt: &impl Abort, list: &mut Vob<T>, item: Option<bool>) {
-    assert_eq!(rt; list.pop(), item);
+pub fn unset_in<T: Block>(list: &Vob<T>) -> usize {
+    list.iter_unset_bits(..).count()
 }
 
 pub fn nine_bytes(alloc: Global) -> Result<Vob<u8>, AllocError> {
@@ -56,12 +55,13 @@ pub fn every<T: Block>(alloc: Global, step: usize, len: usize) -> Result<Vob<T>,
     Ok(list)
 }
 
-pub fn full<T: Block>(alloc: Global, len: usize) -> Result<Vob<T>, AllocError> {
+pub fn full(alloc: Global, len: usize) -> Result<Vob<u8>, AllocError> {
     let mut list = Vob::from_elem_with_storage_type(alloc, true, len)?;
     list.shrink_to_fit();
     Ok(list)
 }
 
-pub fn greatest_room_is_refused<T: Block>(rt: &impl Abort, list: &mut Vob<T>) {
-    assert!(rt; matches!(list.reserve(usize::MAX), Err(VobError::TooLong)));
+/// Returns whether the greatest room is too long for a list.
+pub fn refuses_greatest_room(list: &mut Vob<u8>) -> bool {
+    matches!(list.reserve(usize::MAX), Err(VobError::TooLong))
 }

@@ -1,18 +1,17 @@
 //! Calls that are refused, and how a refusal is printed.
 
-use crate::common::{full, pops, set_count, shows};
+use crate::common::{full, same, set_in, shows};
 use std::alloc::AllocError;
 use std::process::Abort;
 use std::test::Fail;
 use vob::Vob;
-use vob::block::Block;
 use vob::error::VobError;
 
 // A call that was refused memory has changed nothing; a second try goes on from there.
 macro_rules! again {
     ($rt:expr; $list:ident, $items:expr, $call:expr) => {
         if $call.is_err() {
-            shows($rt, &$list, $items);
+            shows($rt, stringify!($call), &$list, $items);
             $call?;
         }
     };
@@ -22,43 +21,43 @@ macro_rules! again {
 #[test]
 fn a_refused_call_changes_nothing(rt: HostRuntime) -> Result<(), VobError> {
     let eight = [true; 8];
-    let mut list = full::<u8>(rt.alloc(), 8)?;
+    let mut list = full(rt.alloc(), 8)?;
     again!(&rt; list, eight.as_slice(), list.push(false));
-    pops(&rt, &mut list, Some(false));
+    same(&rt, "added", list.pop(), Some(false));
     list.shrink_to_fit();
     again!(&rt; list, eight.as_slice(), list.reserve(100));
-    assert!(rt; list.capacity() >= 108);
-    shows(&rt, &list, eight.as_slice());
+    same(&rt, "room", list.capacity() >= 108, true);
+    shows(&rt, "with room", &list, eight.as_slice());
     list.shrink_to_fit();
     again!(&rt; list, eight.as_slice(), list.resize(99, true));
-    set_count(&rt, &list, 99);
+    same(&rt, "set", set_in(&list), 99);
     Ok(())
 }
 
 #[test]
 fn a_refused_join_changes_nothing(rt: HostRuntime) -> Result<(), VobError> {
     let eight = [true; 8];
-    let mut list = full::<u8>(rt.alloc(), 8)?;
+    let mut list = full(rt.alloc(), 8)?;
     again!(&rt; list, eight.as_slice(), list.extend_from_slice(eight.as_slice()));
-    shows(&rt, &list, [true; 16].as_slice());
+    shows(&rt, "sixteen", &list, [true; 16].as_slice());
     list.truncate(8);
     list.shrink_to_fit();
-    let more = full::<u8>(rt.alloc(), 90)?;
+    let more = full(rt.alloc(), 90)?;
     again!(&rt; list, eight.as_slice(), list.extend_from_vob(&more));
-    shows(&rt, &list, [true; 98].as_slice());
-    shows(&rt, &more, [true; 90].as_slice());
+    shows(&rt, "joined", &list, [true; 98].as_slice());
+    shows(&rt, "more", &more, [true; 90].as_slice());
     let part = parted_after_eight(&rt, &mut list)?;
-    shows(&rt, &list, eight.as_slice());
-    assert!(rt; part == more);
+    shows(&rt, "parted", &list, eight.as_slice());
+    same(&rt, "part", part == more, true);
     Ok(())
 }
 
-fn parted_after_eight<T: Block>(rt: &impl Abort, list: &mut Vob<T>) -> Result<Vob<T>, AllocError> {
+fn parted_after_eight(rt: &impl Abort, list: &mut Vob<u8>) -> Result<Vob<u8>, AllocError> {
     assert!(rt; list.len() == 98);
     if let Ok(part) = list.split_off(8) {
         return Ok(part);
     }
-    shows(rt, list, [true; 98].as_slice());
+    shows(rt, "refused", list, [true; 98].as_slice());
     assert!(rt; list.len() == 98);
     list.split_off(8)
 }
@@ -67,12 +66,12 @@ fn parted_after_eight<T: Block>(rt: &impl Abort, list: &mut Vob<T>) -> Result<Vo
 #[test]
 fn a_refused_extension_keeps_a_part(rt: HostRuntime) -> Result<(), Fail> {
     let items = [false, true, true];
-    let mut list = full::<u8>(rt.alloc(), 7)?;
+    let mut list = full(rt.alloc(), 7)?;
     let told = list.extend(items.iter().copied());
     let whole = [true, true, true, true, true, true, true, false, true, true];
     match told {
-        Ok(()) => shows(&rt, &list, whole.as_slice()),
-        Err(_) => shows(&rt, &list, &whole[..8]),
+        Ok(()) => shows(&rt, "whole", &list, whole.as_slice()),
+        Err(_) => shows(&rt, "refused", &list, &whole[..8]),
     }
     Ok(())
 }
@@ -84,6 +83,6 @@ fn a_refusal_prints_its_name(rt: HostRuntime) -> Result<(), Fail> {
         panic!(rt; "a length past the greatest was taken")
     };
     let text = format!(in rt.alloc(); "{refusal}")?;
-    assert_eq!(rt; text.as_str(), "TooLong");
+    same(&rt, "name", text.as_str(), "TooLong");
     Ok(())
 }

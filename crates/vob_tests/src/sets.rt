@@ -2,8 +2,9 @@
 
 ghost use Rattle.std.specs.Prelude.{◌≡◌, length};
 
-use crate::common::{comes_first, comes_last, every, set_count, shows, unset_count};
+use crate::common::{every, same, set_in, shows, unset_in};
 use std::alloc::{AllocError, Global};
+use std::iter::DoubleEndedIterator;
 use std::process::Abort;
 use std::test::Fail;
 use vob::block::Block;
@@ -18,10 +19,11 @@ fn lists_are_combined(rt: HostRuntime) -> Result<(), VobError> {
     assert!(rt; b.len() == 4);
     combinations_are_new_lists(&rt, &a, &b)?;
     one_is_changed(&rt, &mut a, &b);
-    all_are_set(&rt, &mut a);
-    is_four_times_true(&rt, rt.alloc(), &a)?;
-    assert!(rt; a != b);
-    is_its_own_copy(&rt, &a)?;
+    a.set_all(true);
+    shows(&rt, "all", &a, [true; 4].as_slice());
+    same(&rt, "four", a == vob!(rt.alloc(); true; 4)?, true);
+    same(&rt, "others", a != b, true);
+    same(&rt, "copy", a.clone()? == a, true);
     fourth_is_true(&rt, &a);
     Ok(())
 }
@@ -30,107 +32,119 @@ fn combinations_are_new_lists(rt: &impl Abort, a: &Vob, b: &Vob) -> Result<(), A
     requires { length a.now.bits ≡ length b.now.bits }
 {
     let both = (a & b)?;
-    shows(rt, &both, [true, false, false, false].as_slice());
+    shows(rt, "both", &both, [true, false, false, false].as_slice());
     let either = (a | b)?;
-    shows(rt, &either, [true, true, true, false].as_slice());
+    shows(rt, "either", &either, [true, true, true, false].as_slice());
     let one = (a ^ b)?;
-    shows(rt, &one, [false, true, true, false].as_slice());
+    shows(rt, "one", &one, [false, true, true, false].as_slice());
     Ok(())
 }
 
-fn one_is_changed<T: Block>(rt: &impl Abort, a: &mut Vob<T>, b: &Vob<T>)
+fn one_is_changed(rt: &impl Abort, a: &mut Vob, b: &Vob)
     requires { length a.old.bits ≡ length b.now.bits }
 {
-    assert!(rt; a.or(b));
+    same(rt, "changed", a.or(b), true);
     assert!(rt; a.len() == b.len());
-    assert!(rt; !a.or(b));
+    same(rt, "unchanged", a.or(b), false);
     a.negate();
-    shows(rt, a, [false, false, false, true].as_slice());
+    shows(rt, "negated", a, [false, false, false, true].as_slice());
 }
 
-fn all_are_set<T: Block>(rt: &impl Abort, a: &mut Vob<T>) {
-    a.set_all(true);
-    shows(rt, a, [true; 4].as_slice());
-}
-
-fn fourth_is_true<T: Block>(rt: &impl Abort, a: &Vob<T>) {
+fn fourth_is_true(rt: &impl Abort, a: &Vob) {
     assert!(rt; a.len() == 4);
     assert!(rt; a[3]);
 }
 
-fn is_four_times_true(rt: &impl Abort, alloc: Global, a: &Vob) -> Result<(), AllocError> {
-    assert!(rt; *a == vob!(alloc; true; 4)?);
-    Ok(())
+/// What a list is changed by.
+#[derive(Clone, Copy)]
+enum Step {
+    Or,
+    And,
+    Xor,
+    Negate,
 }
 
-fn is_its_own_copy<T: Block>(rt: &impl Abort, a: &Vob<T>) -> Result<(), AllocError> {
-    assert!(rt; a.clone()? == *a);
-    Ok(())
+/// Changes a list, and returns whether it was changed; `None` where the other has another length.
+fn changed<T: Block>(list: &mut Vob<T>, other: &Vob<T>, step: Step) -> Option<bool> {
+    if list.len() != other.len() {
+        return None;
+    }
+    match step {
+        Step::Or => Some(list.or(other)),
+        Step::And => Some(list.and(other)),
+        Step::Xor => Some(list.xor(other)),
+        Step::Negate => {
+            list.negate();
+            Some(true)
+        }
+    }
+}
+
+// Whether a step changes a list, how many items are set and unset then, and whether it is the other list.
+type Stepped = (Option<bool>, usize, usize, bool);
+
+fn stepped<T: Block>(list: &mut Vob<T>, other: &Vob<T>, step: Step) -> Stepped {
+    let is_changed = changed(list, other, step);
+    (is_changed, set_in(list), unset_in(list), *list == *other)
+}
+
+// The last items of 200, and how many of all are set, and how many from 100 to 150 are set and unset.
+type Counted = ([Option<bool>; 3], usize, usize, usize);
+
+fn counted<T: Block>(list: &Vob<T>) -> Counted {
+    let ends = [list.get(198), list.get(199), list.get(200)];
+    let set = list.iter_set_bits(100..150).count();
+    let unset = list.iter_unset_bits(100..150).count();
+    (ends, set_in(list), set, unset)
+}
+
+// The first and the last item that is set from 100 to 150, and how many are between.
+type Walked = (Option<usize>, Option<usize>, usize);
+
+fn walked<T: Block>(list: &Vob<T>) -> Walked {
+    let mut walk = list.iter_set_bits(100..150);
+    let first = walk.next();
+    let last = walk.next_back();
+    (first, last, walk.count())
 }
 
 // 200 items, of which each third and each second is set: 67 of them, 100, and 34 that both are.
-fn is_a_set<T: Block>(rt: &impl Abort, alloc: Global) -> Result<(), VobError> {
+fn as_sets<T: Block>(alloc: Global) -> Result<(Counted, Walked, [Stepped; 5]), VobError> {
     let mut list: Vob<T> = every(alloc, 3, 200)?;
     let seconds: Vob<T> = every(alloc, 2, 200)?;
-    ends_after_two_hundred(rt, &list);
-    thirds_are_counted(rt, &list);
-    thirds_are_walked_over(rt, &list);
-    seconds_are_joined(rt, &mut list, &seconds);
-    only_seconds_are_left(rt, &mut list, &seconds);
-    none_differs(rt, &mut list, &seconds);
-    list.negate();
-    set_count(rt, &list, 200);
-    Ok(())
+    let of_thirds = (counted(&list), walked(&list));
+    let steps = [
+        stepped(&mut list, &seconds, Step::Or),
+        stepped(&mut list, &seconds, Step::Or),
+        stepped(&mut list, &seconds, Step::And),
+        stepped(&mut list, &seconds, Step::Xor),
+        stepped(&mut list, &seconds, Step::Negate),
+    ];
+    Ok((of_thirds.0, of_thirds.1, steps))
 }
 
-fn ends_after_two_hundred<T: Block>(rt: &impl Abort, list: &Vob<T>) {
-    assert_eq!(rt; list.get(198), Some(true));
-    assert_eq!(rt; list.get(199), Some(false));
-    assert_eq!(rt; list.get(200), None);
-}
+const COUNTED: Counted = ([Some(true), Some(false), None], 67, 16, 34);
 
-fn thirds_are_counted<T: Block>(rt: &impl Abort, list: &Vob<T>) {
-    set_count(rt, list, 67);
-    assert_eq!(rt; list.iter_set_bits(100..150).count(), 16);
-    assert_eq!(rt; list.iter_unset_bits(100..150).count(), 34);
-}
+const WALKED: Walked = (Some(102), Some(147), 14);
 
-fn thirds_are_walked_over<T: Block>(rt: &impl Abort, list: &Vob<T>) {
-    let mut walk = list.iter_set_bits(100..150);
-    comes_first(rt, &mut walk, Some(102));
-    comes_last(rt, &mut walk, Some(147));
-    assert_eq!(rt; walk.count(), 14);
-}
-
-fn seconds_are_joined<T: Block>(rt: &impl Abort, list: &mut Vob<T>, seconds: &Vob<T>) {
-    assert!(rt; list.len() == seconds.len());
-    assert!(rt; list.or(seconds));
-    set_count(rt, list, 133);
-    assert!(rt; list.len() == seconds.len());
-    assert!(rt; !list.or(seconds));
-}
-
-fn only_seconds_are_left<T: Block>(rt: &impl Abort, list: &mut Vob<T>, seconds: &Vob<T>) {
-    assert!(rt; list.len() == seconds.len());
-    assert!(rt; list.and(seconds));
-    assert!(rt; *list == *seconds);
-}
-
-fn none_differs<T: Block>(rt: &impl Abort, list: &mut Vob<T>, seconds: &Vob<T>) {
-    assert!(rt; list.len() == seconds.len());
-    assert!(rt; list.xor(seconds));
-    unset_count(rt, list, 200);
-    assert!(rt; *list != *seconds);
-}
+const STEPS: [Stepped; 5] = [
+    (Some(true), 133, 67, false),
+    (Some(false), 133, 67, false),
+    (Some(true), 100, 100, true),
+    (Some(true), 0, 200, false),
+    (Some(true), 200, 0, false),
+];
 
 #[test]
 fn blocks_of_each_type_make_a_set(rt: HostRuntime) -> Result<(), VobError> {
-    is_a_set::<u8>(&rt, rt.alloc())?;
-    is_a_set::<u16>(&rt, rt.alloc())?;
-    is_a_set::<u32>(&rt, rt.alloc())?;
-    is_a_set::<u64>(&rt, rt.alloc())?;
-    is_a_set::<u128>(&rt, rt.alloc())?;
-    is_a_set::<usize>(&rt, rt.alloc())?;
+    let alloc = rt.alloc();
+    let wanted = (COUNTED, WALKED, STEPS);
+    same(&rt, "u8", as_sets::<u8>(alloc)?, wanted);
+    same(&rt, "u16", as_sets::<u16>(alloc)?, wanted);
+    same(&rt, "u32", as_sets::<u32>(alloc)?, wanted);
+    same(&rt, "u64", as_sets::<u64>(alloc)?, wanted);
+    same(&rt, "u128", as_sets::<u128>(alloc)?, wanted);
+    same(&rt, "usize", as_sets::<usize>(alloc)?, wanted);
     Ok(())
 }
 
@@ -151,48 +165,67 @@ fn pairs_are_compared(rt: HostRuntime) -> Result<(), Fail> {
     for (left, right, meet, hold) in PAIRS {
         let list = Vob::from_slice(rt.alloc(), left)?;
         let other = Vob::from_slice(rt.alloc(), right)?;
-        compares(&rt, &list, &other, *meet, *hold);
+        let wanted = Some((*meet, *meet, *hold));
+        same(&rt, "pair", compared(&list, &other), wanted);
     }
     Ok(())
 }
 
-fn compares<T: Block>(rt: &impl Abort, list: &Vob<T>, other: &Vob<T>, meet: bool, hold: bool) {
-    assert!(rt; list.len() == other.len());
-    assert_eq!(rt; list.meets(other), meet);
-    assert_eq!(rt; other.meets(list), meet);
-    assert_eq!(rt; list.holds(other), hold);
+// Whether two lists meet, asked both ways, and whether the first holds the second; `None` where their lengths differ.
+type Compared = Option<(bool, bool, bool)>;
+
+fn compared<T: Block>(list: &Vob<T>, other: &Vob<T>) -> Compared {
+    if list.len() != other.len() {
+        return None;
+    }
+    Some((list.meets(other), other.meets(list), list.holds(other)))
+}
+
+fn set_at<T: Block>(list: &mut Vob<T>, index: usize) {
+    if index < list.len() {
+        list.set(index, true);
+    }
+}
+
+/// Compares a list with another that is negated, emptied, and given two items one after the other.
+fn compared_in_turn<T: Block>(others: &mut Vob<T>, seconds: &Vob<T>) -> [Compared; 4] {
+    others.negate();
+    let negated = compared(others, seconds);
+    others.set_all(false);
+    let emptied = compared(seconds, others);
+    set_at(others, 198);
+    let shared = compared(seconds, others);
+    set_at(others, 199);
+    [negated, emptied, shared, compared(seconds, others)]
 }
 
 // 200 items, of which the last one that is set in the other list is in the last block.
-fn are_compared_to_the_end<T: Block>(rt: &impl Abort, alloc: Global) -> Result<(), VobError> {
+fn compared_to_the_end<T: Block>(
+    alloc: Global,
+) -> Result<(Compared, Compared, [Compared; 4]), VobError> {
     let seconds: Vob<T> = every(alloc, 2, 200)?;
     let sixths: Vob<T> = every(alloc, 6, 200)?;
-    compares(rt, &seconds, &sixths, true, true);
-    compares(rt, &sixths, &seconds, true, false);
     let mut others: Vob<T> = every(alloc, 2, 200)?;
-    others.negate();
-    compares(rt, &others, &seconds, false, false);
-    last_is_shared(rt, &mut others, &seconds);
-    Ok(())
+    let found = (compared(&seconds, &sixths), compared(&sixths, &seconds));
+    Ok((found.0, found.1, compared_in_turn(&mut others, &seconds)))
 }
 
-fn last_is_shared<T: Block>(rt: &impl Abort, others: &mut Vob<T>, seconds: &Vob<T>) {
-    others.set_all(false);
-    compares(rt, seconds, others, false, true);
-    assert!(rt; others.len() == 200);
-    others.set(198, true);
-    compares(rt, seconds, others, true, true);
-    assert!(rt; others.len() == 200);
-    others.set(199, true);
-    compares(rt, seconds, others, true, false);
-}
+const IN_TURN: [Compared; 4] = [
+    Some((false, false, false)),
+    Some((false, false, true)),
+    Some((true, true, true)),
+    Some((true, true, false)),
+];
 
 #[test]
 fn blocks_of_each_type_are_compared(rt: HostRuntime) -> Result<(), VobError> {
-    are_compared_to_the_end::<u8>(&rt, rt.alloc())?;
-    are_compared_to_the_end::<u16>(&rt, rt.alloc())?;
-    are_compared_to_the_end::<u32>(&rt, rt.alloc())?;
-    are_compared_to_the_end::<u64>(&rt, rt.alloc())?;
-    are_compared_to_the_end::<u128>(&rt, rt.alloc())?;
-    are_compared_to_the_end::<usize>(&rt, rt.alloc())
+    let alloc = rt.alloc();
+    let wanted = (Some((true, true, true)), Some((true, true, false)), IN_TURN);
+    same(&rt, "u8", compared_to_the_end::<u8>(alloc)?, wanted);
+    same(&rt, "u16", compared_to_the_end::<u16>(alloc)?, wanted);
+    same(&rt, "u32", compared_to_the_end::<u32>(alloc)?, wanted);
+    same(&rt, "u64", compared_to_the_end::<u64>(alloc)?, wanted);
+    same(&rt, "u128", compared_to_the_end::<u128>(alloc)?, wanted);
+    same(&rt, "usize", compared_to_the_end::<usize>(alloc)?, wanted);
+    Ok(())
 }

@@ -2,7 +2,7 @@
 
 ghost use Rattle.std.specs.Prelude.{◌≡◌, length};
 
-use crate::common::{every, set_count, shows};
+use crate::common::{every, same, set_in, shows};
 use std::alloc::{AllocError, Global};
 use std::process::Abort;
 use std::test::Fail;
@@ -31,12 +31,12 @@ fn a_list_takes_and(rt: HostRuntime) -> Result<(), Fail> {
     let (mut list, right) = left_and_right(rt.alloc())?;
     assert!(rt; list.len() == right.len());
     list &= &right;
-    shows(&rt, &list, BOTH);
-    shows(&rt, &right, RIGHT);
+    shows(&rt, "assigned", &list, BOTH);
+    shows(&rt, "right", &right, RIGHT);
     let (left, right) = left_and_right(rt.alloc())?;
     assert!(rt; left.len() == right.len());
-    shows(&rt, &(left & &right), BOTH);
-    shows(&rt, &right, RIGHT);
+    shows(&rt, "made", &(left & &right), BOTH);
+    shows(&rt, "right again", &right, RIGHT);
     Ok(())
 }
 
@@ -45,12 +45,12 @@ fn a_list_takes_or(rt: HostRuntime) -> Result<(), Fail> {
     let (mut list, right) = left_and_right(rt.alloc())?;
     assert!(rt; list.len() == right.len());
     list |= &right;
-    shows(&rt, &list, EITHER);
-    shows(&rt, &right, RIGHT);
+    shows(&rt, "assigned", &list, EITHER);
+    shows(&rt, "right", &right, RIGHT);
     let (left, right) = left_and_right(rt.alloc())?;
     assert!(rt; left.len() == right.len());
-    shows(&rt, &(left | &right), EITHER);
-    shows(&rt, &right, RIGHT);
+    shows(&rt, "made", &(left | &right), EITHER);
+    shows(&rt, "right again", &right, RIGHT);
     Ok(())
 }
 
@@ -59,47 +59,52 @@ fn a_list_takes_xor(rt: HostRuntime) -> Result<(), Fail> {
     let (mut list, right) = left_and_right(rt.alloc())?;
     assert!(rt; list.len() == right.len());
     list ^= &right;
-    shows(&rt, &list, ONE_OF_THEM);
-    shows(&rt, &right, RIGHT);
+    shows(&rt, "assigned", &list, ONE_OF_THEM);
+    shows(&rt, "right", &right, RIGHT);
     let (left, right) = left_and_right(rt.alloc())?;
     assert!(rt; left.len() == right.len());
-    shows(&rt, &(left ^ &right), ONE_OF_THEM);
-    shows(&rt, &right, RIGHT);
+    shows(&rt, "made", &(left ^ &right), ONE_OF_THEM);
+    shows(&rt, "right again", &right, RIGHT);
     Ok(())
 }
 
 // What two and three divide six divides: 75 indices, 50 and 25.
-fn over_blocks<T: Block>(rt: &impl Abort, alloc: Global) -> Result<(), Fail> {
+fn over_blocks<T: Block>(
+    rt: &impl Abort,
+    alloc: Global,
+) -> Result<(usize, usize, usize), VobError> {
     let thirds: Vob<T> = every(alloc, 3, 150)?;
     let mut list: Vob<T> = every(alloc, 2, 150)?;
     assert!(rt; list.len() == thirds.len());
     list |= &thirds;
-    assert_eq!(rt; list.iter_set_bits(..).count(), 100);
+    let either = set_in(&list);
     assert!(rt; list.len() == thirds.len());
     let list = list ^ &thirds;
-    assert_eq!(rt; list.iter_set_bits(..).count(), 50);
+    let one = set_in(&list);
     assert!(rt; list.len() == thirds.len());
-    assert_eq!(rt; (list & &thirds).iter_set_bits(..).count(), 0);
-    Ok(())
+    Ok((either, one, set_in(&(list & &thirds))))
 }
 
-fn six_divides<T: Block>(rt: &impl Abort, alloc: Global) -> Result<(), Fail> {
+fn six_divides<T: Block>(rt: &impl Abort, alloc: Global) -> Result<bool, VobError> {
     let thirds: Vob<T> = every(alloc, 3, 150)?;
+    let sixths: Vob<T> = every(alloc, 6, 150)?;
     let mut list: Vob<T> = every(alloc, 2, 150)?;
     assert!(rt; list.len() == thirds.len());
     list &= &thirds;
-    assert!(rt; list == every(alloc, 6, 150)?);
-    Ok(())
+    Ok(list == sixths)
 }
 
 #[test]
 fn operators_go_over_blocks(rt: HostRuntime) -> Result<(), Fail> {
-    over_blocks::<u8>(&rt, rt.alloc())?;
-    over_blocks::<u64>(&rt, rt.alloc())?;
-    over_blocks::<u128>(&rt, rt.alloc())?;
-    six_divides::<u16>(&rt, rt.alloc())?;
-    six_divides::<u32>(&rt, rt.alloc())?;
-    six_divides::<usize>(&rt, rt.alloc())
+    let alloc = rt.alloc();
+    let counts = (100, 50, 0);
+    same(&rt, "u8", over_blocks::<u8>(&rt, alloc)?, counts);
+    same(&rt, "u64", over_blocks::<u64>(&rt, alloc)?, counts);
+    same(&rt, "u128", over_blocks::<u128>(&rt, alloc)?, counts);
+    same(&rt, "u16", six_divides::<u16>(&rt, alloc)?, true);
+    same(&rt, "u32", six_divides::<u32>(&rt, alloc)?, true);
+    same(&rt, "usize", six_divides::<usize>(&rt, alloc)?, true);
+    Ok(())
 }
 
 #[test]
@@ -114,21 +119,19 @@ fn long_lists_are_combined(rt: HostRuntime) -> Result<(), Fail> {
 fn combinations_are_counted(rt: &impl Abort, a: &Vob, b: &Vob) -> Result<(), AllocError>
     requires { length a.now.bits ≡ length b.now.bits }
 {
-    set_count(rt, &(a & b)?, 500);
-    set_count(rt, &(a | b)?, 2_000);
-    set_count(rt, &(a ^ b)?, 1_500);
+    same(rt, "both", set_in(&(a & b)?), 500);
+    same(rt, "either", set_in(&(a | b)?), 2_000);
+    same(rt, "one", set_in(&(a ^ b)?), 1_500);
     Ok(())
 }
+
+const BITS: &[bool] = &[true, false, true, false, false, false, false, false];
 
 #[test]
 fn bytes_come_from_the_top(rt: HostRuntime) -> Result<(), Fail> {
     let list = Vob::from_bytes(rt.alloc(), &[0xa0])?;
-    shows(
-        &rt,
-        &list,
-        [true, false, true, false, false, false, false, false].as_slice(),
-    );
+    shows(&rt, "bits", &list, BITS);
     let text = format!(in rt.alloc(); "{list:?}")?;
-    assert_eq!(rt; text.as_str(), "Vob[10100000]");
+    same(&rt, "text", text.as_str(), "Vob[10100000]");
     Ok(())
 }

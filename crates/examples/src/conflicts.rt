@@ -1,0 +1,67 @@
+//! Shows the states of a grammar, its conflicts, and whether it is LR(1) as its precedences leave it: of statements in which an
+//! `else` may go with either of two `if`s.
+//!
+//! The clause `exact` of `judged` is proved by the clause of that name of `from_yacc`. A table that lists a conflict which no
+//! string shows, or none where some string leaves a token two actions, would break it.
+ghost use Rattle.std.specs.Prelude.{◌↔◌, IfOk, IfSome, IsTrue};
+ghost use Rattle.table_theory.specs.CellLaws.{SomeContested};
+ghost use Rattle.table_theory.specs.Cells.{NoPrecedences};
+ghost use Rattle.lrtable.specs.CellViews.{precedences_of};
+ghost use Rattle.lrtable.specs.ConflictTexts.{ConflictsInRange};
+ghost use Rattle.lrtable.specs.Graphs.{IsGraphOf};
+ghost use Rattle.lrtable.specs.Tables.{IsTableOf};
+
+use cfg_numbered::yacc::NumberedGrammar;
+use cfgrammar::yacc::{YaccGrammar, YaccGrammarMakeError, YaccKind, YaccOriginalActionKind};
+use lrtable::{FromYaccError, Minimiser, StateGraph, StateTable, from_yacc};
+use std::alloc::{AllocError, Global};
+
+const TREE: YaccKind = YaccKind::Original(YaccOriginalActionKind::GenericParseTree);
+
+const STATEMENTS: &str = "%start S %% S: 'if' S 'else' S | 'if' S | 'x';";
+
+/// The graph and the table of a grammar, and whether the table lists no conflict: without precedences that is so exactly
+/// where no string leaves a token two actions of canonical LR(1).
+fn judged(
+    alloc: Global,
+    grm: &NumberedGrammar<u32>,
+) -> Result<(StateGraph<u32>, StateTable<u32>, bool), FromYaccError<u32>>
+    ensures graph { IfOk result (λ r. IsGraphOf grm.now.grammar r.0) }
+    ensures listed { IfOk result (λ r. IsTableOf grm.now r.0 r.1) }
+    ensures range { IfOk result (λ r. IfSome r.1.conflicts (ConflictsInRange grm.now)) }
+    ensures exact { IfOk result (λ r. NoPrecedences (precedences_of grm.now) → IsTrue r.2 ↔ (SomeContested grm.now.grammar → ⊥)) }
+{
+    let (graph, table) = from_yacc(alloc, grm, Minimiser::Pager)?;
+    let clear = table.conflicts().is_none();
+    Ok((graph, table, clear))
+}
+
+/// The states of a grammar's table, what conflicts in it, and whether it is LR(1), or why it has none.
+fn told_of(alloc: Global, grm: &NumberedGrammar<u32>) -> Result<String, AllocError> {
+    match judged(alloc, grm) {
+        Ok((graph, table, clear)) => {
+            let mut out = graph.pp_core_states(alloc, grm)?;
+            match table.conflicts() {
+                Some(conflicts) => out.push_str(conflicts.pp(alloc, grm)?.as_str())?,
+                None => out.push_str("No conflicts\n")?,
+            }
+            out.push_str(if clear { "LR(1)\n" } else { "Not LR(1)\n" })?;
+            Ok(out)
+        }
+        Err(FromYaccError::Memory(e)) => Err(e),
+        Err(refusal) => format!(in alloc; "{refusal}\n"),
+    }
+}
+
+fn told(alloc: Global, text: &str) -> Result<String, AllocError> {
+    match YaccGrammar::new(alloc, TREE, text) {
+        Ok(grm) => told_of(alloc, &grm),
+        Err(YaccGrammarMakeError::Memory(e)) => Err(e),
+        Err(refusal) => format!(in alloc; "{refusal}\n"),
+    }
+}
+
+/// Returns what is shown.
+pub fn output(alloc: Global) -> Result<String, AllocError> {
+    told(alloc, STATEMENTS)
+}

@@ -1,0 +1,98 @@
+//! What is printed of a text.
+
+ghost use Rattle.std.specs.Prelude.{◌<◌};
+ghost use Rattle.cfg_numbered.specs.Firsts.{AreFirsts};
+ghost use Rattle.cfg_numbered.specs.Follows.{AreFollows};
+
+use crate::first_sets::{begins, follows, is_nullable};
+use crate::text_errors::lines_of;
+use cfgrammar::index::IndexStorage;
+use cfgrammar::yacc::{
+    NumberedGrammar, YaccFirsts, YaccFollows, YaccGrammar, YaccGrammarMakeError, YaccKind,
+    YaccOriginalActionKind,
+};
+use cfgrammar::{RIdx, TIdx};
+use std::alloc::{AllocError, Global};
+
+const TREE: YaccKind = YaccKind::Original(YaccOriginalActionKind::GenericParseTree);
+
+/// Adds a token's name, or that of the end.
+fn push_name<S: IndexStorage>(
+    grm: &NumberedGrammar<S>,
+    tidx: TIdx<S>,
+    line: &mut String,
+) -> Result<(), AllocError>
+    requires { S.number tidx.0 < grm.now.grammar.tokens }
+{
+    line.push_str(" ")?;
+    line.push_str(grm.token_epp(tidx).unwrap_or("$"))
+}
+
+fn push_firsts<S: IndexStorage>(
+    grm: &NumberedGrammar<S>,
+    firsts: &YaccFirsts<S>,
+    ridx: RIdx<S>,
+    line: &mut String,
+) -> Result<(), AllocError>
+    requires rule { S.number ridx.0 < grm.now.grammar.rules }
+    requires firsts { AreFirsts grm.now.grammar firsts.now }
+{
+    for number in 0..usize::from(grm.tokens_len()) {
+        let tidx = grm.token_at(number);
+        if begins(grm, firsts, ridx, tidx) {
+            push_name(grm, tidx, line)?;
+        }
+    }
+    Ok(())
+}
+
+fn push_follows<S: IndexStorage>(
+    grm: &NumberedGrammar<S>,
+    sets: &YaccFollows<S>,
+    ridx: RIdx<S>,
+    line: &mut String,
+) -> Result<(), AllocError>
+    requires rule { S.number ridx.0 < grm.now.grammar.rules }
+    requires sets { AreFollows grm.now.grammar sets.now }
+{
+    for number in 0..usize::from(grm.tokens_len()) {
+        let tidx = grm.token_at(number);
+        if follows(grm, sets, ridx, tidx) {
+            push_name(grm, tidx, line)?;
+        }
+    }
+    Ok(())
+}
+
+/// The sets of each rule, the added start rule `^` among them.
+fn sets_told<S: IndexStorage>(
+    alloc: Global,
+    grm: &NumberedGrammar<S>,
+) -> Result<String, AllocError> {
+    let firsts = grm.firsts(alloc)?;
+    let sets = grm.follows(alloc)?;
+    let mut out = String::new(alloc);
+    for number in 0..usize::from(grm.rules_len()) {
+        let ridx = grm.rule_at(number);
+        out.push_str(grm.rule_name_str(ridx))?;
+        if is_nullable(grm, &firsts, ridx) {
+            out.push_str(" is nullable,")?;
+        }
+        out.push_str(" begins with")?;
+        push_firsts(grm, &firsts, ridx, &mut out)?;
+        out.push_str(", comes before")?;
+        push_follows(grm, &sets, ridx, &mut out)?;
+        out.push_str("\n")?;
+    }
+    Ok(out)
+}
+
+/// The sets of a text's grammar, or why it has none.
+pub fn told(alloc: Global, text: &str) -> Result<String, AllocError> {
+    match YaccGrammar::<u32>::new(alloc, TREE, text) {
+        Ok(grm) => sets_told(alloc, &grm),
+        Err(YaccGrammarMakeError::Memory(e)) => Err(e),
+        Err(YaccGrammarMakeError::Invalid(errors)) => lines_of(alloc, text, &errors),
+        Err(refusal) => format!(in alloc; "{refusal}\n"),
+    }
+}

@@ -1,0 +1,71 @@
+//! What is printed of a text.
+
+ghost use Rattle.std.specs.Prelude.{◌<◌, ◌≡◌};
+
+use crate::shortest::cheapest;
+use crate::text_errors::lines_of;
+use cfgrammar::TIdx;
+use cfgrammar::index::IndexStorage;
+use cfgrammar::yacc::{
+    NumberedGrammar, SentenceGenerator, YaccGrammar, YaccGrammarMakeError, YaccKind,
+    YaccOriginalActionKind,
+};
+use std::alloc::{AllocError, Global};
+
+const TREE: YaccKind = YaccKind::Original(YaccOriginalActionKind::GenericParseTree);
+
+fn push_list<S: IndexStorage>(
+    grm: &NumberedGrammar<S>,
+    list: &[TIdx<S>],
+    line: &mut String,
+) -> Result<(), AllocError> {
+    for tidx in list {
+        if grm.has_token(*tidx) {
+            line.push_str(" ")?;
+            line.push_str(grm.token_epp(*tidx).unwrap_or("$"))?;
+        }
+    }
+    Ok(())
+}
+
+/// A line for each rule, the added start rule `^` among them.
+fn lines<S: IndexStorage>(
+    alloc: Global,
+    grm: &NumberedGrammar<S>,
+    sentences: &SentenceGenerator<'_, S>,
+) -> Result<String, AllocError>
+    requires { sentences.now.grammar ≡ grm.now.grammar }
+{
+    let mut out = String::new(alloc);
+    for number in 0..usize::from(grm.rules_len()) {
+        let ridx = grm.rule_at(number);
+        out.push_str(grm.rule_name_str(ridx))?;
+        match cheapest(alloc, sentences, ridx)? {
+            Some(list) => push_list(grm, &list, &mut out)?,
+            None => out.push_str(" derives nothing")?,
+        }
+        out.push_str("\n")?;
+    }
+    Ok(out)
+}
+
+/// A shortest list of each rule: each token costs 1.
+fn lists_told<S: IndexStorage>(
+    alloc: Global,
+    grm: &NumberedGrammar<S>,
+) -> Result<String, AllocError> {
+    let sentences = grm.sentence_generator(alloc, |_token| 1)?;
+    let told = lines(alloc, grm, &sentences);
+    drop(sentences);
+    told
+}
+
+/// The lists of a text's grammar, or why it has none.
+pub fn told(alloc: Global, text: &str) -> Result<String, AllocError> {
+    match YaccGrammar::<u32>::new(alloc, TREE, text) {
+        Ok(grm) => lists_told(alloc, &grm),
+        Err(YaccGrammarMakeError::Memory(e)) => Err(e),
+        Err(YaccGrammarMakeError::Invalid(errors)) => lines_of(alloc, text, &errors),
+        Err(refusal) => format!(in alloc; "{refusal}\n"),
+    }
+}

@@ -15,7 +15,7 @@ use std::alloc::Global;
 /// A text gives a kit of the grammar that it reads as, with the grammar's own graph and table; or it is refused, and what the
 /// refusal says is so of the text: all that is wrong with it, the first count that doesn't fit, the number of states, the least
 /// production against which accepting stands, the least chain of reductions that passes the cap. Want of memory apart.
-/// Shown by `example_kit`; `read_rows`, `table_rows`; refused: `mutants/parser_kit`.
+/// Shown by `examples` (`kit`); `read_rows`, `table_rows`; refused: `mutants/parser_kit`.
 pub fn a_text_gives_a_kit_or_a_reason<S: IndexStorage>(
     alloc: Global,
     text: &str,
@@ -29,7 +29,7 @@ pub fn a_text_gives_a_kit_or_a_reason<S: IndexStorage>(
 }
 
 /// A refusal for states, for accepting or for cells is one of canonical LR(1), with no word of how states are built.
-/// Shown by `example_kit`, its last text.
+/// Shown by `examples` (`kit`), its last text.
 pub fn refusals_have_canonical_causes<S: IndexStorage>(
     alloc: Global,
     text: &str,

@@ -14,7 +14,7 @@ use parser_kit::ParserKit;
 
 /// Where the text declares no precedence, conflicts are listed exactly where some string of symbols leaves some token two
 /// actions of canonical LR(1).
-/// Shown by `a_token_is_contested`, `sets_of_one_core_stay_apart` of `lr_theory`; `example_kit`; refused: `merge_all`, `closure_by_follow`.
+/// Shown by `a_token_is_contested`, `sets_of_one_core_stay_apart` of `lr_theory`; `examples` (`kit`); refused: `merge_all`, `closure_by_follow`.
 pub fn lists_are_exact()
     ensures { (top cap : ℕ) (kind : YaccKind) (text : List ℕ) (k : KitValue) → IsKitOf top kind text cap k → k.kept.ast.precedences ≡ [] →
         IsSome k.parser.table.conflicts ↔ SomeContested k.parser.grammar.grammar }
@@ -34,7 +34,7 @@ pub fn listed_conflicts_are_contested()
 }
 
 /// Where the text declares no precedence, the table does all that the items say exactly where no conflict is listed.
-/// Shown by `example_kit`; refused: `mutants/lrpar/complete_by_conflicts`.
+/// Shown by `examples` (`kit`); refused: `mutants/lrpar/complete_by_conflicts`.
 pub fn complete_where_none_is_listed<S: IndexStorage>(kit: &ParserKit<S>) -> bool
     ensures value { IsTrue result ↔ Complete kit.now.parser.grammar.grammar (automaton_of kit.now.parser.graph kit.now.parser.table) }
     ensures unlisted { kit.now.kept.ast.precedences ≡ [] → IsTrue result ↔ IsNone kit.now.parser.table.conflicts }

@@ -83,7 +83,7 @@ pub fn sentences_get_their_only_tree<
 }
 
 /// There each least sentence of the start rule, by any costs of tokens, comes through without errors.
-/// Shown by `example_shortest`; refused: `least_by_any_production`.
+/// Shown by `examples` (`shortest`); refused: `least_by_any_production`.
 pub fn least_sentences_come_through<
     S: IndexStorage,
     T: LexerTypes<StorageT = S>,

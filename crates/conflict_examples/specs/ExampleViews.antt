@@ -4,7 +4,7 @@ use Rattle.cfg_base.specs.declared.symbol.PIdx.{PIdx}
 use Rattle.cfg_base.specs.declared.symbol.SIdx.{SIdx}
 use Rattle.cfg_numbered.specs.Symbols.{syms_of, numbers_of}
 use Rattle.cfg_numbered.specs.Value.{GrammarValue}
-use Rattle.lrtable.specs.Graphs.{GraphValue}
+use Rattle.state_table.specs.Graphs.{GraphValue}
 use Rattle.conflict_examples.specs.Spines.{Item, Shown, Example}
 use Rattle.conflict_examples.specs.declared.examples.ActionExample.{ActionExample}
 use Rattle.conflict_examples.specs.declared.examples.ConflictExample.{ConflictExample}

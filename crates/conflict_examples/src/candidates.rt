@@ -8,7 +8,7 @@ use crate::spine_search::spine_along;
 use crate::witness::Candidate;
 use cfg_base::index::IndexStorage;
 use cfg_base::symbol::{PIdx, SIdx, Symbol};
-use lrtable::stidx::StIdx;
+use state_table::stidx::StIdx;
 use std::alloc::{AllocError, Global};
 
 /// Returns the production with its dot at the end.

@@ -4,7 +4,7 @@ ghost use Rattle.std.specs.Prelude.{◌≡◌, ◌≢◌, IfOk, IfSome};
 ghost use Rattle.cfg_theory.specs.Grammar.{Grammar, end_token};
 ghost use Rattle.lr_theory.specs.Canonical.{Act, shift, reduce, accept};
 ghost use Rattle.lr_theory.specs.Graph.{Leads};
-ghost use Rattle.lrtable.specs.Graphs.{graph_of};
+ghost use Rattle.state_table.specs.Graphs.{graph_of};
 ghost use Rattle.conflict_examples.specs.ExampleViews.{example_of};
 ghost use Rattle.conflict_examples.specs.Opening.{WitnessShows};
 ghost use Rattle.conflict_examples.specs.Spines.{IsExample};
@@ -16,7 +16,7 @@ use crate::witness::{Candidate, Witness, accept_witness, paired, reduce_witness,
 use cfg_base::index::IndexStorage;
 use cfg_base::symbol::PIdx;
 use cfg_numbered::yacc::NumberedGrammar;
-use lrtable::stidx::StIdx;
+use state_table::stidx::StIdx;
 use std::alloc::{AllocError, Global};
 
 /// Makes the example of two actions in a state. None where they come after different symbols, or these don't lead there.

@@ -3,7 +3,7 @@
 ghost use Rattle.std.specs.Prelude.{◌≡◌, IfOk, IfSome};
 ghost use Rattle.lr_theory.specs.Canonical.{shift, reduce};
 ghost use Rattle.lr_theory.specs.Graph.{Leads};
-ghost use Rattle.lrtable.specs.Graphs.{graph_of};
+ghost use Rattle.state_table.specs.Graphs.{graph_of};
 ghost use Rattle.conflict_examples.specs.ExampleViews.{FinderValue, example_of};
 ghost use Rattle.conflict_examples.specs.Spines.{IsExample};
 
@@ -15,8 +15,8 @@ use crate::tables::Tables;
 use cfg_base::index::IndexStorage;
 use cfg_base::symbol::{PIdx, TIdx};
 use cfg_numbered::yacc::NumberedGrammar;
-use lrtable::stategraph::StateGraph;
-use lrtable::stidx::StIdx;
+use state_table::stategraph::StateGraph;
+use state_table::stidx::StIdx;
 use std::alloc::{AllocError, Global};
 use std::marker::Model;
 

@@ -3,12 +3,12 @@
 ghost use Rattle.std.specs.Prelude.{reverse, IsTrue, IfSome};
 ghost use Rattle.lr_theory.specs.Graph.{Leads};
 ghost use Rattle.cfg_numbered.specs.Symbols.{syms_of};
-ghost use Rattle.lrtable.specs.Graphs.{graph_of};
+ghost use Rattle.state_table.specs.Graphs.{graph_of};
 
 use cfg_base::index::IndexStorage;
 use cfg_base::symbol::Symbol;
-use lrtable::stategraph::StateGraph;
-use lrtable::stidx::StIdx;
+use state_table::stategraph::StateGraph;
+use state_table::stidx::StIdx;
 
 /// Returns the state that the symbols lead to from the start state, if there is one.
 fn state_after<S: IndexStorage>(graph: &StateGraph<S>, symbols: &[Symbol<S>]) -> Option<StIdx<S>>

@@ -3,7 +3,7 @@
 ghost use Rattle.std.specs.Prelude.{◌≡◌, IfOk, IfSome};
 ghost use Rattle.lr_theory.specs.Canonical.{Contest, Look, Present, shift, reduce};
 ghost use Rattle.lr_theory.specs.Graph.{Leads};
-ghost use Rattle.lrtable.specs.Graphs.{GraphValue, graph_of};
+ghost use Rattle.state_table.specs.Graphs.{GraphValue, graph_of};
 ghost use Rattle.conflict_examples.specs.ExampleViews.{example_of};
 ghost use Rattle.conflict_examples.specs.Spines.{IsExample};
 
@@ -13,8 +13,8 @@ use crate::laws::examples_are_contests;
 use cfg_base::index::IndexStorage;
 use cfg_base::symbol::{PIdx, TIdx};
 use cfg_numbered::yacc::NumberedGrammar;
-use lrtable::stategraph::StateGraph;
-use lrtable::stidx::StIdx;
+use state_table::stategraph::StateGraph;
+use state_table::stidx::StIdx;
 use std::alloc::{AllocError, Global};
 
 /// Asks a graph for an example of a listed conflict. Each call makes an `ExampleFinder`, which goes through the grammar and

@@ -3,7 +3,7 @@
 //! ```rust
 //! use cfg_numbered::yacc::NumberedGrammar;
 //! use conflict_examples::ExampleFinder;
-//! use lrtable::{Conflicts, StateGraph};
+//! use state_table::{Conflicts, StateGraph};
 //! use std::alloc::{AllocError, Global};
 //!
 //! /// Of each listed shift against a reduction, how many symbols stand before the token in an example.

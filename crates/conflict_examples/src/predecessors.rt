@@ -3,8 +3,8 @@
 use crate::beginnings::{empty_lists, list_at, push_at};
 use cfg_base::index::IndexStorage;
 use cfg_base::symbol::Symbol;
-use lrtable::stategraph::StateGraph;
-use lrtable::stidx::StIdx;
+use state_table::stategraph::StateGraph;
+use state_table::stidx::StIdx;
 use std::alloc::{AllocError, Global};
 
 /// For each state those from which an edge leads to it, and the last but one of a shortest path from the start state.

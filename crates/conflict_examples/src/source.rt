@@ -7,9 +7,9 @@ use crate::tables::{Start, Tables};
 use cfg_base::index::IndexStorage;
 use cfg_base::symbol::{PIdx, SIdx, Symbol, TIdx};
 use cfg_numbered::yacc::NumberedGrammar;
-use lrtable::Itemset;
-use lrtable::stategraph::StateGraph;
-use lrtable::stidx::StIdx;
+use state_table::Itemset;
+use state_table::stategraph::StateGraph;
+use state_table::stidx::StIdx;
 use std::alloc::AllocError;
 
 /// The grammar, its graph, the tables of both, and the token.

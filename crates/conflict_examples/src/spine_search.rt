@@ -4,7 +4,7 @@ use crate::productions::has_production;
 use crate::source::{Source, Wanted};
 use cfg_base::index::IndexStorage;
 use cfg_base::symbol::{PIdx, SIdx, Symbol};
-use lrtable::stidx::StIdx;
+use state_table::stidx::StIdx;
 use std::alloc::{AllocError, Global};
 use std::collections::BTreeSet;
 

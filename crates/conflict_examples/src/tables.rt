@@ -6,7 +6,7 @@ use crate::predecessors::Predecessors;
 use cfg_base::index::IndexStorage;
 use cfg_base::symbol::{RIdx, Symbol, TIdx};
 use cfg_numbered::yacc::NumberedGrammar;
-use lrtable::stategraph::StateGraph;
+use state_table::stategraph::StateGraph;
 use std::alloc::{AllocError, Global};
 use vob::Vob;
 

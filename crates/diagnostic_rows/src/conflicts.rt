@@ -1,6 +1,6 @@
 //! Conflicts of a grammar under its text.
 
-ghost use Rattle.lrtable.specs.ConflictTexts.{ConflictsInRange};
+ghost use Rattle.state_table.specs.ConflictTexts.{ConflictsInRange};
 ghost use Rattle.std.specs.Prelude.{IfSome};
 
 use crate::lines::push_lines;

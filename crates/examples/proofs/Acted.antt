@@ -5,9 +5,9 @@ use Rattle.cfg_theory.specs.Tree.{Tree, leaf, node, Forest, none, before, IsDeri
 use Rattle.cfg_theory.specs.Fold.{Span, no_span, span_of, Folds, FoldsAll, fold, fold_all}
 use Rattle.lr_theory.specs.Automaton.{Closed, Complete}
 use Rattle.lr_theory.specs.Repair.{Edit}
-use Rattle.lrtable.specs.Graphs.{GraphValue}
-use Rattle.lrtable.specs.TableValues.{TableValue}
-use Rattle.lrtable.specs.Tables.{automaton_of}
+use Rattle.state_table.specs.Graphs.{GraphValue}
+use Rattle.state_table.specs.TableValues.{TableValue}
+use Rattle.state_table.specs.Tables.{automaton_of}
 use Rattle.lrpar.specs.Acting.{acted_by, HasAction}
 use Rattle.lrpar.specs.Lex.{Lex}
 use Rattle.lrpar.specs.Lexemes.{IsFirstLexError}

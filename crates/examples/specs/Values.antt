@@ -4,7 +4,7 @@ use Rattle.cfg_theory.specs.Grammar.{Grammar, start_symbol}
 use Rattle.cfg_theory.specs.Tree.{Tree, IsDerivation}
 use Rattle.cfg_theory.specs.Fold.{no_span, fold}
 use Rattle.lr_theory.specs.Automaton.{Closed, Complete}
-use Rattle.lrtable.specs.Tables.{automaton_of}
+use Rattle.state_table.specs.Tables.{automaton_of}
 use Rattle.lrpar.specs.Checked.{ParserValue}
 use Rattle.lrpar.specs.Stacks.{span_of_places}
 use Rattle.lrpar.specs.declared.parse_actions.AStackType.{AStackType}

@@ -6,10 +6,10 @@
 ghost use Rattle.std.specs.Prelude.{◌↔◌, IfOk, IfSome, IsTrue};
 ghost use Rattle.table_theory.specs.CellLaws.{SomeContested};
 ghost use Rattle.table_theory.specs.Cells.{NoPrecedences};
-ghost use Rattle.lrtable.specs.CellViews.{precedences_of};
-ghost use Rattle.lrtable.specs.ConflictTexts.{ConflictsInRange};
-ghost use Rattle.lrtable.specs.Graphs.{IsGraphOf};
-ghost use Rattle.lrtable.specs.Tables.{IsTableOf};
+ghost use Rattle.state_table.specs.CellViews.{precedences_of};
+ghost use Rattle.state_table.specs.ConflictTexts.{ConflictsInRange};
+ghost use Rattle.state_table.specs.Graphs.{IsGraphOf};
+ghost use Rattle.state_table.specs.Tables.{IsTableOf};
 
 use cfg_numbered::yacc::NumberedGrammar;
 use cfgrammar::yacc::{YaccGrammar, YaccGrammarMakeError, YaccKind, YaccOriginalActionKind};

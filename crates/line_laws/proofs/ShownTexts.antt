@@ -11,7 +11,7 @@ use Rattle.lr_theory.specs.Automaton.{Action, shift, reduce, accept, error, Auto
 use Rattle.lr_theory.specs.HandedRepairs.{ParsesWith}
 use Rattle.lr_theory.specs.Machine.{Config, Outcome, going, accepted, failed, stuck, next_or, pop, after_shift, after_goto, after_pop, after_accept, act, step_on, step, then_run, run}
 use Rattle.lr_theory.specs.Repair.{Edit, insert, delete, keep, with_first, apply}
-use Rattle.lrtable.specs.Tables.{automaton_of}
+use Rattle.state_table.specs.Tables.{automaton_of}
 use Rattle.lrpar.specs.ErrorTexts.{EditFits, FitsInput}
 use Rattle.lrpar.specs.FlatLines.{CanShowTree, CanShowForest}
 use Rattle.lrpar.specs.FlatParses.{HasFlat}

@@ -1,5 +1,5 @@
 -- That the errors and the tree of a parse can be shown over the text of its lexemes.
-use Rattle.std.specs.Prelude.{◌≡◌, ℕ, ◌≤◌, true, List, [], ◌∷◌, length, drop, Option, Some}
+use Rattle.std.specs.Prelude.{◌≡◌, ℕ, ◌≤◌, true, List, [], ◌∷◌, length, drop, Option, Some, Result}
 use Rattle.std.specs.List.{AllByRecursion}
 use Rattle.std.specs.Str.{IsUtf8}
 use Rattle.cfg_numbered.specs.Value.{GrammarValue}
@@ -7,8 +7,8 @@ use Rattle.cfg_theory.specs.Grammar.{WellFormed, end_token}
 use Rattle.cfg_theory.specs.Tree.{Tree}
 use Rattle.lr_theory.specs.Automaton.{Automaton}
 use Rattle.lr_theory.specs.Repair.{Edit, insert, delete, keep}
-use Rattle.lrtable.specs.Graphs.{GraphValue}
-use Rattle.lrtable.specs.TableValues.{TableValue}
+use Rattle.state_table.specs.Graphs.{GraphValue}
+use Rattle.state_table.specs.TableValues.{TableValue}
 use Rattle.lrpar.specs.ErrorTexts.{EditFits, FitsInput}
 use Rattle.lrpar.specs.FlatLines.{CanShowTree}
 use Rattle.lrpar.specs.FlatParses.{IsFlatParse}
@@ -19,7 +19,6 @@ use Rattle.lrpar.specs.Made.{end_of, made_by}
 use Rattle.lrpar.specs.Parses.{ErrorValue, IsParse}
 use Rattle.lrpar.specs.Run.{span_by, token_by}
 use Rattle.lrpar.specs.Shown.{shown, shown_lists}
-use Rattle.std.specs.Prelude.{Result}
 use Rattle.lrpar.specs.declared.parse_error.ParseError.{ParseError}
 
 -- its places are a part of the text, from the start of a character to that of another

@@ -23,9 +23,9 @@ use Rattle.lr_theory.specs.LongChains.{Chain, IsLeastChain}
 use Rattle.lr_theory.specs.Sizes.{StaysWithin}
 use Rattle.lr_theory.proofs.LongChains.{long_chains_are_exact}
 use Rattle.lrpar.specs.Reducing.{rule_number}
-use Rattle.lrtable.specs.Graphs.{GraphValue, IsGraphOf}
-use Rattle.lrtable.specs.TableValues.{TableValue}
-use Rattle.lrtable.specs.Tables.{IsRefusal, IsTableOf, Refusal, automaton_of}
+use Rattle.state_table.specs.Graphs.{GraphValue, IsGraphOf}
+use Rattle.state_table.specs.TableValues.{TableValue}
+use Rattle.state_table.specs.Tables.{IsRefusal, IsTableOf, Refusal, automaton_of}
 use Rattle.parser_kit.specs.Kit.{KitValue, grammar_of}
 use Rattle.parser_kit.specs.KitErrors.{HasFitting, IsKeptRefusal, IsKitRefusal, IsMemory, IsTextRefusal, IsToldRefusal, IsUntold, told_as}
 use Rattle.parser_kit.specs.Tabled.{HasLeastChain, IsTabled, IsTabledRefusal}

@@ -12,9 +12,9 @@ use Rattle.lr_theory.specs.Stack.{IsPath, stack_yield}
 use Rattle.lr_theory.specs.Repair.{Edit, insert, delete, keep, apply, with_rest, Takes}
 use Rattle.lr_theory.proofs.Repair.{stands_on, later}
 use Rattle.lr_theory.proofs.RunTermination.{run_append}
-use Rattle.lrtable.specs.Graphs.{GraphValue}
-use Rattle.lrtable.specs.TableValues.{TableValue}
-use Rattle.lrtable.specs.Tables.{automaton_of}
+use Rattle.state_table.specs.Graphs.{GraphValue}
+use Rattle.state_table.specs.TableValues.{TableValue}
+use Rattle.state_table.specs.Tables.{automaton_of}
 use Rattle.lrpar.specs.Lex.{Lex}
 use Rattle.lrpar.specs.Reducing.{IsTableFor}
 use Rattle.lrpar.specs.Run.{token_by, StandFor, GoesOn}

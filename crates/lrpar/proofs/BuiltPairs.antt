@@ -7,10 +7,10 @@ use Rattle.lr_theory.specs.Automaton.{Complete}
 use Rattle.lr_theory.proofs.TableLaws.{automaton_is_safe}
 use Rattle.table_theory.specs.Cells.{Conflicts, NoPrecedences}
 use Rattle.table_theory.proofs.TableCells.{built_law, list_law}
-use Rattle.lrtable.specs.CellViews.{precedences_of}
-use Rattle.lrtable.specs.Graphs.{GraphValue}
-use Rattle.lrtable.specs.TableValues.{TableValue}
-use Rattle.lrtable.specs.Tables.{CountsAgree, IsTableOf, automaton_of}
+use Rattle.state_table.specs.CellViews.{precedences_of}
+use Rattle.state_table.specs.Graphs.{GraphValue}
+use Rattle.state_table.specs.TableValues.{TableValue}
+use Rattle.state_table.specs.Tables.{CountsAgree, IsTableOf, automaton_of}
 use Rattle.lrpar.specs.Pair.{IsSafePair}
 use Rattle.lrpar.specs.Safety.{PairCell, counts, items, on_token, on_rule, AllFit, CellFits, IsLeastMisfit}
 use Rattle.lrpar.specs.Fitting.{Tells}

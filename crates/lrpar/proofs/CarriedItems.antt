@@ -6,7 +6,7 @@ use Rattle.std.proofs.lemmas.Option.{slice_get_within, same_Some, some_pair_part
 use Rattle.cfg_base.specs.declared.symbol.PIdx.{PIdx}
 use Rattle.cfg_theory.specs.Grammar.{Sym, Grammar, IsNext}
 use Rattle.lr_theory.specs.Itemset.{Entry, ItemSet, HasItem}
-use Rattle.lrtable.specs.Graphs.{GraphValue, graph_of, target_in, AreInOrder}
+use Rattle.state_table.specs.Graphs.{GraphValue, graph_of, target_in, AreInOrder}
 use Rattle.lrpar.specs.Fitting.{Carries, ArePast, Uncarried, AreFlags, closed_at}
 use Rattle.lrpar.specs.declared.parserdata.fitting.PastItem.{PastItem}
 use Rattle.lrpar.proofs.ItemLists.{ItemsBelow, each_item}

@@ -6,9 +6,9 @@ use Rattle.cfg_base.specs.declared.symbol.PIdx.{PIdx}
 use Rattle.cfg_theory.specs.Grammar.{Grammar, body_of}
 use Rattle.lr_theory.specs.Automaton.{Action, shift, reduce, accept, error}
 use Rattle.lr_theory.specs.Chains.{goto_from, reduce_by, reduction, Reductions}
-use Rattle.lrtable.specs.Graphs.{GraphValue}
-use Rattle.lrtable.specs.TableValues.{TableValue, action_at}
-use Rattle.lrtable.specs.Tables.{automaton_of}
+use Rattle.state_table.specs.Graphs.{GraphValue}
+use Rattle.state_table.specs.TableValues.{TableValue, action_at}
+use Rattle.state_table.specs.Tables.{automaton_of}
 use Rattle.lrpar.specs.Reducing.{IsLong, BeginsNone, chain_top, chain_depth, chain_stack, ShortAt, ShortIn}
 use Rattle.lrpar.specs.Branching.{AreReducers}
 use Rattle.lrpar.specs.declared.shorts.Short.{Short}

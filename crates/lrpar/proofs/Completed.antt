@@ -5,9 +5,9 @@ use Rattle.std.proofs.lemmas.Option.{same_Some}
 use Rattle.cfg_theory.specs.Grammar.{token, Grammar, body_of, symbol_at, IsNext}
 use Rattle.lr_theory.specs.Automaton.{Action, shift, reduce, Complete}
 use Rattle.lr_theory.specs.Itemset.{ItemSet, entry_at, HasItem, HasLook}
-use Rattle.lrtable.specs.Graphs.{GraphValue}
-use Rattle.lrtable.specs.TableValues.{TableValue, action_at}
-use Rattle.lrtable.specs.Tables.{automaton_of}
+use Rattle.state_table.specs.Graphs.{GraphValue}
+use Rattle.state_table.specs.TableValues.{TableValue, action_at}
+use Rattle.state_table.specs.Tables.{automaton_of}
 use Rattle.lrpar.specs.Fitting.{Tells, closed_at}
 use Rattle.lrpar.specs.Completing.{ItemStands}
 use Rattle.lrpar.proofs.Edging.{same_token}

@@ -6,8 +6,7 @@ use Rattle.std.proofs.lemmas.Bool.Decides.{nat_tests}
 use Rattle.std.proofs.lemmas.Option.{get_or_from_slice_get, slice_get_past, slice_get_within, some_pair_parts, same_Some}
 use Rattle.cfg_theory.specs.Grammar.{Sym, rule, token}
 use Rattle.lr_theory.specs.Building.{same_symbol}
-use Rattle.lrtable.specs.Graphs.{AreInOrder, target_in}
-use Rattle.lrtable.specs.States.{SymBefore}
+use Rattle.state_table.specs.Graphs.{AreInOrder, target_in, SymBefore}
 use Rattle.lrpar.specs.Fitting.{LeastNot, Passed, StopsBefore, NoneBad, TellsBad}
 
 same_self : (X : Sym) → same_symbol X X ≡ true

@@ -6,11 +6,10 @@ use Rattle.std.proofs.lemmas.Option.{slice_get-get_or, slice_get_within, some_pa
 use Rattle.cfg_theory.specs.Grammar.{Sym, rule, token, Grammar}
 use Rattle.lr_theory.specs.Automaton.{Action, error}
 use Rattle.lr_theory.specs.Itemset.{ItemSet}
-use Rattle.lrtable.specs.Graphs.{AreInOrder, target_in}
-use Rattle.lrtable.specs.States.{SymBefore}
-use Rattle.lrtable.specs.Rows.{at_of}
-use Rattle.lrtable.specs.SparseRows.{full_cells, full_targets, IsCellRow, IsTargetRow}
-use Rattle.lrtable.specs.TableValues.{TableValue, action_at, goto_at}
+use Rattle.state_table.specs.Graphs.{AreInOrder, target_in, SymBefore}
+use Rattle.state_table.specs.Rows.{at_of}
+use Rattle.state_table.specs.SparseRows.{full_cells, full_targets, IsCellRow, IsTargetRow}
+use Rattle.state_table.specs.TableValues.{TableValue, action_at, goto_at}
 use Rattle.lrpar.specs.Fitting.{LeastNot, IsFor, Passed, AreEdges}
 use Rattle.lrpar.proofs.Edging.{found_edge, order_at, passed_none, passed_on, target_of}
 use Rattle.lrpar.proofs.RowWalks.{RowTo, row_none, row_more, rises_at, found_at, at_there, cell_inside, cell_there, before_cell, all_cells, goto_of_row, goto_nowhere}

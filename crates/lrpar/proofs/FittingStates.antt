@@ -5,9 +5,9 @@ use Rattle.std.proofs.lemmas.Bool.{cases_lt}
 use Rattle.cfg_theory.specs.Grammar.{Sym, rule, token, Grammar, WellFormed, body_of}
 use Rattle.lr_theory.specs.Automaton.{Action, shift, reduce, accept, error, Automaton, ClosedItem, closed_of, Safe}
 use Rattle.lr_theory.specs.Itemset.{ItemSet, HasItem, entry_at}
-use Rattle.lrtable.specs.Graphs.{GraphValue, IsGraphValue, graph_of, target_in}
-use Rattle.lrtable.specs.TableValues.{TableValue, action_at, goto_at}
-use Rattle.lrtable.specs.Tables.{CountsAgree, HasFullRows, automaton_of}
+use Rattle.state_table.specs.Graphs.{GraphValue, IsGraphValue, graph_of, target_in}
+use Rattle.state_table.specs.TableValues.{TableValue, action_at, goto_at}
+use Rattle.state_table.specs.Tables.{CountsAgree, HasFullRows, automaton_of}
 use Rattle.lrpar.specs.Ranges.{IsTable}
 use Rattle.lrpar.specs.Reducing.{IsTableFor}
 use Rattle.lrpar.specs.Safety.{ItemFits, ItemsFit, ActionFits, TokenFits, RuleFits, PairCell, counts, items, on_token, on_rule, CellFits, CellBefore, IsLeastMisfit}

@@ -9,8 +9,8 @@ use Rattle.cfg_theory.specs.Tree.{Tree, leaf, node, Forest, none, before, count,
 use Rattle.cfg_theory.specs.Fold.{Span, no_span, span_of, span_over}
 use Rattle.lr_theory.specs.Machine.{pop}
 use Rattle.lr_theory.specs.Repair.{Edit}
-use Rattle.lrtable.specs.Graphs.{GraphValue}
-use Rattle.lrtable.specs.TableValues.{TableValue}
+use Rattle.state_table.specs.Graphs.{GraphValue}
+use Rattle.state_table.specs.TableValues.{TableValue}
 use Rattle.lrpar.specs.FlatParses.{HasFlat, IsFlatParse}
 use Rattle.lrpar.specs.FlatTrees.{Piece, nonterm, flat, flats, IsFlat, IsFlatTree, FlatValue}
 use Rattle.lrpar.specs.Lex.{Lex}

@@ -11,9 +11,9 @@ use Rattle.cfg_theory.proofs.Start.{start_symbol_is}
 use Rattle.cfg_theory.specs.Tree.{Tree, leaf, node, Forest, none, before, root}
 use Rattle.cfg_theory.specs.Fold.{Span, no_span, span_of, span_over, Answers, Folds, FoldsAll}
 use Rattle.lr_theory.specs.Repair.{Edit}
-use Rattle.lrtable.specs.Graphs.{GraphValue}
-use Rattle.lrtable.specs.TableValues.{TableValue}
-use Rattle.lrtable.specs.Tables.{automaton_of}
+use Rattle.state_table.specs.Graphs.{GraphValue}
+use Rattle.state_table.specs.TableValues.{TableValue}
+use Rattle.state_table.specs.Tables.{automaton_of}
 use Rattle.lrpar.specs.Acting.{acted_by, action_in, HasAction}
 use Rattle.lrpar.specs.Lex.{Lex}
 use Rattle.lrpar.specs.Made.{end_of, made_by}

@@ -6,15 +6,15 @@ use Rattle.std.specs.declared.vec.Vec.{Vec}
 use Rattle.std.proofs.lemmas.Bool.{cases_lt, cases_eq}
 use Rattle.std.proofs.lemmas.List.{length-replicate, length-map, get_or-map}
 use Rattle.std.proofs.lemmas.Option.{get_or_from_slice_get, slice_get-get_or, slice_get_within, same_Some}
-use Rattle.lrtable.specs.declared.stidx.StIdx.{StIdx}
-use Rattle.lrtable.specs.declared.cells.Action.{Action as TableAction}
-use Rattle.lrtable.specs.declared.cells.Action.TheVariants as actions
-use Rattle.lrtable.specs.CellViews.{action_of, cells_of, targets_of}
-use Rattle.lrtable.specs.Rows.{Rises, Below, at_of}
-use Rattle.lrtable.specs.SparseRows.{or_error, full_cells, full_targets, IsCellRow, IsTargetRow}
-use Rattle.lrtable.specs.TableValues.{TableValue, action_at, goto_at}
-use Rattle.lrtable.proofs.FullRows.{at_over}
-use Rattle.lrtable.proofs.RowsAt.{at_index, at_nowhere}
+use Rattle.state_table.specs.declared.stidx.StIdx.{StIdx}
+use Rattle.state_table.specs.declared.cells.Action.{Action as TableAction}
+use Rattle.state_table.specs.declared.cells.Action.TheVariants as actions
+use Rattle.state_table.specs.CellViews.{action_of, cells_of, targets_of}
+use Rattle.state_table.specs.Rows.{Rises, Below, at_of}
+use Rattle.state_table.specs.SparseRows.{or_error, full_cells, full_targets, IsCellRow, IsTargetRow}
+use Rattle.state_table.specs.TableValues.{TableValue, action_at, goto_at}
+use Rattle.state_table.proofs.FullRows.{at_over}
+use Rattle.state_table.proofs.RowsAt.{at_index, at_nowhere}
 use Rattle.lrpar.specs.FullTables.{or_else, IsFull, AreCells, AreTargets, AreRows}
 use Rattle.lrpar.proofs.RowWalks.{cell_of_row, goto_of_row, past_gotos}
 

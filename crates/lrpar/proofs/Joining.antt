@@ -9,10 +9,10 @@ use Rattle.lr_theory.proofs.Sound.{start_stands}
 use Rattle.cfg_theory.specs.Tree.{Tree}
 use Rattle.lr_theory.specs.Machine.{Config, failed, run, start_config}
 use Rattle.lr_theory.proofs.RunTermination.{run_append}
-use Rattle.lrtable.specs.Graphs.{GraphValue}
-use Rattle.lrtable.specs.TableValues.{TableValue}
+use Rattle.state_table.specs.Graphs.{GraphValue}
+use Rattle.state_table.specs.TableValues.{TableValue}
 use Rattle.lrpar.specs.Lex.{Lex}
-use Rattle.lrtable.specs.Tables.{automaton_of}
+use Rattle.state_table.specs.Tables.{automaton_of}
 use Rattle.lrpar.specs.Run.{token_by, StandFor, GoesOn, AcceptsBy, FailsOn, AreLexemes}
 use Rattle.lrpar.specs.Reducing.{states_of}
 use Rattle.lrpar.specs.declared.stacks.Stacks.{Stacks}

@@ -5,10 +5,10 @@ use Rattle.cfg_theory.specs.Grammar.{Grammar}
 use Rattle.lr_theory.specs.Automaton.{error}
 use Rattle.lr_theory.specs.Chains.{reduce_by, reduction, Reductions, ChainsWithin}
 use Rattle.lr_theory.specs.LongChains.{Chain, GoesPast, Passes, RuleBefore, ChainBefore, IsLeastChain}
-use Rattle.lrtable.specs.Graphs.{GraphValue}
-use Rattle.lrtable.specs.TableValues.{TableValue, action_at, goto_at}
+use Rattle.state_table.specs.Graphs.{GraphValue}
+use Rattle.state_table.specs.TableValues.{TableValue, action_at, goto_at}
 use Rattle.lrpar.specs.Ranges.{IsTable}
-use Rattle.lrtable.specs.Tables.{automaton_of}
+use Rattle.state_table.specs.Tables.{automaton_of}
 use Rattle.lrpar.specs.Reducing.{IsLong, TellsAbove, TellsOf, chain_of}
 use Rattle.lrpar.specs.declared.chains.LongChain.{LongChain}
 

@@ -5,7 +5,7 @@ use Rattle.std.proofs.lemmas.Bool.{cases_lt}
 use Rattle.std.proofs.lemmas.Bool.Decides.{nat_tests}
 use Rattle.cfg_theory.specs.Grammar.{Grammar}
 use Rattle.lr_theory.specs.Itemset.{Entry, ItemSet}
-use Rattle.lrtable.specs.TableValues.{TableValue}
+use Rattle.state_table.specs.TableValues.{TableValue}
 use Rattle.lrpar.specs.Fitting.{LeastNot, least_of, GoesFrom, HasGotos}
 use Rattle.lrpar.proofs.ItemLists.{ItemsBelow, below_none, below_more, each_item, has_item_at}
 

@@ -3,7 +3,7 @@ use Rattle.std.proofs.Common.{◌≡◌, ℕ, true, false, List, [], ◌∷◌, 
 use Rattle.std.specs.declared.alloc.Global.{Global}
 use Rattle.cfg_theory.specs.Grammar.{Grammar}
 use Rattle.lr_theory.specs.OfferedRepairs.{Filtered, none, kept, dropped}
-use Rattle.lrtable.specs.TableValues.{TableValue}
+use Rattle.state_table.specs.TableValues.{TableValue}
 use Rattle.lrpar.specs.declared.recoverer.RepairStep.{RepairStep}
 use Rattle.lrpar.specs.Taking.{edits_of, sequences_of, SequenceTells, ListTells}
 

@@ -4,7 +4,7 @@ use Rattle.std.specs.Prelude.{slice_get}
 use Rattle.cfg_theory.specs.Grammar.{Grammar}
 use Rattle.lr_theory.specs.Automaton.{Automaton}
 use Rattle.lr_theory.specs.Chains.{reduction, Reductions}
-use Rattle.lrtable.specs.TableValues.{TableValue}
+use Rattle.state_table.specs.TableValues.{TableValue}
 use Rattle.lrpar.specs.Reducing.{AreStates, chain_stack, chain_states}
 
 pub reversed_chain : (p : ℕ) (above : Option ℕ) → reverse (chain_states p above) ≡ chain_stack p above

@@ -13,10 +13,10 @@ use Rattle.lr_theory.specs.Repair.{Edit, IsFirstTaken}
 use Rattle.lr_theory.specs.OfferedRepairs.{AreRepairs}
 use Rattle.lr_theory.proofs.OfferedRepairs.{repairs_are_offered}
 use Rattle.lr_theory.proofs.Sound.{start_stands}
-use Rattle.lrtable.specs.Graphs.{GraphValue}
-use Rattle.lrtable.specs.TableValues.{TableValue}
-use Rattle.lrtable.specs.Tables.{automaton_of}
-use Rattle.lrtable.specs.declared.stidx.StIdx.{StIdx}
+use Rattle.state_table.specs.Graphs.{GraphValue}
+use Rattle.state_table.specs.TableValues.{TableValue}
+use Rattle.state_table.specs.Tables.{automaton_of}
+use Rattle.state_table.specs.declared.stidx.StIdx.{StIdx}
 use Rattle.lrpar.specs.Lex.{Lex, lex_at}
 use Rattle.lrpar.specs.Made.{end_from, end_of, made_by}
 use Rattle.lrpar.specs.Parsing.{error_of, errors_of}

@@ -15,15 +15,15 @@ use Rattle.lr_theory.specs.Machine.{Config, start_config}
 use Rattle.lr_theory.specs.Table.{IsAutomatonOf}
 use Rattle.lr_theory.proofs.TableLaws.{automaton_is_safe}
 use Rattle.table_theory.proofs.TableCells.{built_law}
-use Rattle.lrtable.specs.CellViews.{precedences_of}
-use Rattle.lrtable.specs.Graphs.{GraphValue}
-use Rattle.lrtable.specs.TableValues.{TableValue}
-use Rattle.lrtable.specs.Tables.{IsTableOf, automaton_of}
+use Rattle.state_table.specs.CellViews.{precedences_of}
+use Rattle.state_table.specs.Graphs.{GraphValue}
+use Rattle.state_table.specs.TableValues.{TableValue}
+use Rattle.state_table.specs.Tables.{IsTableOf, automaton_of}
 use Rattle.vob.specs.Packed.{Contents}
 use Rattle.lrpar.specs.declared.overlay.Overlay.{Overlay}
 use Rattle.lrpar.specs.NextStates.{AreInside, TellsNext, TellBelow, TellsAfter}
 use Rattle.lrpar.specs.NextTokens.{Reaches, HasError, IsSet}
-use Rattle.lrtable.specs.declared.stidx.StIdx.{StIdx}
+use Rattle.state_table.specs.declared.stidx.StIdx.{StIdx}
 use Rattle.lrpar.specs.Reducing.{AreStates, IsTableFor, states_of, stack_of}
 use Rattle.lrpar.specs.Replay.{overlaid, ShiftsTo, ShiftsNot, TellsShift}
 use Rattle.lrpar.proofs.CarriedItems.{set_length}

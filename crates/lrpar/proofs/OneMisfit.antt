@@ -3,7 +3,7 @@ use Rattle.std.proofs.Common.{◌≡◌, ◌<◌, ℕ, refl, sym, ap, subst, ◌
 use Rattle.std.proofs.lemmas.Bool.{cases_order}
 use Rattle.cfg_theory.specs.Grammar.{Grammar}
 use Rattle.lr_theory.specs.Automaton.{Automaton}
-use Rattle.lrtable.specs.Tables.{CountsAgree, automaton_of}
+use Rattle.state_table.specs.Tables.{CountsAgree, automaton_of}
 use Rattle.lrpar.specs.Safety.{PairCell, counts, items, on_token, on_rule, CellBefore, IsLeastMisfit}
 use Rattle.lrpar.specs.OneMisfit.{LeastMisfitsAreOne}
 

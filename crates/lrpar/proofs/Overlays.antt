@@ -7,8 +7,8 @@ use Rattle.cfg_theory.specs.Grammar.{Grammar, head_of, body_of}
 use Rattle.lr_theory.specs.Automaton.{Action, reduce, Automaton}
 use Rattle.lr_theory.specs.Chains.{push_goto, goto_from, reduce_by, reduction}
 use Rattle.lr_theory.proofs.Tops.{drop_reverse}
-use Rattle.lrtable.specs.TableValues.{TableValue}
-use Rattle.lrtable.specs.declared.stidx.StIdx.{StIdx}
+use Rattle.state_table.specs.TableValues.{TableValue}
+use Rattle.state_table.specs.declared.stidx.StIdx.{StIdx}
 use Rattle.lrpar.specs.Reducing.{AreStates, states_of}
 use Rattle.lrpar.specs.Replay.{first_of, action_on}
 use Rattle.lrpar.proofs.Reduced.{reverse_last, get_take}

@@ -17,11 +17,11 @@ use Rattle.lr_theory.proofs.RunTermination.{run_append}
 use Rattle.lr_theory.proofs.TableLaws.{automaton_is_safe}
 use Rattle.lr_theory.proofs.ViablePrefix.{is_prefix_correct}
 use Rattle.table_theory.proofs.TableCells.{built_law}
-use Rattle.lrtable.specs.CellViews.{precedences_of}
-use Rattle.lrtable.specs.Graphs.{GraphValue}
-use Rattle.lrtable.specs.Tables.{automaton_of}
+use Rattle.state_table.specs.CellViews.{precedences_of}
+use Rattle.state_table.specs.Graphs.{GraphValue}
+use Rattle.state_table.specs.Tables.{automaton_of}
 use Rattle.vob.specs.Packed.{Contents}
-use Rattle.lrtable.specs.declared.stidx.StIdx.{StIdx}
+use Rattle.state_table.specs.declared.stidx.StIdx.{StIdx}
 use Rattle.lrpar.specs.declared.overlay.Overlay.{Overlay}
 use Rattle.lrpar.specs.Checked.{ParserValue, IsData}
 use Rattle.lrpar.specs.NextStates.{AreInside, TellBelow, TellsAfter}

@@ -4,10 +4,10 @@ use Rattle.std.specs.Prelude.{slice_get}
 use Rattle.cfg_theory.specs.Grammar.{Grammar, head_of, body_of}
 use Rattle.lr_theory.specs.Automaton.{Action, shift, reduce, accept, error, Automaton}
 use Rattle.cfg_base.specs.declared.symbol.PIdx.{PIdx}
-use Rattle.lrtable.specs.Graphs.{GraphValue}
-use Rattle.lrtable.specs.TableValues.{TableValue, goto_at}
+use Rattle.state_table.specs.Graphs.{GraphValue}
+use Rattle.state_table.specs.TableValues.{TableValue, goto_at}
 use Rattle.lrpar.specs.Ranges.{IsTable}
-use Rattle.lrtable.specs.Tables.{automaton_of}
+use Rattle.state_table.specs.Tables.{automaton_of}
 use Rattle.lrpar.specs.Reducing.{ShortAt}
 use Rattle.lrpar.specs.declared.shorts.Short.TheVariants as shorts
 use Rattle.lr_theory.specs.Chains.{push_goto, goto_from, reduce_by, Reductions}

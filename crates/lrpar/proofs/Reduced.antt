@@ -7,11 +7,11 @@ use Rattle.cfg_theory.specs.Grammar.{Grammar, head_of, body_of}
 use Rattle.lr_theory.specs.Automaton.{reduce, Automaton}
 use Rattle.lr_theory.specs.Chains.{push_goto, goto_from, reduce_by, reduction}
 use Rattle.lr_theory.proofs.Tops.{drop_reverse}
-use Rattle.lrtable.specs.Graphs.{GraphValue}
-use Rattle.lrtable.specs.TableValues.{TableValue, goto_at}
-use Rattle.lrtable.specs.declared.stidx.StIdx.{StIdx}
+use Rattle.state_table.specs.Graphs.{GraphValue}
+use Rattle.state_table.specs.TableValues.{TableValue, goto_at}
+use Rattle.state_table.specs.declared.stidx.StIdx.{StIdx}
 use Rattle.lrpar.specs.Reducing.{states_of, stack_of, AreStates}
-use Rattle.lrtable.specs.Tables.{automaton_of}
+use Rattle.state_table.specs.Tables.{automaton_of}
 
 -- the number of an entry that was read
 pub number_at : {S : Type 0} (number : S → ℕ) (ss : List (StIdx S)) (k : ℕ) (x : StIdx S) → x ≡ get_or ss k x → number x.0 ≡ get_or (states_of number ss) k (number x.0)

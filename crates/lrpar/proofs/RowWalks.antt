@@ -7,10 +7,10 @@ use Rattle.std.proofs.lemmas.Option.{get_or_from_slice_get, slice_get_within, so
 use Rattle.std.proofs.lemmas.List.{get_or_past}
 use Rattle.std.proofs.lemmas.List.FromFn.{length-map-range_with_len, get_or-map-range_with_len}
 use Rattle.lr_theory.specs.Automaton.{Action, error}
-use Rattle.lrtable.specs.Rows.{Rises, at_of}
-use Rattle.lrtable.specs.SparseRows.{or_error, full_cells, full_targets, IsCellRow, IsTargetRow}
-use Rattle.lrtable.specs.TableValues.{TableValue, action_at, goto_at}
-use Rattle.lrtable.proofs.RowsAt.{at_index}
+use Rattle.state_table.specs.Rows.{Rises, at_of}
+use Rattle.state_table.specs.SparseRows.{or_error, full_cells, full_targets, IsCellRow, IsTargetRow}
+use Rattle.state_table.specs.TableValues.{TableValue, action_at, goto_at}
+use Rattle.state_table.proofs.RowsAt.{at_index}
 
 found_step : {V : Type 0} (x : ℕ × V) (row : List (ℕ × V)) (n : ℕ) (v : V) (b : Bool) → nat_eq x.0 n ≡ b → (at_of row n ≡ Some v → (k : ℕ) × (slice_get row k ≡ Some (n, v))) → cond b (Some x.1) (at_of row n) ≡ Some v → (k : ℕ) × (slice_get (x ∷ row) k ≡ Some (n, v))
 found_step x row n v true t later h =

@@ -7,8 +7,8 @@ use Rattle.cfg_base.specs.declared.symbol.PIdx.{PIdx}
 use Rattle.cfg_theory.specs.Grammar.{Grammar, body_of}
 use Rattle.lr_theory.specs.Automaton.{Action, shift, reduce, accept, error, Automaton}
 use Rattle.lr_theory.specs.Chains.{goto_from, reduce_by, reduction, Reductions}
-use Rattle.lrtable.specs.TableValues.{TableValue}
-use Rattle.lrtable.specs.declared.stidx.StIdx.{StIdx}
+use Rattle.state_table.specs.TableValues.{TableValue}
+use Rattle.state_table.specs.declared.stidx.StIdx.{StIdx}
 use Rattle.std.proofs.lemmas.List.{length-map}
 use Rattle.std.proofs.lemmas.Option.{same_Some}
 use Rattle.lrpar.specs.Reducing.{states_of, stack_of, chain_states, chain_stack}

@@ -9,10 +9,10 @@ use Rattle.lr_theory.specs.Automaton.{Safe, error}
 use Rattle.lr_theory.specs.Machine.{Config}
 use Rattle.lr_theory.specs.Stack.{Stands}
 use Rattle.lr_theory.specs.Repair.{Edit, insert, delete, keep}
-use Rattle.lrtable.specs.Graphs.{GraphValue}
-use Rattle.lrtable.specs.TableValues.{TableValue}
-use Rattle.lrtable.specs.Tables.{automaton_of}
-use Rattle.lrtable.specs.declared.stidx.StIdx.{StIdx}
+use Rattle.state_table.specs.Graphs.{GraphValue}
+use Rattle.state_table.specs.TableValues.{TableValue}
+use Rattle.state_table.specs.Tables.{automaton_of}
+use Rattle.state_table.specs.declared.stidx.StIdx.{StIdx}
 use Rattle.lrpar.specs.declared.overlay.Overlay.{Overlay}
 use Rattle.lrpar.specs.Reducing.{IsTableFor, states_of, stack_of}
 use Rattle.lrpar.specs.Replay.{overlaid, action_on, none, Rests, ShiftsTo, ShiftsNot, TellsShift, TellsAccept}

@@ -10,14 +10,14 @@ use Rattle.lr_theory.specs.Chains.{push_goto, goto_from, reduce_by, reduction}
 use Rattle.lr_theory.specs.Machine.{Config, Outcome, going, accepted, failed, stuck, next_or, pop, after_pop, after_goto, after_shift, after_accept, act, step_on, step, then_run, run}
 use Rattle.lr_theory.specs.Stack.{IsGood}
 use Rattle.lr_theory.proofs.Sound.{step_is_good}
-use Rattle.lrtable.specs.Graphs.{GraphValue}
-use Rattle.lrtable.specs.TableValues.{TableValue, action_at}
+use Rattle.state_table.specs.Graphs.{GraphValue}
+use Rattle.state_table.specs.TableValues.{TableValue, action_at}
 use Rattle.lrpar.specs.Lex.{Lex}
-use Rattle.lrtable.specs.Tables.{automaton_of}
+use Rattle.state_table.specs.Tables.{automaton_of}
 use Rattle.lrpar.specs.Reducing.{states_of, stack_of, AreStates}
 use Rattle.lrpar.specs.Run.{token_by, StandFor, GoesOn, AcceptsBy}
 use Rattle.lrpar.specs.declared.stacks.Stacks.{Stacks}
-use Rattle.lrtable.specs.declared.stidx.StIdx.{StIdx}
+use Rattle.state_table.specs.declared.stidx.StIdx.{StIdx}
 use Rattle.lrpar.proofs.Reduced.{reverse_last, pushed}
 use Rattle.lrpar.proofs.BesideTrees.{reverse_pushed}
 

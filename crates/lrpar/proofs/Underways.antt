@@ -13,9 +13,9 @@ use Rattle.lr_theory.proofs.HandedRepairs.{handed_is_offered, parses_go_on}
 use Rattle.lr_theory.proofs.OfferedRepairs.{repairs_are_offered}
 use Rattle.lr_theory.proofs.Repair.{repairs_are_sound}
 use Rattle.lr_theory.proofs.RunTermination.{run_append}
-use Rattle.lrtable.specs.Graphs.{GraphValue}
-use Rattle.lrtable.specs.TableValues.{TableValue}
-use Rattle.lrtable.specs.Tables.{automaton_of}
+use Rattle.state_table.specs.Graphs.{GraphValue}
+use Rattle.state_table.specs.TableValues.{TableValue}
+use Rattle.state_table.specs.Tables.{automaton_of}
 use Rattle.lrpar.specs.Lex.{Lex}
 use Rattle.lrpar.specs.Parses.{ErrorValue, IsToldError, AllThree, HoldsValue, IsParsed}
 use Rattle.lrpar.specs.Parsing.{IsMendedBy, Underway}

@@ -5,9 +5,9 @@ use Rattle.cfg_theory.specs.Tree.{Tree}
 use Rattle.lr_theory.specs.Machine.{Config, going, failed, run}
 use Rattle.lr_theory.specs.Stack.{stack_yield}
 use Rattle.lr_theory.specs.Repair.{Edit, apply, with_rest, Takes}
-use Rattle.lrtable.specs.Graphs.{GraphValue}
-use Rattle.lrtable.specs.TableValues.{TableValue}
-use Rattle.lrtable.specs.Tables.{automaton_of}
+use Rattle.state_table.specs.Graphs.{GraphValue}
+use Rattle.state_table.specs.TableValues.{TableValue}
+use Rattle.state_table.specs.Tables.{automaton_of}
 use Rattle.lrpar.specs.Lex.{Lex}
 use Rattle.lrpar.specs.Run.{token_by, StandFor, GoesOn}
 use Rattle.lrpar.specs.declared.stacks.Stacks.{Stacks}

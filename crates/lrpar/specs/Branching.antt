@@ -5,8 +5,8 @@ use Rattle.std.specs.declared.vec.Vec.{Vec}
 use Rattle.cfg_base.specs.declared.symbol.PIdx.{PIdx}
 use Rattle.cfg_theory.specs.Grammar.{Grammar}
 use Rattle.lr_theory.specs.Automaton.{reduce}
-use Rattle.lrtable.specs.TableValues.{TableValue, action_at}
-use Rattle.lrtable.specs.declared.stidx.StIdx.{StIdx}
+use Rattle.state_table.specs.TableValues.{TableValue, action_at}
+use Rattle.state_table.specs.declared.stidx.StIdx.{StIdx}
 use Rattle.lrpar.specs.Reducing.{states_of, stack_of, AreStates}
 
 -- the production stands in the list

@@ -5,9 +5,9 @@ use Rattle.lr_theory.specs.Automaton.{Complete}
 use Rattle.lr_theory.specs.Chains.{ChainsWithin}
 use Rattle.lr_theory.specs.LongChains.{IsLeastChain}
 use Rattle.cfg_numbered.specs.Value.{GrammarValue}
-use Rattle.lrtable.specs.Graphs.{GraphValue}
-use Rattle.lrtable.specs.TableValues.{TableValue}
-use Rattle.lrtable.specs.Tables.{CountsAgree, automaton_of}
+use Rattle.state_table.specs.Graphs.{GraphValue}
+use Rattle.state_table.specs.TableValues.{TableValue}
+use Rattle.state_table.specs.Tables.{CountsAgree, automaton_of}
 use Rattle.lrpar.specs.Pair.{IsSafePair}
 use Rattle.lrpar.specs.Reducing.{IsTableFor, chain_of, rule_number}
 use Rattle.lrpar.specs.Safety.{IsLeastMisfit}

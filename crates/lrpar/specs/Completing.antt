@@ -3,7 +3,7 @@ use Rattle.std.specs.Prelude.{◌≡◌, ◌≢◌, ℕ, length}
 use Rattle.cfg_theory.specs.Grammar.{token, Grammar, body_of, end_token, IsNext}
 use Rattle.lr_theory.specs.Automaton.{shift, reduce, accept}
 use Rattle.lr_theory.specs.Itemset.{ItemSet, HasLook}
-use Rattle.lrtable.specs.TableValues.{TableValue, action_at}
+use Rattle.state_table.specs.TableValues.{TableValue, action_at}
 
 -- those of an item (p, d) of a state s with these items
 pub record ItemStands (G : Grammar) (v : TableValue) (items : ItemSet) (s p d : ℕ) : Type 0 where

@@ -6,10 +6,9 @@ use Rattle.cfg_base.specs.declared.symbol.PIdx.{PIdx}
 use Rattle.cfg_theory.specs.Grammar.{Sym, rule, Grammar, head_of, body_of, end_token, IsNext, IsEnd}
 use Rattle.lr_theory.specs.Automaton.{Action, shift, reduce, accept, error, Automaton, Safe}
 use Rattle.lr_theory.specs.Itemset.{ItemSet, HasItem}
-use Rattle.lrtable.specs.Graphs.{GraphValue, graph_of, target_in}
-use Rattle.lrtable.specs.States.{SymBefore}
-use Rattle.lrtable.specs.TableValues.{TableValue, goto_at}
-use Rattle.lrtable.specs.Tables.{CountsAgree, automaton_of}
+use Rattle.state_table.specs.Graphs.{GraphValue, graph_of, target_in, SymBefore}
+use Rattle.state_table.specs.TableValues.{TableValue, goto_at}
+use Rattle.state_table.specs.Tables.{CountsAgree, automaton_of}
 use Rattle.lrpar.specs.Safety.{PairCell, counts, items, on_token, on_rule, ItemsFit, TokenFits, RuleFits, CellFits, CellBefore, IsLeastMisfit}
 use Rattle.lrpar.specs.declared.parserdata.fitting.PastItem.{PastItem}
 use Rattle.lrpar.specs.declared.parserdata.fitting.Cell.{Cell}

@@ -4,9 +4,9 @@ use Rattle.cfg_theory.specs.Grammar.{Grammar}
 use Rattle.cfg_theory.specs.Tree.{Tree}
 use Rattle.cfg_theory.specs.Fold.{Span}
 use Rattle.lr_theory.specs.Repair.{Edit}
-use Rattle.lrtable.specs.Graphs.{GraphValue}
-use Rattle.lrtable.specs.TableValues.{TableValue}
-use Rattle.lrtable.specs.Tables.{automaton_of}
+use Rattle.state_table.specs.Graphs.{GraphValue}
+use Rattle.state_table.specs.TableValues.{TableValue}
+use Rattle.state_table.specs.Tables.{automaton_of}
 use Rattle.lrpar.specs.FlatTrees.{FlatValue, IsFlat}
 use Rattle.lrpar.specs.Lex.{Lex}
 use Rattle.lrpar.specs.Lexemes.{AreItems}

@@ -2,11 +2,11 @@
 use Rattle.std.specs.Prelude.{◌≡◌, ℕ, ◌<◌, List, Option, Some, None, slice_get}
 use Rattle.std.specs.declared.alloc.Global.{Global}
 use Rattle.std.specs.declared.vec.Vec.{Vec}
-use Rattle.lrtable.specs.declared.stidx.StIdx.{StIdx}
-use Rattle.lrtable.specs.declared.cells.Action.{Action}
-use Rattle.lrtable.specs.CellViews.{action_of}
-use Rattle.lrtable.specs.Rows.{at_of}
-use Rattle.lrtable.specs.TableValues.{TableValue, action_at, goto_at}
+use Rattle.state_table.specs.declared.stidx.StIdx.{StIdx}
+use Rattle.state_table.specs.declared.cells.Action.{Action}
+use Rattle.state_table.specs.CellViews.{action_of}
+use Rattle.state_table.specs.Rows.{at_of}
+use Rattle.state_table.specs.TableValues.{TableValue, action_at, goto_at}
 
 abbrev pub or_else : {V : Type 0} → V → Option V → V
 or_else empty None = empty

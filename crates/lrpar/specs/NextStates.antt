@@ -4,7 +4,7 @@ use Rattle.std.specs.declared.alloc.Global.{Global}
 use Rattle.cfg_theory.specs.Grammar.{Grammar, end_token}
 use Rattle.lr_theory.specs.Automaton.{Automaton}
 use Rattle.lr_theory.specs.Machine.{Config}
-use Rattle.lrtable.specs.declared.stidx.StIdx.{StIdx}
+use Rattle.state_table.specs.declared.stidx.StIdx.{StIdx}
 use Rattle.vob.specs.Packed.{Contents}
 use Rattle.lrpar.specs.NextTokens.{Reaches, HasError, AreNext}
 use Rattle.lrpar.specs.Reducing.{stack_of}

@@ -1,9 +1,9 @@
 -- A pair has one first place that doesn't fit, if it has any.
 use Rattle.std.specs.Prelude.{◌≡◌, ℕ}
 use Rattle.cfg_theory.specs.Grammar.{Grammar}
-use Rattle.lrtable.specs.Graphs.{GraphValue}
-use Rattle.lrtable.specs.TableValues.{TableValue}
-use Rattle.lrtable.specs.Tables.{CountsAgree, automaton_of}
+use Rattle.state_table.specs.Graphs.{GraphValue}
+use Rattle.state_table.specs.TableValues.{TableValue}
+use Rattle.state_table.specs.Tables.{CountsAgree, automaton_of}
 use Rattle.lrpar.specs.Safety.{PairCell, IsLeastMisfit}
 
 pub record LeastMisfitsAreOne : Type 0 where

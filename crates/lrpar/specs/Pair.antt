@@ -3,9 +3,9 @@ use Rattle.std.specs.Prelude.{ℕ}
 use Rattle.cfg_theory.specs.Grammar.{Grammar}
 use Rattle.lr_theory.specs.Automaton.{Safe}
 use Rattle.lr_theory.specs.Chains.{ChainsWithin}
-use Rattle.lrtable.specs.Graphs.{GraphValue}
-use Rattle.lrtable.specs.TableValues.{TableValue}
-use Rattle.lrtable.specs.Tables.{CountsAgree, automaton_of}
+use Rattle.state_table.specs.Graphs.{GraphValue}
+use Rattle.state_table.specs.TableValues.{TableValue}
+use Rattle.state_table.specs.Tables.{CountsAgree, automaton_of}
 
 -- a graph and a table that are safe for a grammar
 pub record IsSafePair (G : Grammar) (g : GraphValue) (v : TableValue) : Type 0 where

@@ -6,9 +6,9 @@ use Rattle.lr_theory.specs.Automaton.{Automaton}
 use Rattle.lr_theory.specs.Machine.{Config, start_config}
 use Rattle.lr_theory.specs.Repair.{Edit, with_rest, IsFirstTaken}
 use Rattle.lr_theory.specs.HandedRepairs.{ComesTo}
-use Rattle.lrtable.specs.Graphs.{GraphValue}
-use Rattle.lrtable.specs.TableValues.{TableValue}
-use Rattle.lrtable.specs.Tables.{automaton_of}
+use Rattle.state_table.specs.Graphs.{GraphValue}
+use Rattle.state_table.specs.TableValues.{TableValue}
+use Rattle.state_table.specs.Tables.{automaton_of}
 use Rattle.lrpar.specs.Lex.{Lex}
 use Rattle.lrpar.specs.Parses.{ErrorValue, IsToldError, AllThree}
 use Rattle.lrpar.specs.Run.{token_by, GoesOn, AreStacks, StartsByNext}

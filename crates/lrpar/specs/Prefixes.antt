@@ -6,7 +6,7 @@ use Rattle.lr_theory.specs.Automaton.{Automaton}
 use Rattle.lr_theory.specs.Machine.{Config, going, run, start_config}
 use Rattle.lr_theory.specs.NextTokens.{IsFresh}
 use Rattle.lr_theory.specs.Repair.{with_rest}
-use Rattle.lrtable.specs.Tables.{IsTableOf, automaton_of}
+use Rattle.state_table.specs.Tables.{IsTableOf, automaton_of}
 use Rattle.lrpar.specs.Checked.{ParserValue}
 use Rattle.lrpar.specs.NextStates.{AreInside}
 use Rattle.lrpar.specs.Reducing.{AreStates}

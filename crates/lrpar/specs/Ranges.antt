@@ -1,7 +1,7 @@
 -- What a run and the check of chains ask of a table.
 use Rattle.std.specs.Prelude.{◌≡◌, ◌<◌, ◌≤◌, ◌⊎◌, ℕ, Some, None}
 use Rattle.lr_theory.specs.Automaton.{shift, reduce, error}
-use Rattle.lrtable.specs.TableValues.{TableValue, action_at, goto_at}
+use Rattle.state_table.specs.TableValues.{TableValue, action_at, goto_at}
 
 -- what cells and gotos name is in range, and outside of the counts there is nothing
 pub record IsTable (v : TableValue) : Type 0 where

@@ -9,9 +9,9 @@ use Rattle.cfg_base.specs.declared.symbol.RIdx.{RIdx}
 use Rattle.lrpar.specs.declared.chains.LongChain.{LongChain}
 use Rattle.lrpar.specs.declared.shorts.Short.{Short}
 use Rattle.lrpar.specs.declared.shorts.Short.TheVariants as shorts
-use Rattle.lrtable.specs.TableValues.{TableValue, action_at}
+use Rattle.state_table.specs.TableValues.{TableValue, action_at}
 use Rattle.lrpar.specs.Ranges.{IsTable}
-use Rattle.lrtable.specs.declared.stidx.StIdx.{StIdx}
+use Rattle.state_table.specs.declared.stidx.StIdx.{StIdx}
 use Rattle.cfg_base.specs.declared.symbol.TIdx.{TIdx}
 
 -- the numbers of a stack's states

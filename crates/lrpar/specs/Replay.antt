@@ -3,8 +3,8 @@ use Rattle.std.specs.Prelude.{◌≡◌, ◌≢◌, ◌≤◌, ℕ, Bool, true, 
 use Rattle.cfg_theory.specs.Grammar.{Grammar}
 use Rattle.lr_theory.specs.Automaton.{Action, shift, accept, error, Automaton}
 use Rattle.lr_theory.specs.Chains.{reduction}
-use Rattle.lrtable.specs.TableValues.{TableValue}
-use Rattle.lrtable.specs.declared.stidx.StIdx.{StIdx}
+use Rattle.state_table.specs.TableValues.{TableValue}
+use Rattle.state_table.specs.declared.stidx.StIdx.{StIdx}
 use Rattle.lrpar.specs.Reducing.{states_of, AreStates}
 use Rattle.lrpar.specs.declared.overlay.Overlay.{Overlay}
 

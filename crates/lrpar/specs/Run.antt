@@ -5,11 +5,11 @@ use Rattle.cfg_theory.specs.Tree.{Tree}
 use Rattle.cfg_theory.specs.Fold.{Span}
 use Rattle.lr_theory.specs.Machine.{Config, going, accepted, failed, run}
 use Rattle.lr_theory.specs.Stack.{Stands}
-use Rattle.lrtable.specs.Graphs.{GraphValue}
-use Rattle.lrtable.specs.TableValues.{TableValue}
+use Rattle.state_table.specs.Graphs.{GraphValue}
+use Rattle.state_table.specs.TableValues.{TableValue}
 use Rattle.lrpar.specs.Lex.{Lex}
 use Rattle.lrpar.specs.Made.{next_start, end_of}
-use Rattle.lrtable.specs.Tables.{automaton_of}
+use Rattle.state_table.specs.Tables.{automaton_of}
 use Rattle.lrpar.specs.Reducing.{states_of, stack_of, AreStates}
 use Rattle.lrpar.specs.Stacks.{span_of_places}
 use Rattle.lrpar.specs.declared.stacks.Stacks.{Stacks}

@@ -7,9 +7,9 @@ use Rattle.lr_theory.specs.Machine.{Config}
 use Rattle.lr_theory.specs.Repair.{Edit, insert, delete, keep, Takes}
 use Rattle.lr_theory.specs.OfferedRepairs.{AreRepairs}
 use Rattle.lr_theory.specs.Stack.{Stands}
-use Rattle.lrtable.specs.Graphs.{GraphValue}
-use Rattle.lrtable.specs.TableValues.{TableValue}
-use Rattle.lrtable.specs.Tables.{automaton_of}
+use Rattle.state_table.specs.Graphs.{GraphValue}
+use Rattle.state_table.specs.TableValues.{TableValue}
+use Rattle.state_table.specs.Tables.{automaton_of}
 use Rattle.lrpar.specs.Replay.{action_on, Rests, ShiftsTo, ShiftsNot}
 use Rattle.lrpar.specs.declared.recoverer.RepairStep.{RepairStep}
 use Rattle.lrpar.specs.declared.recoverer.RepairStep.TheVariants as steps

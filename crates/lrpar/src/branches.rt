@@ -3,9 +3,9 @@
 ghost use Rattle.std.specs.Prelude.{◌≡◌, ◌<◌, ◌≤◌, ◌+◌, [], ℕ, List, true, Some, drop, length, option_map, IfOk, IfSome, OnOk};
 ghost use Rattle.cfg_theory.specs.Grammar.{body_of};
 ghost use Rattle.lr_theory.specs.Chains.{goto_from, reduction};
-ghost use Rattle.lrtable.specs.CellViews.{state_of};
-ghost use Rattle.lrtable.specs.Graphs.{GraphValue};
-ghost use Rattle.lrtable.specs.Tables.{automaton_of};
+ghost use Rattle.state_table.specs.CellViews.{state_of};
+ghost use Rattle.state_table.specs.Graphs.{GraphValue};
+ghost use Rattle.state_table.specs.Tables.{automaton_of};
 ghost use Rattle.lrpar.specs.Reducing.{states_of, stack_of, chain_states, AreStates, IsLong, IsTableFor};
 ghost use Rattle.lrpar.specs.Branching.{Lists, AreAllReducers, Stacked, HoldsStates, AllHoldStates};
 
@@ -13,7 +13,7 @@ use crate::reducers::{prod_of_list, reducers_at};
 use cfg_base::index::IndexStorage;
 use cfg_base::symbol::PIdx;
 use cfg_numbered::yacc::grammar::NumberedGrammar;
-use lrtable::{StIdx, StateTable};
+use state_table::{StIdx, StateTable};
 use std::alloc::{AllocError, Global};
 
 /// A stack without states: one of the spare ones, whose room it keeps, where there is one.

@@ -2,11 +2,11 @@
 
 ghost use Rattle.std.specs.Prelude.{◌≡◌, ◌<◌, ◌+◌, ℕ, false, Some, None, IfOk, OnOk, length};
 ghost use Rattle.lr_theory.specs.Automaton.{reduce};
-ghost use Rattle.lrtable.specs.Tables.{automaton_of};
+ghost use Rattle.state_table.specs.Tables.{automaton_of};
 ghost use Rattle.lrpar.specs.Reducing.{states_of, stack_of, IsTableFor, AreStates, ReducesTo, TellsLong, TellsToken, TellsAbove, TellsOf, TellsChain, AreShorts, BeginsNone, token_number, chain_states, chain_top, chain_depth};
 ghost use Rattle.lrpar.specs.Branching.{AreAllReducers};
-ghost use Rattle.lrtable.specs.Graphs.{GraphValue};
-ghost use Rattle.lrtable.specs.CellViews.{action_of, state_of};
+ghost use Rattle.state_table.specs.Graphs.{GraphValue};
+ghost use Rattle.state_table.specs.CellViews.{action_of, state_of};
 
 use crate::branches::ends_soon;
 use crate::numbers::index_below;
@@ -16,7 +16,7 @@ use crate::shorts::{Short, all_shorts, is_quiet, short_at};
 use cfg_base::index::IndexStorage;
 use cfg_base::symbol::{PIdx, RIdx, TIdx};
 use cfg_numbered::yacc::grammar::NumberedGrammar;
-use lrtable::{Action, StIdx, StateTable};
+use state_table::{Action, StIdx, StateTable};
 use std::alloc::{AllocError, Global};
 
 /// A chain of reductions on a token that leave a state: from the state alone, or with its goto on the rule above it.

@@ -4,8 +4,8 @@ ghost use Rattle.std.specs.Prelude.{◌≡◌, ℕ, List, Option, IfOk, IfErr, E
 ghost use Rattle.cfg_theory.specs.Tree.{Tree};
 ghost use Rattle.lr_theory.specs.Automaton.{Safe};
 ghost use Rattle.lr_theory.specs.Chains.{ChainsWithin};
-ghost use Rattle.lrtable.specs.Graphs.{GraphValue};
-ghost use Rattle.lrtable.specs.Tables.{automaton_of};
+ghost use Rattle.state_table.specs.Graphs.{GraphValue};
+ghost use Rattle.state_table.specs.Tables.{automaton_of};
 ghost use Rattle.lrpar.specs.FlatParses.{HasFlat, IsFlatParse};
 ghost use Rattle.lrpar.specs.FlatTrees.{pieces_of};
 ghost use Rattle.lrpar.specs.FlatValues.{FlatStand};

@@ -1,14 +1,14 @@
 //! A table beside full rows, in which its cells and its gotos are read at once.
 
 ghost use Rattle.std.specs.Prelude.{◌≡◌, ◌<◌, ◌⊎◌, ℕ, [], Some, length, replicate, slice_get, slice_set, IfOk};
-ghost use Rattle.lrtable.specs.CellViews.{action_of, state_of};
-ghost use Rattle.lrtable.specs.Rows.{Rises, Below};
-ghost use Rattle.lrtable.specs.TableValues.{action_at, goto_at};
+ghost use Rattle.state_table.specs.CellViews.{action_of, state_of};
+ghost use Rattle.state_table.specs.Rows.{Rises, Below};
+ghost use Rattle.state_table.specs.TableValues.{action_at, goto_at};
 ghost use Rattle.lrpar.specs.FullTables.{IsFull, AreCells, AreTargets, AreRows};
 
 use cfg_base::index::IndexStorage;
 use cfg_base::symbol::{RIdx, TIdx};
-use lrtable::{Action, StIdx, StateTable};
+use state_table::{Action, StIdx, StateTable};
 use std::alloc::{AllocError, Global};
 use std::marker::Model;
 
@@ -21,7 +21,7 @@ pub(crate) struct FullTable<S: IndexStorage> {
 }
 
 impl<S: IndexStorage> Model for FullTable<S> {
-    ghost use Rattle.lrtable.specs.TableValues.{TableValue};
+    ghost use Rattle.state_table.specs.TableValues.{TableValue};
     ghost use Rattle.lrpar.specs.FullTables.{AreCells, AreTargets, AreRows};
 
     ghost Value = { TableValue };

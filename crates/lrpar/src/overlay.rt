@@ -3,18 +3,18 @@
 ghost use Rattle.std.specs.Prelude.{◌≡◌, ◌<◌, ◌≤◌, ◌∷◌, ℕ, false, length, drop, IfOk, OnOk};
 ghost use Rattle.cfg_theory.specs.Grammar.{end_token};
 ghost use Rattle.lr_theory.specs.Chains.{ChainsWithin};
-ghost use Rattle.lrtable.specs.Tables.{automaton_of};
+ghost use Rattle.state_table.specs.Tables.{automaton_of};
 ghost use Rattle.lrpar.specs.Reducing.{IsTableFor, ReducesTo};
 ghost use Rattle.lrpar.specs.Replay.{overlaid, IsOver, first_of, Rests, TellsShift, TellsAccept};
 ghost use Rattle.lrpar.specs.Taking.{EditsAreTaken};
-ghost use Rattle.lrtable.specs.Graphs.{GraphValue};
-ghost use Rattle.lrtable.specs.CellViews.{state_of};
+ghost use Rattle.state_table.specs.Graphs.{GraphValue};
+ghost use Rattle.state_table.specs.CellViews.{state_of};
 
 use crate::full_table::FullTable;
 use cfg_base::index::IndexStorage;
 use cfg_base::symbol::TIdx;
 use cfg_numbered::yacc::grammar::NumberedGrammar;
-use lrtable::{Action, StIdx};
+use state_table::{Action, StIdx};
 use std::alloc::AllocError;
 
 /// The lowest `kept` states of a base, and those over them. The top is last.

@@ -6,8 +6,8 @@ ghost use Rattle.lr_theory.specs.Automaton.{Safe};
 ghost use Rattle.lr_theory.specs.Chains.{ChainsWithin};
 ghost use Rattle.lr_theory.specs.Machine.{Config};
 ghost use Rattle.lr_theory.specs.Stack.{Stands};
-ghost use Rattle.lrtable.specs.Graphs.{GraphValue};
-ghost use Rattle.lrtable.specs.Tables.{automaton_of};
+ghost use Rattle.state_table.specs.Graphs.{GraphValue};
+ghost use Rattle.state_table.specs.Tables.{automaton_of};
 ghost use Rattle.lrpar.specs.Made.{end_of, made_by, next_lexeme};
 ghost use Rattle.lrpar.specs.Parses.{HoldsValue, IsParse};
 ghost use Rattle.lrpar.specs.Parsing.{error_of, errors_of, IsFoundAt, ComesOf, StacksResume};
@@ -25,7 +25,7 @@ use crate::stacks::Stacks;
 use crate::values::ValueStack;
 use cfg_base::index::IndexStorage;
 use cfg_numbered::yacc::grammar::NumberedGrammar;
-use lrtable::StIdx;
+use state_table::StIdx;
 use std::alloc::{AllocError, Global};
 
 /// An error of a run: the state on top, the next lexeme or the one made up past the last, its index, and the sequences

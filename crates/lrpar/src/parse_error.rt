@@ -9,7 +9,7 @@ use crate::lex_api::{LexError, Lexeme, LexerTypes, NonStreamingLexer};
 use crate::parse_repair::ParseRepair;
 use cfg_base::index::IndexStorage;
 use cfg_base::symbol::TIdx;
-use lrtable::StIdx;
+use state_table::StIdx;
 use std::alloc::{AllocError, Global};
 use std::error::Error;
 use std::fmt;

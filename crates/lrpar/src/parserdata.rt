@@ -3,9 +3,9 @@
 ghost use Rattle.std.specs.Prelude.{◌≡◌, ◌↔◌, IsNone, IsTrue, IfOk, IfErr, OnOk};
 ghost use Rattle.lr_theory.specs.Automaton.{Complete};
 ghost use Rattle.lr_theory.specs.Chains.{ChainsWithin};
-ghost use Rattle.lrtable.specs.Graphs.{GraphValue};
-ghost use Rattle.lrtable.specs.CellViews.{precedences_of};
-ghost use Rattle.lrtable.specs.Tables.{IsTableOf, automaton_of};
+ghost use Rattle.state_table.specs.Graphs.{GraphValue};
+ghost use Rattle.state_table.specs.CellViews.{precedences_of};
+ghost use Rattle.state_table.specs.Tables.{IsTableOf, automaton_of};
 ghost use Rattle.table_theory.specs.Cells.{NoPrecedences};
 ghost use Rattle.lrpar.specs.Pair.{IsSafePair};
 ghost use Rattle.lrpar.specs.Reducing.{IsTableFor};
@@ -30,7 +30,7 @@ use crate::parserdata::safety::least_misfit;
 use cfg_base::index::IndexStorage;
 use cfg_base::symbol::{RIdx, TIdx};
 use cfg_numbered::yacc::grammar::NumberedGrammar;
-use lrtable::{StIdx, StateGraph, StateTable};
+use state_table::{StIdx, StateGraph, StateTable};
 use std::alloc::{AllocError, Global};
 use std::error::Error;
 use std::fmt;
@@ -49,7 +49,7 @@ pub struct ParserData<S: IndexStorage> {
 
 impl<S: IndexStorage> Model for ParserData<S> {
     ghost use Rattle.lr_theory.specs.Automaton.{Complete};
-    ghost use Rattle.lrtable.specs.Tables.{automaton_of};
+    ghost use Rattle.state_table.specs.Tables.{automaton_of};
     ghost use Rattle.lrpar.specs.Checked.{ParserValue, IsData};
     ghost use Rattle.lrpar.specs.Fitting.{Tells};
 

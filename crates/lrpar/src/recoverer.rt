@@ -7,7 +7,7 @@ ghost use Rattle.lrpar.specs.Taking.{sequences_of};
 use crate::lex_api::Lexeme;
 use cfg_base::index::IndexStorage;
 use cfg_base::symbol::TIdx;
-use lrtable::StIdx;
+use state_table::StIdx;
 use std::alloc::{AllocError, Global};
 
 /// A step of a repair.

@@ -2,7 +2,7 @@
 
 ghost use Rattle.std.specs.Prelude.{◌≡◌, ◌<◌, ℕ, true, Some, length, slice_get, IfOk, OnOk};
 ghost use Rattle.lr_theory.specs.Automaton.{reduce};
-ghost use Rattle.lrtable.specs.CellViews.{action_of};
+ghost use Rattle.state_table.specs.CellViews.{action_of};
 ghost use Rattle.lrpar.specs.Reducing.{IsTableFor};
 ghost use Rattle.lrpar.specs.Branching.{Lists, AreReducers, AreAllReducers};
 
@@ -11,7 +11,7 @@ use crate::rows::cell_of_row;
 use cfg_base::index::IndexStorage;
 use cfg_base::symbol::PIdx;
 use cfg_numbered::yacc::grammar::NumberedGrammar;
-use lrtable::{Action, StIdx, StateTable};
+use state_table::{Action, StIdx, StateTable};
 use std::alloc::{AllocError, Global};
 
 /// The production at an index.

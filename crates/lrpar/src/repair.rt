@@ -2,8 +2,8 @@
 
 ghost use Rattle.std.specs.Prelude.{◌≡◌, ◌<◌, ◌≤◌, ℕ, length, drop, map, slice_get, Some, List, [], IfOk, IfSome, IsSome};
 ghost use Rattle.lr_theory.specs.Chains.{ChainsWithin};
-ghost use Rattle.lrtable.specs.Graphs.{GraphValue};
-ghost use Rattle.lrtable.specs.Tables.{automaton_of};
+ghost use Rattle.state_table.specs.Graphs.{GraphValue};
+ghost use Rattle.state_table.specs.Tables.{automaton_of};
 ghost use Rattle.lrpar.specs.Reducing.{IsTableFor, stack_of, AreStates};
 ghost use Rattle.lrpar.specs.Replay.{overlaid, IsOver};
 ghost use Rattle.lrpar.specs.Run.{AreLexemes, token_by};
@@ -18,7 +18,7 @@ use crate::recoverer::RepairStep;
 use cfg_base::index::IndexStorage;
 use cfg_base::symbol::TIdx;
 use cfg_numbered::yacc::grammar::NumberedGrammar;
-use lrtable::StIdx;
+use state_table::StIdx;
 use std::alloc::{AllocError, Global};
 
 /// The index of the next lexeme after an insertion, where it can be made.

@@ -1,10 +1,10 @@
 //! Entries of the rows that a table lends of a state.
 
 ghost use Rattle.std.specs.Prelude.{◌≡◌, ◌<◌, Some, length, slice_get};
-ghost use Rattle.lrtable.specs.CellViews.{action_of, cells_of, targets_of};
+ghost use Rattle.state_table.specs.CellViews.{action_of, cells_of, targets_of};
 
 use cfg_base::index::IndexStorage;
-use lrtable::{Action, StIdx};
+use state_table::{Action, StIdx};
 
 /// The cell at a place, beside its token's number.
 pub(crate) fn cell_of_row<S: IndexStorage>(

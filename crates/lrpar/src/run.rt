@@ -3,8 +3,8 @@
 ghost use Rattle.std.specs.Prelude.{◌≡◌, ◌≤◌, ◌+◌, ℕ, List, length, drop, slice_get, IfOk, OnOk};
 ghost use Rattle.lr_theory.specs.Automaton.{Safe};
 ghost use Rattle.lr_theory.specs.Machine.{Config};
-ghost use Rattle.lrtable.specs.Graphs.{GraphValue};
-ghost use Rattle.lrtable.specs.Tables.{automaton_of};
+ghost use Rattle.state_table.specs.Graphs.{GraphValue};
+ghost use Rattle.state_table.specs.Tables.{automaton_of};
 ghost use Rattle.lrpar.specs.Reducing.{IsTableFor, stack_of};
 ghost use Rattle.lrpar.specs.Run.{AreLexemes, StartsByNext, StandFor, AreStacks, token_of, NextOf, NextInside, StartsBefore, Turned, StacksAfter, StartsAfter, TurnReduces, Advanced, StacksAdvanced, Ended, StacksEnded, token_by};
 ghost use Rattle.lr_theory.specs.Chains.{ChainsWithin};
@@ -18,7 +18,7 @@ use crate::values::ValueStack;
 use cfg_base::index::IndexStorage;
 use cfg_base::symbol::TIdx;
 use cfg_numbered::yacc::grammar::NumberedGrammar;
-use lrtable::Action;
+use state_table::Action;
 use std::alloc::{AllocError, Global};
 
 /// How a turn of a run ends.

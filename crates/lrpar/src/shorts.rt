@@ -1,9 +1,9 @@
 //! A quick test that no chain is long: it follows the reductions of one symbol, without their tokens.
 
 ghost use Rattle.std.specs.Prelude.{◌≡◌, ◌<◌, ◌+◌, ℕ, List, true, Some, length, slice_get, IfOk};
-ghost use Rattle.lrtable.specs.Graphs.{GraphValue};
-ghost use Rattle.lrtable.specs.TableValues.{TableValue};
-ghost use Rattle.lrtable.specs.Tables.{automaton_of};
+ghost use Rattle.state_table.specs.Graphs.{GraphValue};
+ghost use Rattle.state_table.specs.TableValues.{TableValue};
+ghost use Rattle.state_table.specs.Tables.{automaton_of};
 ghost use Rattle.lrpar.specs.Reducing.{IsLong, IsTableFor, ShortAt, ShortIn, AreShorts};
 ghost use Rattle.lrpar.specs.Branching.{Lists, AreReducers, AreAllReducers};
 
@@ -12,7 +12,7 @@ use crate::reducers::{prod_of_list, reducers_at};
 use cfg_base::index::IndexStorage;
 use cfg_base::symbol::PIdx;
 use cfg_numbered::yacc::grammar::NumberedGrammar;
-use lrtable::{StIdx, StateTable};
+use state_table::{StIdx, StateTable};
 use std::alloc::{AllocError, Global};
 
 /// The reductions of at most one symbol that a state makes: none, by one production of one symbol alone, or others.

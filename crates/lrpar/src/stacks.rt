@@ -6,9 +6,9 @@ ghost use Rattle.cfg_theory.specs.Tree.{Tree, Forest, leaf, node, none};
 ghost use Rattle.lr_theory.specs.Automaton.{reduce};
 ghost use Rattle.lr_theory.specs.Chains.{reduce_by};
 ghost use Rattle.lr_theory.specs.Machine.{pop};
-ghost use Rattle.lrtable.specs.Tables.{automaton_of};
+ghost use Rattle.state_table.specs.Tables.{automaton_of};
 ghost use Rattle.lrpar.specs.Reducing.{states_of, stack_of, IsTableFor, AreStates};
-ghost use Rattle.lrtable.specs.Graphs.{GraphValue};
+ghost use Rattle.state_table.specs.Graphs.{GraphValue};
 
 use crate::full_table::FullTable;
 use crate::lex_api::Lexeme;
@@ -17,7 +17,7 @@ use crate::values::ValueStack;
 use cfg_base::index::IndexStorage;
 use cfg_base::symbol::PIdx;
 use cfg_numbered::yacc::grammar::NumberedGrammar;
-use lrtable::StIdx;
+use state_table::StIdx;
 use std::alloc::{AllocError, Global};
 
 /// The states of a run, the last one on top, and what is made of the symbols between them.

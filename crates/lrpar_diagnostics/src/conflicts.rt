@@ -3,8 +3,8 @@
 ghost use Rattle.std.specs.Prelude.{◌≡◌, ◌<◌, ◌++◌, ℕ, length, codes, map, Some, IfOk, OnOk};
 ghost use Rattle.std.specs.List.{flat_map};
 ghost use Rattle.std.specs.String.{string_bytes};
-ghost use Rattle.lrtable.specs.CellViews.{pair_of, pairs_of, shift_of, shifts_of};
-ghost use Rattle.lrtable.specs.ConflictTexts.{ConflictsInRange, PairsInRange, ShiftsInRange};
+ghost use Rattle.state_table.specs.CellViews.{pair_of, pairs_of, shift_of, shifts_of};
+ghost use Rattle.state_table.specs.ConflictTexts.{ConflictsInRange, PairsInRange, ShiftsInRange};
 ghost use Rattle.lrpar_diagnostics.specs.Places.{located_text};
 ghost use Rattle.lrpar_diagnostics.specs.ConflictTexts.{told, told_if, reduced_text, shift_message, shift_parts, shift_text, pair_message, pair_parts, pair_text, conflicts_text, IsSpanOfToken};
 
@@ -17,10 +17,10 @@ use cfg_base::span::Span;
 use cfg_base::symbol::{PIdx, TIdx};
 use cfg_numbered::yacc::NumberedGrammar;
 use cfg_read::yacc::ast::GrammarAST;
-use lrtable::conflicts::Conflicts;
-use lrtable::stategraph::StateGraph;
-use lrtable::statetable::StateTable;
-use lrtable::stidx::StIdx;
+use state_table::conflicts::Conflicts;
+use state_table::stategraph::StateGraph;
+use state_table::statetable::StateTable;
+use state_table::stidx::StIdx;
 use std::alloc::{AllocError, Global};
 
 fn shift_message<S: IndexStorage>(

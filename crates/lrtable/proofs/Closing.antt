@@ -2,7 +2,7 @@
 use Rattle.std.proofs.Common.{◌≡◌, ℕ, inl, inr, false, List, [], length, get_or, replicate, refl, sym, ap, ◌∙◌, subst, arith}
 use Rattle.std.proofs.lemmas.List.{length-replicate}
 use Rattle.cfg_theory.specs.Grammar.{Grammar, rule, IsNext, WellFormed}
-use Rattle.lrtable.specs.ItemRows.{Core}
+use Rattle.state_table.specs.ItemRows.{Core}
 use Rattle.lrtable.specs.Opening.{Front, RuleSets, IsOpen, HasRuleLook, AllFit, SameSizes, Opened, OpenedLook}
 use Rattle.lrtable.specs.Closes.{AreFronts}
 use Rattle.lrtable.specs.Stepping.{IsSized, IsClosureOf}

@@ -3,7 +3,7 @@ use Rattle.std.proofs.Common.{◌≡◌, ℕ, ◌+◌, ◌<◌, Bool, List, [], 
 use Rattle.std.proofs.lemmas.Grind.{take-set_at}
 use Rattle.std.proofs.lemmas.List.{map-append, take_all}
 use Rattle.vob.specs.Packed.{Contents}
-use Rattle.lrtable.specs.Meeting.{rows_in}
+use Rattle.state_table.specs.Meeting.{rows_in}
 
 -- over one that is there
 pub copied_over : (xs : List Contents) (k n : ℕ) (v : Contents) (bits : List Bool) → n ≡ k + 1 → k < length xs → v.bits ≡ bits → rows_in (take n (set xs k v)) ≡ rows_in (take k xs) ++ bits ∷ []

@@ -6,11 +6,11 @@ use Rattle.std.proofs.lemmas.List.{get_or_past}
 use Rattle.vob.specs.Bits.{bitwise, Meets}
 use Rattle.cfg_numbered.specs.Sets.{is_set}
 use Rattle.lr_theory.specs.Itemset.{HasItem, HasLook, SameItems, Is, Union}
-use Rattle.lrtable.specs.Meeting.{PairFits, RowsFit, row}
-use Rattle.lrtable.specs.ItemRows.{Item, Ascends, set_of, join_rows, CoversRows, LacksRows}
+use Rattle.state_table.specs.Meeting.{PairFits, RowsFit, row}
+use Rattle.state_table.specs.ItemRows.{Item, Ascends, set_of, join_rows, CoversRows, LacksRows}
 use Rattle.cfg_numbered.proofs.Bits.{joined}
 use Rattle.lr_theory.proofs.ItemLists.{one_list}
-use Rattle.lrtable.proofs.ItemSets.{has_item, has_look, one_place, nought, at_own}
+use Rattle.state_table.proofs.ItemSets.{has_item, has_look, one_place, nought, at_own}
 
 never : false ≡ true → ⊥
 never e = cc

@@ -8,9 +8,9 @@ use Rattle.lr_theory.specs.Graph.{Graph, Leads}
 use Rattle.lr_theory.specs.Building.{Building, Pruned, IsGraph, same_symbol}
 use Rattle.lr_theory.proofs.Building.{reached_sound, built_finished}
 use Rattle.lrtable.specs.Handling.{AreBuilt}
-use Rattle.lrtable.specs.ItemRows.{Core, map_of}
-use Rattle.lrtable.specs.States.{Edge, SymBefore, AscendEdges, StateValue, no_state, state_at, edge_in, edge_of, Matches}
-use Rattle.lrtable.specs.Stepping.{FitsCore}
+use Rattle.state_table.specs.ItemRows.{Core, map_of, FitsCore}
+use Rattle.lrtable.specs.States.{Edge, AscendEdges, StateValue, no_state, state_at, edge_in, edge_of, Matches}
+use Rattle.state_table.specs.Graphs.{SymBefore}
 use Rattle.lrtable.specs.Pruning.{graph_of_states, IsLed, AreLinked, renumbered, renumbered_state, IsCut}
 use Rattle.lrtable.proofs.Placing.{core_is, count_is}
 use Rattle.lrtable.proofs.Stepping.{reached_fits}

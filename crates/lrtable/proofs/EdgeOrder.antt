@@ -6,9 +6,10 @@ use Rattle.std.proofs.lemmas.List.{get_or-set_same, get_or-set_other, length-set
 use Rattle.cfg_theory.specs.Grammar.{Sym, rule, token}
 use Rattle.lr_theory.specs.Building.{same_symbol}
 use Rattle.lr_theory.proofs.Place.{same_symbol_true, same_symbol_refl, nat_eq_refl}
-use Rattle.lrtable.specs.States.{Edge, SymBefore, EdgeBefore, AscendEdges, edge_in, IsPut}
-use Rattle.lrtable.proofs.Adding.{all_pairs_insert}
-use Rattle.lrtable.proofs.CoreSteps.{map_insert}
+use Rattle.lrtable.specs.States.{Edge, EdgeBefore, AscendEdges, edge_in, IsPut}
+use Rattle.state_table.specs.Graphs.{SymBefore}
+use Rattle.state_table.proofs.Adding.{all_pairs_insert}
+use Rattle.state_table.proofs.CoreSteps.{map_insert}
 
 -- ---- the order
 

@@ -3,7 +3,7 @@ use Rattle.std.proofs.Common.{◌≡◌, ℕ, ◌<◌, inl, inr, true, List, [],
 use Rattle.std.proofs.lemmas.Bool.{cases_eq}
 use Rattle.std.proofs.lemmas.List.{get_or_append_left}
 use Rattle.std.specs.Prelude.{Bool}
-use Rattle.lrtable.specs.ItemRows.{join_rows}
+use Rattle.state_table.specs.ItemRows.{join_rows}
 use Rattle.lrtable.specs.States.{Edge, StateValue, no_state, state_at, AscendEdges, grown_at}
 
 pub ascends_kept : (states mid : List StateValue) (s : ℕ) → AscendEdges (state_at states s).edges → mid ≡ states → AscendEdges (state_at mid s).edges

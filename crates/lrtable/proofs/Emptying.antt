@@ -3,8 +3,8 @@ use Rattle.std.proofs.Common.{◌≡◌, ℕ, zero, suc, ◌+◌, ◌<◌, inl, 
 use Rattle.std.proofs.lemmas.Bool.{cases_eq}
 use Rattle.std.proofs.lemmas.List.{map-set}
 use Rattle.cfg_numbered.proofs.Bits.{set_same}
-use Rattle.lrtable.specs.Gaining.{no_core, core_in}
-use Rattle.lrtable.specs.ItemRows.{Item, Core, IsCoreOf}
+use Rattle.state_table.specs.ItemRows.{no_core, Item, Core, IsCoreOf}
+use Rattle.lrtable.specs.Gaining.{core_in}
 
 -- a set without items has no rows
 pub none_core : (tokens : ℕ) (c : Core) → IsCoreOf tokens c → length c.items ≡ 0 → c ≡ no_core

@@ -10,22 +10,23 @@ use Rattle.lr_theory.specs.Canonical.{Present}
 use Rattle.lr_theory.specs.Graph.{Graph}
 use Rattle.lr_theory.specs.Itemset.{ItemSet, HasItem, HasLook, Closure, ClosureLook, Is, FitsGrammar}
 use Rattle.lr_theory.proofs.GraphLaws.{finished_law}
-use Rattle.lrtable.specs.Graphs.{GraphValue, target_in, graph_of, AreInOrder, IsGraphValue, IsGraphOf}
+use Rattle.state_table.specs.Graphs.{GraphValue, target_in, graph_of, AreInOrder, IsGraphValue, IsGraphOf, SymBefore}
 use Rattle.lrtable.specs.FinalStates.{AreClosures, AreFinal, pair_of_edge, edge_pairs_of}
 use Rattle.lrtable.specs.Pruning.{graph_of_states}
 use Rattle.vob.specs.Packed.{Contents}
-use Rattle.lrtable.specs.declared.cores.CoreSet.{CoreSet}
-use Rattle.lrtable.specs.declared.shared_sets.SharedSets.{SharedSets}
+use Rattle.state_table.specs.declared.cores.CoreSet.{CoreSet}
+use Rattle.state_table.specs.declared.shared_sets.SharedSets.{SharedSets}
 use Rattle.lrtable.specs.declared.states.EdgeTo.{EdgeTo}
 use Rattle.lrtable.specs.declared.states.State.{State}
-use Rattle.lrtable.specs.ItemRows.{Core, Ascends, IsCoreOf, map_of}
-use Rattle.lrtable.specs.Meeting.{rows_in}
-use Rattle.lrtable.specs.Sharing.{shared_core, PointIn, IsShared}
-use Rattle.lrtable.specs.StateViews.{item_of, core_of_set, edge_of_pair, edges_of, value_of}
-use Rattle.lrtable.specs.States.{Edge, SymBefore, AscendEdges, StateValue, edge_in, edge_of, state_at, no_state}
-use Rattle.lrtable.proofs.EdgeLists.{found_at}
+use Rattle.state_table.specs.ItemRows.{Core, Ascends, IsCoreOf, map_of}
+use Rattle.state_table.specs.Meeting.{rows_in}
+use Rattle.state_table.specs.Sharing.{shared_core, PointIn, IsShared}
+use Rattle.state_table.specs.CoreViews.{item_of, core_of_set}
+use Rattle.lrtable.specs.StateViews.{edge_of_pair, edges_of, value_of}
+use Rattle.lrtable.specs.States.{Edge, AscendEdges, StateValue, edge_in, edge_of, state_at, no_state}
+use Rattle.state_table.proofs.EdgeLists.{found_at}
 use Rattle.lrtable.proofs.Exact.{dot_within}
-use Rattle.lrtable.proofs.Fitting.{fits_by}
+use Rattle.state_table.proofs.Fitting.{fits_by}
 
 -- ---- edges
 
@@ -194,3 +195,10 @@ mapped_next f h xs k x lt = ap (λ l. map f (map h l)) (take_more xs k x lt) ∙
 
 pub targets_fit : (n top : ℕ) (es : List (Sym × ℕ)) → n ≤ top → All (λ e. e.1 < n) es → All (λ e. e.1 ≤ top) es
 targets_fit n top es le h = λ k d lt. (let b = h k d lt in omega (arith, b, le))
+
+-- the cores of the first states and of the next
+pub mapped_core : {S : Type 0} (number : S → ℕ) (xs : List (State S)) (k : ℕ) → k < length xs →
+    map (λ (s : StateValue). map_of s.core) (map (value_of number) (take (k + 1) xs)) ≡ map (λ (s : StateValue). map_of s.core) (map (value_of number) (take k xs)) ++ map_of (state_at (map (value_of number) xs) k).core ∷ []
+mapped_core number [] k lt = absurd (omega (arith, lt))
+mapped_core number (x ∷ xs) k lt = mapped_next (λ (s : StateValue). map_of s.core) (value_of number) (x ∷ xs) k x lt ∙
+    ap (λ (s : StateValue). map (λ (s : StateValue). map_of s.core) (map (value_of number) (take k (x ∷ xs))) ++ map_of s.core ∷ []) (sym (get_or-map (value_of number) (x ∷ xs) k x no_state lt))

@@ -9,20 +9,21 @@ use Rattle.cfg_theory.specs.Grammar.{Sym, Grammar, InRange, IsOf, IsNext, WellFo
 use Rattle.cfg_numbered.specs.Value.{productions_of}
 use Rattle.cfg_numbered.proofs.RuleLists.{alone, ascending}
 use Rattle.lr_theory.specs.Itemset.{Items, Lookaheads, HasItem, HasLook, ItemSet, Goto}
-use Rattle.lrtable.specs.Adding.{Adds, One, OneLooks}
+use Rattle.state_table.specs.Adding.{Adds, One, OneLooks}
 use Rattle.lrtable.specs.Closes.{AreFronts}
-use Rattle.lrtable.specs.Gaining.{no_core, core_in, moved_by, AreSets, Gains}
+use Rattle.state_table.specs.ItemRows.{no_core, Core, IsAt, IsCoreOf, map_of, BelongsAt}
+use Rattle.lrtable.specs.Gaining.{core_in, moved_by, AreSets, Gains}
 use Rattle.lrtable.specs.Handling.{rank}
-use Rattle.lrtable.specs.ItemRows.{Core, IsAt, IsCoreOf, map_of}
 use Rattle.lrtable.specs.LookRows.{LookRows}
-use Rattle.lrtable.specs.MovedItems.{AreEmpty, BelongsAt, HaveNone, IsKernel, core_of_moved, moved_item, moved_items, row_from, set_of_moved}
+use Rattle.lrtable.specs.MovedItems.{AreEmpty, HaveNone, IsKernel, core_of_moved, moved_item, moved_items, row_from, set_of_moved}
 use Rattle.lrtable.specs.Opening.{Front, RuleSets, IsOpen}
 use Rattle.lrtable.specs.Stepping.{IsClosureOf, ItemsBelow, LooksBelow, OfRule, OpenAt, OpenBelow, OpenLooksBelow}
 use Rattle.lrtable.specs.declared.moved_items.MovedItem.{MovedItem}
 use Rattle.lrtable.proofs.Closing.{start_closed}
-use Rattle.lrtable.proofs.CoreSteps.{put_adds, put_core}
-use Rattle.lrtable.proofs.ItemSets.{has_item, one_place}
-use Rattle.lrtable.proofs.Moving.{ListedBelow, ListedLooks, good_at, move_set, no_items, none_moved, set_at}
+use Rattle.state_table.proofs.CoreSteps.{put_adds, put_core}
+use Rattle.state_table.proofs.ItemSets.{has_item, one_place}
+use Rattle.lrtable.proofs.Moving.{ListedBelow, ListedLooks, good_at, move_set, none_moved, set_at}
+use Rattle.state_table.proofs.Fitting.{no_items}
 use Rattle.lrtable.proofs.Ranks.{rank_below}
 
 -- fewer items

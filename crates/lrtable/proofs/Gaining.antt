@@ -5,10 +5,10 @@ use Rattle.std.proofs.lemmas.Bool.{cases_eq}
 use Rattle.cfg_theory.specs.Grammar.{Sym, Grammar, InRange, IsNext}
 use Rattle.cfg_numbered.specs.Sets.{is_set}
 use Rattle.lr_theory.specs.Itemset.{Items, Lookaheads, HasItem, HasLook, SameItems, SameLooks, Goto, GotoLook}
-use Rattle.lrtable.specs.ItemRows.{Core, IsCoreOf, map_of}
-use Rattle.lrtable.specs.Adding.{Adds, One, OneLooks}
+use Rattle.state_table.specs.ItemRows.{Core, IsCoreOf, map_of, no_core}
+use Rattle.state_table.specs.Adding.{Adds, One, OneLooks}
 use Rattle.lrtable.specs.Handling.{rank}
-use Rattle.lrtable.specs.Gaining.{no_core, core_in, moved_by, AreSets, Gains}
+use Rattle.lrtable.specs.Gaining.{core_in, moved_by, AreSets, Gains}
 use Rattle.lrtable.proofs.Ranks.{rank_once, rank_below}
 
 -- nothing moved

@@ -5,7 +5,7 @@ use Rattle.cfg_theory.specs.Grammar.{Sym, Grammar, IsNext, WellFormed}
 use Rattle.lr_theory.specs.Itemset.{ItemSet, HasItem, HasLook, Closure, ClosureLook, Goto, GotoLook, StartItem, StartLook, Is}
 use Rattle.lr_theory.specs.Graph.{core_of}
 use Rattle.lr_theory.specs.Building.{Building, Place, Handled, Reached, Underway, IsTodo, taken, symbols, Step}
-use Rattle.lrtable.specs.ItemRows.{Core, IsCoreOf, map_of}
+use Rattle.state_table.specs.ItemRows.{Core, IsCoreOf, map_of}
 use Rattle.lrtable.specs.States.{StateValue, no_state, state_at, edge_of, AscendEdges, Matches, IsPlaced, JoinsNone}
 use Rattle.lrtable.proofs.Placing.{edged, added_place, count_is}
 use Rattle.std.proofs.lemmas.Bool.{cases_lt}

@@ -1,15 +1,14 @@
 -- Marks of the sets that have items.
-use Rattle.std.proofs.Common.{◌≡◌, ℕ, zero, suc, ◌+◌, ◌<◌, ◌≤◌, inl, inr, Bool, true, false, ◌||◌, List, [], ◌∷◌, length, set, replicate, ◌++◌, refl, sym, ap, ap₂, ◌∙◌, subst, arith, get_or-set_same, get_or-set_other, length-set}
+use Rattle.std.proofs.Common.{◌≡◌, ℕ, zero, suc, ◌+◌, ◌<◌, ◌≤◌, inl, inr, Bool, true, false, ◌||◌, List, [], ◌∷◌, length, set, replicate, refl, sym, ap, ◌∙◌, subst, arith, get_or-set_same, get_or-set_other, length-set}
 use Rattle.std.proofs.lemmas.Bool.{cases_eq, cases_lt}
-use Rattle.std.proofs.lemmas.List.{length-replicate, get_or-replicate, take_all, drop_all}
-use Rattle.std.specs.List.{insert}
+use Rattle.std.proofs.lemmas.List.{length-replicate, get_or-replicate}
 use Rattle.vob.specs.Bits.{bitwise}
 use Rattle.cfg_theory.specs.Grammar.{Grammar, head_of}
 use Rattle.cfg_numbered.specs.Sets.{is_set}
 use Rattle.lr_theory.specs.Building.{Building}
-use Rattle.lrtable.specs.Gaining.{no_core, core_in, AreMarked, Gains, KeepsMarks}
+use Rattle.state_table.specs.ItemRows.{no_core, Core}
+use Rattle.lrtable.specs.Gaining.{core_in, AreMarked, Gains, KeepsMarks}
 use Rattle.lrtable.specs.Handling.{AreHandled}
-use Rattle.lrtable.specs.ItemRows.{Core}
 use Rattle.lrtable.specs.Opening.{RuleSets, IsOpen}
 use Rattle.lrtable.specs.States.{StateValue}
 use Rattle.lrtable.specs.Stepping.{OpenBelow, OpenLooksBelow, AreGotosOf}
@@ -72,7 +71,3 @@ or_clear [] [] e = refl
 or_clear [] (b ∷ bits) e = cc
 or_clear (r ∷ row) [] e = cc
 or_clear (r ∷ row) (b ∷ bits) e = ap (λ l. b ∷ l) (or_clear row bits (omega (arith, e)))
-
--- what is inserted at the end is last
-pub insert_last : {X : Type 0} (xs : List X) (i : ℕ) (x : X) → length xs ≤ i → insert xs i x ≡ xs ++ x ∷ []
-insert_last xs i x le = ap₂ (λ l r. l ++ x ∷ r) (take_all i xs le) (drop_all i xs le)

@@ -6,17 +6,16 @@ use Rattle.cfg_numbered.specs.Sets.{is_set}
 use Rattle.lr_theory.specs.Building.{same_symbol}
 use Rattle.lr_theory.specs.Itemset.{Items, Lookaheads, HasItem, HasLook, SameItems, SameLooks, Goto, GotoLook, Is}
 use Rattle.lr_theory.proofs.Place.{same_symbol_refl}
-use Rattle.lrtable.specs.declared.shared_sets.SharedSets.{SharedSets}
-use Rattle.lrtable.specs.Adding.{One, OneLooks}
-use Rattle.lrtable.specs.Gaining.{no_core}
-use Rattle.lrtable.specs.ItemRows.{IsAt, Core, IsCoreOf, map_of}
-use Rattle.lrtable.specs.Meeting.{rows_in, row}
-use Rattle.lrtable.specs.Sharing.{shared_core, shared_map, PointIn, TakesIn, GrowsBy}
+use Rattle.state_table.specs.declared.shared_sets.SharedSets.{SharedSets}
+use Rattle.state_table.specs.Adding.{One, OneLooks}
+use Rattle.state_table.specs.ItemRows.{no_core, IsAt, Core, IsCoreOf, map_of}
+use Rattle.state_table.specs.Meeting.{rows_in, row}
+use Rattle.state_table.specs.Sharing.{shared_core, shared_map, PointIn, TakesIn, GrowsBy}
 use Rattle.lrtable.specs.Stepping.{ItemsBelow, LooksBelow}
 use Rattle.lrtable.proofs.Gaining.{goto_as, goto_look_as}
-use Rattle.lrtable.proofs.Moving.{no_items}
+use Rattle.state_table.proofs.Fitting.{no_items}
 use Rattle.lrtable.proofs.Seeding.{below_none, below_next, below_all, looks_next, looks_all}
-use Rattle.lrtable.proofs.Sharing.{grows_none, grows_on, grows_as, grows_one}
+use Rattle.state_table.proofs.Sharing.{grows_none, grows_on, grows_as, grows_one}
 
 goto_or : (G : Grammar) (I J : Items) (X : Sym) → SameItems (λ p d. Goto G I X p d ⊎ Goto G J X p d) (Goto G (λ p d. I p d ⊎ J p d) X)
 goto_or G I J X p d = (λ h. elim h [ inl x ↦ left x | inr x ↦ right x ], parts)

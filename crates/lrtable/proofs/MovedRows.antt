@@ -1,9 +1,9 @@
 -- The lookaheads of moved items, where they stand.
 use Rattle.std.proofs.Common.{◌≡◌, ℕ, ◌<◌, List, [], length, get_or, subst, arith}
 use Rattle.std.proofs.lemmas.List.{length-map, get_or-map}
-use Rattle.lrtable.specs.ItemRows.{Core, IsCoreOf}
+use Rattle.state_table.specs.ItemRows.{Core, IsCoreOf}
 use Rattle.lrtable.specs.LookRows.{LookRows}
-use Rattle.lrtable.specs.Meeting.{row}
+use Rattle.state_table.specs.Meeting.{row}
 use Rattle.lrtable.specs.MovedItems.{AreWide, row_from, rows_from}
 use Rattle.lrtable.specs.declared.moved_items.MovedItem.{MovedItem}
 

@@ -9,21 +9,22 @@ use Rattle.cfg_theory.specs.Grammar.{Sym, Grammar, InRange, IsOf, IsNext, WellFo
 use Rattle.cfg_numbered.specs.Sets.{is_set}
 use Rattle.cfg_numbered.specs.Value.{productions_of}
 use Rattle.cfg_numbered.proofs.RuleLists.{listed, alone}
-use Rattle.lr_theory.specs.Itemset.{Items, Lookaheads, ItemSet, HasItem, HasLook, Closure, ClosureLook, entry_at}
-use Rattle.lrtable.specs.Adding.{Adds, One, OneLooks}
+use Rattle.lr_theory.specs.Itemset.{Items, Lookaheads, ItemSet, HasItem, HasLook, Closure, ClosureLook}
+use Rattle.state_table.specs.Adding.{Adds, One, OneLooks}
 use Rattle.lrtable.specs.Closes.{AreFronts}
-use Rattle.lrtable.specs.Gaining.{no_core, core_in, moved_by, AreSets, Gains}
+use Rattle.state_table.specs.ItemRows.{no_core, IsAt, Core, IsCoreOf, map_of}
+use Rattle.lrtable.specs.Gaining.{core_in, moved_by, AreSets, Gains}
 use Rattle.lrtable.specs.Handling.{rank}
-use Rattle.lrtable.specs.ItemRows.{IsAt, Core, IsCoreOf, map_of}
-use Rattle.lrtable.specs.Meeting.{row}
+use Rattle.state_table.specs.Meeting.{row}
 use Rattle.lrtable.specs.Opening.{Front, RuleSets, IsOpen, HasRuleLook}
 use Rattle.lrtable.specs.Stepping.{ItemsBelow, LooksBelow, OfRule, OfRuleLooks, OpenAt, OpenLooksAt, OpenBelow, OpenLooksBelow, IsClosureOf, AreGotos}
 use Rattle.lrtable.proofs.CloseLaws.{item, look, held_look}
 use Rattle.lrtable.proofs.Closing.{look_open}
 use Rattle.lrtable.proofs.Gaining.{gains_none, gains_on, gains_as, gains_one}
-use Rattle.lrtable.proofs.CoreSteps.{map_at}
+use Rattle.state_table.proofs.CoreSteps.{map_at}
 use Rattle.lrtable.proofs.Ranks.{rank_below}
 use Rattle.lrtable.proofs.Seeding.{below_none, below_next, below_all, looks_next, looks_all}
+use Rattle.state_table.proofs.Fitting.{no_items}
 
 -- the first k productions of a rule at dot nought
 abbrev pub ListedBelow : Grammar → ℕ → ℕ → Items
@@ -111,10 +112,6 @@ open_next G s A a b c h m = gains_as G (λ p d. OpenBelow G s A p d ⊎ OpenAt G
     ]
 
 -- ---- all of them
-
-pub no_items : (p d : ℕ) → HasItem (map_of no_core) p d → ⊥
-unfolding entry_at
-no_items p d h = let e = h.at in cc
 
 pub empty_sets_good : (tokens n : ℕ) → AreSets tokens (replicate n no_core)
 empty_sets_good tokens n k lt = subst (λ c. IsCoreOf tokens c) (sym (get_or-replicate n k no_core no_core (let l = length-replicate n no_core in omega (arith, lt, l)))) (record { ascends = λ i j d l w. absurd (omega (arith, w)); count = refl; width = λ i l. absurd (omega (arith, l)) })

@@ -10,19 +10,19 @@ use Rattle.cfg_numbered.specs.Value.{productions_of}
 use Rattle.table_theory.proofs.CellLists.{contains_nil, contains_cases}
 use Rattle.cfg_numbered.proofs.RuleLists.{listed, alone}
 use Rattle.lr_theory.specs.Itemset.{ItemSet, HasItem, HasLook, SameItems, SameLooks, Closure, ClosureLook, Is}
-use Rattle.lrtable.specs.declared.shared_sets.SharedSets.{SharedSets}
-use Rattle.lrtable.specs.Adding.{One, OneLooks}
+use Rattle.state_table.specs.declared.shared_sets.SharedSets.{SharedSets}
+use Rattle.state_table.specs.Adding.{One, OneLooks}
 use Rattle.lrtable.specs.Closes.{AreFronts}
-use Rattle.lrtable.specs.ItemRows.{Core, IsCoreOf, map_of}
-use Rattle.lrtable.specs.Meeting.{rows_in, row}
+use Rattle.state_table.specs.ItemRows.{Core, IsCoreOf, map_of}
+use Rattle.state_table.specs.Meeting.{rows_in, row}
 use Rattle.lrtable.specs.Opening.{Front, RuleSets, IsOpen, HasRuleLook}
-use Rattle.lrtable.specs.Sharing.{shared_core, shared_map, PointIn, KeepsSets, TakesIn, GrowsBy}
+use Rattle.state_table.specs.Sharing.{shared_core, shared_map, PointIn, KeepsSets, TakesIn, GrowsBy}
 use Rattle.lrtable.specs.Stepping.{OfRule, OfRuleLooks, OpenBelow, OpenLooksBelow, IsClosureOf}
 use Rattle.lrtable.proofs.Clearing.{next_in, rest_in, set_below}
 use Rattle.lrtable.proofs.CloseLaws.{item, look, held_look}
 use Rattle.lrtable.proofs.Closing.{look_open}
 use Rattle.lrtable.proofs.Moving.{ListedBelow, ListedLooks}
-use Rattle.lrtable.proofs.Sharing.{grows_none, grows_on, grows_as, grows_one, grows_from, stays_pushed}
+use Rattle.state_table.proofs.Sharing.{grows_none, grows_on, grows_as, grows_one, grows_from, stays_pushed}
 
 none_listed : (p : ℕ) → Contains [] p → ⊥
 none_listed p h = let lt = h.1 in omega (arith, lt)

@@ -6,8 +6,8 @@ use Rattle.std.proofs.Math.Seq.{get_or-append_seam}
 use Rattle.cfg_theory.specs.Grammar.{Sym}
 use Rattle.lr_theory.specs.Itemset.{HasItem, HasLook, Is}
 use Rattle.lr_theory.specs.Building.{Building, same_symbol}
-use Rattle.lrtable.specs.ItemRows.{Core, IsCoreOf, map_of, set_of, join_rows, CoversRows, LacksRows}
-use Rattle.lrtable.specs.Meeting.{row}
+use Rattle.state_table.specs.ItemRows.{Core, IsCoreOf, map_of, set_of, join_rows, CoversRows, LacksRows}
+use Rattle.state_table.specs.Meeting.{row}
 use Rattle.lrtable.specs.States.{Edge, StateValue, no_state, state_at, edge_in, edge_of, AscendEdges, Matches, AreStates, IsLinked, IsPlaced, JoinsAt, JoinsNone, grown_at}
 use Rattle.cfg_numbered.proofs.Bits.{length-bitwise}
 use Rattle.lrtable.proofs.CoreSets.{length_join, row_join}

@@ -3,7 +3,7 @@ use Rattle.std.proofs.Common.{◌≡◌, ℕ, ◌<◌, ◌≤◌, inl, inr, Bool
 use Rattle.std.proofs.lemmas.Bool.{cases_Bool, cases_eq}
 use Rattle.std.proofs.lemmas.List.{get_or_append_left}
 use Rattle.cfg_theory.specs.Grammar.{Sym}
-use Rattle.lrtable.specs.ItemRows.{join_rows}
+use Rattle.state_table.specs.ItemRows.{join_rows}
 use Rattle.lrtable.specs.States.{StateValue, no_state, state_at, IsLinked, AreQuiet, grown_at}
 use Rattle.lrtable.specs.Stepping.{set_off}
 

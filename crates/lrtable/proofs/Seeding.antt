@@ -8,14 +8,14 @@ use Rattle.cfg_theory.specs.Derivation.{Nullable, IsFirst}
 use Rattle.lr_theory.specs.Canonical.{from_dot}
 use Rattle.lr_theory.specs.Itemset.{Items, Lookaheads, ItemSet, HasItem, HasLook, SameItems, SameLooks}
 use Rattle.cfg_numbered.specs.Sets.{is_set}
-use Rattle.lrtable.specs.Adding.{One, OneLooks}
-use Rattle.lrtable.specs.ItemRows.{Item, IsAt, Core, IsCoreOf, map_of}
-use Rattle.lrtable.specs.Meeting.{row}
+use Rattle.state_table.specs.Adding.{One, OneLooks}
+use Rattle.state_table.specs.ItemRows.{Item, IsAt, Core, IsCoreOf, map_of}
+use Rattle.state_table.specs.Meeting.{row}
 use Rattle.lrtable.specs.Opening.{Front, RuleSets, IsOpen, HasRuleLook, Brings, Follows}
 use Rattle.lrtable.specs.Closes.{Seeds, SeedsLook, AreSeeds, IsRest}
 use Rattle.lrtable.specs.Stepping.{ItemsBelow, LooksBelow}
 use Rattle.lrtable.proofs.OpenLaws.{none_follow, follow_on, follow_as}
-use Rattle.lrtable.proofs.ItemSets.{has_item, has_look}
+use Rattle.state_table.proofs.ItemSets.{has_item, has_look}
 use Rattle.lrtable.proofs.Fronts.{next_is}
 
 -- what is as much opens as much

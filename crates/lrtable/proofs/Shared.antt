@@ -6,8 +6,8 @@ use Rattle.std.proofs.lemmas.Bool.{cases_lt}
 use Rattle.vob.specs.Bits.{LacksSome}
 use Rattle.vob.specs.Packed.{Contents}
 use Rattle.cfg_numbered.specs.Sets.{is_set}
-use Rattle.lrtable.specs.ItemRows.{CoversRows, LacksRows}
-use Rattle.lrtable.specs.Meeting.{PairFits, PairApart, AreAlike, row, rows_in}
+use Rattle.state_table.specs.ItemRows.{CoversRows, LacksRows}
+use Rattle.state_table.specs.Meeting.{PairFits, PairApart, AreAlike, row, rows_in}
 
 pub row_of : (items : List Contents) (i : ℕ) (x : Contents) → i < length items → x ≡ get_or items i x → row (rows_in items) i ≡ x.bits
 row_of items i x lt e = get_or-map (λ y. y.bits) items i x [] lt ∙ ap (λ y. y.bits) (sym e)

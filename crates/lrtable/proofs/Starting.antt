@@ -9,15 +9,16 @@ use Rattle.cfg_numbered.specs.Sets.{is_set}
 use Rattle.cfg_numbered.proofs.Bits.{none_set, put_in}
 use Rattle.lr_theory.specs.Itemset.{HasItem, HasLook, StartItem, StartLook}
 use Rattle.lrtable.specs.Handling.{AreReached}
-use Rattle.lrtable.specs.ItemRows.{Item, IsAt, Core, IsCoreOf, map_of}
-use Rattle.lrtable.specs.Meeting.{row, rows_in}
+use Rattle.state_table.specs.ItemRows.{Item, IsAt, Core, IsCoreOf, map_of}
+use Rattle.state_table.specs.Meeting.{row, rows_in}
 use Rattle.vob.specs.Packed.{Contents}
-use Rattle.lrtable.specs.StateViews.{items_of, edges_of, core_of_set, value_of}
-use Rattle.lrtable.specs.declared.cores.CoreItem.{CoreItem}
+use Rattle.state_table.specs.CoreViews.{items_of, core_of_set}
+use Rattle.lrtable.specs.StateViews.{edges_of, value_of}
+use Rattle.state_table.specs.declared.cores.CoreItem.{CoreItem}
 use Rattle.lrtable.specs.declared.states.State.{State}
 use Rattle.lrtable.specs.States.{StateValue, Edge, state_at, AreBuckets, first_production}
 use Rattle.lrtable.proofs.Handling.{begun}
-use Rattle.lrtable.proofs.ItemSets.{has_item, has_look}
+use Rattle.state_table.proofs.ItemSets.{has_item, has_look}
 
 -- the set of the end token
 pub end_bits : (G : Grammar) (n e : ℕ) (bits : List Bool) → n ≡ G.tokens → e ≡ end_token G → e < G.tokens → bits ≡ set (replicate n false) e true → (length bits ≡ G.tokens) × ((t : ℕ) → IsTrue (is_set bits t) ↔ IsEnd G t)

@@ -6,19 +6,15 @@ use Rattle.std.proofs.lemmas.List.{get_or-map, length-map, map-set, map-append}
 use Rattle.vob.specs.Packed.{Contents}
 use Rattle.cfg_theory.specs.Grammar.{Sym}
 use Rattle.cfg_numbered.specs.Sets.{is_set, missing}
-use Rattle.lrtable.specs.Meeting.{row, rows_in, AreAlike, RowsFit}
+use Rattle.state_table.specs.Meeting.{row, rows_in, AreAlike, RowsFit}
 use Rattle.std.proofs.Math.Decide.{ℕ_discrete}
 use Rattle.std.proofs.lemmas.List.Elements.{Contains-get_or}
-use Rattle.lrtable.specs.ItemRows.{Item, Core, join_rows, LacksRows}
+use Rattle.state_table.specs.ItemRows.{Item, Core, join_rows, LacksRows}
 use Rattle.lrtable.specs.States.{Edge, StateValue, state_at, IsPut, IsLinked, grown_at, no_state, StaysApart, IsApartFrom, JoinsAt, JoinsNone, ListsCore}
 use Rattle.cfg_numbered.proofs.Bits.{join, joined, join_fills, set_same}
 
 never : false ≡ true → ⊥
 never e = cc
-
--- mapped lists that differ at an index
-pub differ_at : {X Y Z : Type 0} (f : X → Z) (h : Y → Z) (xs : List X) (ys : List Y) (i : ℕ) (x : X) (y : Y) → i < length xs → i < length ys → x ≡ get_or xs i x → y ≡ get_or ys i y → (f x ≡ h y → ⊥) → map f xs ≡ map h ys → ⊥
-differ_at f h xs ys i x y li lj ex ey ne e = ne (ap f ex ∙ sym (get_or-map f xs i x (f x) li) ∙ ap (λ l. get_or l i (f x)) e ∙ get_or-map h ys i y (f x) lj ∙ ap h (sym ey))
 
 -- ---- rows
 

@@ -9,19 +9,19 @@ use Rattle.lr_theory.specs.Itemset.{Items, Lookaheads, ItemSet, HasItem, HasLook
 use Rattle.lr_theory.specs.Graph.{core_of}
 use Rattle.lr_theory.specs.Building.{Building, Handled, taken, symbols}
 use Rattle.lr_theory.proofs.GraphLaws.{building_law}
-use Rattle.lrtable.specs.Gaining.{no_core, core_in}
+use Rattle.state_table.specs.ItemRows.{no_core, Item, Core, IsCoreOf, map_of, FitsCore}
+use Rattle.lrtable.specs.Gaining.{core_in}
 use Rattle.lrtable.specs.Handling.{rank, AreReached, AreHandled, TooManyStand, left_in}
-use Rattle.lrtable.specs.ItemRows.{Item, Core, IsCoreOf, map_of}
 use Rattle.lrtable.specs.MovedItems.{IsKernel}
 use Rattle.lrtable.specs.States.{StateValue, no_state, state_at, edge_in, edge_of, AscendEdges, Matches, AreStates, IsPlaced, JoinsNone, AreBuckets, first_production}
 use Rattle.lrtable.proofs.Buckets.{buckets_kept}
-use Rattle.lrtable.specs.Stepping.{FitsCore, AreGotos, AreGotosOf, IsGotoAt, IsNextTaken, set_off}
+use Rattle.lrtable.specs.Stepping.{AreGotos, AreGotosOf, IsGotoAt, IsNextTaken, set_off}
 use Rattle.cfg_numbered.proofs.Bits.{set_same}
 use Rattle.lrtable.proofs.Handling.{skipped, placed_next, too_many, stepped, stepped_less}
-use Rattle.lrtable.proofs.ItemSets.{has_item, nought, at_own}
+use Rattle.state_table.proofs.ItemSets.{has_item, nought, at_own}
 use Rattle.lrtable.proofs.Placing.{core_is, count_is}
 use Rattle.lrtable.proofs.Ranks.{rank_at, rank_below, symbol_count}
-use Rattle.lrtable.proofs.Moving.{no_items}
+use Rattle.state_table.proofs.Fitting.{no_items}
 
 none_stands : (body : List Sym) (d : ℕ) (X : Sym) → body ≡ [] → slice_get body d ≡ Some X → ⊥
 none_stands [] d X e h = cc

@@ -17,18 +17,19 @@ use Rattle.lr_theory.proofs.Building.{reached_sound}
 use Rattle.lr_theory.proofs.Place.{same_symbol_true}
 use Rattle.lrtable.specs.Closes.{AreFronts, InClosure, LookInClosure}
 use Rattle.lrtable.specs.Handling.{rank, AreReached, AreHandled}
-use Rattle.lrtable.specs.ItemRows.{Item, Core, Ascends, IsAt, IsCoreOf, map_of, set_of, CoversRows}
-use Rattle.lrtable.specs.Meeting.{row}
+use Rattle.state_table.specs.ItemRows.{Item, Core, Ascends, IsAt, IsCoreOf, map_of, set_of, CoversRows, FitsCore}
+use Rattle.state_table.specs.Meeting.{row}
 use Rattle.lrtable.specs.Opening.{Front, RuleSets, Opened, OpenedLook}
 use Rattle.lrtable.specs.MovedItems.{IsKernel}
 use Rattle.lrtable.specs.TakenAgain.{IsMoved, AreMoved, IsRowBehind, AreRowsBehind, AreHeld, LeadsOn}
-use Rattle.lrtable.specs.States.{Edge, SymBefore, AscendEdges, StateValue, no_state, state_at, edge_in, edge_of, AreStates, IsLinked, JoinsAt, ListsCore}
-use Rattle.lrtable.specs.Stepping.{FitsCore, IsClosureOf, IsGotoAt, set_off}
+use Rattle.lrtable.specs.States.{Edge, AscendEdges, StateValue, no_state, state_at, edge_in, edge_of, AreStates, IsLinked, JoinsAt, ListsCore}
+use Rattle.state_table.specs.Graphs.{SymBefore}
+use Rattle.lrtable.specs.Stepping.{IsClosureOf, IsGotoAt, set_off}
 use Rattle.lrtable.proofs.CloseLaws.{item, look, held_look}
 use Rattle.lrtable.proofs.CoreSets.{covers_fit}
 use Rattle.lrtable.proofs.EdgeOrder.{edge_here, after_differs}
 use Rattle.lrtable.proofs.Handling.{skipped}
-use Rattle.lrtable.proofs.ItemSets.{has_item, has_look, one_place, nought, at_own}
+use Rattle.state_table.proofs.ItemSets.{has_item, has_look, one_place, nought, at_own}
 use Rattle.lrtable.proofs.Placed.{placed_kept}
 use Rattle.lrtable.proofs.Placing.{core_is, count_is}
 use Rattle.lrtable.proofs.Ranks.{rank_at, rank_below, rank_once, symbol_count}

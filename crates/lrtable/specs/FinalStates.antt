@@ -5,7 +5,7 @@ use Rattle.lr_theory.specs.Building.{IsGraph}
 use Rattle.lr_theory.specs.Itemset.{ItemSet, HasItem, HasLook, Closure, ClosureLook, Is, FitsGrammar}
 use Rattle.lrtable.specs.Pruning.{AreLinked, graph_of_states}
 use Rattle.lrtable.specs.States.{Edge, StateValue, state_at}
-use Rattle.lrtable.specs.Stepping.{FitsCore}
+use Rattle.state_table.specs.ItemRows.{FitsCore}
 
 -- the closures of the cores, as lists of items of the grammar
 pub record AreClosures (G : Grammar) (cores closed : List ItemSet) : Type 0 where

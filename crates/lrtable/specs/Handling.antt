@@ -5,7 +5,7 @@ use Rattle.lr_theory.specs.Graph.{core_of}
 use Rattle.lr_theory.specs.Building.{Building, Handled, Reached, Built, symbols, taken}
 use Rattle.lr_theory.specs.Sizes.{GrowsPast}
 use Rattle.lr_theory.specs.BuildingMeasure.{look_limit, progress, todo_count}
-use Rattle.lrtable.specs.ItemRows.{map_of}
+use Rattle.state_table.specs.ItemRows.{map_of}
 use Rattle.lrtable.specs.States.{StateValue, Matches, AreStates}
 
 -- a symbol's index among all: rules before tokens

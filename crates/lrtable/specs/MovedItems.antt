@@ -1,5 +1,5 @@
 -- Items that moved over a symbol, each with the place where its lookaheads stand.
-use Rattle.std.specs.Prelude.{◌≡◌, ℕ, ◌<◌, ◌≤◌, Bool, List, [], length, map, get_or, replicate}
+use Rattle.std.specs.Prelude.{◌≡◌, ℕ, ◌<◌, Bool, List, [], length, map, replicate}
 use Rattle.std.specs.declared.alloc.Global.{Global}
 use Rattle.std.specs.declared.vec.Vec.{Vec}
 use Rattle.cfg_theory.specs.Grammar.{Grammar, Sym, InRange}
@@ -8,10 +8,10 @@ use Rattle.lrtable.specs.declared.moved_items.MovedItem.{MovedItem}
 use Rattle.lrtable.specs.declared.moved_items.Source.{Source}
 use Rattle.lrtable.specs.declared.moved_items.Source.TheVariants as sources
 use Rattle.lrtable.specs.Gaining.{moved_by}
-use Rattle.lrtable.specs.ItemRows.{Item, ItemBefore, Core}
+use Rattle.state_table.specs.ItemRows.{Item, Core}
 use Rattle.lrtable.specs.LookRows.{LookRows}
-use Rattle.lrtable.specs.Meeting.{row}
-use Rattle.lrtable.specs.StateViews.{item_of}
+use Rattle.state_table.specs.Meeting.{row}
+use Rattle.state_table.specs.CoreViews.{item_of}
 
 -- the lookaheads that stand at a place
 abbrev pub row_from : LookRows → Source → List Bool
@@ -33,12 +33,6 @@ core_of_moved number rows items = record { items = moved_items number items; row
 
 abbrev pub set_of_moved : {S : Type 0} → (S → ℕ) → LookRows → Vec (MovedItem S) Global → Core
 set_of_moved number rows v = core_of_moved number rows v.items
-
--- the item belongs at the index: those before it stand before the index, and no other does
-pub record BelongsAt (items : List Item) (i : Item) (k : ℕ) : Type 0 where
-  pub within : k ≤ length items
-  pub below : (j : ℕ) (d : Item) → j < k → ItemBefore (get_or items j d) i
-  pub above : (j : ℕ) (d : Item) → k ≤ j → j < length items → ItemBefore (get_or items j d) i → ⊥
 
 -- none of the rows is of no token
 abbrev pub AreWide : List (List Bool) → Type 0

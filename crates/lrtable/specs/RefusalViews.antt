@@ -1,6 +1,6 @@
 -- What contracts see of a refusal, and what it prints.
 use Rattle.std.specs.Prelude.{ℕ, List, codes}
-use Rattle.lrtable.specs.Tables.{Refusal}
+use Rattle.state_table.specs.Tables.{Refusal}
 use Rattle.lrtable.specs.declared.grammar_table.FromYaccError.{FromYaccError}
 use Rattle.lrtable.specs.declared.grammar_table.FromYaccError.TheVariants as refusals
 

@@ -1,12 +1,12 @@
 -- A step of the building over the states: the closed state's items, moved into a set for each symbol, and their placing.
-use Rattle.std.specs.Prelude.{◌≡◌, ℕ, ◌+◌, ◌<◌, false, IsTrue, List, length, get_or, slice_set}
+use Rattle.std.specs.Prelude.{◌≡◌, ℕ, ◌+◌, ◌<◌, false, IsTrue, List, length, slice_set}
 use Rattle.cfg_theory.specs.Grammar.{Sym, Grammar, InRange, IsOf, head_of}
 use Rattle.cfg_numbered.specs.Sets.{is_set}
 use Rattle.lr_theory.specs.Itemset.{Items, Lookaheads, HasItem, HasLook, Closure, ClosureLook, Goto, GotoLook, Is}
 use Rattle.lr_theory.specs.Graph.{core_of}
 use Rattle.lr_theory.specs.Building.{Building, Reached, IsTodo}
-use Rattle.lrtable.specs.ItemRows.{Item, IsAt, Core, IsCoreOf, map_of}
-use Rattle.lrtable.specs.Meeting.{row}
+use Rattle.state_table.specs.ItemRows.{IsAt, Core, map_of}
+use Rattle.state_table.specs.Meeting.{row}
 use Rattle.lrtable.specs.Opening.{RuleSets, IsOpen, HasRuleLook, AreOpened, Front}
 use Rattle.lrtable.specs.Closes.{AreSeeds}
 use Rattle.lrtable.specs.Gaining.{AreSets, moved_by}
@@ -19,11 +19,6 @@ ItemsBelow c k p d = (j : ℕ) × (j < k) × IsAt c.items j p d
 
 abbrev pub LooksBelow : Core → ℕ → Lookaheads
 LooksBelow c k p d t = (j : ℕ) × (j < k) × IsAt c.items j p d × IsTrue (is_set (row c.rows j) t)
-
--- a core whose items are of productions of the grammar
-pub record FitsCore (G : Grammar) (c : Core) : Type 0 where
-  pub good : IsCoreOf G.tokens c
-  pub productions : (k : ℕ) (d : Item) → k < length c.items → (get_or c.items k d).production < length G.productions
 
 -- there is a set for each rule of the grammar, of its tokens
 pub record IsSized (G : Grammar) (s : RuleSets) : Type 0 where

@@ -6,14 +6,14 @@ use Rattle.cfg_numbered.specs.Sets.{is_set}
 use Rattle.lr_theory.specs.Itemset.{HasItem, HasLook, SameItems, Closure, ClosureLook, Goto}
 use Rattle.lrtable.specs.declared.retaking.Retaken.{Retaken}
 use Rattle.lrtable.specs.Closes.{AreFronts}
-use Rattle.lrtable.specs.ItemRows.{Item, Core, map_of}
+use Rattle.state_table.specs.ItemRows.{Item, Core, map_of, FitsCore}
 use Rattle.lrtable.specs.LookRows.{LookRows}
-use Rattle.lrtable.specs.Meeting.{row}
+use Rattle.state_table.specs.Meeting.{row}
 use Rattle.lrtable.specs.MovedItems.{IsKernel}
 use Rattle.lrtable.specs.Opening.{Front, RuleSets}
 use Rattle.lrtable.specs.States.{Edge, StateValue, state_at, edge_of}
-use Rattle.lrtable.specs.StateViews.{items_of}
-use Rattle.lrtable.specs.Stepping.{FitsCore, IsSized, IsClosureOf}
+use Rattle.state_table.specs.CoreViews.{items_of}
+use Rattle.lrtable.specs.Stepping.{IsSized, IsClosureOf}
 
 -- the item stands behind a symbol before which an item of the closed core stands
 abbrev pub IsMoved : Grammar → Core → Item → Type 0

@@ -2,8 +2,8 @@
 
 ghost use Rattle.std.specs.Prelude.{◌≡◌, ◌<◌, ◌↔◌, ◌⊎◌, false, true, [], ℕ, length, map, get_or, IsTrue};
 ghost use Rattle.vob.specs.Bits.{Meets};
-ghost use Rattle.lrtable.specs.ItemRows.{CoversRows, LacksRows};
-ghost use Rattle.lrtable.specs.Meeting.{PairFits, PairApart, RowsFit, RowsApart, AreAlike, row, rows_in};
+ghost use Rattle.state_table.specs.ItemRows.{CoversRows, LacksRows};
+ghost use Rattle.state_table.specs.Meeting.{PairFits, PairApart, RowsFit, RowsApart, AreAlike, row, rows_in};
 ghost use Rattle.lrtable.specs.MovedItems.{AreWide, rows_from};
 
 use crate::moved_items::{MovedItem, Rows};

@@ -2,14 +2,14 @@
 
 ghost use Rattle.std.specs.Prelude.{◌≡◌, ◌<◌, ℕ, length, get_or, IfOk, IsTrue, OnOk, ◌↔◌};
 ghost use Rattle.std.specs.List.{insert};
-ghost use Rattle.lrtable.specs.ItemRows.{Ascends};
-ghost use Rattle.lrtable.specs.Meeting.{rows_in};
-ghost use Rattle.lrtable.specs.MovedItems.{AreWide, BelongsAt, core_of_moved, moved_item, moved_items, row_from, rows_from};
-ghost use Rattle.lrtable.specs.StateViews.{core_of_set, item_of, items_of};
+ghost use Rattle.state_table.specs.ItemRows.{Ascends, BelongsAt};
+ghost use Rattle.state_table.specs.Meeting.{rows_in};
+ghost use Rattle.lrtable.specs.MovedItems.{AreWide, core_of_moved, moved_item, moved_items, row_from, rows_from};
+ghost use Rattle.state_table.specs.CoreViews.{core_of_set, item_of, items_of};
 
-use crate::cores::{CoreItem, CoreSet, comes_before, put_in, same_item};
 use crate::opening::Opening;
 use cfg_base::index::IndexStorage;
+use state_table::cores::{CoreItem, CoreSet, comes_before, put_in, same_item};
 use std::alloc::{AllocError, Global};
 use std::marker::Model;
 use vob::Vob;
@@ -37,7 +37,7 @@ pub(crate) struct Rows<'a> {
 
 impl<'a> Model for Rows<'a> {
     ghost use Rattle.lrtable.specs.LookRows.{LookRows};
-    ghost use Rattle.lrtable.specs.Meeting.{rows_in};
+    ghost use Rattle.state_table.specs.Meeting.{rows_in};
 
     ghost Value = { LookRows };
 

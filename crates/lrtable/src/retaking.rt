@@ -8,23 +8,24 @@ ghost use Rattle.lr_theory.specs.Graph.{core_of};
 ghost use Rattle.lr_theory.specs.Itemset.{HasItem, Closure};
 ghost use Rattle.lr_theory.specs.ItemLists.{Stands};
 ghost use Rattle.lrtable.specs.Handling.{rank, AreHandled, TooManyStand};
-ghost use Rattle.lrtable.specs.ItemRows.{Item, IsAt, IsCoreOf, map_of};
-ghost use Rattle.lrtable.specs.Meeting.{rows_in};
+ghost use Rattle.state_table.specs.ItemRows.{Item, IsAt, IsCoreOf, map_of};
+ghost use Rattle.state_table.specs.Meeting.{rows_in};
 ghost use Rattle.lrtable.specs.MovedItems.{moved_items, row_from, rows_from};
 ghost use Rattle.lrtable.specs.TakenAgain.{core_noted, IsMoved, AreMoved, IsRowBehind, AreRowsBehind, AreHeld, IsNoted, LeadsOn};
 ghost use Rattle.lrtable.specs.States.{Edge, AreStates, AreBuckets, AreQuiet, AscendEdges, ListsCore, edge_in, edge_of, state_at, first_production};
 ghost use Rattle.cfg_numbered.specs.Symbols.{sym_of};
-ghost use Rattle.lrtable.specs.StateViews.{item_of, items_of, core_of_set, edge_of_pair, edges_of, value_of};
+ghost use Rattle.state_table.specs.CoreViews.{item_of, items_of, core_of_set};
+ghost use Rattle.lrtable.specs.StateViews.{edge_of_pair, edges_of, value_of};
 ghost use Rattle.lrtable.specs.Stepping.{IsNextTaken};
 ghost use Rattle.lrtable.specs.declared.states.BuildError.TheVariants as faults;
 
-use crate::cores::{CoreItem, CoreSet, same_item, same_items};
 use crate::moved_items::{MovedItem, Rows, Source};
 use crate::opening::Opening;
 use crate::states::{BuildError, EdgeTo, State, place};
 use cfg_base::index::IndexStorage;
 use cfg_base::symbol::SIdx;
 use cfg_numbered::yacc::NumberedGrammar;
+use state_table::cores::{CoreItem, CoreSet, same_item, same_items};
 use std::alloc::{AllocError, Global};
 
 /// A state as it stood when it was taken: the items of its core, its edges, and for each production an index at which an item

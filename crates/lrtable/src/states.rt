@@ -5,19 +5,21 @@ ghost use Rattle.std.specs.List.{Contains, AllPairs};
 ghost use Rattle.cfg_theory.specs.Grammar.{Sym};
 ghost use Rattle.cfg_numbered.specs.Symbols.{sym_of};
 ghost use Rattle.lr_theory.specs.Building.{same_symbol};
-ghost use Rattle.lrtable.specs.Meeting.{AreAlike, RowsFit, rows_in};
+ghost use Rattle.state_table.specs.Meeting.{AreAlike, RowsFit, rows_in};
 ghost use Rattle.lrtable.specs.MovedItems.{AreWide, core_of_moved, moved_items, rows_from};
-ghost use Rattle.lrtable.specs.ItemRows.{Item, Core, join_rows, CoversRows, LacksRows, IsCoreOf};
-ghost use Rattle.lrtable.specs.States.{IsPut, IsLinked, IsPlaced, JoinsAt, JoinsNone, AreStates, AscendEdges, ListsCore, IsApartFrom, AreBuckets, AreQuiet, KeepsItems, AddsItems, Edge, SymBefore, first_production, grown_at, state_at};
+ghost use Rattle.state_table.specs.ItemRows.{Item, Core, join_rows, CoversRows, LacksRows, IsCoreOf};
+ghost use Rattle.lrtable.specs.States.{IsPut, IsLinked, IsPlaced, JoinsAt, JoinsNone, AreStates, AscendEdges, ListsCore, IsApartFrom, AreBuckets, AreQuiet, KeepsItems, AddsItems, Edge, first_production, grown_at, state_at};
+ghost use Rattle.state_table.specs.Graphs.{SymBefore};
 ghost use Rattle.lrtable.specs.declared.states.BuildError.TheVariants as faults;
-ghost use Rattle.lrtable.specs.StateViews.{item_of, items_of, core_of_set, edge_of_pair, edges_of, value_of};
+ghost use Rattle.state_table.specs.CoreViews.{item_of, items_of, core_of_set};
+ghost use Rattle.lrtable.specs.StateViews.{edge_of_pair, edges_of, value_of};
 
 use crate::closures::same_symbols;
-use crate::cores::{CoreSet, put_in};
 use crate::meeting::{hold_all, weakly_compatible};
 use crate::moved_items::{MovedItem, Rows, same_items, to_core};
 use cfg_base::index::IndexStorage;
 use cfg_base::symbol::Symbol;
+use state_table::cores::{CoreSet, put_in};
 use std::alloc::{AllocError, AllocFailed, Global};
 use vob::Vob;
 

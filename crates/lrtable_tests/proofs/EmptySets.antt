@@ -1,7 +1,7 @@
 -- Sets without items.
 use Rattle.std.proofs.Common.{◌≡◌, ℕ, [], Some, subst, sym}
 use Rattle.lr_theory.specs.Itemset.{ItemSet, entry_at}
-use Rattle.lrtable.specs.Itemsets.{HasWidth}
+use Rattle.state_table.specs.Itemsets.{HasWidth}
 
 -- nothing has an entry in them
 pub none_wide : (tokens : ℕ) (s : ItemSet) → s ≡ [] → HasWidth tokens s

@@ -1,7 +1,7 @@
 //! Items that are added by hand.
 
 ghost use Rattle.std.specs.Prelude.{length, OnOk};
-ghost use Rattle.lrtable.specs.Itemsets.{HasWidth};
+ghost use Rattle.state_table.specs.Itemsets.{HasWidth};
 
 use crate::spell::push_items;
 use cfg_base::index::IndexStorage;

@@ -1,7 +1,7 @@
 //! Halving over a row, indices of states, and texts of errors.
 
 ghost use Rattle.std.specs.Prelude.{◌≡◌};
-ghost use Rattle.lrtable.specs.Rows.{Rises};
+ghost use Rattle.state_table.specs.Rows.{Rises};
 
 use cfg_base::steps::Steps;
 use cfg_base::symbol::PIdx;

@@ -15,8 +15,8 @@ use Rattle.lrpar.specs.Told.{HandsOut, IsHandedOut}
 use Rattle.lrpar.specs.declared.folded_parse.FoldedOutcome.{FoldedOutcome}
 use Rattle.lrpar.specs.declared.folded_parse.FoldedOutcome.TheVariants as folded
 use Rattle.lrpar.specs.declared.parse_error.ParseError.{ParseError}
-use Rattle.lrtable.specs.CellViews.{precedences_of}
-use Rattle.lrtable.specs.Tables.{IsTableOf}
+use Rattle.state_table.specs.CellViews.{precedences_of}
+use Rattle.state_table.specs.Tables.{IsTableOf}
 use Rattle.parser_kit.specs.KitParses.{IsHanded, IsKitOutcome, IsKitParse, ItemsFollowSentences, LeavesNoTrace}
 use Rattle.parser_kit.proofs.KitParses.{items_follow, no_trace, told_parse}
 

@@ -30,10 +30,10 @@ use Rattle.lrpar.specs.Told.{IsFoldedOutcome, as_told, told_of}
 use Rattle.lrpar.specs.declared.folded_parse.FoldedOutcome.{FoldedOutcome}
 use Rattle.lrpar.specs.declared.folded_parse.FoldedOutcome.TheVariants as folded
 use Rattle.lrpar.specs.declared.parse_error.ParseError.{ParseError}
-use Rattle.lrtable.specs.CellViews.{precedences_of}
-use Rattle.lrtable.specs.Graphs.{GraphValue}
-use Rattle.lrtable.specs.TableValues.{TableValue}
-use Rattle.lrtable.specs.Tables.{IsTableOf, automaton_of}
+use Rattle.state_table.specs.CellViews.{precedences_of}
+use Rattle.state_table.specs.Graphs.{GraphValue}
+use Rattle.state_table.specs.TableValues.{TableValue}
+use Rattle.state_table.specs.Tables.{IsTableOf, automaton_of}
 use Rattle.parser_kit.specs.KitParses.{IsExactParse, IsKitOutcome, IsKitParse, FollowsSentences, ItemsFollowSentences, LeavesNoTrace, WhereParsed}
 
 no_end_of : {L : Type 0} (tok : L → ℕ) (e : ℕ) (xs : List L) → ((k : ℕ) (x : L) → slice_get xs k ≡ Some x → tok x < e) → AllByRecursion (λ y. tok y ≢ e) xs

@@ -16,7 +16,7 @@ use Rattle.lrpar.specs.Parses.{AllThree, ErrorValue, IsParsed, IsToldError}
 use Rattle.lrpar.specs.Run.{token_by}
 use Rattle.lrpar.specs.Told.{as_told, told_of}
 use Rattle.lrpar.specs.declared.parse_error.ParseError.{ParseError}
-use Rattle.lrtable.specs.Tables.{automaton_of}
+use Rattle.state_table.specs.Tables.{automaton_of}
 use Rattle.parser_kit.specs.KitParses.{IsKitParse, ParseAlike}
 use Rattle.parser_kit.proofs.KitParses.{oks_same}
 

@@ -11,10 +11,10 @@ use Rattle.lr_theory.proofs.TableLaws.{automaton_is_safe}
 use Rattle.table_theory.proofs.TableCells.{built_law}
 use Rattle.lrpar.specs.Checked.{ParserValue}
 use Rattle.lrpar.specs.Safety.{PairCell, counts, items, on_token, on_rule, AllFit, CellFits, FittingPairsAreSafe, IsLeastMisfit}
-use Rattle.lrtable.specs.CellViews.{precedences_of}
-use Rattle.lrtable.specs.Graphs.{GraphValue, IsGraphOf}
-use Rattle.lrtable.specs.TableValues.{TableValue}
-use Rattle.lrtable.specs.Tables.{CountsAgree, IsTableOf, automaton_of}
+use Rattle.state_table.specs.CellViews.{precedences_of}
+use Rattle.state_table.specs.Graphs.{GraphValue, IsGraphOf}
+use Rattle.state_table.specs.TableValues.{TableValue}
+use Rattle.state_table.specs.Tables.{CountsAgree, IsTableOf, automaton_of}
 use Rattle.parser_kit.specs.Productive.{EachProductive, Tells}
 use Rattle.parser_kit.specs.Tabled.{HasTabledCause, IsDataFault, IsTabled, IsTabledRefusal}
 use Rattle.parser_kit.specs.declared.grammar_kit_error.GrammarKitError.{GrammarKitError}

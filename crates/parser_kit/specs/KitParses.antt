@@ -18,7 +18,7 @@ use Rattle.lrpar.specs.Told.{as_told, told_of}
 use Rattle.lrpar.specs.declared.folded_parse.FoldedOutcome.{FoldedOutcome}
 use Rattle.lrpar.specs.declared.folded_parse.FoldedOutcome.TheVariants as folded
 use Rattle.lrpar.specs.declared.parse_error.ParseError.{ParseError}
-use Rattle.lrtable.specs.Tables.{automaton_of}
+use Rattle.state_table.specs.Tables.{automaton_of}
 
 -- what a reader of a parse knows of it where the machine is that of the grammar's table
 pub record IsExactParse {L : Type 0} (G : Grammar) (a : Automaton) (tok : L → ℕ) (make : ℕ → List L → L) (answers : ℕ → ℕ → L → List (List Edit) → Type 0) (gives : Option (Tree L) → Type 0) (lexemes : List L) (errors : List (ErrorValue L)) : Type 0 where

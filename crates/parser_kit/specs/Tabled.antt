@@ -9,9 +9,9 @@ use Rattle.lr_theory.specs.Sizes.{StaysWithin}
 use Rattle.lrpar.specs.Checked.{IsDataRefusal, ParserValue}
 use Rattle.lrpar.specs.declared.parserdata.ParserDataError.{ParserDataError}
 use Rattle.lrpar.specs.Reducing.{rule_number}
-use Rattle.lrtable.specs.Graphs.{GraphValue, IsGraphOf}
-use Rattle.lrtable.specs.TableValues.{TableValue}
-use Rattle.lrtable.specs.Tables.{HasCanonicalCause, IsRefusal, IsTableOf, Refusal, automaton_of}
+use Rattle.state_table.specs.Graphs.{GraphValue, IsGraphOf}
+use Rattle.state_table.specs.TableValues.{TableValue}
+use Rattle.state_table.specs.Tables.{HasCanonicalCause, IsRefusal, IsTableOf, Refusal, automaton_of}
 use Rattle.parser_kit.specs.declared.grammar_kit_error.GrammarKitError.{GrammarKitError}
 use Rattle.parser_kit.specs.declared.grammar_kit_error.GrammarKitError.TheVariants as errors
 

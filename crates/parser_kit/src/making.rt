@@ -5,9 +5,9 @@ ghost use Rattle.cfg_numbered.specs.Value.{GrammarValue};
 ghost use Rattle.cfg_theory.specs.Grammar.{WellFormed};
 ghost use Rattle.lr_theory.specs.Sizes.{StaysWithin};
 ghost use Rattle.lrpar.specs.Checked.{IsDataRefusal};
-ghost use Rattle.lrtable.specs.Graphs.{GraphValue, IsGraphOf};
-ghost use Rattle.lrtable.specs.TableValues.{TableValue};
-ghost use Rattle.lrtable.specs.Tables.{IsTableOf};
+ghost use Rattle.state_table.specs.Graphs.{GraphValue, IsGraphOf};
+ghost use Rattle.state_table.specs.TableValues.{TableValue};
+ghost use Rattle.state_table.specs.Tables.{IsTableOf};
 ghost use Rattle.parser_kit.specs.Tabled.{HasTabledCause, IsDataFault, IsOwnRefusal, IsTabled, IsTabledRefusal, NeverAcceptsAndReduces};
 
 use crate::grammar_kit_error::GrammarKitError;

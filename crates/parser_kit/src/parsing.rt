@@ -10,8 +10,8 @@ ghost use Rattle.lrpar.specs.Refusals.{IsParseRefusal};
 ghost use Rattle.lrpar.specs.Run.{span_by};
 ghost use Rattle.lrpar.specs.Stacks.{mapped_by, values_by};
 ghost use Rattle.lrpar.specs.declared.parse_error.LexParseError.TheVariants as errors;
-ghost use Rattle.lrtable.specs.CellViews.{precedences_of};
-ghost use Rattle.lrtable.specs.Tables.{IsTableOf};
+ghost use Rattle.state_table.specs.CellViews.{precedences_of};
+ghost use Rattle.state_table.specs.Tables.{IsTableOf};
 ghost use Rattle.table_theory.specs.Cells.{NoPrecedences};
 ghost use Rattle.parser_kit.specs.KitParses.{IsHanded, IsKitOutcome, IsKitParse, ItemsFollowSentences, LeavesNoTrace, WhereParsed};
 

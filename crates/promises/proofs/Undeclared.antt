@@ -4,7 +4,7 @@ use Rattle.cfg_numbered.specs.Value.{GrammarValue, HasNoPrecedences}
 use Rattle.cfg_read.specs.Asts.{Ast}
 use Rattle.cfg_read.specs.declared.yacc.YaccKind.{YaccKind}
 use Rattle.cfgrammar.specs.FromAst.{made}
-use Rattle.lrtable.specs.CellViews.{precedences_of}
+use Rattle.state_table.specs.CellViews.{precedences_of}
 use Rattle.parser_kit.specs.Kit.{IsKit, KitValue}
 use Rattle.table_theory.specs.Cells.{NoPrecedences}
 

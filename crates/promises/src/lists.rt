@@ -3,7 +3,7 @@
 ghost use Rattle.std.specs.Prelude.{◌≡◌, ◌↔◌, ℕ, List, [], IfSome, IsNone, IsSome, IsTrue};
 ghost use Rattle.cfg_read.specs.declared.yacc.YaccKind.{YaccKind};
 ghost use Rattle.lr_theory.specs.Automaton.{Complete};
-ghost use Rattle.lrtable.specs.Tables.{AreContested, automaton_of};
+ghost use Rattle.state_table.specs.Tables.{AreContested, automaton_of};
 ghost use Rattle.parser_kit.specs.Kit.{IsKitOf, KitValue};
 ghost use Rattle.table_theory.specs.CellLaws.{SomeContested};
 

@@ -1,8 +1,8 @@
 //! What `lrtable` answers to a text, at index types of four, two and one bytes.
 
-ghost use Rattle.lrtable.specs.Graphs.{IsGraphOf};
-ghost use Rattle.lrtable.specs.Tables.{CountsAgree};
-ghost use Rattle.lrtable.specs.ConflictTexts.{ConflictsInRange};
+ghost use Rattle.state_table.specs.Graphs.{IsGraphOf};
+ghost use Rattle.state_table.specs.Tables.{CountsAgree};
+ghost use Rattle.state_table.specs.ConflictTexts.{ConflictsInRange};
 ghost use Rattle.std.specs.Prelude.{IfSome};
 
 use crate::cells::{push_cells, push_counts};

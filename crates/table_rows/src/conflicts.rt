@@ -1,6 +1,6 @@
 //! Conflicts, by numbers and as texts.
 
-ghost use Rattle.lrtable.specs.ConflictTexts.{ConflictsInRange};
+ghost use Rattle.state_table.specs.ConflictTexts.{ConflictsInRange};
 
 use crate::refusals::push_number;
 use cfgrammar::index::IndexStorage;

@@ -10,7 +10,7 @@ use crate::names::find_token;
 use cfg_base::index::IndexStorage;
 use cfg_numbered::yacc::grammar::NumberedGrammar;
 use lrpar::{Lexeme, Recoverer, RepairStep};
-use lrtable::StIdx;
+use state_table::StIdx;
 use std::alloc::{AllocError, Global};
 use std::marker::Model;
 use thiserror::Error;

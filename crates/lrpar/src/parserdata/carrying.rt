@@ -3,7 +3,7 @@
 ghost use Rattle.std.specs.Prelude.{◌≡◌, ◌<◌, ◌+◌, ℕ, [], Some, length, get_or, slice_get, slice_set, true, IfOk};
 ghost use Rattle.cfg_numbered.specs.Symbols.{sym_of};
 ghost use Rattle.lr_theory.specs.Itemset.{HasItem, ItemSet};
-ghost use Rattle.lrtable.specs.Graphs.{IsGraphValue};
+ghost use Rattle.state_table.specs.Graphs.{IsGraphValue};
 ghost use Rattle.lrpar.specs.Fitting.{Tells, Carries, ArePast, AreAllPast, AreFlags, closed_at};
 
 use crate::numbers::index_below;
@@ -13,7 +13,7 @@ use crate::parserdata::items::{has_item, is_next};
 use cfg_base::index::IndexStorage;
 use cfg_base::symbol::{PIdx, SIdx, Symbol};
 use cfg_numbered::yacc::grammar::NumberedGrammar;
-use lrtable::{Itemset, StIdx, StateGraph};
+use state_table::{Itemset, StIdx, StateGraph};
 use std::alloc::{AllocError, Global};
 
 /// The items past dot nought of a set.

@@ -3,11 +3,11 @@
 ghost use Rattle.std.specs.Prelude.{◌≡◌, ◌<◌, ℕ, true, Option, Some, IfSome, length, slice_get};
 ghost use Rattle.cfg_theory.specs.Grammar.{Grammar, rule, token};
 ghost use Rattle.lr_theory.specs.Itemset.{ItemSet};
-ghost use Rattle.lrtable.specs.CellViews.{action_of, state_of, targets_of};
-ghost use Rattle.lrtable.specs.declared.cells.Action.TheVariants as actions;
-ghost use Rattle.lrtable.specs.Graphs.{AreInOrder, target_in};
-ghost use Rattle.lrtable.specs.GraphViews.{edges_seen};
-ghost use Rattle.lrtable.specs.TableValues.{action_at, goto_at};
+ghost use Rattle.state_table.specs.CellViews.{action_of, state_of, targets_of};
+ghost use Rattle.state_table.specs.declared.cells.Action.TheVariants as actions;
+ghost use Rattle.state_table.specs.Graphs.{AreInOrder, target_in};
+ghost use Rattle.state_table.specs.GraphViews.{edges_seen};
+ghost use Rattle.state_table.specs.TableValues.{action_at, goto_at};
 ghost use Rattle.lrpar.specs.Reducing.{rule_number, token_number};
 ghost use Rattle.lrpar.specs.Fitting.{Tells, LeastNot, OfGrammar, IsFor, ReducesWell, GoesFrom, HasGotos, AreEdges, least_of};
 
@@ -18,7 +18,7 @@ use crate::rows::{cell_of_row, goto_of_row};
 use cfg_base::index::IndexStorage;
 use cfg_base::symbol::{PIdx, RIdx, SIdx, Symbol, TIdx};
 use cfg_numbered::yacc::grammar::NumberedGrammar;
-use lrtable::{Action, Itemset, StIdx, StateTable};
+use state_table::{Action, Itemset, StIdx, StateTable};
 
 /// Whether two states are one, or there is none on both sides.
 fn same_states<S: IndexStorage>(a: Option<StIdx<S>>, b: Option<StIdx<S>>) -> bool

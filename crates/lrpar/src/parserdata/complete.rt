@@ -4,9 +4,9 @@ ghost use Rattle.std.specs.Prelude.{◌≡◌, ◌<◌, ℕ, Some, true, length,
 ghost use Rattle.cfg_theory.specs.Grammar.{token, symbol_at, IsNext};
 ghost use Rattle.lr_theory.specs.Automaton.{shift, reduce, accept, Complete};
 ghost use Rattle.lr_theory.specs.Itemset.{HasItem};
-ghost use Rattle.lrtable.specs.CellViews.{action_of};
-ghost use Rattle.lrtable.specs.TableValues.{action_at};
-ghost use Rattle.lrtable.specs.Tables.{automaton_of};
+ghost use Rattle.state_table.specs.CellViews.{action_of};
+ghost use Rattle.state_table.specs.TableValues.{action_at};
+ghost use Rattle.state_table.specs.Tables.{automaton_of};
 ghost use Rattle.cfg_numbered.specs.Symbols.{sym_of};
 ghost use Rattle.lrpar.specs.Ranges.{IsTable};
 ghost use Rattle.lrpar.specs.Pair.{IsSafePair};
@@ -19,7 +19,7 @@ use crate::numbers::index_below;
 use cfg_base::index::IndexStorage;
 use cfg_base::symbol::{PIdx, SIdx, Symbol, TIdx};
 use cfg_numbered::yacc::grammar::NumberedGrammar;
-use lrtable::{Action, Itemset, StIdx, StateGraph};
+use state_table::{Action, Itemset, StIdx, StateGraph};
 use vob::Vob;
 
 /// Whether an action shifts.

@@ -3,17 +3,16 @@
 ghost use Rattle.std.specs.Prelude.{◌≡◌, ◌<◌, ◌≤◌, Some, length, slice_get};
 ghost use Rattle.cfg_theory.specs.Grammar.{rule, token};
 ghost use Rattle.cfg_numbered.specs.Symbols.{sym_of};
-ghost use Rattle.lrtable.specs.CellViews.{state_of};
-ghost use Rattle.lrtable.specs.Graphs.{AreInOrder, target_in};
-ghost use Rattle.lrtable.specs.GraphViews.{edge_seen, edges_seen};
-ghost use Rattle.lrtable.specs.States.{SymBefore};
+ghost use Rattle.state_table.specs.CellViews.{state_of};
+ghost use Rattle.state_table.specs.Graphs.{AreInOrder, target_in, SymBefore};
+ghost use Rattle.state_table.specs.GraphViews.{edge_seen, edges_seen};
 ghost use Rattle.lrpar.specs.Reducing.{rule_number, token_number};
 ghost use Rattle.lrpar.specs.Fitting.{Tells, LeastNot, Passed, StopsBefore, BadRule, BadToken, NoneBad, TellsBad};
 
 use crate::parserdata::items::same_symbols;
 use cfg_base::index::IndexStorage;
 use cfg_base::symbol::{RIdx, Symbol, TIdx};
-use lrtable::StIdx;
+use state_table::StIdx;
 
 /// Whether a symbol comes before another one.
 fn is_before<S: IndexStorage>(a: Symbol<S>, b: Symbol<S>) -> bool

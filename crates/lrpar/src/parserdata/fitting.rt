@@ -1,7 +1,7 @@
 //! Places where a graph and a table don't fit a grammar.
 
 use cfg_base::symbol::{PIdx, RIdx, SIdx, TIdx};
-use lrtable::StIdx;
+use state_table::StIdx;
 
 /// The part of a state at which a graph and a table don't fit a grammar.
 #[derive(Clone, Copy, Debug, PartialEq, Eq)]

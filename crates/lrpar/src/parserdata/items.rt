@@ -4,16 +4,16 @@ ghost use Rattle.std.specs.Prelude.{◌≡◌, ◌<◌, ℕ, length};
 ghost use Rattle.cfg_theory.specs.Grammar.{body_of, IsNext};
 ghost use Rattle.cfg_numbered.specs.Symbols.{sym_of};
 ghost use Rattle.lr_theory.specs.Itemset.{HasItem};
-ghost use Rattle.lrtable.specs.Graphs.{GraphValue};
-ghost use Rattle.lrtable.specs.Tables.{automaton_of};
-ghost use Rattle.lrtable.specs.TableValues.{TableValue};
+ghost use Rattle.state_table.specs.Graphs.{GraphValue};
+ghost use Rattle.state_table.specs.Tables.{automaton_of};
+ghost use Rattle.state_table.specs.TableValues.{TableValue};
 ghost use Rattle.lrpar.specs.Safety.{ItemFits};
 ghost use Rattle.lrpar.specs.Fitting.{Tells, OfGrammar};
 
 use cfg_base::index::IndexStorage;
 use cfg_base::symbol::{PIdx, SIdx, Symbol};
 use cfg_numbered::yacc::grammar::NumberedGrammar;
-use lrtable::{Itemset, StIdx};
+use state_table::{Itemset, StIdx};
 
 /// Whether a set has an item.
 pub(crate) fn has_item<S: IndexStorage>(items: &Itemset<S>, pidx: PIdx<S>, dot: SIdx<S>) -> bool

@@ -1,8 +1,8 @@
 //! Whether a graph and a table fit a grammar: the least place where they don't.
 
 ghost use Rattle.std.specs.Prelude.{◌≡◌, ◌<◌, ℕ, length, IfOk};
-ghost use Rattle.lrtable.specs.Graphs.{IsGraphValue};
-ghost use Rattle.lrtable.specs.Tables.{CountsAgree, HasFullRows, automaton_of};
+ghost use Rattle.state_table.specs.Graphs.{IsGraphValue};
+ghost use Rattle.state_table.specs.Tables.{CountsAgree, HasFullRows, automaton_of};
 ghost use Rattle.lrpar.specs.Reducing.{rule_number, token_number};
 ghost use Rattle.lrpar.specs.Safety.{TokenFits, RuleFits};
 ghost use Rattle.lrpar.specs.Fitting.{Tells, LeastNot, OfGrammar, AreFlags, TellsCell, TellsMisfit, closed_at};
@@ -16,7 +16,7 @@ use crate::parserdata::items::items_fit;
 use cfg_base::index::IndexStorage;
 use cfg_base::symbol::{RIdx, TIdx};
 use cfg_numbered::yacc::grammar::NumberedGrammar;
-use lrtable::{StIdx, StateGraph, StateTable};
+use state_table::{StIdx, StateGraph, StateTable};
 use std::alloc::{AllocError, Global};
 
 /// Whether the counts of the three agree, and the start states of graph and table.

@@ -1,7 +1,7 @@
 use Rattle.std.proofs.Common.{sym, ap, ◌∙◌}
 use Rattle.std.specs.Prelude.{option_map}
 use Rattle.lr_theory.specs.Graph.{Leads}
-use Rattle.lrtable.specs.Graphs.{graph_of}
+use Rattle.state_table.specs.Graphs.{graph_of}
 use Rattle.cfg_numbered.specs.Symbols.{sym_of}
 use Rattle.conflict_examples.proofs.SymbolLists.{leads_more, leads_all}
 use Rattle.conflict_examples.proofs.goto.state_after.Goals as goal

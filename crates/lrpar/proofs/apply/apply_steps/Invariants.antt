@@ -3,8 +3,8 @@ use Rattle.lr_theory.specs.Automaton.{Safe}
 use Rattle.lr_theory.specs.Machine.{Config}
 use Rattle.lr_theory.specs.Repair.{with_rest, Takes}
 use Rattle.lr_theory.specs.Stack.{stack_yield}
-use Rattle.lrtable.specs.Graphs.{GraphValue}
-use Rattle.lrtable.specs.Tables.{automaton_of}
+use Rattle.state_table.specs.Graphs.{GraphValue}
+use Rattle.state_table.specs.Tables.{automaton_of}
 use Rattle.lrpar.specs.Made.{made_by}
 use Rattle.lrpar.specs.Run.{StartsByNext, StandFor, AreStacks, token_by}
 use Rattle.lrpar.specs.Taking.{edits_of}

@@ -3,9 +3,9 @@ use Rattle.std.proofs.lemmas.List.{nil_from_length}
 use Rattle.std.specs.declared.alloc.Global.{Global}
 use Rattle.std.specs.declared.vec.Vec.{Vec}
 use Rattle.lr_theory.specs.Chains.{reduction, Reductions}
-use Rattle.lrtable.specs.CellViews.{state_of}
-use Rattle.lrtable.specs.Tables.{automaton_of}
-use Rattle.lrtable.specs.declared.stidx.StIdx.{StIdx}
+use Rattle.state_table.specs.CellViews.{state_of}
+use Rattle.state_table.specs.Tables.{automaton_of}
+use Rattle.state_table.specs.declared.stidx.StIdx.{StIdx}
 use Rattle.lrpar.specs.Reducing.{stack_of, chain_stack}
 use Rattle.lrpar.specs.Branching.{Stacked, AllHoldStates}
 use Rattle.lrpar.proofs.StacksAhead.{SomeGoesOn, none_goes_on, goes_on, first_goes_on, first_holds, hold_fewer, hold_last}

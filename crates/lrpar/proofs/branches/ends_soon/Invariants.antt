@@ -1,8 +1,8 @@
 use Rattle.std.proofs.Common.{◌+◌, ℕ}
 use Rattle.lr_theory.specs.Chains.{Reductions}
-use Rattle.lrtable.specs.CellViews.{state_of}
-use Rattle.lrtable.specs.Graphs.{GraphValue}
-use Rattle.lrtable.specs.Tables.{automaton_of}
+use Rattle.state_table.specs.CellViews.{state_of}
+use Rattle.state_table.specs.Graphs.{GraphValue}
+use Rattle.state_table.specs.Tables.{automaton_of}
 use Rattle.lrpar.specs.Branching.{AllHoldStates}
 use Rattle.lrpar.specs.Reducing.{chain_stack}
 use Rattle.lrpar.proofs.StacksAhead.{SomeGoesOn}

@@ -5,7 +5,7 @@ use Rattle.std.specs.Prelude.{slice_get}
 use Rattle.cfg_base.specs.declared.symbol.PIdx.{PIdx}
 use Rattle.cfg_theory.specs.Grammar.{body_of}
 use Rattle.lr_theory.specs.Chains.{goto_from}
-use Rattle.lrtable.specs.Tables.{automaton_of}
+use Rattle.state_table.specs.Tables.{automaton_of}
 use Rattle.lrpar.specs.Reducing.{stack_of}
 use Rattle.lrpar.specs.Branching.{Stacked}
 use Rattle.lrpar.proofs.StacksAhead.{stacked_more, stacked_last, hold_more}

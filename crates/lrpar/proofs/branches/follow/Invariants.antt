@@ -3,8 +3,8 @@ use Rattle.std.specs.Prelude.{slice_get}
 use Rattle.cfg_base.specs.declared.symbol.PIdx.{PIdx}
 use Rattle.cfg_theory.specs.Grammar.{body_of}
 use Rattle.lr_theory.specs.Chains.{goto_from}
-use Rattle.lrtable.specs.Graphs.{GraphValue}
-use Rattle.lrtable.specs.Tables.{automaton_of}
+use Rattle.state_table.specs.Graphs.{GraphValue}
+use Rattle.state_table.specs.Tables.{automaton_of}
 use Rattle.lrpar.specs.Reducing.{stack_of}
 use Rattle.lrpar.specs.Branching.{Stacked, AllHoldStates}
 use Rattle.lrpar.proofs.branches.follow.Given as goal

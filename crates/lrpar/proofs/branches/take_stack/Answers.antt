@@ -2,7 +2,7 @@ use Rattle.std.proofs.Common.{◌≡◌, ◌-◌, suc, ℕ, List, ◌∷◌, len
 use Rattle.std.proofs.lemmas.List.{length-map}
 use Rattle.cfg_theory.specs.Grammar.{body_of}
 use Rattle.lr_theory.specs.Chains.{goto_from, reduction}
-use Rattle.lrtable.specs.Tables.{automaton_of}
+use Rattle.state_table.specs.Tables.{automaton_of}
 use Rattle.lrpar.specs.Reducing.{states_of, stack_of}
 use Rattle.lrpar.proofs.Reduced.{number_at, state_in, reverse_last}
 use Rattle.lrpar.proofs.StacksAhead.{by_production}

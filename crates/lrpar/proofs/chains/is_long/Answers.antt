@@ -1,5 +1,5 @@
 use Rattle.std.proofs.Common.{◌+◌, arith}
-use Rattle.lrtable.specs.Tables.{automaton_of}
+use Rattle.state_table.specs.Tables.{automaton_of}
 use Rattle.lrpar.proofs.LongChain.{leads_more, leads_end, leads_all}
 use Rattle.lrpar.proofs.chains.is_long.Goals as goal
 

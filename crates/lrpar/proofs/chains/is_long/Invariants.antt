@@ -1,8 +1,8 @@
 use Rattle.std.proofs.Common.{◌<◌, length}
-use Rattle.lrtable.specs.Tables.{automaton_of}
+use Rattle.state_table.specs.Tables.{automaton_of}
 use Rattle.lrpar.specs.Reducing.{states_of, stack_of, AreStates, chain_stack}
-use Rattle.lrtable.specs.Graphs.{GraphValue}
-use Rattle.lrtable.specs.CellViews.{state_of}
+use Rattle.state_table.specs.Graphs.{GraphValue}
+use Rattle.state_table.specs.CellViews.{state_of}
 use Rattle.lrpar.proofs.LongChain.{LeadsOn}
 use Rattle.lrpar.proofs.chains.is_long.Given as goal
 

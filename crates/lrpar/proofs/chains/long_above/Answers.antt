@@ -1,10 +1,10 @@
 use Rattle.std.proofs.Common.{◌≡◌, ◌<◌, ◌≤◌, ℕ, length, Some, refl, ap, ◌∙◌, arith}
 use Rattle.std.proofs.lemmas.List.{length-map}
 use Rattle.lr_theory.specs.LongChains.{GoesPast}
-use Rattle.lrtable.specs.CellViews.{targets_of}
-use Rattle.lrtable.specs.TableValues.{goto_at}
-use Rattle.lrtable.specs.declared.stidx.StIdx.{StIdx}
-use Rattle.lrtable.specs.Tables.{automaton_of}
+use Rattle.state_table.specs.CellViews.{targets_of}
+use Rattle.state_table.specs.TableValues.{goto_at}
+use Rattle.state_table.specs.declared.stidx.StIdx.{StIdx}
+use Rattle.state_table.specs.Tables.{automaton_of}
 use Rattle.lrpar.proofs.LeastChains.{no_rule, at_rule, any_token, least_above}
 use Rattle.lrpar.proofs.RowWalks.{row_none, row_more, goto_inside, goto_there, before_goto, all_gotos}
 use Rattle.lrpar.proofs.chains.long_above.Goals as goal

@@ -1,8 +1,8 @@
 use Rattle.std.proofs.Common.{ℕ, Some}
 use Rattle.lr_theory.specs.LongChains.{GoesPast}
-use Rattle.lrtable.specs.CellViews.{targets_of}
-use Rattle.lrtable.specs.Graphs.{GraphValue}
-use Rattle.lrtable.specs.Tables.{automaton_of}
+use Rattle.state_table.specs.CellViews.{targets_of}
+use Rattle.state_table.specs.Graphs.{GraphValue}
+use Rattle.state_table.specs.Tables.{automaton_of}
 use Rattle.lrpar.proofs.RowWalks.{RowTo}
 use Rattle.lrpar.proofs.chains.long_above.Given as goal
 

@@ -1,6 +1,6 @@
 use Rattle.std.proofs.Common.{◌<◌, ◌∙◌, sym, arith}
 use Rattle.lr_theory.specs.LongChains.{Chain, Passes}
-use Rattle.lrtable.specs.Tables.{automaton_of}
+use Rattle.state_table.specs.Tables.{automaton_of}
 use Rattle.lrpar.proofs.LeastChains.{within, more_state, least_of_all}
 use Rattle.lrpar.proofs.chains.long_chain.Goals as goal
 

@@ -1,7 +1,7 @@
 use Rattle.std.proofs.Common.{◌<◌}
 use Rattle.lr_theory.specs.LongChains.{Chain, Passes}
-use Rattle.lrtable.specs.Tables.{automaton_of}
-use Rattle.lrtable.specs.Graphs.{GraphValue}
+use Rattle.state_table.specs.Tables.{automaton_of}
+use Rattle.state_table.specs.Graphs.{GraphValue}
 use Rattle.lrpar.proofs.chains.long_chain.Given as goal
 
 abbrev pub invariant-states : goal.invariant-states

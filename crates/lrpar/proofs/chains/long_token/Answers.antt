@@ -1,11 +1,11 @@
 use Rattle.std.proofs.Common.{◌≡◌, ◌≤◌, ℕ, length, ◌∙◌, subst, arith}
 use Rattle.std.proofs.lemmas.List.{length-map}
 use Rattle.lr_theory.specs.Automaton.{Action, error}
-use Rattle.lrtable.specs.declared.cells.Action.{Action as TableAction}
-use Rattle.lrtable.specs.CellViews.{action_of, cells_of, state_of}
-use Rattle.lrtable.specs.Graphs.{GraphValue}
-use Rattle.lrtable.specs.TableValues.{action_at}
-use Rattle.lrtable.specs.Tables.{automaton_of}
+use Rattle.state_table.specs.declared.cells.Action.{Action as TableAction}
+use Rattle.state_table.specs.CellViews.{action_of, cells_of, state_of}
+use Rattle.state_table.specs.Graphs.{GraphValue}
+use Rattle.state_table.specs.TableValues.{action_at}
+use Rattle.state_table.specs.Tables.{automaton_of}
 use Rattle.lrpar.specs.Reducing.{IsLong, BeginsNone, chain_top}
 use Rattle.lrpar.proofs.ChainRows.{begins_none, error_begins_none}
 use Rattle.lrpar.proofs.RowWalks.{row_none, row_more, cell_inside, cell_there, before_cell, all_cells}

@@ -1,6 +1,6 @@
-use Rattle.lrtable.specs.CellViews.{cells_of, state_of}
-use Rattle.lrtable.specs.Graphs.{GraphValue}
-use Rattle.lrtable.specs.Tables.{automaton_of}
+use Rattle.state_table.specs.CellViews.{cells_of, state_of}
+use Rattle.state_table.specs.Graphs.{GraphValue}
+use Rattle.state_table.specs.Tables.{automaton_of}
 use Rattle.lrpar.specs.Reducing.{IsLong}
 use Rattle.lrpar.proofs.RowWalks.{RowTo}
 use Rattle.lrpar.proofs.chains.long_token.Given as goal

@@ -1,5 +1,5 @@
 use Rattle.std.proofs.Common.{ap}
-use Rattle.lrtable.specs.CellViews.{action_of}
+use Rattle.state_table.specs.CellViews.{action_of}
 use Rattle.lrpar.proofs.chains.may_begin.Goals as goal
 
 pub prod_len-requires : goal.prod_len-requires

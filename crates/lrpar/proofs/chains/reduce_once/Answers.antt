@@ -3,10 +3,10 @@ use Rattle.std.proofs.lemmas.List.{length-map, reverse-append}
 use Rattle.cfg_theory.specs.Grammar.{head_of, body_of, IsOf}
 use Rattle.lr_theory.specs.Automaton.{reduce}
 use Rattle.lr_theory.specs.Chains.{push_goto, reduction}
-use Rattle.lrtable.specs.Graphs.{GraphValue}
-use Rattle.lrtable.specs.TableValues.{action_at, goto_at}
-use Rattle.lrtable.specs.CellViews.{state_of, action_of}
-use Rattle.lrtable.specs.Tables.{automaton_of}
+use Rattle.state_table.specs.Graphs.{GraphValue}
+use Rattle.state_table.specs.TableValues.{action_at, goto_at}
+use Rattle.state_table.specs.CellViews.{state_of, action_of}
+use Rattle.state_table.specs.Tables.{automaton_of}
 use Rattle.lrpar.specs.Reducing.{states_of, stack_of}
 use Rattle.lrpar.proofs.Reduced.{number_at, state_in, are_pushed, states_pushed, reduction_is}
 use Rattle.lrpar.proofs.chains.reduce_once.Goals as goal

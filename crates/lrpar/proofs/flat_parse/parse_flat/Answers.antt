@@ -1,5 +1,5 @@
 use Rattle.std.proofs.Common.{ap, ◌∙◌, map}
-use Rattle.lrtable.specs.Tables.{automaton_of}
+use Rattle.state_table.specs.Tables.{automaton_of}
 use Rattle.lrpar.specs.FlatParses.{HasFlat}
 use Rattle.lrpar.specs.Made.{end_of, made_by}
 use Rattle.lrpar.specs.Parsing.{errors_of}

@@ -1,8 +1,8 @@
 use Rattle.std.proofs.Common.{subst, sym, ◌∙◌}
-use Rattle.lrtable.specs.CellViews.{action_of}
-use Rattle.lrtable.specs.Rows.{Below}
-use Rattle.lrtable.specs.declared.cells.Action.TheVariants as actions
-use Rattle.lrtable.proofs.FullRows.{rises_under}
+use Rattle.state_table.specs.CellViews.{action_of}
+use Rattle.state_table.specs.Rows.{Below}
+use Rattle.state_table.specs.declared.cells.Action.TheVariants as actions
+use Rattle.state_table.proofs.FullRows.{rises_under}
 use Rattle.lrpar.specs.FullTables.{IsFull}
 use Rattle.lrpar.proofs.FullSteps.{below_under, are_cells}
 use Rattle.lrpar.proofs.full_table.cell_row.Goals as goal

@@ -1,6 +1,6 @@
 use Rattle.std.proofs.Common.{◌≡◌, ◌⊎◌, [], subst, ◌∙◌}
-use Rattle.lrtable.specs.declared.stidx.StIdx.{StIdx}
-use Rattle.lrtable.proofs.FullRows.{rises_under}
+use Rattle.state_table.specs.declared.stidx.StIdx.{StIdx}
+use Rattle.state_table.proofs.FullRows.{rises_under}
 use Rattle.lrpar.proofs.FullSteps.{below_under, below_places, are_targets}
 use Rattle.lrpar.proofs.full_table.target_row.Goals.{After-places_for-count}
 use Rattle.lrpar.proofs.full_table.target_row.Goals as goal

@@ -1,6 +1,6 @@
 use Rattle.std.proofs.Common.{◌≡◌, [], ◌∷◌, length, sym, ap, ◌∙◌, subst, refl, arith}
 use Rattle.std.proofs.lemmas.List.{drop_all}
-use Rattle.lrtable.specs.Tables.{automaton_of}
+use Rattle.state_table.specs.Tables.{automaton_of}
 use Rattle.lrpar.specs.NextTokens.{Reaches}
 use Rattle.lrpar.specs.Reducing.{AreStates, stack_of}
 use Rattle.lrpar.specs.Replay.{overlaid}

@@ -1,6 +1,6 @@
 use Rattle.std.proofs.Common.{◌≡◌, [], subst, arith}
-use Rattle.lrtable.specs.Graphs.{GraphValue}
-use Rattle.lrtable.specs.Tables.{automaton_of}
+use Rattle.state_table.specs.Graphs.{GraphValue}
+use Rattle.state_table.specs.Tables.{automaton_of}
 use Rattle.lrpar.specs.NextStates.{TellBelow}
 use Rattle.lrpar.specs.Reducing.{stack_of}
 use Rattle.lrpar.proofs.NextTold.{told_more}

@@ -1,5 +1,5 @@
-use Rattle.lrtable.specs.Graphs.{GraphValue}
-use Rattle.lrtable.specs.Tables.{automaton_of}
+use Rattle.state_table.specs.Graphs.{GraphValue}
+use Rattle.state_table.specs.Tables.{automaton_of}
 use Rattle.lrpar.specs.NextStates.{TellBelow}
 use Rattle.lrpar.specs.Reducing.{stack_of}
 use Rattle.lrpar.proofs.next_tokens.tokens_behind.Given as goal

@@ -1,9 +1,9 @@
 use Rattle.std.proofs.Common.{◌≡◌, ◌≢◌, ℕ, Some, refl, sym, ap, ◌∙◌, subst}
 use Rattle.lr_theory.specs.Automaton.{accept}
-use Rattle.lrtable.specs.CellViews.{action_of, state_of}
-use Rattle.lrtable.specs.declared.cells.Action.{Action as TableAction}
-use Rattle.lrtable.specs.declared.cells.Action.TheVariants as actions
-use Rattle.lrtable.specs.Tables.{automaton_of}
+use Rattle.state_table.specs.CellViews.{action_of, state_of}
+use Rattle.state_table.specs.declared.cells.Action.{Action as TableAction}
+use Rattle.state_table.specs.declared.cells.Action.TheVariants as actions
+use Rattle.state_table.specs.Tables.{automaton_of}
 use Rattle.lrpar.specs.Replay.{overlaid, first_of, action_on, Rests}
 use Rattle.lrpar.proofs.Overlays.{entry_in, top_is}
 use Rattle.lrpar.proofs.overlay.accepts_on.Goals as goal

@@ -1,7 +1,7 @@
 use Rattle.std.proofs.Common.{◌≡◌, ◌+◌, ◌*◌, [], length, None, refl, sym, subst}
 use Rattle.lr_theory.specs.Chains.{reduction}
-use Rattle.lrtable.specs.Graphs.{GraphValue}
-use Rattle.lrtable.specs.Tables.{automaton_of}
+use Rattle.state_table.specs.Graphs.{GraphValue}
+use Rattle.state_table.specs.Tables.{automaton_of}
 use Rattle.lrpar.specs.Replay.{overlaid, Leads, none}
 use Rattle.lrpar.proofs.Room.{room_less, still_short, bounded}
 use Rattle.lrpar.proofs.Replays.{leads_more}

@@ -1,7 +1,7 @@
 use Rattle.std.proofs.Common.{◌+◌, ◌*◌, [], length}
 use Rattle.lr_theory.specs.Chains.{Reductions}
-use Rattle.lrtable.specs.Graphs.{GraphValue}
-use Rattle.lrtable.specs.Tables.{automaton_of}
+use Rattle.state_table.specs.Graphs.{GraphValue}
+use Rattle.state_table.specs.Tables.{automaton_of}
 use Rattle.lrpar.specs.Replay.{overlaid, IsOver, Leads}
 use Rattle.lrpar.proofs.Room.{room}
 use Rattle.lrpar.proofs.overlay.reduce_all.Given as goal

@@ -1,8 +1,8 @@
 use Rattle.std.proofs.Common.{◌≡◌, Some, sym, ap, ◌∙◌, arith}
 use Rattle.cfg_theory.specs.Grammar.{IsOf}
 use Rattle.lr_theory.specs.Automaton.{reduce}
-use Rattle.lrtable.specs.TableValues.{action_at, goto_at}
-use Rattle.lrtable.specs.CellViews.{action_of, state_of}
+use Rattle.state_table.specs.TableValues.{action_at, goto_at}
+use Rattle.state_table.specs.CellViews.{action_of, state_of}
 use Rattle.lrpar.specs.Replay.{overlaid}
 use Rattle.lrpar.proofs.Overlays.{entry_in, are_replaced}
 use Rattle.lrpar.proofs.overlay.reduce_on.Goals as goal

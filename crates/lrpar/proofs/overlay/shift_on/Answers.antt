@@ -1,11 +1,11 @@
 use Rattle.std.proofs.Common.{◌≡◌, ◌≢◌, ℕ, Some, refl, sym, ap, ◌∙◌}
 use Rattle.lr_theory.specs.Automaton.{shift}
-use Rattle.lrtable.specs.TableValues.{action_at}
-use Rattle.lrtable.specs.CellViews.{action_of, state_of}
-use Rattle.lrtable.specs.Tables.{automaton_of}
-use Rattle.lrtable.specs.declared.cells.Action.{Action as TableAction}
-use Rattle.lrtable.specs.declared.cells.Action.TheVariants as actions
-use Rattle.lrtable.specs.declared.stidx.StIdx.{StIdx}
+use Rattle.state_table.specs.TableValues.{action_at}
+use Rattle.state_table.specs.CellViews.{action_of, state_of}
+use Rattle.state_table.specs.Tables.{automaton_of}
+use Rattle.state_table.specs.declared.cells.Action.{Action as TableAction}
+use Rattle.state_table.specs.declared.cells.Action.TheVariants as actions
+use Rattle.state_table.specs.declared.stidx.StIdx.{StIdx}
 use Rattle.lrpar.specs.Replay.{overlaid, first_of, action_on}
 use Rattle.lrpar.proofs.Overlays.{entry_in, are_replaced, top_is}
 use Rattle.lrpar.proofs.overlay.shift_on.Goals as goal

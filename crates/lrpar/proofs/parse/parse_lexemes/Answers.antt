@@ -1,6 +1,6 @@
 use Rattle.std.proofs.Common.{true, false, sym, ap, ◌∙◌, subst, length, drop, arith}
 use Rattle.cfg_theory.specs.Grammar.{end_token}
-use Rattle.lrtable.specs.Tables.{automaton_of}
+use Rattle.state_table.specs.Tables.{automaton_of}
 use Rattle.lrpar.specs.Made.{made_by, end_of, next_start}
 use Rattle.lrpar.specs.Parses.{HoldsValue, IsParse, IsParsed}
 use Rattle.lrpar.specs.Parsing.{error_of, errors_of, Underway}

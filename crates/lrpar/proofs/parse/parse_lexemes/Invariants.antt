@@ -1,7 +1,7 @@
 use Rattle.std.proofs.Common.{◌≡◌, ◌≤◌, ◌+◌, ◌-◌, length, drop}
 use Rattle.lr_theory.specs.Automaton.{Safe}
-use Rattle.lrtable.specs.Graphs.{GraphValue}
-use Rattle.lrtable.specs.Tables.{automaton_of}
+use Rattle.state_table.specs.Graphs.{GraphValue}
+use Rattle.state_table.specs.Tables.{automaton_of}
 use Rattle.lrpar.specs.Made.{made_by}
 use Rattle.lrpar.specs.Parsing.{errors_of, Underway}
 use Rattle.lrpar.specs.Run.{StartsByNext, AreStacks}

@@ -1,6 +1,6 @@
 use Rattle.std.proofs.Common.{◌≡◌, None}
 use Rattle.lr_theory.specs.Automaton.{Safe}
-use Rattle.lrtable.specs.Tables.{CountsAgree, automaton_of}
+use Rattle.state_table.specs.Tables.{CountsAgree, automaton_of}
 use Rattle.lrpar.specs.Reducing.{IsTableFor}
 use Rattle.lrpar.proofs.FittingStates.{table_for_of}
 use Rattle.lrpar.proofs.parserdata.judge.Goals as goal

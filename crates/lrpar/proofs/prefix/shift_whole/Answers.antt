@@ -1,5 +1,5 @@
 use Rattle.std.proofs.Common.{◌≡◌, length, sym, subst, arith}
-use Rattle.lrtable.specs.Tables.{automaton_of}
+use Rattle.state_table.specs.Tables.{automaton_of}
 use Rattle.lrpar.specs.Reducing.{stack_of}
 use Rattle.lrpar.specs.Replay.{overlaid, ShiftsNot, ShiftsTo}
 use Rattle.lrpar.specs.declared.overlay.Overlay.{Overlay}

@@ -1,7 +1,7 @@
 use Rattle.std.proofs.Common.{◌≡◌, List, [], ◌∷◌, ◌++◌, inl, inr, sym, ap, ◌∙◌, subst}
 use Rattle.cfg_base.specs.declared.symbol.PIdx.{PIdx}
 use Rattle.lr_theory.specs.Automaton.{reduce}
-use Rattle.lrtable.specs.CellViews.{action_of}
+use Rattle.state_table.specs.CellViews.{action_of}
 use Rattle.lrpar.specs.Branching.{Lists}
 use Rattle.lrpar.proofs.StacksAhead.{same_production, lists_more, lists_last, lists_split}
 use Rattle.lrpar.proofs.reducers.put_reducer.Goals as goal

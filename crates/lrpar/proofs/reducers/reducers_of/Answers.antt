@@ -1,9 +1,9 @@
 use Rattle.std.proofs.Common.{◌≡◌, ◌≤◌, ℕ, length, sym, ◌∙◌, arith}
 use Rattle.std.proofs.lemmas.List.{length-map}
 use Rattle.lr_theory.specs.Automaton.{Action, reduce}
-use Rattle.lrtable.specs.declared.cells.Action.{Action as TableAction}
-use Rattle.lrtable.specs.CellViews.{action_of, cells_of}
-use Rattle.lrtable.specs.TableValues.{action_at}
+use Rattle.state_table.specs.declared.cells.Action.{Action as TableAction}
+use Rattle.state_table.specs.CellViews.{action_of, cells_of}
+use Rattle.state_table.specs.TableValues.{action_at}
 use Rattle.lrpar.specs.Branching.{Lists}
 use Rattle.lrpar.proofs.RowWalks.{row_none, row_more, cell_there, all_cells}
 use Rattle.lrpar.proofs.StacksAhead.{lists_none}

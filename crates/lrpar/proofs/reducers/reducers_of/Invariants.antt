@@ -1,7 +1,7 @@
 use Rattle.std.proofs.Common.{◌≡◌, ◌<◌, ℕ, length}
 use Rattle.lr_theory.specs.Automaton.{reduce}
-use Rattle.lrtable.specs.CellViews.{cells_of}
-use Rattle.lrtable.specs.TableValues.{action_at}
+use Rattle.state_table.specs.CellViews.{cells_of}
+use Rattle.state_table.specs.TableValues.{action_at}
 use Rattle.lrpar.specs.Branching.{Lists}
 use Rattle.lrpar.proofs.RowWalks.{RowTo}
 use Rattle.lrpar.proofs.reducers.reducers_of.Given as goal

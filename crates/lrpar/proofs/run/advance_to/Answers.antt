@@ -1,8 +1,8 @@
 use Rattle.std.proofs.Common.{◌+◌, ◌*◌, [], length, drop, refl, ap, arith}
 use Rattle.std.proofs.lemmas.List.{length-map, length-reverse}
 use Rattle.cfg_theory.specs.Grammar.{end_token}
-use Rattle.lrtable.specs.Graphs.{GraphValue}
-use Rattle.lrtable.specs.Tables.{automaton_of}
+use Rattle.state_table.specs.Graphs.{GraphValue}
+use Rattle.state_table.specs.Tables.{automaton_of}
 use Rattle.lrpar.specs.Reducing.{states_of, stack_of}
 use Rattle.lrpar.specs.Run.{token_by, token_of}
 use Rattle.lrpar.proofs.Room.{room_less, still_short, bounded}

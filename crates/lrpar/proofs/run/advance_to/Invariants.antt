@@ -3,8 +3,8 @@ use Rattle.cfg_theory.specs.Grammar.{end_token}
 use Rattle.lr_theory.specs.Automaton.{Safe}
 use Rattle.lr_theory.specs.Chains.{Reductions}
 use Rattle.lr_theory.specs.Machine.{Config}
-use Rattle.lrtable.specs.Graphs.{GraphValue}
-use Rattle.lrtable.specs.Tables.{automaton_of}
+use Rattle.state_table.specs.Graphs.{GraphValue}
+use Rattle.state_table.specs.Tables.{automaton_of}
 use Rattle.lrpar.specs.Reducing.{stack_of}
 use Rattle.lrpar.specs.Run.{StandFor, AreStacks, GoesOn, token_by, token_of, NextOf, StartsKept}
 use Rattle.lrpar.proofs.Room.{room}

@@ -1,8 +1,8 @@
 use Rattle.std.proofs.Common.{◌≡◌, ◌≤◌, ◌-◌, ℕ, List, length, drop}
 use Rattle.lr_theory.specs.Automaton.{Safe}
 use Rattle.lr_theory.specs.Machine.{Config}
-use Rattle.lrtable.specs.Graphs.{GraphValue}
-use Rattle.lrtable.specs.Tables.{automaton_of}
+use Rattle.state_table.specs.Graphs.{GraphValue}
+use Rattle.state_table.specs.Tables.{automaton_of}
 use Rattle.lrpar.specs.Run.{StartsByNext, StandFor, AreStacks, GoesOn}
 use Rattle.lrpar.proofs.run.run_from.Given as goal
 

@@ -3,12 +3,12 @@ use Rattle.std.proofs.lemmas.List.{length-map}
 use Rattle.cfg_theory.specs.Grammar.{end_token}
 use Rattle.lr_theory.specs.Automaton.{Safe, shift, reduce, accept}
 use Rattle.lr_theory.specs.Machine.{Config, next_or, act, step}
-use Rattle.lrtable.specs.Graphs.{GraphValue}
-use Rattle.lrtable.specs.TableValues.{action_at}
-use Rattle.lrtable.specs.CellViews.{action_of}
-use Rattle.lrtable.specs.declared.stidx.StIdx.{StIdx}
-use Rattle.lrtable.specs.declared.cells.Action.TheVariants as actions
-use Rattle.lrtable.specs.Tables.{automaton_of}
+use Rattle.state_table.specs.Graphs.{GraphValue}
+use Rattle.state_table.specs.TableValues.{action_at}
+use Rattle.state_table.specs.CellViews.{action_of}
+use Rattle.state_table.specs.declared.stidx.StIdx.{StIdx}
+use Rattle.state_table.specs.declared.cells.Action.TheVariants as actions
+use Rattle.state_table.specs.Tables.{automaton_of}
 use Rattle.lrpar.specs.Reducing.{states_of, stack_of}
 use Rattle.lrpar.specs.Run.{StandFor, token_by, token_of, NextOf}
 use Rattle.lrpar.proofs.Reduced.{number_at, state_in}

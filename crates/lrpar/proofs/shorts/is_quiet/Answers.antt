@@ -1,9 +1,9 @@
 use Rattle.std.proofs.Common.{◌≡◌, ◌+◌, ◌-◌, suc, [], ◌∷◌, Some, sym, ap, ◌∙◌, subst, arith}
 use Rattle.cfg_theory.specs.Grammar.{IsOf}
 use Rattle.lr_theory.specs.Chains.{Reductions}
-use Rattle.lrtable.specs.CellViews.{state_of}
-use Rattle.lrtable.specs.TableValues.{goto_at}
-use Rattle.lrtable.specs.Tables.{automaton_of}
+use Rattle.state_table.specs.CellViews.{state_of}
+use Rattle.state_table.specs.TableValues.{goto_at}
+use Rattle.state_table.specs.Tables.{automaton_of}
 use Rattle.lrpar.proofs.Quiet.{From, ends, goes_on, at_target, no_target}
 use Rattle.lrpar.proofs.shorts.is_quiet.Goals as goal
 

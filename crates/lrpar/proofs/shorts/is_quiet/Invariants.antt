@@ -1,7 +1,7 @@
 use Rattle.std.proofs.Common.{◌<◌, ◌+◌, ℕ, [], ◌∷◌}
 use Rattle.lr_theory.specs.Chains.{Reductions}
-use Rattle.lrtable.specs.Tables.{automaton_of}
-use Rattle.lrtable.specs.Graphs.{GraphValue}
+use Rattle.state_table.specs.Tables.{automaton_of}
+use Rattle.state_table.specs.Graphs.{GraphValue}
 use Rattle.lrpar.proofs.shorts.is_quiet.Given as goal
 
 abbrev pub invariant-links : goal.invariant-links

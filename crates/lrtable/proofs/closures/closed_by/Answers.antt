@@ -2,9 +2,9 @@ use Rattle.std.proofs.Common.{sym, ap, ◌∙◌, subst}
 use Rattle.std.proofs.lemmas.List.{length-map}
 use Rattle.vob.specs.Packed.{Contents}
 use Rattle.lr_theory.specs.Itemset.{Closure, ClosureLook, HasItem, HasLook, Is}
-use Rattle.lrtable.specs.ItemRows.{Core, IsCoreOf, map_of}
-use Rattle.lrtable.specs.Sharing.{shared_map}
-use Rattle.lrtable.specs.StateViews.{item_of, core_of_set}
+use Rattle.state_table.specs.ItemRows.{Core, IsCoreOf, map_of}
+use Rattle.state_table.specs.Sharing.{shared_map}
+use Rattle.state_table.specs.CoreViews.{item_of, core_of_set}
 use Rattle.lrtable.proofs.Opened.{closed_is}
 use Rattle.lrtable.proofs.closures.closed_by.Goals as goal
 

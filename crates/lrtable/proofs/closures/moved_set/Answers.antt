@@ -2,13 +2,13 @@ use Rattle.std.proofs.Common.{◌≡◌, ◌<◌, ℕ, length, get_or, sym, subs
 use Rattle.std.proofs.lemmas.List.{length-map}
 use Rattle.cfg_numbered.specs.Symbols.{sym_of}
 use Rattle.lr_theory.specs.Itemset.{Goto, GotoLook}
-use Rattle.lrtable.specs.Adding.{One, OneLooks}
-use Rattle.lrtable.specs.ItemRows.{Item, IsCoreOf}
-use Rattle.lrtable.specs.Sharing.{shared_core, GrowsBy}
-use Rattle.lrtable.specs.StateViews.{item_of}
-use Rattle.lrtable.specs.declared.shared_sets.SharedItem.{SharedItem}
+use Rattle.state_table.specs.Adding.{One, OneLooks}
+use Rattle.state_table.specs.ItemRows.{Item, IsCoreOf}
+use Rattle.state_table.specs.Sharing.{shared_core, GrowsBy}
+use Rattle.state_table.specs.CoreViews.{item_of}
+use Rattle.state_table.specs.declared.shared_sets.SharedItem.{SharedItem}
 use Rattle.lrtable.proofs.Moved.{moved_none, moved_next, moved_all, no_core_good}
-use Rattle.lrtable.proofs.Sharing.{reads_item}
+use Rattle.state_table.proofs.Sharing.{reads_item}
 use Rattle.lrtable.proofs.closures.moved_set.Goals as goal
 
 pub items-init : goal.items-init

@@ -1,6 +1,6 @@
 use Rattle.cfg_numbered.specs.Symbols.{sym_of}
 use Rattle.lr_theory.specs.Itemset.{Goto, GotoLook}
-use Rattle.lrtable.specs.Sharing.{shared_core, GrowsBy}
+use Rattle.state_table.specs.Sharing.{shared_core, GrowsBy}
 use Rattle.lrtable.specs.Stepping.{ItemsBelow, LooksBelow}
 use Rattle.lrtable.proofs.closures.moved_set.Given as goal
 

@@ -1,12 +1,12 @@
 use Rattle.std.proofs.Common.{map, get_or, sym, subst, arith}
 use Rattle.std.proofs.lemmas.List.{length-map}
 use Rattle.lr_theory.specs.Itemset.{ItemSet, HasItem, HasLook, Closure, ClosureLook, Is, FitsGrammar}
-use Rattle.lrtable.specs.ItemRows.{map_of}
-use Rattle.lrtable.specs.Sharing.{shared_core}
-use Rattle.lrtable.specs.StateViews.{core_of_set, value_of}
-use Rattle.lrtable.specs.Stepping.{FitsCore}
+use Rattle.state_table.specs.ItemRows.{map_of, FitsCore}
+use Rattle.state_table.specs.Sharing.{shared_core}
+use Rattle.state_table.specs.CoreViews.{core_of_set}
+use Rattle.lrtable.specs.StateViews.{value_of}
 use Rattle.lrtable.proofs.FinalStates.{core_is, closes_next, closes_all}
-use Rattle.lrtable.proofs.Fitting.{closure_fits_core}
+use Rattle.lrtable.proofs.FittingClosures.{closure_fits_core}
 use Rattle.lrtable.proofs.finishing.closed_sets.Goals as goal
 
 pub closed_by-requires-clause-fits : goal.closed_by-requires-clause-fits

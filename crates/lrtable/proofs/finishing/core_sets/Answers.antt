@@ -1,10 +1,10 @@
 use Rattle.std.proofs.Common.{◌≡◌, ◌<◌, List, [], ◌∷◌, ◌++◌, length, map, sym, ap, ap₂, ◌∙◌, subst, arith, rules}
 use Rattle.lr_theory.specs.Itemset.{ItemSet}
-use Rattle.lrtable.specs.ItemRows.{Core, IsCoreOf, map_of}
+use Rattle.state_table.specs.ItemRows.{Core, IsCoreOf, map_of}
 use Rattle.lrtable.specs.States.{StateValue, state_at}
-use Rattle.lrtable.specs.StateViews.{core_of_set, value_of}
-use Rattle.lrtable.proofs.FinalStates.{core_counts, core_shared}
-use Rattle.lrtable.proofs.OwnSets.{mapped_core}
+use Rattle.state_table.specs.CoreViews.{core_of_set}
+use Rattle.lrtable.specs.StateViews.{value_of}
+use Rattle.lrtable.proofs.FinalStates.{core_counts, core_shared, mapped_core}
 use Rattle.lrtable.proofs.finishing.core_sets.Goals as goal
 
 pub take_core-core-requires : goal.take_core-core-requires

@@ -1,5 +1,5 @@
 use Rattle.std.proofs.Common.{◌≡◌, ℕ, ◌≤◌, length, map, take}
-use Rattle.lrtable.specs.ItemRows.{map_of}
+use Rattle.state_table.specs.ItemRows.{map_of}
 use Rattle.lrtable.specs.States.{StateValue, state_at}
 use Rattle.lrtable.specs.StateViews.{value_of}
 use Rattle.lrtable.proofs.finishing.core_sets.Given as goal

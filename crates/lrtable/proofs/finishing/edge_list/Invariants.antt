@@ -1,6 +1,6 @@
 use Rattle.std.proofs.Common.{◌≡◌, map, take}
 use Rattle.lrtable.specs.FinalStates.{pair_of_edge}
-use Rattle.lrtable.specs.GraphViews.{edges_seen}
+use Rattle.state_table.specs.GraphViews.{edges_seen}
 use Rattle.lrtable.specs.StateViews.{edges_of}
 use Rattle.lrtable.proofs.finishing.edge_list.Given as goal
 

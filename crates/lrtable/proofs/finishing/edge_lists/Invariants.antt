@@ -3,9 +3,9 @@ use Rattle.std.specs.declared.alloc.Global.{Global}
 use Rattle.std.specs.declared.vec.Vec.{Vec}
 use Rattle.cfg_base.specs.declared.symbol.Symbol.{Symbol}
 use Rattle.lrtable.specs.FinalStates.{edge_pairs_of}
-use Rattle.lrtable.specs.GraphViews.{edges_seen}
+use Rattle.state_table.specs.GraphViews.{edges_seen}
 use Rattle.lrtable.specs.StateViews.{value_of}
-use Rattle.lrtable.specs.declared.stidx.StIdx.{StIdx}
+use Rattle.state_table.specs.declared.stidx.StIdx.{StIdx}
 use Rattle.lrtable.proofs.finishing.edge_lists.Given as goal
 
 abbrev pub invariant-states : goal.invariant-states

@@ -3,12 +3,11 @@ use Rattle.std.specs.Prelude.{All}
 use Rattle.std.proofs.lemmas.List.{length-map}
 use Rattle.lr_theory.specs.Itemset.{FitsGrammar}
 use Rattle.lrtable.specs.FinalStates.{AreClosures, edge_pairs_of}
-use Rattle.lrtable.specs.Graphs.{GraphValue, IsGraphOf}
-use Rattle.lrtable.specs.GraphViews.{graph_seen}
-use Rattle.lrtable.specs.ItemRows.{map_of}
+use Rattle.state_table.specs.Graphs.{GraphValue, IsGraphOf}
+use Rattle.state_table.specs.GraphViews.{graph_seen}
+use Rattle.state_table.specs.ItemRows.{map_of, FitsCore}
 use Rattle.lrtable.specs.States.{StateValue, state_at}
 use Rattle.lrtable.specs.StateViews.{value_of}
-use Rattle.lrtable.specs.Stepping.{FitsCore}
 use Rattle.lrtable.specs.declared.states.State.{State}
 use Rattle.lrtable.proofs.FinalStates.{final_targets, final_fits, final_graph, final_value, targets_fit}
 use Rattle.lrtable.proofs.finishing.from_states.Goals as goal

@@ -2,7 +2,7 @@ use Rattle.std.proofs.Common.{List, map, sym, ap, ◌∙◌, length-set, get_or-
 use Rattle.std.proofs.lemmas.List.{map-set}
 use Rattle.lrtable.specs.States.{StateValue, no_state, state_at}
 use Rattle.lrtable.specs.StateViews.{value_of}
-use Rattle.lrtable.proofs.CoreSteps.{map_at}
+use Rattle.state_table.proofs.CoreSteps.{map_at}
 use Rattle.lrtable.proofs.finishing.take_core.Goals as goal
 
 pub returns-clause-core : goal.returns-clause-core

@@ -1,10 +1,10 @@
 use Rattle.std.proofs.lemmas.Result.{IfOk-weaker, IfErr-weaker}
 use Rattle.cfg_numbered.specs.Value.{GrammarValue}
-use Rattle.lrtable.specs.Graphs.{GraphValue}
+use Rattle.state_table.specs.Graphs.{GraphValue}
 use Rattle.lrtable.specs.RefusalViews.{refusal_of}
-use Rattle.lrtable.specs.TableValues.{TableValue}
-use Rattle.lrtable.specs.Tables.{CountsAgree, IsTableOf}
-use Rattle.lrtable.proofs.CanonicalTables.{graph_holds, exact, contested, unrefused, refusal_cause}
+use Rattle.state_table.specs.TableValues.{TableValue}
+use Rattle.state_table.specs.Tables.{CountsAgree, IsTableOf}
+use Rattle.state_table.proofs.CanonicalTables.{graph_holds, exact, contested, unrefused, refusal_cause}
 use Rattle.lrtable.proofs.grammar_table.from_yacc.Goals as goal
 
 counts_of : (v : GrammarValue) (g : GraphValue) (t : TableValue) → IsTableOf v g t → CountsAgree v.grammar g t

@@ -1,7 +1,7 @@
 use Rattle.std.proofs.Common.{ℕ, ◌<◌}
 use Rattle.std.specs.Prelude.{IsTrue}
 use Rattle.cfg_numbered.specs.Sets.{is_set}
-use Rattle.lrtable.specs.Meeting.{row, rows_in}
+use Rattle.state_table.specs.Meeting.{row, rows_in}
 use Rattle.lrtable.specs.MovedItems.{rows_from}
 use Rattle.lrtable.proofs.meeting.hold_all.Given as goal
 

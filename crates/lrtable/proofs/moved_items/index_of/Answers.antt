@@ -1,9 +1,9 @@
 use Rattle.std.proofs.Common.{◌≡◌, ◌∙◌, false, true, ◌+◌, ◌-◌, ◌<◌, length, sym, ap, subst, arith}
 use Rattle.std.proofs.lemmas.List.{length-map}
-use Rattle.lrtable.specs.ItemRows.{ItemBefore}
+use Rattle.state_table.specs.ItemRows.{ItemBefore}
 use Rattle.lrtable.specs.MovedItems.{moved_item, moved_items}
-use Rattle.lrtable.specs.StateViews.{item_of}
-use Rattle.lrtable.proofs.CoreSteps.{map_at, below_last, none_more}
+use Rattle.state_table.specs.CoreViews.{item_of}
+use Rattle.state_table.proofs.CoreSteps.{map_at, below_last, none_more}
 use Rattle.lrtable.proofs.moved_items.index_of.Goals as goal
 
 differ : false ≡ true → ⊥

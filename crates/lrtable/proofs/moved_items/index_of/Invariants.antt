@@ -1,7 +1,7 @@
 use Rattle.std.proofs.Common.{ℕ, ◌+◌, ◌<◌, ◌≤◌, length, get_or}
-use Rattle.lrtable.specs.ItemRows.{Item, ItemBefore}
+use Rattle.state_table.specs.ItemRows.{Item, ItemBefore}
 use Rattle.lrtable.specs.MovedItems.{moved_items}
-use Rattle.lrtable.specs.StateViews.{item_of}
+use Rattle.state_table.specs.CoreViews.{item_of}
 use Rattle.lrtable.proofs.moved_items.index_of.Given as goal
 
 abbrev pub invariant-back : goal.invariant-back

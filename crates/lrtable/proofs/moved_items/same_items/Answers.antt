@@ -1,7 +1,7 @@
 use Rattle.std.proofs.Common.{◌≡◌, false, true, arith, sym, ap, ◌∙◌}
 use Rattle.lrtable.specs.MovedItems.{moved_item}
-use Rattle.lrtable.specs.StateViews.{item_of}
-use Rattle.lrtable.proofs.StateSteps.{differ_at}
+use Rattle.state_table.specs.CoreViews.{item_of}
+use Rattle.state_table.proofs.CoreSteps.{differ_at}
 use Rattle.lrtable.proofs.moved_items.same_items.Goals as goal
 
 pub returns-then-not-same_item : goal.returns-then-not-same_item

@@ -1,6 +1,6 @@
 use Rattle.std.proofs.Common.{◌≡◌, take}
 use Rattle.lrtable.specs.MovedItems.{moved_items}
-use Rattle.lrtable.specs.StateViews.{items_of}
+use Rattle.state_table.specs.CoreViews.{items_of}
 use Rattle.lrtable.proofs.moved_items.same_items.Given as goal
 
 abbrev pub invariant-each : goal.invariant-each

@@ -1,7 +1,7 @@
 use Rattle.std.proofs.Common.{◌≡◌, take}
-use Rattle.lrtable.specs.Meeting.{rows_in}
+use Rattle.state_table.specs.Meeting.{rows_in}
 use Rattle.lrtable.specs.MovedItems.{moved_items, rows_from}
-use Rattle.lrtable.specs.StateViews.{items_of}
+use Rattle.state_table.specs.CoreViews.{items_of}
 use Rattle.lrtable.proofs.moved_items.to_core.Given as goal
 
 abbrev pub invariant-each : goal.invariant-each

@@ -1,11 +1,11 @@
 use Rattle.std.proofs.Common.{◌+◌, List, length, refl, map, sym, ap, ◌∙◌, subst}
 use Rattle.std.proofs.lemmas.List.{length-map, length-replicate}
 use Rattle.lr_theory.specs.Itemset.{HasItem}
-use Rattle.lrtable.specs.Gaining.{no_core, AreSets}
-use Rattle.lrtable.specs.ItemRows.{Core, map_of}
+use Rattle.state_table.specs.ItemRows.{no_core, Core, map_of}
+use Rattle.lrtable.specs.Gaining.{AreSets}
 use Rattle.lrtable.specs.MovedItems.{set_of_moved}
 use Rattle.lrtable.specs.Stepping.{OpenBelow}
-use Rattle.lrtable.specs.StateViews.{core_of_set}
+use Rattle.state_table.specs.CoreViews.{core_of_set}
 use Rattle.lrtable.proofs.FreshSets.{empty_moved, none_in_empty, none_of_opened}
 use Rattle.lrtable.proofs.MarkedSets.{empty_marked}
 use Rattle.lrtable.proofs.Moving.{all_moved, empty_sets_good}

@@ -1,12 +1,12 @@
 use Rattle.std.proofs.Common.{Bool, List, length, map, arith, sym, ap, ◌∙◌, subst}
 use Rattle.std.proofs.lemmas.List.{length-map}
 use Rattle.vob.specs.Packed.{Contents}
-use Rattle.lrtable.specs.Adding.{One, OneLooks}
+use Rattle.state_table.specs.Adding.{One, OneLooks}
 use Rattle.lrtable.specs.Gaining.{Gains}
-use Rattle.lrtable.specs.Meeting.{row}
+use Rattle.state_table.specs.Meeting.{row}
 use Rattle.lrtable.specs.MovedItems.{HaveNone, set_of_moved}
-use Rattle.lrtable.specs.StateViews.{item_of, core_of_set}
-use Rattle.lrtable.proofs.CoreSteps.{item_at, production_below}
+use Rattle.state_table.specs.CoreViews.{item_of, core_of_set}
+use Rattle.state_table.proofs.CoreSteps.{item_at, production_below}
 use Rattle.lrtable.proofs.FreshSets.{none_of_core}
 use Rattle.lrtable.proofs.MarkedSets.{keeps_same, keeps_next}
 use Rattle.lrtable.proofs.Moving.{items_begin, items_more, items_end}

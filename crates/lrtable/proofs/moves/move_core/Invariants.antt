@@ -1,7 +1,7 @@
 use Rattle.std.proofs.Common.{map}
 use Rattle.lrtable.specs.Gaining.{Gains, KeepsMarks}
 use Rattle.lrtable.specs.MovedItems.{set_of_moved}
-use Rattle.lrtable.specs.StateViews.{core_of_set}
+use Rattle.state_table.specs.CoreViews.{core_of_set}
 use Rattle.lrtable.specs.Stepping.{ItemsBelow, LooksBelow}
 use Rattle.lrtable.proofs.moves.move_core.Given as goal
 

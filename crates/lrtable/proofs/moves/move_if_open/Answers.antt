@@ -1,6 +1,6 @@
 use Rattle.std.proofs.Common.{◌≡◌, false, true, length, Bool, List, map, sym, ap, ◌∙◌, subst}
 use Rattle.cfg_theory.specs.Grammar.{IsOf}
-use Rattle.lrtable.specs.Meeting.{row}
+use Rattle.state_table.specs.Meeting.{row}
 use Rattle.lrtable.specs.MovedItems.{set_of_moved}
 use Rattle.lrtable.specs.Stepping.{OfRule, OpenAt}
 use Rattle.lrtable.proofs.FreshSets.{none_of}

@@ -4,7 +4,7 @@ use Rattle.std.specs.declared.ops.Bound.TheVariants.{Unbounded}
 use Rattle.vob.specs.Walk.{walk}
 use Rattle.lrtable.specs.MovedItems.{set_of_moved}
 use Rattle.lrtable.proofs.FreshSets.{none_of_open}
-use Rattle.lrtable.proofs.Marks.{IsNextMark, all_marked, marked_from, next_mark, no_mark}
+use Rattle.state_table.proofs.Marks.{IsNextMark, all_marked, marked_from, next_mark, no_mark}
 use Rattle.lrtable.proofs.MarkedSets.{keeps_same, keeps_next, open_skip}
 use Rattle.lrtable.proofs.Moving.{open_begin, open_next}
 use Rattle.lrtable.proofs.moves.move_open.Goals as goal

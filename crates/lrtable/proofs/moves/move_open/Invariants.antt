@@ -2,7 +2,7 @@ use Rattle.std.proofs.Common.{◌≡◌, ℕ, ◌≤◌, length, map}
 use Rattle.lrtable.specs.Gaining.{Gains, KeepsMarks}
 use Rattle.lrtable.specs.MovedItems.{set_of_moved}
 use Rattle.lrtable.specs.Stepping.{OpenBelow, OpenLooksBelow}
-use Rattle.lrtable.proofs.Marks.{marked_from}
+use Rattle.state_table.proofs.Marks.{marked_from}
 use Rattle.lrtable.proofs.moves.move_open.Given as goal
 
 -- the open rules below a number are moved, and those from there on are left

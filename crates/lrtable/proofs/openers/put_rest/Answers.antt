@@ -4,7 +4,7 @@ use Rattle.lrtable.specs.Closes.{PutsAt, joined_front}
 use Rattle.lrtable.specs.Fronts.{front_of, front_with}
 use Rattle.lrtable.specs.Opening.{Front}
 use Rattle.lrtable.specs.declared.openers.Opener.{Opener}
-use Rattle.lrtable.proofs.CoreSteps.{map_at}
+use Rattle.state_table.proofs.CoreSteps.{map_at}
 use Rattle.lrtable.proofs.OpenLaws.{mapped}
 use Rattle.lrtable.proofs.openers.put_rest.Goals as goal
 

@@ -1,5 +1,5 @@
 use Rattle.std.proofs.Common.{◌≡◌, ◌≤◌, length, take}
-use Rattle.lrtable.specs.Meeting.{rows_in}
+use Rattle.state_table.specs.Meeting.{rows_in}
 use Rattle.lrtable.proofs.pager.copy_looks.Given as goal
 
 abbrev pub invariant-each : goal.invariant-each

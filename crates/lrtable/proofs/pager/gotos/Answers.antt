@@ -2,11 +2,11 @@ use Rattle.std.proofs.Common.{◌≡◌, Bool, List, false, length, map, ap, ◌
 use Rattle.std.proofs.lemmas.List.{length-replicate}
 use Rattle.lr_theory.specs.Itemset.{HasItem, HasLook, Closure, ClosureLook}
 use Rattle.lrtable.specs.Gaining.{AreMarked}
-use Rattle.lrtable.specs.ItemRows.{map_of}
+use Rattle.state_table.specs.ItemRows.{map_of}
 use Rattle.lrtable.specs.LookRows.{LookRows}
-use Rattle.lrtable.specs.Meeting.{rows_in}
+use Rattle.state_table.specs.Meeting.{rows_in}
 use Rattle.lrtable.specs.MovedItems.{set_of_moved}
-use Rattle.lrtable.specs.StateViews.{core_of_set}
+use Rattle.state_table.specs.CoreViews.{core_of_set}
 use Rattle.lrtable.specs.Stepping.{AreGotos}
 use Rattle.lrtable.proofs.pager.gotos.Goals as goal
 

@@ -1,7 +1,7 @@
 use Rattle.std.proofs.Common.{◌≡◌, false, map, ap, ◌∙◌, below_more}
 use Rattle.lrtable.specs.States.{StateValue, no_state, state_at}
 use Rattle.lrtable.specs.StateViews.{value_of}
-use Rattle.lrtable.proofs.CoreSteps.{map_at}
+use Rattle.state_table.proofs.CoreSteps.{map_at}
 use Rattle.lrtable.proofs.pager.lowest.Goals as goal
 
 pub each-preserved : goal.each-preserved

@@ -3,13 +3,14 @@ use Rattle.std.specs.declared.ops.Bound.TheVariants.{Unbounded}
 use Rattle.std.proofs.lemmas.Bool.{cases_lt}
 use Rattle.std.proofs.lemmas.List.{length-map}
 use Rattle.vob.specs.Walk.{walk}
-use Rattle.lrtable.specs.Gaining.{no_core, core_in}
+use Rattle.state_table.specs.ItemRows.{no_core, FitsCore}
+use Rattle.lrtable.specs.Gaining.{core_in}
 use Rattle.lrtable.specs.MovedItems.{set_of_moved}
 use Rattle.lrtable.specs.StateViews.{value_of}
-use Rattle.lrtable.specs.Stepping.{FitsCore, IsGotoAt}
+use Rattle.lrtable.specs.Stepping.{IsGotoAt}
 use Rattle.lrtable.proofs.Emptying.{emptied_next, all_empty}
 use Rattle.lrtable.proofs.FreshSets.{moved_empty}
-use Rattle.lrtable.proofs.Marks.{IsNextMark, all_marked, next_mark, no_mark}
+use Rattle.state_table.proofs.Marks.{IsNextMark, all_marked, next_mark, no_mark}
 use Rattle.lrtable.proofs.MarkedSets.{skip_ranks}
 use Rattle.lrtable.proofs.Stepping.{rest_next, next_handled, goto_at}
 use Rattle.lrtable.proofs.pager.place_all.Goals as goal

@@ -2,13 +2,14 @@ use Rattle.std.proofs.Common.{◌≡◌, ℕ, ◌<◌, ◌≤◌, length, map}
 use Rattle.std.specs.declared.alloc.Global.{Global}
 use Rattle.std.specs.declared.vec.Vec.{Vec}
 use Rattle.lr_theory.specs.Building.{Building}
-use Rattle.lrtable.specs.Gaining.{no_core, core_in}
+use Rattle.state_table.specs.ItemRows.{no_core}
+use Rattle.lrtable.specs.Gaining.{core_in}
 use Rattle.lrtable.specs.Handling.{AreHandled}
 use Rattle.lrtable.specs.States.{AreStates, AreBuckets, AreQuiet}
 use Rattle.lrtable.specs.MovedItems.{set_of_moved}
 use Rattle.lrtable.specs.StateViews.{value_of}
 use Rattle.lrtable.specs.Stepping.{AreGotosOf}
-use Rattle.lrtable.proofs.Marks.{marked_from}
+use Rattle.state_table.proofs.Marks.{marked_from}
 use Rattle.lrtable.proofs.pager.place_all.Given as goal
 
 abbrev pub invariant-ranks : goal.invariant-ranks

@@ -1,13 +1,13 @@
 use Rattle.std.proofs.Common.{◌≡◌, ◌<◌, List, length, map, set, sym, ap, ◌∙◌, subst, arith, rules}
 use Rattle.std.proofs.lemmas.List.{length-map, map-set}
 use Rattle.cfg_numbered.specs.Symbols.{sym_of}
-use Rattle.lrtable.specs.Gaining.{no_core, core_in}
-use Rattle.lrtable.specs.ItemRows.{Core}
+use Rattle.state_table.specs.ItemRows.{no_core, Core, FitsCore}
+use Rattle.lrtable.specs.Gaining.{core_in}
 use Rattle.lrtable.specs.MovedItems.{core_of_moved, moved_item, set_of_moved}
 use Rattle.lrtable.specs.StateViews.{value_of}
-use Rattle.lrtable.specs.Stepping.{FitsCore, IsGotoAt}
+use Rattle.lrtable.specs.Stepping.{IsGotoAt}
 use Rattle.lrtable.specs.declared.moved_items.MovedItem.{MovedItem}
-use Rattle.lrtable.proofs.CoreSteps.{map_at}
+use Rattle.state_table.proofs.CoreSteps.{map_at}
 use Rattle.lrtable.proofs.Emptying.{none_core}
 use Rattle.lrtable.proofs.Stepping.{skip_rank, first_fits, rank_placed, rank_refused}
 use Rattle.lrtable.proofs.pager.place_rank.Goals as goal

@@ -1,6 +1,6 @@
 use Rattle.std.proofs.Common.{◌≡◌, ◌+◌, List, [], ◌∷◌, ◌++◌, take, refl, sym, subst, arith}
 use Rattle.vob.specs.Packed.{Contents}
-use Rattle.lrtable.specs.Meeting.{rows_in}
+use Rattle.state_table.specs.Meeting.{rows_in}
 use Rattle.lrtable.proofs.Copies.{copied_over, copied_behind}
 use Rattle.lrtable.proofs.pager.put_copy.Goals as goal
 

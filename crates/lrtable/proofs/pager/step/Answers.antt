@@ -2,7 +2,7 @@ use Rattle.std.proofs.Common.{◌<◌, length, ap, arith, rules}
 use Rattle.std.proofs.lemmas.List.{length-map}
 use Rattle.lrtable.specs.States.{StateValue, no_state}
 use Rattle.lrtable.specs.StateViews.{value_of, edge_of_pair}
-use Rattle.lrtable.proofs.CoreSteps.{map_at}
+use Rattle.state_table.proofs.CoreSteps.{map_at}
 use Rattle.lrtable.proofs.pager.step.Goals as goal
 
 pub step_again-requires-clause-edges : goal.step_again-requires-clause-edges

@@ -4,16 +4,17 @@ use Rattle.std.specs.declared.alloc.Global.{Global}
 use Rattle.std.specs.declared.vec.Vec.{Vec}
 use Rattle.lr_theory.specs.Itemset.{HasItem}
 use Rattle.lrtable.specs.Handling.{AreHandled}
-use Rattle.lrtable.specs.ItemRows.{Item, Core, map_of}
+use Rattle.state_table.specs.ItemRows.{Item, Core, map_of, FitsCore}
 use Rattle.lrtable.specs.LookRows.{LookRows}
-use Rattle.lrtable.specs.Meeting.{rows_in}
+use Rattle.state_table.specs.Meeting.{rows_in}
 use Rattle.lrtable.specs.MovedItems.{IsKernel}
 use Rattle.lrtable.specs.States.{StateValue, no_state, state_at, AreStates, AreBuckets, AreQuiet}
-use Rattle.lrtable.specs.StateViews.{value_of, core_of_set, edge_of_pair, edges_of}
-use Rattle.lrtable.specs.Stepping.{FitsCore, IsClosureOf}
+use Rattle.lrtable.specs.StateViews.{value_of, edge_of_pair, edges_of}
+use Rattle.state_table.specs.CoreViews.{core_of_set}
+use Rattle.lrtable.specs.Stepping.{IsClosureOf}
 use Rattle.lrtable.specs.TakenAgain.{core_noted}
 use Rattle.lrtable.proofs.Copies.{first_copies}
-use Rattle.lrtable.proofs.CoreSteps.{map_at}
+use Rattle.state_table.proofs.CoreSteps.{map_at}
 use Rattle.lrtable.proofs.Quiet.{quiet_off}
 use Rattle.lrtable.proofs.Stepping.{reached_fits, reached_kernel, off_states, off_buckets, next_taken, none_handled, step_reached, step_less}
 use Rattle.lrtable.proofs.TakenAgain.{again_leads, again_whole, again_ascends, again_core}

@@ -6,16 +6,17 @@ use Rattle.std.specs.declared.vec.Vec.{Vec}
 use Rattle.lr_theory.specs.Itemset.{HasItem, HasLook, Closure, ClosureLook}
 use Rattle.lrtable.specs.Gaining.{AreMarked}
 use Rattle.lrtable.specs.Handling.{AreHandled}
-use Rattle.lrtable.specs.ItemRows.{map_of}
+use Rattle.state_table.specs.ItemRows.{map_of, FitsCore}
 use Rattle.lrtable.specs.LookRows.{LookRows}
-use Rattle.lrtable.specs.Meeting.{rows_in}
+use Rattle.state_table.specs.Meeting.{rows_in}
 use Rattle.lrtable.specs.MovedItems.{IsKernel, set_of_moved}
 use Rattle.lrtable.specs.States.{StateValue, no_state, state_at, AreStates, AreBuckets, AreQuiet}
 use Rattle.lrtable.proofs.Quiet.{quiet_off}
-use Rattle.lrtable.specs.StateViews.{value_of, core_of_set}
-use Rattle.lrtable.specs.Stepping.{FitsCore, AreGotos}
+use Rattle.lrtable.specs.StateViews.{value_of}
+use Rattle.state_table.specs.CoreViews.{core_of_set}
+use Rattle.lrtable.specs.Stepping.{AreGotos}
 use Rattle.lrtable.proofs.Copies.{first_copies}
-use Rattle.lrtable.proofs.CoreSteps.{map_at}
+use Rattle.state_table.proofs.CoreSteps.{map_at}
 use Rattle.lrtable.proofs.Stepping.{reached_fits, reached_kernel, off_states, off_buckets, all_fit, next_taken, gotos_of, none_handled, step_reached, step_less}
 use Rattle.lrtable.specs.declared.states.BuildError.TheVariants as faults
 use Rattle.lrtable.proofs.pager.step_anew.Goals as goal

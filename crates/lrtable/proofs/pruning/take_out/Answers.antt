@@ -3,8 +3,9 @@ use Rattle.std.specs.List.{Contains}
 use Rattle.std.proofs.lemmas.List.{map-set}
 use Rattle.lrtable.specs.Pruning.{renumbered_state}
 use Rattle.lrtable.specs.States.{Edge, StateValue, no_state, state_at}
-use Rattle.lrtable.specs.StateViews.{value_of, core_of_set}
-use Rattle.lrtable.proofs.CoreSteps.{map_at}
+use Rattle.lrtable.specs.StateViews.{value_of}
+use Rattle.state_table.specs.CoreViews.{core_of_set}
+use Rattle.state_table.proofs.CoreSteps.{map_at}
 use Rattle.lrtable.proofs.pruning.take_out.Goals as goal
 
 pub renumber-requires : goal.renumber-requires

@@ -3,12 +3,12 @@ use Rattle.std.specs.Prelude.{IsTrue}
 use Rattle.std.proofs.lemmas.List.{length-map}
 use Rattle.vob.specs.Packed.{Contents}
 use Rattle.cfg_numbered.specs.Sets.{is_set}
-use Rattle.lrtable.specs.Meeting.{rows_in}
+use Rattle.state_table.specs.Meeting.{rows_in}
 use Rattle.lrtable.specs.MovedItems.{row_from}
-use Rattle.lrtable.specs.StateViews.{item_of, items_of}
+use Rattle.state_table.specs.CoreViews.{item_of, items_of}
 use Rattle.lrtable.specs.TakenAgain.{core_noted, IsMoved, AreHeld}
-use Rattle.lrtable.proofs.CoreSteps.{map_at, row_at}
-use Rattle.lrtable.proofs.ItemSets.{nought}
+use Rattle.state_table.proofs.CoreSteps.{map_at, row_at}
+use Rattle.state_table.proofs.ItemSets.{nought}
 use Rattle.lrtable.proofs.TakenAgain.{held_none, held_more}
 use Rattle.lrtable.proofs.retaking.are_held.Goals as goal
 

@@ -1,6 +1,6 @@
 use Rattle.std.proofs.Common.{◌≤◌, length}
-use Rattle.lrtable.specs.Meeting.{rows_in}
-use Rattle.lrtable.specs.StateViews.{items_of}
+use Rattle.state_table.specs.Meeting.{rows_in}
+use Rattle.state_table.specs.CoreViews.{items_of}
 use Rattle.lrtable.specs.TakenAgain.{core_noted, AreHeld}
 use Rattle.lrtable.proofs.retaking.are_held.Given as goal
 

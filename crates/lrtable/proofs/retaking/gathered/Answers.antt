@@ -1,11 +1,11 @@
 use Rattle.std.proofs.Common.{◌+◌, ◌<◌, [], ◌∷◌, ◌++◌, length, take, sym, ap, ◌∙◌, subst, arith}
 use Rattle.std.proofs.lemmas.List.{length-map, map_push, take_more}
 use Rattle.lrtable.specs.MovedItems.{moved_item, moved_items, row_from, rows_from}
-use Rattle.lrtable.specs.StateViews.{item_of, items_of}
+use Rattle.state_table.specs.CoreViews.{item_of, items_of}
 use Rattle.lrtable.specs.TakenAgain.{core_noted, IsMoved, AreRowsBehind}
 use Rattle.lrtable.specs.declared.moved_items.MovedItem.{MovedItem}
-use Rattle.lrtable.proofs.CoreSteps.{map_at}
-use Rattle.lrtable.proofs.ItemSets.{nought}
+use Rattle.state_table.proofs.CoreSteps.{map_at}
+use Rattle.state_table.proofs.ItemSets.{nought}
 use Rattle.lrtable.proofs.TakenAgain.{behind_more}
 use Rattle.lrtable.proofs.retaking.gathered.Goals as goal
 

@@ -1,6 +1,6 @@
 use Rattle.std.proofs.Common.{◌≡◌, ◌≤◌, length, take}
 use Rattle.lrtable.specs.MovedItems.{moved_items, rows_from}
-use Rattle.lrtable.specs.StateViews.{items_of}
+use Rattle.state_table.specs.CoreViews.{items_of}
 use Rattle.lrtable.specs.TakenAgain.{core_noted, AreRowsBehind}
 use Rattle.lrtable.proofs.retaking.gathered.Given as goal
 

@@ -1,8 +1,8 @@
 use Rattle.std.proofs.Common.{◌<◌, length, ap, ◌∙◌, arith, rules}
-use Rattle.lrtable.specs.ItemRows.{Item}
-use Rattle.lrtable.specs.StateViews.{item_of}
-use Rattle.lrtable.proofs.CoreSteps.{map_at}
-use Rattle.lrtable.proofs.ItemSets.{nought}
+use Rattle.state_table.specs.ItemRows.{Item}
+use Rattle.state_table.specs.CoreViews.{item_of}
+use Rattle.state_table.proofs.CoreSteps.{map_at}
+use Rattle.state_table.proofs.ItemSets.{nought}
 use Rattle.lrtable.proofs.retaking.hint_all.Goals as goal
 
 pub index_mut-slot-requires : goal.index_mut-slot-requires

@@ -1,8 +1,8 @@
 use Rattle.std.proofs.Common.{◌≡◌, inl, inr, false, true, get_or, ap, sym, ◌∙◌, arith}
 use Rattle.std.proofs.lemmas.Bool.{cases_eq}
 use Rattle.std.proofs.lemmas.List.{length-map}
-use Rattle.lrtable.specs.StateViews.{item_of, items_of}
-use Rattle.lrtable.proofs.CoreSteps.{map_at}
+use Rattle.state_table.specs.CoreViews.{item_of, items_of}
+use Rattle.state_table.proofs.CoreSteps.{map_at}
 use Rattle.lrtable.proofs.TakenAgain.{never_missed}
 use Rattle.lrtable.proofs.retaking.index_among.Goals as goal
 

@@ -1,6 +1,6 @@
 use Rattle.std.proofs.Common.{◌≡◌, ℕ, ◌<◌, get_or}
-use Rattle.lrtable.specs.ItemRows.{Item}
-use Rattle.lrtable.specs.StateViews.{item_of, items_of}
+use Rattle.state_table.specs.ItemRows.{Item}
+use Rattle.state_table.specs.CoreViews.{item_of, items_of}
 use Rattle.lrtable.proofs.retaking.index_among.Given as goal
 
 abbrev pub invariant-each : goal.invariant-each

@@ -5,7 +5,7 @@ use Rattle.lrtable.specs.Handling.{rank, AreHandled}
 use Rattle.lrtable.specs.States.{Edge}
 use Rattle.lrtable.specs.StateViews.{edge_of_pair, edges_of, value_of}
 use Rattle.lrtable.specs.TakenAgain.{core_noted, LeadsOn}
-use Rattle.lrtable.proofs.CoreSteps.{map_at}
+use Rattle.state_table.proofs.CoreSteps.{map_at}
 use Rattle.lrtable.proofs.TakenAgain.{no_edge, through_none, through_here, through_next, through_all}
 use Rattle.lrtable.proofs.retaking.retake_all.Goals as goal
 

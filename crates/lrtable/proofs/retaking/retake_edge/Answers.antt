@@ -1,13 +1,14 @@
 use Rattle.std.proofs.Common.{◌≡◌, ◌<◌, ℕ, List, length, map, refl, sym, ap, ◌∙◌, subst, arith, rules}
 use Rattle.std.proofs.lemmas.List.{length-map}
 use Rattle.lrtable.specs.Handling.{rank}
-use Rattle.lrtable.specs.ItemRows.{Item}
+use Rattle.state_table.specs.ItemRows.{Item}
 use Rattle.lrtable.specs.MovedItems.{moved_items, core_of_moved, rows_from}
 use Rattle.lrtable.specs.States.{StateValue, no_state, state_at, first_production}
-use Rattle.lrtable.specs.StateViews.{item_of, items_of, edge_of_pair, value_of}
+use Rattle.state_table.specs.CoreViews.{item_of, items_of}
+use Rattle.lrtable.specs.StateViews.{edge_of_pair, value_of}
 use Rattle.lrtable.specs.TakenAgain.{core_noted, AreMoved, AreHeld}
 use Rattle.lrtable.specs.declared.states.State.{State}
-use Rattle.lrtable.proofs.CoreSteps.{map_at}
+use Rattle.state_table.proofs.CoreSteps.{map_at}
 use Rattle.lrtable.proofs.Stepping.{first_fits, rank_placed, rank_refused}
 use Rattle.lrtable.proofs.TakenAgain.{all_moved, goto_core_fits, set_is_goto, set_is_core, same_behind, edge_kept}
 use Rattle.lrtable.proofs.retaking.retake_edge.Goals as goal

@@ -1,8 +1,8 @@
 use Rattle.std.proofs.Common.{◌≡◌, ◌-◌, ◌<◌, List, Bool, [], length, get_or, ap, ap₂, ◌∙◌, refl, sym, subst, arith, rules}
 use Rattle.lr_theory.specs.ItemLists.{Stands}
-use Rattle.lrtable.specs.ItemRows.{IsAt}
-use Rattle.lrtable.specs.Meeting.{row}
-use Rattle.lrtable.specs.StateViews.{item_of, items_of}
+use Rattle.state_table.specs.ItemRows.{IsAt}
+use Rattle.state_table.specs.Meeting.{row}
+use Rattle.state_table.specs.CoreViews.{item_of, items_of}
 use Rattle.lrtable.specs.TakenAgain.{core_noted}
 use Rattle.lrtable.proofs.TakenAgain.{closed_in_range, head_in_range, by_rule, own_item, by_own}
 use Rattle.lrtable.proofs.retaking.source_behind.Goals as goal

@@ -3,10 +3,11 @@ use Rattle.std.proofs.lemmas.List.{length-map}
 use Rattle.std.specs.declared.alloc.Global.{Global}
 use Rattle.std.specs.declared.vec.Vec.{Vec}
 use Rattle.lrtable.specs.States.{StateValue, no_state, state_at, ListsCore, first_production}
-use Rattle.lrtable.specs.StateViews.{item_of, value_of}
+use Rattle.state_table.specs.CoreViews.{item_of}
+use Rattle.lrtable.specs.StateViews.{value_of}
 use Rattle.lrtable.specs.TakenAgain.{core_noted, AreMoved}
 use Rattle.lrtable.proofs.Buckets.{lists_core, first_is, bucket_is}
-use Rattle.lrtable.proofs.CoreSteps.{map_at}
+use Rattle.state_table.proofs.CoreSteps.{map_at}
 use Rattle.lrtable.proofs.retaking.stays.Goals as goal
 
 pub are_held-requires-clause-moved : goal.are_held-requires-clause-moved

@@ -1,7 +1,8 @@
 use Rattle.std.proofs.Common.{◌-◌, length, sym, subst, arith}
 use Rattle.std.proofs.lemmas.List.{length-map, get_or-map}
 use Rattle.cfg_numbered.specs.Symbols.{sym_of}
-use Rattle.lrtable.specs.States.{Edge, SymBefore}
+use Rattle.lrtable.specs.States.{Edge}
+use Rattle.state_table.specs.Graphs.{SymBefore}
 use Rattle.lrtable.specs.StateViews.{edge_of_pair, edges_of}
 use Rattle.lrtable.proofs.EdgeOrder.{last_before}
 use Rattle.lrtable.proofs.states.all_before.Goals as goal

@@ -1,6 +1,7 @@
 use Rattle.std.proofs.Common.{get_or, sym, subst, below_more}
 use Rattle.cfg_numbered.specs.Symbols.{sym_of}
-use Rattle.lrtable.specs.States.{Edge, SymBefore}
+use Rattle.lrtable.specs.States.{Edge}
+use Rattle.state_table.specs.Graphs.{SymBefore}
 use Rattle.lrtable.specs.StateViews.{edge_of_pair, edges_of}
 use Rattle.std.proofs.lemmas.List.{get_or-map}
 use Rattle.lrtable.proofs.states.edge_index.Goals as goal

@@ -1,6 +1,7 @@
 use Rattle.std.proofs.Common.{ℕ, ◌<◌, get_or}
 use Rattle.cfg_numbered.specs.Symbols.{sym_of}
-use Rattle.lrtable.specs.States.{Edge, SymBefore}
+use Rattle.lrtable.specs.States.{Edge}
+use Rattle.state_table.specs.Graphs.{SymBefore}
 use Rattle.lrtable.specs.StateViews.{edges_of}
 use Rattle.lrtable.proofs.states.edge_index.Given as goal
 

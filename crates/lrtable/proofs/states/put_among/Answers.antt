@@ -1,7 +1,8 @@
 use Rattle.std.proofs.Common.{◌≡◌, true, false, ℕ, ◌<◌, ◌≤◌, List, length, get_or, refl, sym, subst}
 use Rattle.cfg_numbered.specs.Symbols.{sym_of}
 use Rattle.lr_theory.specs.Building.{same_symbol}
-use Rattle.lrtable.specs.States.{Edge, SymBefore, IsPut}
+use Rattle.lrtable.specs.States.{Edge, IsPut}
+use Rattle.state_table.specs.Graphs.{SymBefore}
 use Rattle.lrtable.specs.StateViews.{edge_of_pair, edges_of}
 use Rattle.lrtable.specs.declared.states.EdgeTo.{EdgeTo}
 use Rattle.lrtable.proofs.EdgeOrder.{put_same, put_new}

@@ -2,8 +2,8 @@ use Rattle.std.proofs.Common.{◌≡◌, Option, ◌∙◌}
 use Rattle.std.specs.Prelude.{Vec, IfSome}
 use Rattle.std.specs.declared.alloc.Global.{Global}
 use Rattle.lr_theory.specs.Automaton.{Safe}
-use Rattle.lrtable.specs.Graphs.{GraphValue}
-use Rattle.lrtable.specs.Tables.{automaton_of}
+use Rattle.state_table.specs.Graphs.{GraphValue}
+use Rattle.state_table.specs.Tables.{automaton_of}
 use Rattle.lrpar.specs.FlatParses.{IsFlatParse}
 use Rattle.lrpar.specs.FlatTrees.{FlatValue, IsFlatTree}
 use Rattle.lrpar.specs.Run.{token_by, span_by}

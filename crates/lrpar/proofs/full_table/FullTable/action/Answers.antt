@@ -1,6 +1,6 @@
 use Rattle.std.proofs.Common.{◌≡◌, ◌<◌, length, Some, sym, ap, ◌∙◌, arith}
 use Rattle.std.specs.Prelude.{slice_get}
-use Rattle.lrtable.specs.TableValues.{TableValue, action_at}
+use Rattle.state_table.specs.TableValues.{TableValue, action_at}
 use Rattle.lrpar.specs.FullTables.{AreCells}
 use Rattle.lrpar.proofs.FullSteps.{row_within, row_told, cell_within, cell_told}
 use Rattle.lrpar.proofs.full_table.FullTable.action.Goals.{After-row_at-row}

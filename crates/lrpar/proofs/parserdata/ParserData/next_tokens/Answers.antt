@@ -3,8 +3,8 @@ use Rattle.std.specs.Prelude.{IfOk, Option}
 use Rattle.std.proofs.lemmas.Result.{IfOk-weaker}
 use Rattle.cfg_theory.specs.Grammar.{end_token}
 use Rattle.lr_theory.specs.Automaton.{Safe}
-use Rattle.lrtable.specs.Graphs.{GraphValue}
-use Rattle.lrtable.specs.Tables.{automaton_of}
+use Rattle.state_table.specs.Graphs.{GraphValue}
+use Rattle.state_table.specs.Tables.{automaton_of}
 use Rattle.vob.specs.Packed.{Contents}
 use Rattle.lrpar.specs.Lex.{Lex}
 use Rattle.lrpar.specs.NextStates.{TellsAfter}

@@ -2,7 +2,7 @@ use Rattle.std.proofs.Common.{◌≡◌, ◌<◌, [], length, get_or, Some, sym,
 use Rattle.std.specs.Prelude.{slice_get}
 use Rattle.std.proofs.lemmas.List.{length-map}
 use Rattle.cfg_numbered.specs.Symbols.{sym_of}
-use Rattle.lrtable.specs.GraphViews.{edge_seen, edges_seen}
+use Rattle.state_table.specs.GraphViews.{edge_seen, edges_seen}
 use Rattle.lrpar.specs.Fitting.{closed_at}
 use Rattle.lrpar.proofs.CarriedItems.{flagged_none, flagged_skip, flagged_more, flagged_all, target_within}
 use Rattle.lrpar.proofs.parserdata.carrying.flag_from.Goals as goal

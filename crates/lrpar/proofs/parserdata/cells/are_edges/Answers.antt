@@ -1,9 +1,9 @@
 use Rattle.std.proofs.Common.{◌≤◌, ◌∙◌, ℕ, length, sym, ap, arith}
 use Rattle.std.specs.Prelude.{slice_get}
 use Rattle.std.proofs.lemmas.List.{length-map}
-use Rattle.lrtable.specs.CellViews.{targets_of}
-use Rattle.lrtable.specs.declared.stidx.StIdx.{StIdx}
-use Rattle.lrtable.specs.GraphViews.{edges_seen}
+use Rattle.state_table.specs.CellViews.{targets_of}
+use Rattle.state_table.specs.declared.stidx.StIdx.{StIdx}
+use Rattle.state_table.specs.GraphViews.{edges_seen}
 use Rattle.lrpar.proofs.FittingRows.{edges_more, are_edges}
 use Rattle.lrpar.proofs.parserdata.cells.are_edges.Goals as goal
 

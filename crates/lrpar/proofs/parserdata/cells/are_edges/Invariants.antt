@@ -1,5 +1,5 @@
-use Rattle.lrtable.specs.CellViews.{targets_of}
-use Rattle.lrtable.specs.GraphViews.{edges_seen}
+use Rattle.state_table.specs.CellViews.{targets_of}
+use Rattle.state_table.specs.GraphViews.{edges_seen}
 use Rattle.lrpar.proofs.FittingRows.{EdgesTo}
 use Rattle.lrpar.proofs.parserdata.cells.are_edges.Given as goal
 

@@ -1,6 +1,6 @@
 use Rattle.std.proofs.Common.{◌≡◌, Some, sym, ap, ◌∙◌}
-use Rattle.lrtable.specs.CellViews.{state_of}
-use Rattle.lrtable.specs.TableValues.{goto_at}
+use Rattle.state_table.specs.CellViews.{state_of}
+use Rattle.state_table.specs.TableValues.{goto_at}
 use Rattle.lrpar.proofs.parserdata.cells.bare_of.Goals as goal
 
 pub returns-in-Some : goal.returns-in-Some

@@ -1,8 +1,8 @@
 use Rattle.std.proofs.Common.{◌≡◌, ◌<◌, ℕ}
 use Rattle.cfg_theory.specs.Grammar.{rule}
-use Rattle.lrtable.specs.Graphs.{target_in}
-use Rattle.lrtable.specs.GraphViews.{edges_seen}
-use Rattle.lrtable.specs.TableValues.{goto_at}
+use Rattle.state_table.specs.Graphs.{target_in}
+use Rattle.state_table.specs.GraphViews.{edges_seen}
+use Rattle.state_table.specs.TableValues.{goto_at}
 use Rattle.lrpar.specs.Fitting.{Passed}
 use Rattle.lrpar.proofs.parserdata.cells.first_goto.Given as goal
 

@@ -1,7 +1,7 @@
 use Rattle.std.proofs.Common.{◌≡◌, ap, ◌∙◌, sym, arith}
 use Rattle.std.proofs.lemmas.Bool.{eqb-true}
-use Rattle.lrtable.specs.CellViews.{targets_of}
-use Rattle.lrtable.specs.TableValues.{goto_at}
+use Rattle.state_table.specs.CellViews.{targets_of}
+use Rattle.state_table.specs.TableValues.{goto_at}
 use Rattle.lrpar.proofs.RowWalks.{goto_there}
 use Rattle.lrpar.proofs.parserdata.cells.is_goto_on.Goals as goal
 

@@ -1,11 +1,11 @@
 use Rattle.std.proofs.Common.{◌≤◌, ℕ, length, refl, sym, subst, arith}
-use Rattle.lrtable.specs.Graphs.{target_in}
+use Rattle.state_table.specs.Graphs.{target_in}
 use Rattle.std.proofs.lemmas.List.{length-map}
 use Rattle.cfg_theory.specs.Grammar.{token}
 use Rattle.lr_theory.specs.Automaton.{Action}
-use Rattle.lrtable.specs.declared.cells.Action.{Action as TableAction}
-use Rattle.lrtable.specs.CellViews.{action_of, cells_of}
-use Rattle.lrtable.specs.GraphViews.{edges_seen}
+use Rattle.state_table.specs.declared.cells.Action.{Action as TableAction}
+use Rattle.state_table.specs.CellViews.{action_of, cells_of}
+use Rattle.state_table.specs.GraphViews.{edges_seen}
 use Rattle.lrpar.specs.Fitting.{Passed}
 use Rattle.lrpar.proofs.FittingRows.{actions_none, actions_more, actions_least, actions_all}
 use Rattle.lrpar.proofs.RowWalks.{cell_inside}

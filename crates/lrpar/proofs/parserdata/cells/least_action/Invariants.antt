@@ -1,5 +1,5 @@
-use Rattle.lrtable.specs.CellViews.{cells_of}
-use Rattle.lrtable.specs.GraphViews.{edges_seen}
+use Rattle.state_table.specs.CellViews.{cells_of}
+use Rattle.state_table.specs.GraphViews.{edges_seen}
 use Rattle.lrpar.specs.Fitting.{ReducesWell}
 use Rattle.lrpar.proofs.FittingRows.{ActionsTo}
 use Rattle.lrpar.proofs.parserdata.cells.least_action.Given as goal

@@ -1,6 +1,6 @@
 use Rattle.std.proofs.Common.{subst}
-use Rattle.lrtable.specs.CellViews.{targets_of}
-use Rattle.lrtable.specs.GraphViews.{edges_seen}
+use Rattle.state_table.specs.CellViews.{targets_of}
+use Rattle.state_table.specs.GraphViews.{edges_seen}
 use Rattle.lrpar.specs.Fitting.{AreEdges}
 use Rattle.lrpar.proofs.FittingRows.{gotos_all}
 use Rattle.lrpar.proofs.parserdata.cells.least_goto.Goals as goal

@@ -1,5 +1,5 @@
 use Rattle.std.proofs.Common.{ap}
-use Rattle.lrtable.specs.CellViews.{action_of}
+use Rattle.state_table.specs.CellViews.{action_of}
 use Rattle.lrpar.proofs.parserdata.complete.is_shift.Goals as goal
 
 pub returns-in-Shift : goal.returns-in-Shift

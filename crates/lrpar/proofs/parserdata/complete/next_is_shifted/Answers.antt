@@ -1,6 +1,6 @@
 use Rattle.std.proofs.Common.{◌≡◌, Some, sym, arith}
 use Rattle.cfg_theory.specs.Grammar.{token, symbol_at}
-use Rattle.lrtable.specs.CellViews.{action_of}
+use Rattle.state_table.specs.CellViews.{action_of}
 use Rattle.lrpar.proofs.Completed.{next_tells}
 use Rattle.lrpar.proofs.parserdata.complete.next_is_shifted.Goals as goal
 use Rattle.lrpar.proofs.parserdata.complete.next_is_shifted.Goals.{In-Some-Token}

@@ -1,6 +1,6 @@
 use Rattle.std.proofs.Common.{◌≡◌, ◌≤◌, sym, ap, ◌∙◌, subst, arith, inr}
 use Rattle.lr_theory.specs.Automaton.{reduce}
-use Rattle.lrtable.specs.TableValues.{action_at}
+use Rattle.state_table.specs.TableValues.{action_at}
 use Rattle.lrpar.proofs.SetBits.{set_start, set_next, set_more, set_all}
 use Rattle.lrpar.proofs.parserdata.complete.reduces_on.Goals as goal
 

@@ -1,6 +1,6 @@
 use Rattle.std.proofs.Common.{◌≡◌}
 use Rattle.lr_theory.specs.Automaton.{reduce}
-use Rattle.lrtable.specs.TableValues.{action_at}
+use Rattle.state_table.specs.TableValues.{action_at}
 use Rattle.lrpar.proofs.SetBits.{SetTo}
 use Rattle.lrpar.proofs.parserdata.complete.reduces_on.Given as goal
 

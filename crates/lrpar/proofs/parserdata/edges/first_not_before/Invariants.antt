@@ -1,5 +1,5 @@
 use Rattle.cfg_numbered.specs.Symbols.{sym_of}
-use Rattle.lrtable.specs.GraphViews.{edges_seen}
+use Rattle.state_table.specs.GraphViews.{edges_seen}
 use Rattle.lrpar.specs.Fitting.{Passed}
 use Rattle.lrpar.proofs.parserdata.edges.first_not_before.Given as goal
 

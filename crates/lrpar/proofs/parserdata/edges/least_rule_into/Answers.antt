@@ -1,7 +1,7 @@
 use Rattle.std.proofs.Common.{◌≡◌, length, arith}
 use Rattle.std.proofs.lemmas.List.{length-map}
 use Rattle.cfg_theory.specs.Grammar.{rule}
-use Rattle.lrtable.specs.GraphViews.{edge_seen, edges_seen}
+use Rattle.state_table.specs.GraphViews.{edge_seen, edges_seen}
 use Rattle.lrpar.specs.Fitting.{BadRule}
 use Rattle.lrpar.proofs.Edging.{clear_more, clear_end, bad_here, same_rule, less_rule}
 use Rattle.lrpar.proofs.parserdata.edges.least_rule_into.Goals as goal

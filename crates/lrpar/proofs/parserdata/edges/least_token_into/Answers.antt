@@ -1,7 +1,7 @@
 use Rattle.std.proofs.Common.{◌≡◌, length, arith}
 use Rattle.std.proofs.lemmas.List.{length-map}
 use Rattle.cfg_theory.specs.Grammar.{token}
-use Rattle.lrtable.specs.GraphViews.{edge_seen, edges_seen}
+use Rattle.state_table.specs.GraphViews.{edge_seen, edges_seen}
 use Rattle.lrpar.specs.Fitting.{BadToken}
 use Rattle.lrpar.proofs.Edging.{clear_more, clear_end, bad_here, same_token, less_token}
 use Rattle.lrpar.proofs.parserdata.edges.least_token_into.Goals as goal

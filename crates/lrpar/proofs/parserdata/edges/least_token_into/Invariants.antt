@@ -1,5 +1,5 @@
 use Rattle.cfg_theory.specs.Grammar.{token}
-use Rattle.lrtable.specs.GraphViews.{edges_seen}
+use Rattle.state_table.specs.GraphViews.{edges_seen}
 use Rattle.lrpar.specs.Fitting.{BadToken}
 use Rattle.lrpar.proofs.Edging.{ClearTo}
 use Rattle.lrpar.proofs.parserdata.edges.least_token_into.Given as goal

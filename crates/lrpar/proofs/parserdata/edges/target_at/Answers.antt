@@ -4,7 +4,7 @@ use Rattle.std.proofs.lemmas.Option.{slice_get_past, some_pair_parts}
 use Rattle.std.specs.Prelude.{slice_get}
 use Rattle.cfg_theory.specs.Grammar.{Sym}
 use Rattle.cfg_numbered.specs.Symbols.{sym_of}
-use Rattle.lrtable.specs.GraphViews.{edge_seen, edges_seen}
+use Rattle.state_table.specs.GraphViews.{edge_seen, edges_seen}
 use Rattle.lrpar.proofs.Edging.{target_of, target_none}
 use Rattle.lrpar.proofs.parserdata.edges.target_at.Goals as goal
 

@@ -1,5 +1,5 @@
 use Rattle.std.proofs.Common.{arith}
-use Rattle.lrtable.specs.Tables.{automaton_of}
+use Rattle.state_table.specs.Tables.{automaton_of}
 use Rattle.lrpar.specs.Safety.{ItemFits}
 use Rattle.lrpar.proofs.ItemLists.{below_none, below_more, each_item, item_here}
 use Rattle.lrpar.proofs.parserdata.items.items_fit.Goals as goal

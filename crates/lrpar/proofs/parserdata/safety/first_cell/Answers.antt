@@ -1,6 +1,6 @@
 use Rattle.std.proofs.Common.{◌≡◌, ℕ, Some, false, sym, ap, ◌∙◌}
 use Rattle.lr_theory.specs.Itemset.{HasItem}
-use Rattle.lrtable.specs.Tables.{CountsAgree, automaton_of}
+use Rattle.state_table.specs.Tables.{CountsAgree, automaton_of}
 use Rattle.lrpar.specs.Safety.{ItemFits, ItemsFit}
 use Rattle.lrpar.specs.Fitting.{OfGrammar, closed_at}
 use Rattle.lrpar.proofs.FittingStates.{items_fit_of, flagged_fails, before_items, before_token, before_rule}

@@ -1,6 +1,6 @@
 use Rattle.std.proofs.Common.{◌≤◌, ℕ, length, arith, ⊎_elim}
 use Rattle.std.proofs.lemmas.Bool.{cases_lt}
-use Rattle.lrtable.specs.Tables.{CountsAgree, automaton_of}
+use Rattle.state_table.specs.Tables.{CountsAgree, automaton_of}
 use Rattle.lrpar.specs.Safety.{ItemsFit, TokenFits, RuleFits, AllFit}
 use Rattle.lrpar.proofs.LeastNumbers.{below_one_more}
 use Rattle.lrpar.proofs.FittingStates.{all_cells, past_fits}

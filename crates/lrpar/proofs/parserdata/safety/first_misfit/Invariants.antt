@@ -1,5 +1,5 @@
 use Rattle.std.proofs.Common.{◌<◌, ℕ}
-use Rattle.lrtable.specs.Tables.{automaton_of}
+use Rattle.state_table.specs.Tables.{automaton_of}
 use Rattle.lrpar.specs.Safety.{ItemsFit, TokenFits, RuleFits}
 use Rattle.lrpar.proofs.parserdata.safety.first_misfit.Given as goal
 

@@ -1,8 +1,8 @@
 use Rattle.std.proofs.Common.{◌≡◌, ◌<◌, get_or, [], sym, ap, ◌∙◌, subst}
 use Rattle.cfg_theory.specs.Grammar.{rule}
-use Rattle.lrtable.specs.Graphs.{target_in}
-use Rattle.lrtable.specs.TableValues.{goto_at}
-use Rattle.lrtable.specs.Tables.{automaton_of}
+use Rattle.state_table.specs.Graphs.{target_in}
+use Rattle.state_table.specs.TableValues.{goto_at}
+use Rattle.state_table.specs.Tables.{automaton_of}
 use Rattle.lrpar.specs.Reducing.{rule_number}
 use Rattle.lrpar.specs.Safety.{RuleFits}
 use Rattle.lrpar.specs.Fitting.{LeastNot, OfGrammar, HasGotos, NoneBad, BadRule, closed_at, least_of}

@@ -1,12 +1,11 @@
-use Rattle.std.proofs.Common.{◌<◌, sym, subst}
+use Rattle.std.proofs.Common.{◌<◌, sym, subst, get_or, []}
 use Rattle.cfg_theory.specs.Grammar.{token}
-use Rattle.lrtable.specs.Graphs.{target_in}
-use Rattle.lrtable.specs.TableValues.{action_at}
-use Rattle.lrtable.specs.Tables.{automaton_of}
+use Rattle.state_table.specs.Graphs.{target_in}
+use Rattle.state_table.specs.TableValues.{action_at}
+use Rattle.state_table.specs.Tables.{automaton_of}
 use Rattle.lrpar.specs.Reducing.{token_number}
 use Rattle.lrpar.specs.Safety.{TokenFits}
 use Rattle.lrpar.specs.Fitting.{LeastNot, OfGrammar, IsFor, NoneBad, BadToken, closed_at}
-use Rattle.std.proofs.Common.{get_or, []}
 use Rattle.lrpar.proofs.LeastNumbers.{least_both, least_by}
 use Rattle.lrpar.proofs.FittingStates.{token_fits, token_parts}
 use Rattle.lrpar.proofs.parserdata.safety.least_token.Goals as goal

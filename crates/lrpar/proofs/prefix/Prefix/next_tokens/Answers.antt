@@ -5,8 +5,8 @@ use Rattle.cfg_theory.specs.Derivation.{AllProductive, BeginsSentence, IsSentenc
 use Rattle.cfg_theory.specs.Grammar.{end_token, start_symbol}
 use Rattle.lr_theory.specs.Automaton.{Complete}
 use Rattle.lr_theory.specs.Machine.{Config}
-use Rattle.lrtable.specs.Graphs.{GraphValue}
-use Rattle.lrtable.specs.Tables.{automaton_of}
+use Rattle.state_table.specs.Graphs.{GraphValue}
+use Rattle.state_table.specs.Tables.{automaton_of}
 use Rattle.vob.specs.Packed.{Contents}
 use Rattle.lrpar.specs.Checked.{IsData}
 use Rattle.lrpar.specs.NextStates.{TellBelow}

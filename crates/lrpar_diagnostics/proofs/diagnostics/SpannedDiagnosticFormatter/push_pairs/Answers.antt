@@ -1,7 +1,7 @@
 use Rattle.std.proofs.Common.{◌<◌, length}
 use Rattle.std.specs.String.{string_bytes}
 use Rattle.table_theory.specs.Cells.{ReduceReduce}
-use Rattle.lrtable.specs.CellViews.{pair_of}
+use Rattle.state_table.specs.CellViews.{pair_of}
 use Rattle.lrpar_diagnostics.specs.ConflictTexts.{pair_text}
 use Rattle.lrpar_diagnostics.proofs.TextLines.{entry_is, line_put}
 use Rattle.lrpar_diagnostics.proofs.diagnostics.SpannedDiagnosticFormatter.push_pairs.Goals as goal

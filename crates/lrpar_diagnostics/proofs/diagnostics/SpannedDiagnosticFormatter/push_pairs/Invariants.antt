@@ -1,7 +1,7 @@
 use Rattle.std.proofs.Common.{◌≡◌, ◌++◌, take}
 use Rattle.std.specs.List.{flat_map}
 use Rattle.std.specs.String.{string_bytes}
-use Rattle.lrtable.specs.CellViews.{pairs_of}
+use Rattle.state_table.specs.CellViews.{pairs_of}
 use Rattle.lrpar_diagnostics.specs.ConflictTexts.{pair_text}
 use Rattle.lrpar_diagnostics.proofs.diagnostics.SpannedDiagnosticFormatter.push_pairs.Given as goal
 

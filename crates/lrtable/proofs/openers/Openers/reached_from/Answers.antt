@@ -7,7 +7,7 @@ use Rattle.lrtable.specs.Fronts.{front_of}
 use Rattle.lrtable.specs.Opening.{Front}
 use Rattle.lrtable.specs.Reaching.{IsReachedBy, MayBeReachedBy}
 use Rattle.lrtable.specs.declared.openers.Opener.{Opener}
-use Rattle.lrtable.proofs.CoreSteps.{map_at}
+use Rattle.state_table.proofs.CoreSteps.{map_at}
 use Rattle.lrtable.proofs.Reaching.{is_kept}
 use Rattle.lrtable.proofs.openers.Openers.reached_from.Goals as goal
 

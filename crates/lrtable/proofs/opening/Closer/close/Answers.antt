@@ -1,9 +1,9 @@
 use Rattle.std.proofs.Common.{◌∙◌, subst}
 use Rattle.lr_theory.specs.Itemset.{HasItem, HasLook}
 use Rattle.lrtable.specs.Closes.{Seeds, SeedsLook}
-use Rattle.lrtable.specs.ItemRows.{map_of}
+use Rattle.state_table.specs.ItemRows.{map_of}
 use Rattle.lrtable.specs.Opening.{Follows}
-use Rattle.lrtable.specs.StateViews.{core_of_set}
+use Rattle.state_table.specs.CoreViews.{core_of_set}
 use Rattle.lrtable.specs.Stepping.{IsClosureOf}
 use Rattle.lrtable.proofs.Closing.{sized_on, fronts_fit, look_open}
 use Rattle.lrtable.proofs.OpenLaws.{seeded}

@@ -1,9 +1,9 @@
 use Rattle.std.proofs.Common.{length, arith, sym, ap, ◌∙◌}
 use Rattle.std.proofs.lemmas.List.{length-map}
 use Rattle.vob.specs.Packed.{Contents}
-use Rattle.lrtable.specs.StateViews.{item_of, core_of_set}
+use Rattle.state_table.specs.CoreViews.{item_of, core_of_set}
 use Rattle.lrtable.proofs.Closing.{sized_on}
-use Rattle.lrtable.proofs.CoreSteps.{item_at, production_below, row_at}
+use Rattle.state_table.proofs.CoreSteps.{item_at, production_below, row_at}
 use Rattle.lrtable.proofs.Seeding.{seeds_begin, seeds_next, seeds_end}
 use Rattle.lrtable.proofs.opening.Opening.seed.Goals as goal
 

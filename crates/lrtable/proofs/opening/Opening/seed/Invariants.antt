@@ -1,7 +1,7 @@
 use Rattle.std.proofs.Common.{◌≡◌, length}
 use Rattle.lrtable.specs.Closes.{Seeds, SeedsLook}
 use Rattle.lrtable.specs.Opening.{Follows}
-use Rattle.lrtable.specs.StateViews.{core_of_set}
+use Rattle.state_table.specs.CoreViews.{core_of_set}
 use Rattle.lrtable.specs.Stepping.{ItemsBelow, LooksBelow}
 use Rattle.lrtable.proofs.opening.Opening.seed.Given as goal
 

@@ -1,6 +1,6 @@
 use Rattle.std.proofs.Common.{sym, ◌∙◌, subst, arith}
 use Rattle.cfg_theory.specs.Grammar.{rule, IsNext}
-use Rattle.lrtable.specs.Adding.{One, OneLooks}
+use Rattle.state_table.specs.Adding.{One, OneLooks}
 use Rattle.lrtable.specs.Closes.{Seeds, SeedsLook}
 use Rattle.lrtable.specs.Opening.{Follows}
 use Rattle.lrtable.proofs.Exact.{dot_within}

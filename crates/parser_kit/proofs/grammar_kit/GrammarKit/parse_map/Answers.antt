@@ -1,7 +1,7 @@
 use Rattle.std.proofs.Common.{sym, subst}
 use Rattle.cfg_theory.specs.Grammar.{WellFormed}
 use Rattle.lrpar.specs.Checked.{ParserValue}
-use Rattle.lrtable.specs.Tables.{IsTableOf}
+use Rattle.state_table.specs.Tables.{IsTableOf}
 use Rattle.parser_kit.proofs.grammar_kit.GrammarKit.parse_map.Goals as goal
 
 pub mapped-requires-clause-well_formed : goal.mapped-requires-clause-well_formed

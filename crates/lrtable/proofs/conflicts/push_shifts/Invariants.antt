@@ -1,9 +1,0 @@
-use Rattle.std.proofs.Common.{◌≡◌, ◌++◌, take}
-use Rattle.std.specs.List.{flat_map}
-use Rattle.std.specs.String.{string_bytes}
-use Rattle.lrtable.specs.CellViews.{shifts_of}
-use Rattle.lrtable.specs.ConflictTexts.{shift_line}
-use Rattle.lrtable.proofs.conflicts.push_shifts.Given as goal
-
-abbrev pub invariant-entries : goal.invariant-entries
-invariant-entries g l = string_bytes l.text ≡ string_bytes l.initial.text ++ flat_map (shift_line l.grm) (shifts_of g.S.IndexStorage.number (take l.i l.entries))

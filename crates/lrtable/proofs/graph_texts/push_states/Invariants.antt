@@ -1,8 +1,0 @@
-use Rattle.std.proofs.Common.{◌≡◌, ◌++◌}
-use Rattle.std.specs.List.{flat_map, range_with_len}
-use Rattle.std.specs.String.{string_bytes}
-use Rattle.lrtable.specs.GraphTexts.{state_text, sets_of}
-use Rattle.lrtable.proofs.graph_texts.push_states.Given as goal
-
-abbrev pub invariant-states : goal.invariant-states
-invariant-states g l = string_bytes l.text ≡ string_bytes l.initial.text ++ flat_map (state_text l.grm l.graph (sets_of l.core_states l.graph)) (range_with_len 0 l.number)

@@ -1,5 +1,0 @@
-use Rattle.lrtable.proofs.CanonicalTables.{graph_holds}
-use Rattle.lrtable.proofs.laws.graphs_hold_canonical_items.Goals as goal
-
-pub returns : goal.returns
-returns c = graph_holds

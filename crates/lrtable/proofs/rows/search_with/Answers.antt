@@ -1,5 +1,0 @@
-use Rattle.lrtable.proofs.RowsAt.{searched}
-use Rattle.lrtable.proofs.rows.search_with.Goals as goal
-
-pub returns : goal.returns
-returns g c = searched c.args.row.now c.args.number c.row_search.result c.requires.rises c.row_search.ensures.found

@@ -1,4 +1,0 @@
-use Rattle.lrtable.proofs.shared_sets.like_among.Given as goal
-
-abbrev pub invariant-back : goal.invariant-back
-invariant-back l = Unit {0}

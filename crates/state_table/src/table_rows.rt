@@ -1,0 +1,71 @@
+//! The rows of a table, state by state.
+
+ghost use Rattle.std.specs.Prelude.{◌≡◌, ◌<◌, ◌≤◌, ◌+◌, ℕ, List, [], length, IfOk, OnOk};
+ghost use Rattle.state_table.specs.CellRows.{FitsParts, PartsValue};
+ghost use Rattle.state_table.specs.CellViews.{parts_of, precedences_of, targets_of};
+ghost use Rattle.state_table.specs.Meeting.{rows_in};
+ghost use Rattle.state_table.specs.SparseRows.{IsTargetRow};
+ghost use Rattle.state_table.specs.TableRows.{AreRowsOf, IsTableBy, rows_of};
+
+use crate::cells::Action;
+use crate::conflicts::{Conflicts, of_lists};
+use crate::state_rows::{ReduceReduce, ShiftReduce, StateParts, state_row};
+use crate::stidx::StIdx;
+use cfg_base::index::IndexStorage;
+use cfg_numbered::yacc::NumberedGrammar;
+use std::alloc::{AllocError, Global};
+use vob::Vob;
+
+/// The rows of the states so far, and the conflicts that are listed of them.
+#[derive(Drop)]
+pub(crate) struct TableRows<S> {
+    pub actions: Vec<Vec<(u32, Action<S>)>>,
+    pub gotos: Vec<Vec<(u32, StIdx<S>)>>,
+    pub pairs: Vec<ReduceReduce<S>>,
+    pub shifts: Vec<ShiftReduce<S>>,
+}
+
+impl<S: IndexStorage> TableRows<S> {
+    /// Without a state.
+    pub(crate) fn new(alloc: Global) -> TableRows<S>
+        ensures actions { result.actions.items ≡ [] }
+        ensures gotos { result.gotos.items ≡ [] }
+        ensures pairs { result.pairs.items ≡ [] }
+        ensures shifts { result.shifts.items ≡ [] }
+    {
+        TableRows {
+            actions: Vec::new(alloc),
+            gotos: Vec::new(alloc),
+            pairs: Vec::new(alloc),
+            shifts: Vec::new(alloc),
+        }
+    }
+
+    /// Adds the rows of the next state.
+    pub(crate) fn add_state(
+        &mut self,
+        alloc: Global,
+        grm: &NumberedGrammar<S>,
+        stidx: StIdx<S>,
+        parts: &StateParts<S>,
+        sets: &[Vob],
+        gotos: Vec<(u32, StIdx<S>)>,
+    ) -> Result<(), AllocError>
+        requires { FitsParts grm.now.grammar (parts_of S.number (rows_in sets.now) parts.now) }
+        ensures { OnOk result ((all : ℕ → PartsValue) (targets : ℕ → List (ℕ × ℕ)) → all (S.number stidx.0) ≡ parts_of S.number (rows_in sets.now) parts.now → targets (S.number stidx.0) ≡ targets_of S.number gotos.items →
+            AreRowsOf grm.now.grammar (precedences_of grm.now) all targets (S.number stidx.0) (rows_of S.number self.old) → AreRowsOf grm.now.grammar (precedences_of grm.now) all targets (S.number stidx.0 + 1) (rows_of S.number self.new)) }
+    {
+        let row = state_row(
+            alloc,
+            grm,
+            stidx,
+            parts,
+            sets,
+            &mut self.pairs,
+            &mut self.shifts,
+        )?;
+        self.actions.push(row)?;
+        self.gotos.push(gotos)?;
+        Ok(())
+    }
+}

@@ -1,13 +1,14 @@
 //! Closures and goto sets as items that share their sets of lookaheads.
 
-ghost use Rattle.std.specs.Prelude.{◌≡◌, ◌<◌, ℕ, length, IfOk, OnOk};
+ghost use Rattle.std.specs.Prelude.{◌≡◌, ◌<◌, ℕ, length, IfOk, IsTrue, OnOk};
 ghost use Rattle.cfg_numbered.specs.Firsts.{AreFirsts};
+ghost use Rattle.cfg_numbered.specs.Sets.{is_set};
 ghost use Rattle.cfg_numbered.specs.Symbols.{sym_of};
-ghost use Rattle.lr_theory.specs.Building.{same_symbol};
 ghost use Rattle.lr_theory.specs.Itemset.{HasItem, HasLook, Closure, ClosureLook, Goto, GotoLook, Is};
 ghost use Rattle.state_table.specs.Adding.{One, OneLooks};
 ghost use Rattle.lrtable.specs.Closers.{IsReady};
 ghost use Rattle.lrtable.specs.Closes.{AreFronts};
+ghost use Rattle.lrtable.specs.Stepping.{IsSized, OfRule, OfRuleLooks, OpenBelow, OpenLooksBelow};
 ghost use Rattle.state_table.specs.ItemRows.{IsCoreOf, map_of, FitsCore};
 ghost use Rattle.state_table.specs.Meeting.{rows_in};
 ghost use Rattle.state_table.specs.Sharing.{shared_core, shared_map, PointIn, GrowsBy};
@@ -15,14 +16,15 @@ ghost use Rattle.state_table.specs.CoreViews.{core_of_set};
 
 use crate::moves::dot_behind;
 use crate::openers::Openers;
-use crate::opening::Closer;
+use crate::opening::{Closer, Opening};
 use crate::rests::symbol_after;
 use crate::rooms::opened_room;
 use cfg_base::index::IndexStorage;
-use cfg_base::symbol::{PIdx, Symbol};
+use cfg_base::symbol::{PIdx, RIdx, SIdx, Symbol};
 use cfg_numbered::yacc::{NumberedGrammar, YaccFirsts};
 use state_table::cores::{CoreItem, CoreSet};
 use state_table::shared_sets::SharedSets;
+use state_table::stategraph::same_symbols;
 use std::alloc::{AllocError, Global};
 use vob::Vob;
 
@@ -69,20 +71,52 @@ pub(crate) fn closed_by<S: IndexStorage>(
     closer.close(grm, firsts, openers, core)?;
     let (rules, productions) = opened_room(closer.counts.as_slice(), &closer.opening);
     let mut set = SharedSets::of_core(alloc, core, rules, productions)?;
-    set.open_rules(grm, &closer.opening)?;
+    open_rules(&mut set, grm, &closer.opening)?;
     set.fit();
     Ok(set)
 }
 
-/// Tells whether two symbols are one.
-pub(crate) fn same_symbols<S: IndexStorage>(a: Symbol<S>, b: Symbol<S>) -> bool
-    ensures { result ≡ same_symbol (sym_of S.number a) (sym_of S.number b) }
+/// Adds the productions of a rule at dot nought with one set.
+fn open_rule<S: IndexStorage>(
+    set: &mut SharedSets<S>,
+    grm: &NumberedGrammar<S>,
+    ridx: RIdx<S>,
+    looks: &Vob,
+) -> Result<(), AllocError>
+    requires rule { S.number ridx.0 < grm.now.grammar.rules }
+    requires width { length looks.now.bits ≡ grm.now.grammar.tokens }
+    requires core { IsCoreOf grm.now.grammar.tokens (shared_core S.number set.old) }
+    requires within { PointIn (rows_in set.old.sets.items) set.old.entries.items }
+    ensures { OnOk result (GrowsBy S.number grm.now.grammar.tokens (OfRule grm.now.grammar (S.number ridx.0)) (OfRuleLooks grm.now.grammar (S.number ridx.0) (λ t. IsTrue (is_set looks.now.bits t))) set.old set.new) }
 {
-    match (a, b) {
-        (Symbol::Rule(a), Symbol::Rule(b)) => a.0.to_usize() == b.0.to_usize(),
-        (Symbol::Token(a), Symbol::Token(b)) => a.0.to_usize() == b.0.to_usize(),
-        _ => false,
+    let index = set.set_like(looks)?;
+    let prods = grm.rule_to_prods(ridx);
+    'prods: for k in 0..prods.len() {
+        let dot = SIdx(S::from_usize(0).unwrap());
+        let item = CoreItem {
+            pidx: prods[k],
+            dot,
+        };
+        set.share(item, index)?;
     }
+    Ok(())
+}
+
+/// Adds the productions of the open rules at dot nought, those of a rule with one set.
+fn open_rules<S: IndexStorage>(
+    set: &mut SharedSets<S>,
+    grm: &NumberedGrammar<S>,
+    opening: &Opening,
+) -> Result<(), AllocError>
+    requires sizes { IsSized grm.now.grammar opening.now }
+    requires core { IsCoreOf grm.now.grammar.tokens (shared_core S.number set.old) }
+    requires within { PointIn (rows_in set.old.sets.items) set.old.entries.items }
+    ensures { OnOk result (GrowsBy S.number grm.now.grammar.tokens (OpenBelow grm.now.grammar opening.now grm.now.grammar.rules) (OpenLooksBelow grm.now.grammar opening.now grm.now.grammar.rules) set.old set.new) }
+{
+    'rules: for number in opening.open_rules() {
+        open_rule(set, grm, grm.rule_at(number), opening.row(number))?;
+    }
+    Ok(())
 }
 
 /// Moves an item into a set, if the symbol stands behind its dot.

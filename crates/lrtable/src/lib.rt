@@ -27,21 +27,15 @@
 //!
 //! A `YaccGrammar` of `cfgrammar` can be handed over as it is.
 //!
-//! `from_yacc` gives the graph and the table of a grammar. Below it stand item sets with closure and goto (`itemset`), the
-//! states of a grammar by the building of Pager 1977, the graph of such states (`stategraph`), and the rows of cells with
-//! Yacc's precedences and the listed conflicts (`statetable`, `conflicts`). Contracts speak of the item sets and the
-//! building of `lr_theory` and of the cells of `table_theory`. The contracts that matter most are those of `from_yacc`,
-//! of `itemset::Itemset` and of `statetable::StateTable`.
+//! `from_yacc` gives the graph and the table of a grammar. Below it stand closure and goto of item sets (`itemset`) and the
+//! states of a grammar by the building of Pager 1977. Item sets, graphs and tables themselves are those of `state_table`,
+//! whose names stand here too. Contracts speak of the item sets and the building of `lr_theory` and of the cells of
+//! `table_theory`. The contracts that matter most are those of `from_yacc` and of `itemset::Closing`.
 #![tactic(auto)]
 
-pub mod cells;
 mod closures;
-pub mod conflicts;
-mod cores;
 mod finishing;
 mod grammar_table;
-mod graph_rows;
-mod graph_texts;
 pub mod itemset;
 pub mod laws;
 mod meeting;
@@ -56,25 +50,13 @@ mod reached;
 mod rests;
 mod retaking;
 mod rooms;
-pub mod rows;
 mod rule_rows;
-mod set_index;
-mod shared_sets;
-mod spreads;
-mod state_rows;
-pub mod stategraph;
 mod states;
-pub mod statetable;
-pub mod stidx;
-pub mod table_iterators;
-mod table_rows;
 
-pub use cells::Action;
-pub use conflicts::Conflicts;
 pub use grammar_table::{FromYaccError, Minimiser, from_yacc};
 pub use itemset::Itemset;
-pub use rows::row_search;
-pub use stategraph::{StIdxs, StateGraph};
-pub use statetable::{StateTable, StateTableError, StateTableErrorKind, StateTableNewError};
-pub use stidx::StIdx;
-pub use table_iterators::{CoreReducesIterator, StateActionsIterator};
+pub use state_table::{
+    Action, Conflicts, CoreReducesIterator, StIdx, StIdxs, StateActionsIterator, StateGraph,
+    StateTable, StateTableError, StateTableErrorKind, StateTableNewError, cells, conflicts,
+    row_search, rows, stategraph, statetable, stidx, table_iterators,
+};

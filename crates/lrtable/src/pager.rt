@@ -27,12 +27,12 @@ use crate::openers::Openers;
 use crate::opening::Closer;
 use crate::pruning::prune;
 use crate::retaking::{Retaken, retake_all};
-use crate::rooms::bits_set;
 use crate::states::{BuildError, EdgeTo, State, place};
 use cfg_base::index::IndexStorage;
 use cfg_base::symbol::SIdx;
 use cfg_numbered::yacc::{NumberedGrammar, YaccFirsts};
 use state_table::cores::{CoreItem, CoreSet};
+use state_table::rooms::bits_set;
 use std::alloc::{AllocError, Global};
 use vob::Vob;
 

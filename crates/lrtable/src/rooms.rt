@@ -7,17 +7,6 @@ use cfg_base::symbol::Symbol;
 use cfg_numbered::yacc::NumberedGrammar;
 use std::alloc::{AllocError, Global};
 use vob::Vob;
-use vob::block::Block;
-
-/// How many bits of a set are set, block by block.
-pub(crate) fn bits_set(set: &Vob) -> usize {
-    let blocks = set.get_storage();
-    let mut count: usize = 0;
-    'blocks: for k in 0..blocks.len() {
-        count = count.saturating_add(blocks[k].ones());
-    }
-    count
-}
 
 /// How many productions each rule has.
 pub(crate) fn production_counts<S: IndexStorage>(

@@ -14,12 +14,12 @@ ghost use Rattle.lrtable.specs.declared.states.BuildError.TheVariants as faults;
 ghost use Rattle.state_table.specs.CoreViews.{item_of, items_of, core_of_set};
 ghost use Rattle.lrtable.specs.StateViews.{edge_of_pair, edges_of, value_of};
 
-use crate::closures::same_symbols;
 use crate::meeting::{hold_all, weakly_compatible};
 use crate::moved_items::{MovedItem, Rows, same_items, to_core};
 use cfg_base::index::IndexStorage;
 use cfg_base::symbol::Symbol;
 use state_table::cores::{CoreSet, put_in};
+use state_table::stategraph::same_symbols;
 use std::alloc::{AllocError, AllocFailed, Global};
 use vob::Vob;
 

@@ -9,7 +9,7 @@ use crate::spell::push_items;
 use cfg_base::index::IndexStorage;
 use cfg_base::symbol::{RIdx, SIdx, Symbol, TIdx};
 use cfgrammar::yacc::{YaccFirsts, YaccGrammar};
-use lrtable::itemset::Itemset;
+use lrtable::itemset::{Closing, Itemset};
 use std::alloc::{AllocError, Global};
 use std::process::Abort;
 use std::test::*;

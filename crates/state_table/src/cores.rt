@@ -14,20 +14,20 @@ use vob::Vob;
 
 /// A production with a dot.
 #[derive(Clone, Copy)]
-pub(crate) struct CoreItem<S> {
+pub struct CoreItem<S> {
     pub pidx: PIdx<S>,
     pub dot: SIdx<S>,
 }
 
 /// Items in ascending order, and the lookaheads of each.
 #[derive(Drop)]
-pub(crate) struct CoreSet<S> {
+pub struct CoreSet<S> {
     pub items: Vec<CoreItem<S>>,
     pub looks: Vec<Vob>,
 }
 
 /// Tells whether two lists have the same items.
-pub(crate) fn same_items<S: IndexStorage>(a: &[CoreItem<S>], b: &[CoreItem<S>]) -> bool
+pub fn same_items<S: IndexStorage>(a: &[CoreItem<S>], b: &[CoreItem<S>]) -> bool
     ensures { IsTrue result ↔ (items_of S.number a.now ≡ items_of S.number b.now) }
 {
     if a.len() != b.len() {
@@ -42,7 +42,7 @@ pub(crate) fn same_items<S: IndexStorage>(a: &[CoreItem<S>], b: &[CoreItem<S>]) 
 }
 
 /// Tells whether two items are one.
-pub(crate) fn same_item<S: IndexStorage>(a: &CoreItem<S>, b: &CoreItem<S>) -> bool
+pub fn same_item<S: IndexStorage>(a: &CoreItem<S>, b: &CoreItem<S>) -> bool
     ensures { IsTrue result ↔ (item_of S.number a.now ≡ item_of S.number b.now) }
 {
     if a.pidx.0.to_usize() != b.pidx.0.to_usize() {
@@ -52,7 +52,7 @@ pub(crate) fn same_item<S: IndexStorage>(a: &CoreItem<S>, b: &CoreItem<S>) -> bo
 }
 
 /// Tells whether the first item comes before the second: by production, then by dot.
-pub(crate) fn comes_before<S: IndexStorage>(a: &CoreItem<S>, b: &CoreItem<S>) -> bool
+pub fn comes_before<S: IndexStorage>(a: &CoreItem<S>, b: &CoreItem<S>) -> bool
     ensures { IsTrue result ↔ ItemBefore (item_of S.number a.now) (item_of S.number b.now) }
 {
     let first = a.pidx.0.to_usize();
@@ -64,7 +64,7 @@ pub(crate) fn comes_before<S: IndexStorage>(a: &CoreItem<S>, b: &CoreItem<S>) ->
 }
 
 /// Puts a value at an index of a list, most often at its end.
-pub(crate) fn put_in<T: Drop>(list: &mut Vec<T>, index: usize, value: T) -> Result<(), AllocError>
+pub fn put_in<T: Drop>(list: &mut Vec<T>, index: usize, value: T) -> Result<(), AllocError>
     requires { index ≤ length list.old.items }
     ensures { OnOk result (list.new.items ≡ insert list.old.items index value) }
 {
@@ -78,7 +78,7 @@ pub(crate) fn put_in<T: Drop>(list: &mut Vec<T>, index: usize, value: T) -> Resu
 
 impl<S: IndexStorage> CoreSet<S> {
     /// A set without items.
-    pub(crate) fn empty(alloc: Global) -> CoreSet<S>
+    pub fn empty(alloc: Global) -> CoreSet<S>
         ensures { core_of_set S.number result ≡ no_core }
     {
         CoreSet {

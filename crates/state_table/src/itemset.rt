@@ -1,23 +1,18 @@
-//! Item sets: items of a grammar with their lookaheads, closure and goto.
+//! Item sets: items of a grammar with their lookaheads. Closure and goto are in `lrtable`.
 
 ghost use Rattle.std.specs.Prelude.{◌≡◌, ◌<◌, ◌≤◌, ◌↔◌, ◌⊎◌, ℕ, [], true, length, get_or, option_map, IsTrue, IfOk, OnOk, OnErr};
 ghost use Rattle.std.specs.Iterator.{YieldsFirstBy, item_count};
 ghost use Rattle.cfg_theory.specs.Grammar.{Grammar, body_of};
-ghost use Rattle.cfg_numbered.specs.Firsts.{AreFirsts};
-ghost use Rattle.cfg_numbered.specs.Symbols.{sym_of};
-ghost use Rattle.lr_theory.specs.Itemset.{Entry, entry_at, HasItem, HasLook, SameItems, SameLooks, Closure, ClosureLook, Goto, GotoLook, Is, FitsGrammar};
+ghost use Rattle.lr_theory.specs.Itemset.{Entry, entry_at, HasItem, HasLook, SameItems, SameLooks, FitsGrammar};
 ghost use Rattle.state_table.specs.Adding.{With, WithLooks};
 ghost use Rattle.state_table.specs.Itemsets.{HasWidth, IsNewTo};
 ghost use Rattle.state_table.specs.ItemWalks.{entry_seen};
 ghost use Rattle.state_table.specs.Sharing.{shared_map, IsShared};
 
-use crate::closures::{closed_set, moved_set};
 use crate::cores::CoreItem;
-use crate::openers::Openers;
 use crate::shared_sets::SharedSets;
 use cfg_base::index::IndexStorage;
-use cfg_base::symbol::{PIdx, SIdx, Symbol};
-use cfg_numbered::yacc::{NumberedGrammar, YaccFirsts};
+use cfg_base::symbol::{PIdx, SIdx};
 use std::alloc::{AllocError, Global};
 use std::marker::Model;
 use vob::Vob;
@@ -40,8 +35,8 @@ impl<S: IndexStorage> Model for Itemset<S> {
     ghost invariant = { λ s. IsShared S.number s.set };
 }
 
-/// The item set of items that share their sets.
-pub(crate) fn of_shared<S: IndexStorage>(set: SharedSets<S>) -> Itemset<S>
+/// The item set of items that share their sets, for crates that build states.
+pub fn of_shared<S: IndexStorage>(set: SharedSets<S>) -> Itemset<S>
     requires { IsShared S.number set }
     ensures { result ≡ shared_map S.number set }
 {
@@ -72,39 +67,6 @@ impl<S: IndexStorage> Itemset<S> {
     {
         let grew = self.set.add(CoreItem { pidx, dot }, ctx)?;
         Ok(grew)
-    }
-
-    /// Makes the closure: the least set that holds this one and is closed by the FIRST rule.
-    pub fn close(
-        &self,
-        alloc: Global,
-        grm: &NumberedGrammar<S>,
-        firsts: &YaccFirsts<S>,
-    ) -> Result<Itemset<S>, AllocError>
-        requires fits { FitsGrammar grm.now.grammar self.now }
-        requires firsts { AreFirsts grm.now.grammar firsts.now }
-        ensures value { IfOk result (λ c. Is c (Closure grm.now.grammar (HasItem self.now)) (ClosureLook grm.now.grammar (HasItem self.now) (HasLook self.now))) }
-        ensures fits { IfOk result (FitsGrammar grm.now.grammar) }
-    {
-        let core = self.set.to_core(alloc)?;
-        let openers = Openers::new(alloc, grm, firsts)?;
-        let set = closed_set(alloc, grm, firsts, &openers, &core)?;
-        Ok(Itemset { set })
-    }
-
-    /// Makes the goto set: the items with the symbol behind their dot, the dot moved over it.
-    pub fn goto(
-        &self,
-        alloc: Global,
-        grm: &NumberedGrammar<S>,
-        sym: &Symbol<S>,
-    ) -> Result<Itemset<S>, AllocError>
-        requires { FitsGrammar grm.now.grammar self.now }
-        ensures value { IfOk result (λ n. Is n (Goto grm.now.grammar (HasItem self.now) (sym_of S.number sym.now)) (GotoLook grm.now.grammar (HasLook self.now) (sym_of S.number sym.now))) }
-        ensures fits { IfOk result (FitsGrammar grm.now.grammar) }
-    {
-        let set = moved_set(alloc, grm, &self.set, sym)?;
-        Ok(Itemset { set })
     }
 
     /// How many items there are.
@@ -143,8 +105,8 @@ impl<S: IndexStorage> Itemset<S> {
         }
     }
 
-    /// The items with the sets that they share.
-    pub(crate) fn shared(&self) -> &SharedSets<S>
+    /// The items with the sets that they share, for crates that build states.
+    pub fn shared(&self) -> &SharedSets<S>
         ensures value { shared_map S.number result.now ≡ self.now }
         ensures kept { IsShared S.number result.now }
     {

@@ -8,17 +8,9 @@ ghost use Rattle.lr_theory.specs.Sizes.{StaysWithin};
 ghost use Rattle.table_theory.specs.CellLaws.{SomeContested};
 ghost use Rattle.table_theory.specs.Cells.{NoPrecedences};
 ghost use Rattle.state_table.specs.CellViews.{precedences_of};
-ghost use Rattle.lrtable.specs.Closes.{ClosuresGoByRules};
 ghost use Rattle.state_table.specs.Graphs.{GraphValue, IsGraphOf, graph_of};
 ghost use Rattle.state_table.specs.TableValues.{TableValue, filled_tokens, shifted_tokens};
 ghost use Rattle.state_table.specs.Tables.{AreContested, IsRefusal, IsTableOf, Refusal};
-
-/// A closure is its given items, and at dot nought the productions of the rules that it opens, which share their rule's
-/// lookaheads.
-#[tactic(auto, using(crate::proofs::CloseLaws::by_rules))]
-pub fn closures_go_by_rules()
-    ensures { ClosuresGoByRules }
-{}
 
 /// A graph of a grammar holds its canonical items: a string leads to each state, the state that a string leads to has
 /// each item present after it with all its lookaheads, each core is tied to canonical LR(1), and any two states of one

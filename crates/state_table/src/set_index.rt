@@ -7,7 +7,7 @@ use std::marker::Model;
 /// The index of a set, in two halves: a `usize` would have an item that holds it begin at a multiple of eight bytes, and take
 /// sixteen of them where twelve serve. Contracts see the index.
 #[derive(Clone, Copy)]
-pub(crate) struct SetIndex {
+pub struct SetIndex {
     low: u32,
     high: u32,
 }
@@ -32,7 +32,7 @@ impl Model for SetIndex {
 
 impl SetIndex {
     /// An index.
-    pub(crate) fn of(number: usize) -> SetIndex
+    pub fn of(number: usize) -> SetIndex
         ensures { result ≡ number }
     {
         SetIndex {
@@ -42,7 +42,7 @@ impl SetIndex {
     }
 
     /// The index as a number.
-    pub(crate) fn get(&self) -> usize
+    pub fn get(&self) -> usize
         ensures { result ≡ self.now }
     {
         self.high as usize * 0x1_0000_0000 + self.low as usize

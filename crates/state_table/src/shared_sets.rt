@@ -1,36 +1,31 @@
 //! Item sets that keep each set of lookaheads once: the items that a closure opens share those of their rule, and none
-//! has a set of its own.
+//! has a set of its own. These are for crates that build states; others see an `Itemset`.
 
 ghost use Rattle.std.specs.Prelude.{◌≡◌, ◌<◌, ◌≤◌, ◌-◌, ◌↔◌, ℕ, [], true, false, length, get_or, option_map, IsTrue, IfOk, IfSome, OnOk, OnErr};
-ghost use Rattle.cfg_numbered.specs.Sets.{is_set};
 ghost use Rattle.lr_theory.specs.Itemset.{entry_at};
 ghost use Rattle.state_table.specs.ItemRows.{no_core, Item, IsAt, ItemBefore, Ascends, IsCoreOf, map_of};
 ghost use Rattle.state_table.specs.Itemsets.{IsNewTo};
 ghost use Rattle.state_table.specs.Meeting.{rows_in, row};
 ghost use Rattle.state_table.specs.OwnSets.{HaveOwn};
-ghost use Rattle.state_table.specs.Sharing.{keys_of, shared_core, shared_map, PointIn, IsShared, BelongsAt, KeepsSets, TakesIn, StaysAs, GrowsBy};
+ghost use Rattle.state_table.specs.Sharing.{keys_of, shared_core, shared_map, PointIn, IsShared, BelongsAt, KeepsSets, TakesIn, StaysAs};
 ghost use Rattle.state_table.specs.CoreViews.{item_of, items_of, core_of_set};
-ghost use Rattle.lrtable.specs.Stepping.{IsSized, OfRule, OfRuleLooks, OpenBelow, OpenLooksBelow};
 
 use crate::cores::{CoreItem, CoreSet, comes_before, same_item};
-use crate::opening::Opening;
 use crate::set_index::SetIndex;
 use cfg_base::index::IndexStorage;
-use cfg_base::symbol::{PIdx, RIdx, SIdx};
-use cfg_numbered::yacc::NumberedGrammar;
 use std::alloc::{AllocError, Global};
 use vob::Vob;
 
 /// An item, and the index of its lookaheads.
 #[derive(Clone, Copy)]
-pub(crate) struct SharedItem<S> {
+pub struct SharedItem<S> {
     pub item: CoreItem<S>,
     pub set: SetIndex,
 }
 
 /// Items in ascending order, and the sets of lookaheads that they share.
 #[derive(Drop)]
-pub(crate) struct SharedSets<S> {
+pub struct SharedSets<S> {
     pub entries: Vec<SharedItem<S>>,
     pub sets: Vec<Vob>,
 }
@@ -115,7 +110,7 @@ fn give_back(sets: &mut Vec<Vob>)
 
 impl<S: IndexStorage> SharedSets<S> {
     /// Without items.
-    pub(crate) fn empty(alloc: Global) -> SharedSets<S>
+    pub fn empty(alloc: Global) -> SharedSets<S>
         ensures core { shared_core S.number result ≡ no_core }
         ensures within { PointIn (rows_in result.sets.items) result.entries.items }
     {
@@ -169,7 +164,7 @@ impl<S: IndexStorage> SharedSets<S> {
 
     /// Adds an item with its lookaheads, or lookaheads to those of the item that is there, and tells whether something
     /// was new.
-    pub(crate) fn add(&mut self, item: CoreItem<S>, looks: &Vob) -> Result<bool, AllocError>
+    pub fn add(&mut self, item: CoreItem<S>, looks: &Vob) -> Result<bool, AllocError>
         requires core { IsCoreOf (length looks.now.bits) (shared_core S.number self.old) }
         requires within { PointIn (rows_in self.old.sets.items) self.old.entries.items }
         ensures added { OnOk result (TakesIn S.number (S.number item.pidx.0) (S.number item.dot.0) looks.now.bits self.old self.new) }
@@ -184,7 +179,7 @@ impl<S: IndexStorage> SharedSets<S> {
     }
 
     /// The lookaheads of an item, if it is there.
-    pub(crate) fn get(&self, item: &CoreItem<S>) -> Option<&Vob>
+    pub fn get(&self, item: &CoreItem<S>) -> Option<&Vob>
         requires { IsShared S.number self.now }
         ensures { option_map (λ v. v.now.bits) result ≡ entry_at (shared_map S.number self.now) (S.number item.now.pidx.0) (S.number item.now.dot.0) }
     {
@@ -196,7 +191,7 @@ impl<S: IndexStorage> SharedSets<S> {
     }
 
     /// Adds an item with the set at an index, or its lookaheads to those of the item that is there.
-    fn share(&mut self, item: CoreItem<S>, set: usize) -> Result<(), AllocError>
+    pub fn share(&mut self, item: CoreItem<S>, set: usize) -> Result<(), AllocError>
         requires set { set < length self.old.sets.items }
         requires core { IsCoreOf (length (row (rows_in self.old.sets.items) set)) (shared_core S.number self.old) }
         requires within { PointIn (rows_in self.old.sets.items) self.old.entries.items }
@@ -236,7 +231,7 @@ impl<S: IndexStorage> SharedSets<S> {
     }
 
     /// The index of a set like this one, which is put behind the others unless one of the last is like it.
-    fn set_like(&mut self, looks: &Vob) -> Result<usize, AllocError>
+    pub fn set_like(&mut self, looks: &Vob) -> Result<usize, AllocError>
         ensures entries { OnOk result (self.new.entries.items ≡ self.old.entries.items) }
         ensures within { IfOk result (λ k. k < length (rows_in self.new.sets.items)) }
         ensures like { IfOk result (λ k. row (rows_in self.new.sets.items) k ≡ looks.now.bits) }
@@ -250,51 +245,8 @@ impl<S: IndexStorage> SharedSets<S> {
         Ok(set)
     }
 
-    /// Adds the productions of a rule at dot nought with one set.
-    fn open_rule(
-        &mut self,
-        grm: &NumberedGrammar<S>,
-        ridx: RIdx<S>,
-        looks: &Vob,
-    ) -> Result<(), AllocError>
-        requires rule { S.number ridx.0 < grm.now.grammar.rules }
-        requires width { length looks.now.bits ≡ grm.now.grammar.tokens }
-        requires core { IsCoreOf grm.now.grammar.tokens (shared_core S.number self.old) }
-        requires within { PointIn (rows_in self.old.sets.items) self.old.entries.items }
-        ensures { OnOk result (GrowsBy S.number grm.now.grammar.tokens (OfRule grm.now.grammar (S.number ridx.0)) (OfRuleLooks grm.now.grammar (S.number ridx.0) (λ t. IsTrue (is_set looks.now.bits t))) self.old self.new) }
-    {
-        let set = self.set_like(looks)?;
-        let prods = grm.rule_to_prods(ridx);
-        'prods: for k in 0..prods.len() {
-            let dot = SIdx(S::from_usize(0).unwrap());
-            let item = CoreItem {
-                pidx: prods[k],
-                dot,
-            };
-            self.share(item, set)?;
-        }
-        Ok(())
-    }
-
-    /// Adds the productions of the open rules at dot nought, those of a rule with one set.
-    pub(crate) fn open_rules(
-        &mut self,
-        grm: &NumberedGrammar<S>,
-        opening: &Opening,
-    ) -> Result<(), AllocError>
-        requires sizes { IsSized grm.now.grammar opening.now }
-        requires core { IsCoreOf grm.now.grammar.tokens (shared_core S.number self.old) }
-        requires within { PointIn (rows_in self.old.sets.items) self.old.entries.items }
-        ensures { OnOk result (GrowsBy S.number grm.now.grammar.tokens (OpenBelow grm.now.grammar opening.now grm.now.grammar.rules) (OpenLooksBelow grm.now.grammar opening.now grm.now.grammar.rules) self.old self.new) }
-    {
-        'rules: for number in opening.open_rules() {
-            self.open_rule(grm, grm.rule_at(number), opening.row(number))?;
-        }
-        Ok(())
-    }
-
     /// Gives back the room that no item and no set takes.
-    pub(crate) fn fit(&mut self)
+    pub fn fit(&mut self)
         ensures core { shared_core S.number self.new ≡ shared_core S.number self.old }
         ensures within { PointIn (rows_in self.old.sets.items) self.old.entries.items → PointIn (rows_in self.new.sets.items) self.new.entries.items }
     {
@@ -304,7 +256,7 @@ impl<S: IndexStorage> SharedSets<S> {
 
     /// The items of a core with copies of their sets, one for items that follow one another with like sets, and room for so
     /// many more sets and items.
-    pub(crate) fn of_core(
+    pub fn of_core(
         alloc: Global,
         core: &CoreSet<S>,
         more_sets: usize,
@@ -331,7 +283,7 @@ impl<S: IndexStorage> SharedSets<S> {
     }
 
     /// The items of a core, each with its own set.
-    pub(crate) fn from_core(alloc: Global, core: CoreSet<S>) -> Result<SharedSets<S>, AllocError>
+    pub fn from_core(alloc: Global, core: CoreSet<S>) -> Result<SharedSets<S>, AllocError>
         requires { length core.looks.items ≡ length core.items.items }
         ensures core { IfOk result (λ s. shared_core S.number s ≡ core_of_set S.number core) }
         ensures within { IfOk result (λ s. PointIn (rows_in s.sets.items) s.entries.items) }
@@ -345,7 +297,7 @@ impl<S: IndexStorage> SharedSets<S> {
     }
 
     /// The items, each with a copy of its lookaheads.
-    pub(crate) fn to_core(&self, alloc: Global) -> Result<CoreSet<S>, AllocError>
+    pub fn to_core(&self, alloc: Global) -> Result<CoreSet<S>, AllocError>
         requires { PointIn (rows_in self.now.sets.items) self.now.entries.items }
         ensures { IfOk result (λ c. core_of_set S.number c ≡ shared_core S.number self.now) }
     {

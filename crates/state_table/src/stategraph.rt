@@ -6,10 +6,10 @@ ghost use Rattle.std.specs.List.{range_with_len};
 ghost use Rattle.std.specs.Ordering.{nat_cmp};
 ghost use Rattle.std.specs.Slice.Iter.{iter_rest};
 ghost use Rattle.cfg_numbered.specs.Symbols.{sym_of};
+ghost use Rattle.lr_theory.specs.Building.{same_symbol};
 ghost use Rattle.state_table.specs.GraphViews.{edges_seen, graph_seen};
 ghost use Rattle.state_table.specs.Graphs.{IsGraphValue, edge_count, graph_of, target_in};
 
-use crate::closures::same_symbols;
 use crate::itemset::Itemset;
 pub use crate::stidx::StIdx;
 use cfg_base::index::IndexStorage;
@@ -45,8 +45,8 @@ impl<S: IndexStorage> Model for StateGraph<S> {
     ghost invariant = { λ g. IsGraphValue S.MAX (graph_seen S.number g.cores.items g.closed.items g.edges.items) };
 }
 
-/// The graph of these cores, closures and edges, whose first state is the start state.
-pub(crate) fn of_lists<S: IndexStorage>(
+/// The graph of these cores, closures and edges, whose first state is the start state, for crates that build states.
+pub fn of_lists<S: IndexStorage>(
     cores: Vec<Itemset<S>>,
     closed: Vec<Itemset<S>>,
     edges: Vec<Vec<(Symbol<S>, StIdx<S>)>>,
@@ -165,6 +165,17 @@ impl<S: IndexStorage> StateGraph<S> {
         ensures { iter_rest result ≡ self.now.closed }
     {
         self.closed.iter()
+    }
+}
+
+/// Tells whether two symbols are one.
+pub fn same_symbols<S: IndexStorage>(a: Symbol<S>, b: Symbol<S>) -> bool
+    ensures { result ≡ same_symbol (sym_of S.number a) (sym_of S.number b) }
+{
+    match (a, b) {
+        (Symbol::Rule(a), Symbol::Rule(b)) => a.0.to_usize() == b.0.to_usize(),
+        (Symbol::Token(a), Symbol::Token(b)) => a.0.to_usize() == b.0.to_usize(),
+        _ => false,
     }
 }
 

@@ -28,7 +28,7 @@ impl<S: IndexStorage> Display for PlainLexeme<S> {
 }
 
 impl<S: IndexStorage> Lexeme<S> for PlainLexeme<S> {
-    ghost use Rattle.lrpar.specs.Lex.{lex_at};
+    ghost use Rattle.parse_trees.specs.Lex.{lex_at};
     ghost use Rattle.std.specs.Prelude.{true, ◌+◌};
     ghost use Rattle.std.proofs.Common.{ap};
 

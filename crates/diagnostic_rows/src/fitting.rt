@@ -2,8 +2,9 @@
 
 ghost use Rattle.std.specs.Prelude.{IsTrue, map};
 ghost use Rattle.std.specs.List.{AllByRecursion};
-ghost use Rattle.lrpar.specs.Shown.{shown_of, shown_lists};
-ghost use Rattle.lrpar.specs.ErrorTexts.{FitsInput, EditFits, ErrorFits};
+ghost use Rattle.parse_trees.specs.Shown.{shown_of, shown_lists};
+ghost use Rattle.parse_trees.specs.ErrorTexts.{FitsInput, EditFits};
+ghost use Rattle.lrpar.specs.ErrorTexts.{ErrorFits};
 
 use cfg_base::index::IndexStorage;
 use cfg_base::span::Span;

@@ -23,7 +23,7 @@ impl<S: IndexStorage> Display for RowLexeme<S> {
 }
 
 impl<S: IndexStorage> Lexeme<S> for RowLexeme<S> {
-    ghost use Rattle.lrpar.specs.Lex.{lex_at};
+    ghost use Rattle.parse_trees.specs.Lex.{lex_at};
     ghost use Rattle.std.specs.Prelude.{true, ◌+◌};
     ghost use Rattle.std.proofs.Common.{ap};
 

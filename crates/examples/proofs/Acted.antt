@@ -9,9 +9,8 @@ use Rattle.state_table.specs.Graphs.{GraphValue}
 use Rattle.state_table.specs.TableValues.{TableValue}
 use Rattle.state_table.specs.Tables.{automaton_of}
 use Rattle.lrpar.specs.Acting.{acted_by, HasAction}
-use Rattle.lrpar.specs.Lex.{Lex}
-use Rattle.lrpar.specs.Lexemes.{IsFirstLexError}
-use Rattle.lrpar.specs.Run.{token_by, span_by}
+use Rattle.parse_trees.specs.Lex.{Lex, token_by, span_by}
+use Rattle.parse_trees.specs.Lexemes.{IsFirstLexError}
 use Rattle.lrpar.specs.Told.{IsToldParse, IsToldOutcome, HandsOut, IsHandedOut}
 use Rattle.lrpar.specs.declared.folded_parse.FoldedOutcome.{FoldedOutcome}
 use Rattle.lrpar.specs.declared.folded_parse.FoldedOutcome.TheVariants as folded

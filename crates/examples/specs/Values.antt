@@ -6,7 +6,7 @@ use Rattle.cfg_theory.specs.Fold.{no_span, fold}
 use Rattle.lr_theory.specs.Automaton.{Closed, Complete}
 use Rattle.state_table.specs.Tables.{automaton_of}
 use Rattle.lrpar.specs.Checked.{ParserValue}
-use Rattle.lrpar.specs.Stacks.{span_of_places}
+use Rattle.parse_trees.specs.Stacks.{span_of_places}
 use Rattle.lrpar.specs.declared.parse_actions.AStackType.{AStackType}
 use Rattle.lrpar.specs.declared.parse_actions.AStackType.TheVariants as args
 use Rattle.examples.specs.declared.calc.word.Word.{Word}

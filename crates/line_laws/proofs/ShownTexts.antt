@@ -12,15 +12,14 @@ use Rattle.lr_theory.specs.HandedRepairs.{ParsesWith}
 use Rattle.lr_theory.specs.Machine.{Config, Outcome, going, accepted, failed, stuck, next_or, pop, after_shift, after_goto, after_pop, after_accept, act, step_on, step, then_run, run}
 use Rattle.lr_theory.specs.Repair.{Edit, insert, delete, keep, with_first, apply}
 use Rattle.state_table.specs.Tables.{automaton_of}
-use Rattle.lrpar.specs.ErrorTexts.{EditFits, FitsInput}
-use Rattle.lrpar.specs.FlatLines.{CanShowTree, CanShowForest}
+use Rattle.parse_trees.specs.ErrorTexts.{EditFits, FitsInput}
+use Rattle.parse_trees.specs.FlatLines.{CanShowTree, CanShowForest}
 use Rattle.lrpar.specs.FlatParses.{HasFlat}
-use Rattle.lrpar.specs.FlatTrees.{FlatValue, IsFlat}
-use Rattle.lrpar.specs.Lex.{Lex, lex_at}
+use Rattle.parse_trees.specs.FlatTrees.{FlatValue, IsFlat}
+use Rattle.parse_trees.specs.Lex.{Lex, lex_at, span_by, token_by}
 use Rattle.lrpar.specs.Made.{next_start, end_from, end_of, made_by, next_lexeme}
 use Rattle.lrpar.specs.Parses.{AllThree, ErrorValue, IsParse, IsToldError}
-use Rattle.lrpar.specs.Run.{span_by, token_by}
-use Rattle.lrpar.specs.Shown.{shown}
+use Rattle.parse_trees.specs.Shown.{shown}
 use Rattle.lrpar.specs.Told.{ToldError, told_of, as_told}
 use Rattle.lrpar.specs.declared.parse_error.ParseError.{ParseError}
 use Rattle.line_laws.specs.ShownTexts.{FitsText, InsertsWithin, MakesWithin, ValueFits, ParseErrorFits, ParsesCanBeShown, FlatParsesCanBeShown}

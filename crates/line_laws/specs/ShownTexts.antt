@@ -9,16 +9,15 @@ use Rattle.lr_theory.specs.Automaton.{Automaton}
 use Rattle.lr_theory.specs.Repair.{Edit, insert, delete, keep}
 use Rattle.state_table.specs.Graphs.{GraphValue}
 use Rattle.state_table.specs.TableValues.{TableValue}
-use Rattle.lrpar.specs.ErrorTexts.{EditFits, FitsInput}
-use Rattle.lrpar.specs.FlatLines.{CanShowTree}
+use Rattle.parse_trees.specs.ErrorTexts.{EditFits, FitsInput}
+use Rattle.parse_trees.specs.FlatLines.{CanShowTree}
 use Rattle.lrpar.specs.FlatParses.{IsFlatParse}
-use Rattle.lrpar.specs.FlatTrees.{FlatValue, IsFlat}
-use Rattle.lrpar.specs.Lex.{Lex, lex_at}
-use Rattle.lrpar.specs.Lexemes.{AreItems}
+use Rattle.parse_trees.specs.FlatTrees.{FlatValue, IsFlat}
+use Rattle.parse_trees.specs.Lex.{Lex, lex_at, span_by, token_by}
+use Rattle.parse_trees.specs.Lexemes.{AreItems}
 use Rattle.lrpar.specs.Made.{end_of, made_by}
 use Rattle.lrpar.specs.Parses.{ErrorValue, IsParse}
-use Rattle.lrpar.specs.Run.{span_by, token_by}
-use Rattle.lrpar.specs.Shown.{shown, shown_lists}
+use Rattle.parse_trees.specs.Shown.{shown, shown_lists}
 use Rattle.lrpar.specs.declared.parse_error.ParseError.{ParseError}
 
 -- its places are a part of the text, from the start of a character to that of another

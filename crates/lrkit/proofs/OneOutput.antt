@@ -7,7 +7,7 @@ use Rattle.cfg_numbered.specs.Value.{GrammarValue}
 use Rattle.cfg_read.specs.declared.yacc.YaccKind.{YaccKind}
 use Rattle.cfg_theory.specs.Tree.{Tree}
 use Rattle.lr_theory.specs.Repair.{Edit}
-use Rattle.lrpar.specs.ErrorTexts.{parsing_error_text}
+use Rattle.parse_trees.specs.ErrorTexts.{parsing_error_text}
 use Rattle.lrpar.specs.Told.{ToldError, told_of}
 use Rattle.lrpar.specs.declared.parse_error.ParseError.{ParseError}
 use Rattle.parser_kit.specs.Kit.{IsKitOf, KitValue}

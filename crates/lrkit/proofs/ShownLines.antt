@@ -10,9 +10,9 @@ use Rattle.cfg_theory.specs.Tree.{Tree}
 use Rattle.lr_theory.specs.Repair.{Edit, insert, delete, keep}
 use Rattle.line_laws.specs.ShownTexts.{FitsText, FlatParsesCanBeShown, InsertsWithin, MakesWithin}
 use Rattle.lrpar.specs.FlatParses.{HasFlat, IsFlatParse}
-use Rattle.lrpar.specs.FlatTrees.{FlatValue}
-use Rattle.lrpar.specs.Lexemes.{AreItems, IsFirstLexError}
-use Rattle.lrpar.specs.Run.{span_by}
+use Rattle.parse_trees.specs.FlatTrees.{FlatValue}
+use Rattle.parse_trees.specs.Lexemes.{AreItems, IsFirstLexError}
+use Rattle.parse_trees.specs.Lex.{span_by}
 use Rattle.lrpar.specs.declared.parse_error.ParseError.{ParseError}
 use Rattle.parser_kit.specs.Kit.{KitValue}
 use Rattle.parser_kit.specs.KitParses.{IsExactParse, IsKitParse}

@@ -6,7 +6,7 @@ use Rattle.byte_streams.specs.Sink.{BeginningWritten}
 use Rattle.cfg_numbered.specs.Value.{GrammarValue}
 use Rattle.cfg_theory.specs.Tree.{Tree}
 use Rattle.lr_theory.specs.Repair.{Edit}
-use Rattle.lrpar.specs.Lexemes.{IsFirstLexError}
+use Rattle.parse_trees.specs.Lexemes.{IsFirstLexError}
 use Rattle.lrpar.specs.declared.parse_error.ParseError.{ParseError}
 use Rattle.parser_kit.specs.Kit.{KitValue}
 use Rattle.parser_kit.specs.KitParses.{IsKitParse}

@@ -15,13 +15,13 @@ use Rattle.lr_theory.proofs.RunTermination.{run_append}
 use Rattle.state_table.specs.Graphs.{GraphValue}
 use Rattle.state_table.specs.TableValues.{TableValue}
 use Rattle.state_table.specs.Tables.{automaton_of}
-use Rattle.lrpar.specs.Lex.{Lex}
+use Rattle.parse_trees.specs.Lex.{Lex, token_by}
 use Rattle.lrpar.specs.Reducing.{IsTableFor}
-use Rattle.lrpar.specs.Run.{token_by, StandFor, GoesOn}
-use Rattle.lrpar.specs.Taking.{edit_of, edits_of}
+use Rattle.lrpar.specs.Run.{StandFor, GoesOn}
+use Rattle.parse_trees.specs.Edits.{edit_of, edits_of}
 use Rattle.lrpar.specs.Applied.{FailsPast, OnWay, GoesOnWay, IsApplied}
 use Rattle.lrpar.specs.declared.stacks.Stacks.{Stacks}
-use Rattle.lrpar.specs.declared.recoverer.RepairStep.{RepairStep}
+use Rattle.parse_trees.specs.declared.parse_repair.RepairStep.{RepairStep}
 use Rattle.lrpar.proofs.Turning.{one_step}
 use Rattle.lrpar.proofs.Taken.{puts_first}
 

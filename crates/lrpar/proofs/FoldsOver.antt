@@ -15,11 +15,10 @@ use Rattle.state_table.specs.Graphs.{GraphValue}
 use Rattle.state_table.specs.TableValues.{TableValue}
 use Rattle.state_table.specs.Tables.{automaton_of}
 use Rattle.lrpar.specs.Acting.{acted_by, action_in, HasAction}
-use Rattle.lrpar.specs.Lex.{Lex}
+use Rattle.parse_trees.specs.Lex.{Lex, token_by, span_by}
 use Rattle.lrpar.specs.Made.{end_of, made_by}
 use Rattle.lrpar.specs.Parses.{HasValue}
-use Rattle.lrpar.specs.Run.{token_by, span_by}
-use Rattle.lrpar.specs.Stacks.{span_of_places}
+use Rattle.parse_trees.specs.Stacks.{span_of_places}
 use Rattle.lrpar.specs.Told.{IsToldParse, IsToldOutcome, IsFoldedOutcome}
 use Rattle.lrpar.specs.declared.folded_parse.FoldedOutcome.{FoldedOutcome}
 use Rattle.lrpar.specs.declared.folded_parse.FoldedOutcome.TheVariants as folded

@@ -11,9 +11,10 @@ use Rattle.lr_theory.specs.Machine.{Config, failed, run, start_config}
 use Rattle.lr_theory.proofs.RunTermination.{run_append}
 use Rattle.state_table.specs.Graphs.{GraphValue}
 use Rattle.state_table.specs.TableValues.{TableValue}
-use Rattle.lrpar.specs.Lex.{Lex}
+use Rattle.parse_trees.specs.Lex.{Lex, token_by}
 use Rattle.state_table.specs.Tables.{automaton_of}
-use Rattle.lrpar.specs.Run.{token_by, StandFor, GoesOn, AcceptsBy, FailsOn, AreLexemes}
+use Rattle.lrpar.specs.Run.{StandFor, GoesOn, AcceptsBy, FailsOn}
+use Rattle.parse_trees.specs.Lexemes.{AreLexemes}
 use Rattle.lrpar.specs.Reducing.{states_of}
 use Rattle.lrpar.specs.declared.stacks.Stacks.{Stacks}
 

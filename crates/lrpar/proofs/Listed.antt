@@ -4,8 +4,9 @@ use Rattle.std.specs.declared.alloc.Global.{Global}
 use Rattle.cfg_theory.specs.Grammar.{Grammar}
 use Rattle.lr_theory.specs.OfferedRepairs.{Filtered, none, kept, dropped}
 use Rattle.state_table.specs.TableValues.{TableValue}
-use Rattle.lrpar.specs.declared.recoverer.RepairStep.{RepairStep}
-use Rattle.lrpar.specs.Taking.{edits_of, sequences_of, SequenceTells, ListTells}
+use Rattle.parse_trees.specs.declared.parse_repair.RepairStep.{RepairStep}
+use Rattle.parse_trees.specs.Edits.{edits_of, sequences_of}
+use Rattle.lrpar.specs.Taking.{SequenceTells, ListTells}
 
 pub filtered_kept : {X : Type 0} {P : X → Type 0} {xs ys : List X} (x : X) → Filtered P xs ys → P x → Filtered P (xs ++ x ∷ []) (ys ++ x ∷ [])
 filtered_kept x none h = kept h none

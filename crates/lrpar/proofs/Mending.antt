@@ -17,14 +17,16 @@ use Rattle.state_table.specs.Graphs.{GraphValue}
 use Rattle.state_table.specs.TableValues.{TableValue}
 use Rattle.state_table.specs.Tables.{automaton_of}
 use Rattle.state_table.specs.declared.stidx.StIdx.{StIdx}
-use Rattle.lrpar.specs.Lex.{Lex, lex_at}
+use Rattle.parse_trees.specs.Lex.{Lex, lex_at, token_by}
 use Rattle.lrpar.specs.Made.{end_from, end_of, made_by}
 use Rattle.lrpar.specs.Parsing.{error_of, errors_of}
 use Rattle.lrpar.specs.Reducing.{states_of, stack_of, AreStates}
-use Rattle.lrpar.specs.Run.{token_by, AreLexemes, StandFor, AreStacks}
-use Rattle.lrpar.specs.Taking.{edits_of, sequences_of, MakesTokens}
+use Rattle.parse_trees.specs.Lexemes.{AreLexemes}
+use Rattle.lrpar.specs.Run.{StandFor, AreStacks}
+use Rattle.parse_trees.specs.Edits.{edits_of, sequences_of}
+use Rattle.lrpar.specs.Taking.{MakesTokens}
 use Rattle.lrpar.specs.declared.parse.ErrorFound.{ErrorFound}
-use Rattle.lrpar.specs.declared.recoverer.RepairStep.{RepairStep}
+use Rattle.parse_trees.specs.declared.parse_repair.RepairStep.{RepairStep}
 use Rattle.lrpar.specs.declared.stacks.Stacks.{Stacks}
 
 end_last : {L : Type 0} (lex : L → Lex) (xs : List L) (k e : ℕ) (x : L) → suc k ≡ length xs → Some x ≡ slice_get xs k → end_from lex e xs ≡ (lex x).places.end

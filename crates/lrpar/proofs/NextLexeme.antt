@@ -3,9 +3,10 @@ use Rattle.std.proofs.Common.{◌≡◌, ℕ, zero, suc, ◌+◌, ◌<◌, ◌�
 use Rattle.std.specs.Prelude.{slice_get}
 use Rattle.cfg_theory.specs.Grammar.{Grammar, end_token}
 use Rattle.lr_theory.specs.Machine.{next_or}
-use Rattle.lrpar.specs.Lex.{Lex}
+use Rattle.parse_trees.specs.Lex.{Lex, token_by}
 use Rattle.lrpar.specs.Made.{next_start, end_from, end_of}
-use Rattle.lrpar.specs.Run.{token_by, token_of, NextOf, NextInside, AreLexemes, StartsBefore, StartsByNext, StartsShifted}
+use Rattle.lrpar.specs.Run.{token_of, NextOf, NextInside, StartsBefore, StartsByNext, StartsShifted}
+use Rattle.parse_trees.specs.Lexemes.{AreLexemes}
 
 pub next_is : {L : Type 0} (tok : L → ℕ) (e : ℕ) (next : Option L) (xs : List L) → NextOf next xs → next_or tok e xs ≡ token_of tok e next
 next_is tok e None xs h = ap (next_or tok e) h

@@ -29,7 +29,7 @@ use Rattle.lrpar.specs.Replay.{overlaid, ShiftsTo, ShiftsNot, TellsShift}
 use Rattle.lrpar.proofs.CarriedItems.{set_length}
 use Rattle.lrpar.proofs.NextFacts.{begin_none, begin_one, exact_end_on, exact_on, no_end_of, sound_end_on, sound_on}
 use Rattle.lrpar.proofs.NextRuns.{are_next, at_start, failed_there, shifted_one, stands_there}
-use Rattle.lrpar.proofs.Tested.{drop_at}
+use Rattle.parse_trees.proofs.ListsAt.{drop_at}
 
 take_nothing : (k : ℕ) → take {A = ℕ} k [] ≡ []
 take_nothing zero = refl

@@ -40,17 +40,6 @@ abbrev pub Follows : {L : Type 0} → ℕ → Grammar → TableValue → (L → 
 Follows {L} top G v tok es ss rest fs ss' rest' = (g : GraphValue) (make : ℕ → List L → L) (input : List L) (d : Config L) → Safe G (automaton_of g v) → MakesTokens top tok make → Stands G (automaton_of g v) tok input d → d.states ≡ ss → d.rest ≡ rest →
     TakesOn G (automaton_of g v) tok make d es ss' rest' fs
 
--- the entry at an index and those behind it
-pub drop_at : {X : Type 0} (xs : List X) (k : ℕ) (x : X) → slice_get xs k ≡ Some x → drop k xs ≡ x ∷ drop (k + 1) xs
-drop_at [] k x e = cc
-drop_at (y ∷ xs) zero x e = ap (λ z. z ∷ xs) (some_same y x e)
-  where
-    some_same : {Y : Type 0} (u w : Y) → Some u ≡ Some w → u ≡ w
-    some_same u w h = cc
-drop_at (y ∷ xs) (suc k) x e =
-    let n : suc (k + 1) ≡ suc k + 1 = omega arith in
-    drop_at xs k x e ∙ ap (λ j. x ∷ drop j (y ∷ xs)) n
-
 -- an overlay that keeps all of its base stands for the base
 pub whole_base : {S : Type 0} (number : S → ℕ) (base : List (StIdx S)) (o : Overlay S) → o.kept ≡ length base → o.over.items ≡ [] → overlaid number base o ≡ stack_of number base
 whole_base number base o kept empty =

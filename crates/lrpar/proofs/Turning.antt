@@ -12,21 +12,14 @@ use Rattle.lr_theory.specs.Stack.{IsGood}
 use Rattle.lr_theory.proofs.Sound.{step_is_good}
 use Rattle.state_table.specs.Graphs.{GraphValue}
 use Rattle.state_table.specs.TableValues.{TableValue, action_at}
-use Rattle.lrpar.specs.Lex.{Lex}
+use Rattle.parse_trees.specs.Lex.{Lex, token_by}
 use Rattle.state_table.specs.Tables.{automaton_of}
 use Rattle.lrpar.specs.Reducing.{states_of, stack_of, AreStates}
-use Rattle.lrpar.specs.Run.{token_by, StandFor, GoesOn, AcceptsBy}
+use Rattle.lrpar.specs.Run.{StandFor, GoesOn, AcceptsBy}
 use Rattle.lrpar.specs.declared.stacks.Stacks.{Stacks}
 use Rattle.state_table.specs.declared.stidx.StIdx.{StIdx}
 use Rattle.lrpar.proofs.Reduced.{reverse_last, pushed}
-use Rattle.lrpar.proofs.BesideTrees.{reverse_pushed}
-
-pub drop_read : {X : Type 0} (xs : List X) (k : ℕ) (x : X) → k < length xs → x ≡ get_or xs k x → drop k xs ≡ x ∷ drop (k + 1) xs
-drop_read [] k x lt e = absurd (omega arith)
-drop_read (y ∷ xs) zero x lt e = ap (λ z. z ∷ xs) (sym e)
-drop_read (y ∷ xs) (suc k) x lt e =
-    let n : suc k + 1 ≡ suc (k + 1) = omega arith in
-    drop_read xs k x (omega arith) e ∙ ap (λ j. x ∷ drop j (y ∷ xs)) (sym n)
+use Rattle.parse_trees.proofs.BesideTrees.{reverse_pushed, popped_within}
 
 pub slice_read : {X : Type 0} (xs : List X) (k : ℕ) (x : X) → k < length xs → x ≡ get_or xs k x → slice_get xs k ≡ Some x
 slice_read [] k x lt e = absurd (omega arith)
@@ -102,12 +95,6 @@ good_is_not_stuck G a tok x input o good e = subst (IsGood G a tok x input) e go
 pub stack_some : {S : Type 0} (number : S → ℕ) (ss : List (StIdx S)) {q : ℕ} {qs : List ℕ} → stack_of number ss ≡ q ∷ qs → 0 < length ss
 stack_some number [] e = cc
 stack_some number (s ∷ ss) e = omega arith
-
--- what is popped was there
-pub popped_within : {L : Type 0} (n : ℕ) (ts : List (Tree L)) (f : Forest L) (r : Forest L × List (Tree L)) → pop n ts f ≡ Some r → n ≤ length ts
-popped_within zero ts f r e = omega arith
-popped_within (suc n) [] f r e = cc
-popped_within (suc n) (t ∷ ts) f r e = let h = popped_within n ts (before t f) r e in omega (arith, h)
 
 some_list : (x y : List ℕ) → Some x ≡ Some y → x ≡ y
 some_list x y e = cc

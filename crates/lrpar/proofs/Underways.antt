@@ -16,10 +16,10 @@ use Rattle.lr_theory.proofs.RunTermination.{run_append}
 use Rattle.state_table.specs.Graphs.{GraphValue}
 use Rattle.state_table.specs.TableValues.{TableValue}
 use Rattle.state_table.specs.Tables.{automaton_of}
-use Rattle.lrpar.specs.Lex.{Lex}
+use Rattle.parse_trees.specs.Lex.{Lex, token_by}
 use Rattle.lrpar.specs.Parses.{ErrorValue, IsToldError, AllThree, HoldsValue, IsParsed}
 use Rattle.lrpar.specs.Parsing.{IsMendedBy, Underway}
-use Rattle.lrpar.specs.Run.{token_by, StandFor, FailsOn, AcceptsBy}
+use Rattle.lrpar.specs.Run.{StandFor, FailsOn, AcceptsBy}
 use Rattle.lrpar.specs.declared.stacks.Stacks.{Stacks}
 use Rattle.lrpar.proofs.ParseFacts.{three_long, three_more}
 

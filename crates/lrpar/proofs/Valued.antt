@@ -8,7 +8,7 @@ use Rattle.lr_theory.specs.Repair.{Edit}
 use Rattle.lrpar.specs.Parses.{ErrorValue, HasValue, HoldsValue, IsParse}
 use Rattle.lrpar.specs.Parsing.{error_of, errors_of}
 use Rattle.cfg_base.specs.SpanModel.{SpanModel}
-use Rattle.lrpar.specs.Stacks.{FoldedStand}
+use Rattle.parse_trees.specs.Stacks.{FoldedStand}
 use Rattle.lrpar.specs.Told.{told_of, as_told}
 use Rattle.lrpar.specs.declared.parse.ErrorFound.{ErrorFound}
 use Rattle.lrpar.specs.declared.parse_error.ParseError.{ParseError}

@@ -6,8 +6,8 @@ use Rattle.cfg_theory.specs.Tree.{Tree}
 use Rattle.cfg_theory.specs.Fold.{Span, Answers}
 use Rattle.cfg_base.specs.declared.symbol.RIdx.{RIdx}
 use Rattle.lrpar.specs.Parses.{HasValue}
-use Rattle.lrpar.specs.declared.node.Node.{Node}
-use Rattle.lrpar.specs.declared.node.Node.TheVariants as nodes
+use Rattle.parse_trees.specs.declared.node.Node.{Node}
+use Rattle.parse_trees.specs.declared.node.Node.TheVariants as nodes
 use Rattle.lrpar.specs.declared.parse_actions.AStackType.{AStackType}
 use Rattle.lrpar.specs.declared.parse_actions.AStackType.TheVariants as args
 

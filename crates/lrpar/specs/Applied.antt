@@ -8,8 +8,8 @@ use Rattle.lr_theory.specs.Repair.{Edit, apply, with_rest, Takes}
 use Rattle.state_table.specs.Graphs.{GraphValue}
 use Rattle.state_table.specs.TableValues.{TableValue}
 use Rattle.state_table.specs.Tables.{automaton_of}
-use Rattle.lrpar.specs.Lex.{Lex}
-use Rattle.lrpar.specs.Run.{token_by, StandFor, GoesOn}
+use Rattle.parse_trees.specs.Lex.{Lex, token_by}
+use Rattle.lrpar.specs.Run.{StandFor, GoesOn}
 use Rattle.lrpar.specs.declared.stacks.Stacks.{Stacks}
 
 -- a run that fails has fewer lexemes left than these

@@ -7,12 +7,11 @@ use Rattle.lr_theory.specs.Repair.{Edit}
 use Rattle.state_table.specs.Graphs.{GraphValue}
 use Rattle.state_table.specs.TableValues.{TableValue}
 use Rattle.state_table.specs.Tables.{automaton_of}
-use Rattle.lrpar.specs.FlatTrees.{FlatValue, IsFlat}
-use Rattle.lrpar.specs.Lex.{Lex}
-use Rattle.lrpar.specs.Lexemes.{AreItems}
+use Rattle.parse_trees.specs.FlatTrees.{FlatValue, IsFlat}
+use Rattle.parse_trees.specs.Lex.{Lex, token_by, span_by}
+use Rattle.parse_trees.specs.Lexemes.{AreItems, AreLexemes}
 use Rattle.lrpar.specs.Made.{end_of, made_by}
 use Rattle.lrpar.specs.Parses.{ErrorValue, IsParse}
-use Rattle.lrpar.specs.Run.{AreLexemes, token_by, span_by}
 use Rattle.lrpar.specs.Told.{told_of, as_told}
 use Rattle.lrpar.specs.declared.parse_error.ParseError.{ParseError}
 

@@ -1,7 +1,7 @@
 -- Lexemes that are made up: by repairs, and past the last lexeme.
 use Rattle.std.specs.Prelude.{ℕ, List, [], ◌∷◌}
 use Rattle.cfg_theory.specs.Grammar.{Grammar, end_token}
-use Rattle.lrpar.specs.Lex.{Lex}
+use Rattle.parse_trees.specs.Lex.{Lex}
 
 -- where a lexeme begins that is made up before these: at the next one's start, or at the end of the whole list
 abbrev pub next_start : {L : Type 0} → (L → Lex) → ℕ → List L → ℕ

@@ -6,12 +6,11 @@ use Rattle.lr_theory.specs.Repair.{Edit}
 use Rattle.state_table.specs.Graphs.{GraphValue}
 use Rattle.state_table.specs.TableValues.{TableValue}
 use Rattle.state_table.specs.Tables.{automaton_of}
-use Rattle.lrpar.specs.Lex.{Lex}
-use Rattle.lrpar.specs.Lexemes.{AreItems, IsFirstLexError}
+use Rattle.parse_trees.specs.Lex.{Lex, token_by}
+use Rattle.parse_trees.specs.Lexemes.{AreItems, IsFirstLexError, AreLexemes}
 use Rattle.lrpar.specs.Made.{end_of, made_by}
 use Rattle.lrpar.specs.Parses.{HoldsValue, IsParse}
 use Rattle.lrpar.specs.Parsing.{errors_of}
-use Rattle.lrpar.specs.Run.{AreLexemes, token_by}
 use Rattle.lrpar.specs.declared.parser.Outcome.{Outcome}
 use Rattle.lrpar.specs.declared.parser.Outcome.TheVariants as outcomes
 

@@ -9,10 +9,10 @@ use Rattle.lr_theory.specs.HandedRepairs.{ComesTo}
 use Rattle.state_table.specs.Graphs.{GraphValue}
 use Rattle.state_table.specs.TableValues.{TableValue}
 use Rattle.state_table.specs.Tables.{automaton_of}
-use Rattle.lrpar.specs.Lex.{Lex}
+use Rattle.parse_trees.specs.Lex.{Lex, token_by}
 use Rattle.lrpar.specs.Parses.{ErrorValue, IsToldError, AllThree}
-use Rattle.lrpar.specs.Run.{token_by, GoesOn, AreStacks, StartsByNext}
-use Rattle.lrpar.specs.Taking.{sequences_of}
+use Rattle.lrpar.specs.Run.{GoesOn, AreStacks, StartsByNext}
+use Rattle.parse_trees.specs.Edits.{sequences_of}
 use Rattle.lrpar.specs.declared.stacks.Stacks.{Stacks}
 use Rattle.lrpar.specs.declared.parse.ErrorFound.{ErrorFound}
 use Rattle.lrpar.specs.declared.parse.Mended.{Mended}

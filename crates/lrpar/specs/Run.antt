@@ -7,11 +7,11 @@ use Rattle.lr_theory.specs.Machine.{Config, going, accepted, failed, run}
 use Rattle.lr_theory.specs.Stack.{Stands}
 use Rattle.state_table.specs.Graphs.{GraphValue}
 use Rattle.state_table.specs.TableValues.{TableValue}
-use Rattle.lrpar.specs.Lex.{Lex}
+use Rattle.parse_trees.specs.Lex.{Lex}
 use Rattle.lrpar.specs.Made.{next_start, end_of}
 use Rattle.state_table.specs.Tables.{automaton_of}
 use Rattle.lrpar.specs.Reducing.{states_of, stack_of, AreStates}
-use Rattle.lrpar.specs.Stacks.{span_of_places}
+use Rattle.parse_trees.specs.Stacks.{span_of_places}
 use Rattle.lrpar.specs.declared.stacks.Stacks.{Stacks}
 use Rattle.lrpar.specs.declared.run.Turn.{Turn}
 use Rattle.lrpar.specs.declared.run.Turn.TheVariants as turns
@@ -21,19 +21,6 @@ use Rattle.lrpar.specs.declared.run.Ending.{Ending}
 use Rattle.lrpar.specs.declared.run.Ending.TheVariants as endings
 use Rattle.lr_theory.specs.Automaton.{Automaton}
 use Rattle.lr_theory.specs.Chains.{reduction}
-
--- a lexeme's token, and its span
-abbrev pub token_by : {L : Type 0} → (L → Lex) → L → ℕ
-token_by lex x = (lex x).token
-
-abbrev pub span_by : {L : Type 0} → (L → Lex) → L → Span
-span_by lex x = span_of_places (lex x).places
-
--- lexemes that may be parsed: of the grammar's tokens other than the end, none starts before one that comes earlier, and none ends before it starts
-pub record AreLexemes {L : Type 0} (G : Grammar) (lex : L → Lex) (lexemes : List L) : Type 0 where
-  pub inside : (k : ℕ) (x : L) → slice_get lexemes k ≡ Some x → (lex x).token < end_token G
-  pub ascend : (j k : ℕ) (x y : L) → j ≤ k → slice_get lexemes j ≡ Some x → slice_get lexemes k ≡ Some y → (lex x).places.start ≤ (lex y).places.start
-  pub ordered : (k : ℕ) (x : L) → slice_get lexemes k ≡ Some x → (lex x).places.start ≤ (lex x).places.end
 
 -- nothing on the stack starts after the next lexeme, or past the last one after the end of all
 abbrev pub StartsByNext : {L : Type 0} → (L → Lex) → (ℕ → Type 0) → List L → ℕ → Type 0

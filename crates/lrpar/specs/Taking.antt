@@ -11,20 +11,6 @@ use Rattle.state_table.specs.Graphs.{GraphValue}
 use Rattle.state_table.specs.TableValues.{TableValue}
 use Rattle.state_table.specs.Tables.{automaton_of}
 use Rattle.lrpar.specs.Replay.{action_on, Rests, ShiftsTo, ShiftsNot}
-use Rattle.lrpar.specs.declared.recoverer.RepairStep.{RepairStep}
-use Rattle.lrpar.specs.declared.recoverer.RepairStep.TheVariants as steps
-
--- a step of a repair as an edit
-abbrev pub edit_of : {S : Type 0} → (S → ℕ) → RepairStep S → Edit
-edit_of number (steps.Insert t) = insert (number t.0)
-edit_of number steps.Delete = delete
-edit_of number steps.Shift = keep
-
-abbrev pub edits_of : {S : Type 0} → (S → ℕ) → List (RepairStep S) → List Edit
-edits_of number es = map (edit_of number) es
-
-abbrev pub sequences_of : {S : Type 0} → (S → ℕ) → List (Vec (RepairStep S) Global) → List (List Edit)
-sequences_of number xs = map (λ es. edits_of number es.items) xs
 
 -- made lexemes have the token that was asked for, up to the greatest number
 abbrev pub MakesTokens : {L : Type 0} → ℕ → (L → ℕ) → (ℕ → List L → L) → Type 0

@@ -7,12 +7,11 @@ use Rattle.lr_theory.specs.Repair.{Edit}
 use Rattle.state_table.specs.Graphs.{GraphValue}
 use Rattle.state_table.specs.TableValues.{TableValue}
 use Rattle.state_table.specs.Tables.{automaton_of}
-use Rattle.lrpar.specs.Lex.{Lex}
-use Rattle.lrpar.specs.Lexemes.{AreItems, IsFirstLexError}
+use Rattle.parse_trees.specs.Lex.{Lex, token_by, span_by}
+use Rattle.parse_trees.specs.Lexemes.{AreItems, IsFirstLexError, AreLexemes}
 use Rattle.lrpar.specs.Made.{end_of, made_by}
 use Rattle.lrpar.specs.Parses.{ErrorValue, HasValue, IsParse}
-use Rattle.lrpar.specs.Run.{AreLexemes, token_by, span_by}
-use Rattle.lrpar.specs.Shown.{ShownEdit, shown, shown_lists}
+use Rattle.parse_trees.specs.Shown.{ShownEdit, shown, shown_lists}
 use Rattle.lrpar.specs.declared.parse_error.ParseError.{ParseError}
 use Rattle.lrpar.specs.declared.folded_parse.FoldedOutcome.{FoldedOutcome}
 use Rattle.lrpar.specs.declared.folded_parse.FoldedOutcome.TheVariants as folded

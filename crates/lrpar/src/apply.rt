@@ -8,23 +8,24 @@ ghost use Rattle.lr_theory.specs.Machine.{Config};
 ghost use Rattle.lr_theory.specs.Repair.{Edit, Takes};
 ghost use Rattle.state_table.specs.Graphs.{GraphValue};
 ghost use Rattle.state_table.specs.Tables.{automaton_of};
-ghost use Rattle.lrpar.specs.Lex.{lex_at};
+ghost use Rattle.parse_trees.specs.Lex.{lex_at, token_by};
 ghost use Rattle.lrpar.specs.Made.{next_start, end_of, made_by};
 ghost use Rattle.lrpar.specs.Reducing.{IsTableFor};
-ghost use Rattle.lrpar.specs.Run.{AreLexemes, AreStacks, StandFor, GoesOn, StartsByNext, token_by};
-ghost use Rattle.lrpar.specs.Taking.{edit_of, edits_of};
+ghost use Rattle.parse_trees.specs.Lexemes.{AreLexemes};
+ghost use Rattle.lrpar.specs.Run.{AreStacks, StandFor, GoesOn, StartsByNext};
+ghost use Rattle.parse_trees.specs.Edits.{edit_of, edits_of};
 ghost use Rattle.lrpar.specs.Applied.{FailsPast, OnWay, GoesOnWay, IsApplied};
 
 use crate::full_table::FullTable;
-use crate::lex_api::Lexeme;
-use crate::lexeme_list::LexemeList;
-use crate::recoverer::RepairStep;
 use crate::run::{Advance, advance_to};
 use crate::stacks::Stacks;
-use crate::values::ValueStack;
 use cfg_base::index::IndexStorage;
 use cfg_base::symbol::TIdx;
 use cfg_numbered::yacc::grammar::NumberedGrammar;
+use parse_trees::lex_api::Lexeme;
+use parse_trees::lexeme_list::LexemeList;
+use parse_trees::parse_repair::RepairStep;
+use parse_trees::values::ValueStack;
 use std::alloc::{AllocError, Global};
 
 /// Where a lexeme begins that is made up before the one at the index, `end` being the end of all.

@@ -7,26 +7,26 @@ ghost use Rattle.lr_theory.specs.Chains.{ChainsWithin};
 ghost use Rattle.state_table.specs.Graphs.{GraphValue};
 ghost use Rattle.state_table.specs.Tables.{automaton_of};
 ghost use Rattle.lrpar.specs.FlatParses.{HasFlat, IsFlatParse};
-ghost use Rattle.lrpar.specs.FlatTrees.{pieces_of};
-ghost use Rattle.lrpar.specs.FlatValues.{FlatStand};
-ghost use Rattle.lrpar.specs.Lexemes.{IsFirstLexError};
+ghost use Rattle.parse_trees.specs.FlatTrees.{pieces_of};
+ghost use Rattle.parse_trees.specs.FlatValues.{FlatStand};
+ghost use Rattle.parse_trees.specs.Lexemes.{IsFirstLexError};
 ghost use Rattle.lrpar.specs.Parses.{HoldsValue};
 ghost use Rattle.lrpar.specs.Reducing.{IsTableFor};
-ghost use Rattle.lrpar.specs.Refusals.{IsParseRefusal};
-ghost use Rattle.lrpar.specs.Run.{span_by};
+ghost use Rattle.parse_trees.specs.Refusals.{IsParseRefusal};
+ghost use Rattle.parse_trees.specs.Lex.{span_by};
 
-use crate::flat::FlatTree;
-use crate::flat_values::FlatValues;
 use crate::folded_parse::tell_errors;
 use crate::full_table::FullTable;
-use crate::lex_api::Lexeme;
-use crate::lexemes::ParseRefusal;
 use crate::parse::Parsed;
 use crate::parse_error::ParseError;
 use crate::parser::{Outcome, parse_items};
 use crate::recoverer::Recoverer;
 use cfg_base::index::IndexStorage;
 use cfg_numbered::yacc::grammar::NumberedGrammar;
+use parse_trees::flat::FlatTree;
+use parse_trees::flat_values::FlatValues;
+use parse_trees::lex_api::Lexeme;
+use parse_trees::lexemes::ParseRefusal;
 use std::alloc::Global;
 
 /// The flat tree that a parse leaves, where it accepts.

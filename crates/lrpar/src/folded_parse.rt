@@ -10,25 +10,25 @@ ghost use Rattle.state_table.specs.Tables.{automaton_of};
 ghost use Rattle.lrpar.specs.Parses.{HasValue, HoldsValue};
 ghost use Rattle.lrpar.specs.Parsing.{errors_of};
 ghost use Rattle.lrpar.specs.Reducing.{IsTableFor};
-ghost use Rattle.lrpar.specs.Refusals.{IsParseRefusal};
-ghost use Rattle.lrpar.specs.Run.{span_by};
-ghost use Rattle.lrpar.specs.Stacks.{FoldedStand, values_by};
+ghost use Rattle.parse_trees.specs.Refusals.{IsParseRefusal};
+ghost use Rattle.parse_trees.specs.Lex.{span_by};
+ghost use Rattle.parse_trees.specs.Stacks.{FoldedStand, values_by};
 ghost use Rattle.lrpar.specs.Told.{told_of, as_told, IsFoldedOutcome};
 
-use crate::folded::{FoldedValues, folded_value, no_folds};
 use crate::full_table::FullTable;
-use crate::lex_api::Lexeme;
-use crate::lexeme_list::LexemeList;
-use crate::lexemes::ParseRefusal;
 use crate::parse::{ErrorFound, Parsed};
 use crate::parse_error::ParseError;
-use crate::parse_repair::show_sequences;
 use crate::parser::{Outcome, parse_items};
 use crate::recoverer::Recoverer;
 use cfg_base::index::IndexStorage;
 use cfg_base::span::Span;
 use cfg_base::symbol::{PIdx, RIdx};
 use cfg_numbered::yacc::grammar::NumberedGrammar;
+use parse_trees::folded::{FoldedValues, folded_value, no_folds};
+use parse_trees::lex_api::Lexeme;
+use parse_trees::lexeme_list::LexemeList;
+use parse_trees::lexemes::ParseRefusal;
+use parse_trees::parse_repair::show_sequences;
 use std::alloc::{AllocError, Global};
 
 /// What the list of a lexer comes to: its first fault, or the value of its parse, if it has one, and the errors.

@@ -5,8 +5,8 @@ ghost use Rattle.lrpar.specs.Told.{HandsOut};
 ghost use Rattle.lrpar.specs.declared.parse_error.LexParseError.TheVariants as errors;
 
 use crate::folded_parse::FoldedOutcome;
-use crate::lex_api::LexerTypes;
 use crate::parse_error::{LexParseError, ParseError};
+use parse_trees::lex_api::LexerTypes;
 use std::alloc::{AllocError, Global};
 
 /// The errors of a parse, as errors of lexing or of parsing.

@@ -11,15 +11,15 @@ ghost use Rattle.state_table.specs.Tables.{IsTableOf, automaton_of};
 ghost use Rattle.lrpar.specs.NextStates.{AreInside, TellsInside, TellsNext, TellBelow, TellsStates, TellsAfter};
 ghost use Rattle.lrpar.specs.NextTokens.{Reaches, HasError, IsSet, AreNext};
 ghost use Rattle.lrpar.specs.Reducing.{IsTableFor, AreStates, stack_of};
-ghost use Rattle.lrpar.specs.Run.{token_by};
+ghost use Rattle.parse_trees.specs.Lex.{token_by};
 
 use crate::full_table::FullTable;
-use crate::lex_api::Lexeme;
 use crate::overlay::{Overlay, accepts_on, shift_on};
 use crate::parserdata::ParserData;
 use cfg_base::index::IndexStorage;
 use cfg_base::symbol::TIdx;
 use cfg_numbered::yacc::grammar::NumberedGrammar;
+use parse_trees::lex_api::Lexeme;
 use state_table::StIdx;
 use std::alloc::{AllocError, Global};
 use vob::Vob;

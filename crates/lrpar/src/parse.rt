@@ -12,19 +12,21 @@ ghost use Rattle.lrpar.specs.Made.{end_of, made_by, next_lexeme};
 ghost use Rattle.lrpar.specs.Parses.{HoldsValue, IsParse};
 ghost use Rattle.lrpar.specs.Parsing.{error_of, errors_of, IsFoundAt, ComesOf, StacksResume};
 ghost use Rattle.lrpar.specs.Reducing.{IsTableFor, stack_of, AreStates};
-ghost use Rattle.lrpar.specs.Run.{AreLexemes, StartsByNext, StandFor, AreStacks, token_by};
+ghost use Rattle.parse_trees.specs.Lexemes.{AreLexemes};
+ghost use Rattle.lrpar.specs.Run.{StartsByNext, StandFor, AreStacks};
+ghost use Rattle.parse_trees.specs.Lex.{token_by};
 
 use crate::apply::apply_steps;
 use crate::full_table::FullTable;
-use crate::lex_api::Lexeme;
-use crate::lexeme_list::LexemeList;
 use crate::recoverer::{Recoverer, RepairStep};
 use crate::repair::taken_of;
 use crate::run::{Ending, run_from};
 use crate::stacks::Stacks;
-use crate::values::ValueStack;
 use cfg_base::index::IndexStorage;
 use cfg_numbered::yacc::grammar::NumberedGrammar;
+use parse_trees::lex_api::Lexeme;
+use parse_trees::lexeme_list::LexemeList;
+use parse_trees::values::ValueStack;
 use state_table::StIdx;
 use std::alloc::{AllocError, Global};
 

@@ -8,22 +8,22 @@ ghost use Rattle.state_table.specs.Graphs.{GraphValue};
 ghost use Rattle.state_table.specs.Tables.{automaton_of};
 ghost use Rattle.lrpar.specs.Acting.{HasAction, action_in, node_in, IsNodeOver};
 ghost use Rattle.lrpar.specs.Reducing.{IsTableFor};
-ghost use Rattle.lrpar.specs.Refusals.{IsParseRefusal};
-ghost use Rattle.lrpar.specs.Run.{span_by};
-ghost use Rattle.lrpar.specs.Stacks.{span_of_places};
+ghost use Rattle.parse_trees.specs.Refusals.{IsParseRefusal};
+ghost use Rattle.parse_trees.specs.Lex.{span_by};
+ghost use Rattle.parse_trees.specs.Stacks.{span_of_places};
 ghost use Rattle.lrpar.specs.Told.{IsToldOutcome};
 ghost use Rattle.lrpar.specs.declared.parse_actions.AStackType.TheVariants as variants;
 
 use crate::folded_parse::{FoldedOutcome, parse_folded};
 use crate::full_table::FullTable;
-use crate::lex_api::{Lexeme, Lexer, LexerTypes};
-use crate::lexemes::ParseRefusal;
-use crate::node::Node;
 use crate::recoverer::Recoverer;
 use cfg_base::index::IndexStorage;
 use cfg_base::span::Span;
 use cfg_base::symbol::{PIdx, RIdx};
 use cfg_numbered::yacc::grammar::NumberedGrammar;
+use parse_trees::lex_api::{Lexeme, Lexer, LexerTypes};
+use parse_trees::lexemes::ParseRefusal;
+use parse_trees::node::Node;
 use std::alloc::{AllocError, Global};
 
 /// An argument of an action: what an action answered, or a lexeme.

@@ -1,14 +1,15 @@
 //! Errors of lexing and of parsing.
 
 ghost use Rattle.std.specs.Prelude.{◌≡◌, ℕ, List, IfOk, string_bytes};
-ghost use Rattle.lrpar.specs.ErrorTexts.{AnswersNames, ErrorFits, error_text};
+ghost use Rattle.parse_trees.specs.ErrorTexts.{AnswersNames};
+ghost use Rattle.lrpar.specs.ErrorTexts.{ErrorFits, error_text};
 ghost use Rattle.lrpar.specs.declared.parse_error.LexParseError.TheVariants as errors;
 
-use crate::error_texts::{lexing_text, parsing_text};
-use crate::lex_api::{LexError, Lexeme, LexerTypes, NonStreamingLexer};
-use crate::parse_repair::ParseRepair;
 use cfg_base::index::IndexStorage;
 use cfg_base::symbol::TIdx;
+use parse_trees::error_texts::{lexing_text, parsing_text};
+use parse_trees::lex_api::{LexError, Lexeme, LexerTypes, NonStreamingLexer};
+use parse_trees::parse_repair::ParseRepair;
 use state_table::StIdx;
 use std::alloc::{AllocError, Global};
 use std::error::Error;

@@ -7,25 +7,25 @@ ghost use Rattle.lr_theory.specs.Automaton.{Safe};
 ghost use Rattle.lr_theory.specs.Chains.{ChainsWithin};
 ghost use Rattle.state_table.specs.Graphs.{GraphValue};
 ghost use Rattle.state_table.specs.Tables.{automaton_of};
-ghost use Rattle.lrpar.specs.NodeLists.{shapes_on};
-ghost use Rattle.lrpar.specs.NodeValues.{HasNode};
+ghost use Rattle.parse_trees.specs.NodeLists.{shapes_on};
+ghost use Rattle.parse_trees.specs.NodeValues.{HasNode};
 ghost use Rattle.lrpar.specs.Parses.{HoldsValue};
 ghost use Rattle.lrpar.specs.Reducing.{IsTableFor};
-ghost use Rattle.lrpar.specs.Refusals.{IsParseRefusal};
-ghost use Rattle.lrpar.specs.Shapes.{shape};
+ghost use Rattle.parse_trees.specs.Refusals.{IsParseRefusal};
+ghost use Rattle.parse_trees.specs.Shapes.{shape};
 ghost use Rattle.lrpar.specs.Told.{IsToldOutcome};
 
 use crate::folded_parse::{FoldedOutcome, tell_errors};
 use crate::full_table::FullTable;
-use crate::lex_api::Lexeme;
-use crate::lexemes::ParseRefusal;
-use crate::node::Node;
-use crate::node_values::NodeValues;
 use crate::parse::Parsed;
 use crate::parser::{Outcome, parse_items};
 use crate::recoverer::Recoverer;
 use cfg_base::index::IndexStorage;
 use cfg_numbered::yacc::grammar::NumberedGrammar;
+use parse_trees::lex_api::Lexeme;
+use parse_trees::lexemes::ParseRefusal;
+use parse_trees::node::Node;
+use parse_trees::node_values::NodeValues;
 use std::alloc::Global;
 
 /// The node that a parse leaves, where it accepts.

@@ -6,19 +6,19 @@ ghost use Rattle.lr_theory.specs.Chains.{ChainsWithin};
 ghost use Rattle.state_table.specs.Graphs.{GraphValue};
 ghost use Rattle.state_table.specs.Tables.{automaton_of};
 ghost use Rattle.lrpar.specs.Reducing.{IsTableFor};
-ghost use Rattle.lrpar.specs.Refusals.{IsParseRefusal};
-ghost use Rattle.lrpar.specs.Stacks.{mapped_by};
+ghost use Rattle.parse_trees.specs.Refusals.{IsParseRefusal};
+ghost use Rattle.parse_trees.specs.Stacks.{mapped_by};
 ghost use Rattle.lrpar.specs.Told.{IsFoldedOutcome};
 
 use crate::folded_parse::{FoldedOutcome, parse_folded};
 use crate::full_table::FullTable;
-use crate::lex_api::Lexeme;
-use crate::lexemes::ParseRefusal;
 use crate::recoverer::Recoverer;
 use cfg_base::index::IndexStorage;
 use cfg_base::span::Span;
 use cfg_base::symbol::{PIdx, RIdx};
 use cfg_numbered::yacc::grammar::NumberedGrammar;
+use parse_trees::lex_api::Lexeme;
+use parse_trees::lexemes::ParseRefusal;
 use std::alloc::{AllocError, Global};
 
 /// What the list of a lexer comes to, with the value that functions of lexemes, and of rules and values, give.

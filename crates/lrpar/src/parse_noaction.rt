@@ -6,18 +6,18 @@ ghost use Rattle.lr_theory.specs.Chains.{ChainsWithin};
 ghost use Rattle.state_table.specs.Graphs.{GraphValue};
 ghost use Rattle.state_table.specs.Tables.{automaton_of};
 ghost use Rattle.lrpar.specs.Reducing.{IsTableFor};
-ghost use Rattle.lrpar.specs.Refusals.{IsParseRefusal};
+ghost use Rattle.parse_trees.specs.Refusals.{IsParseRefusal};
 ghost use Rattle.lrpar.specs.Told.{IsToldOutcome};
 
-use crate::folded::NoValues;
 use crate::folded_parse::{FoldedOutcome, tell_errors};
 use crate::full_table::FullTable;
-use crate::lex_api::Lexeme;
-use crate::lexemes::ParseRefusal;
 use crate::parser::{Outcome, parse_items};
 use crate::recoverer::Recoverer;
 use cfg_base::index::IndexStorage;
 use cfg_numbered::yacc::grammar::NumberedGrammar;
+use parse_trees::folded::NoValues;
+use parse_trees::lex_api::Lexeme;
+use parse_trees::lexemes::ParseRefusal;
 use std::alloc::Global;
 
 /// What the list of a lexer comes to, of which no value is made.

@@ -6,18 +6,18 @@ ghost use Rattle.lr_theory.specs.Chains.{ChainsWithin};
 ghost use Rattle.state_table.specs.Graphs.{GraphValue};
 ghost use Rattle.state_table.specs.Tables.{automaton_of};
 ghost use Rattle.lrpar.specs.Reducing.{IsTableFor};
-ghost use Rattle.lrpar.specs.Refusals.{IsParseRefusal};
+ghost use Rattle.parse_trees.specs.Refusals.{IsParseRefusal};
 ghost use Rattle.lrpar.specs.Outcomes.{IsOutcome, OutcomeKeeps};
 
 use crate::full_table::FullTable;
-use crate::lex_api::Lexeme;
-use crate::lexeme_list::LexemeList;
-use crate::lexemes::{ParseRefusal, admit};
 use crate::parse::{Parsed, parse_lexemes};
 use crate::recoverer::Recoverer;
-use crate::values::ValueStack;
 use cfg_base::index::IndexStorage;
 use cfg_numbered::yacc::grammar::NumberedGrammar;
+use parse_trees::lex_api::Lexeme;
+use parse_trees::lexeme_list::LexemeList;
+use parse_trees::lexemes::{ParseRefusal, admit};
+use parse_trees::values::ValueStack;
 use std::alloc::Global;
 
 /// What the list of a lexer comes to: its first fault, or its lexemes with their parse.

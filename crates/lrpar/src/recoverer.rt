@@ -1,25 +1,14 @@
-//! What repairs are made of, and who hands them in.
+//! Who hands in repairs.
 
 ghost use Rattle.std.specs.Prelude.{◌≡◌, ℕ, List, [], IfOk};
 ghost use Rattle.lr_theory.specs.Repair.{Edit};
-ghost use Rattle.lrpar.specs.Taking.{sequences_of};
+ghost use Rattle.parse_trees.specs.Edits.{sequences_of};
 
-use crate::lex_api::Lexeme;
 use cfg_base::index::IndexStorage;
-use cfg_base::symbol::TIdx;
+use parse_trees::lex_api::Lexeme;
+pub use parse_trees::parse_repair::RepairStep;
 use state_table::StIdx;
 use std::alloc::{AllocError, Global};
-
-/// A step of a repair.
-#[derive(Clone, Copy, Debug, PartialEq, Eq)]
-pub enum RepairStep<S> {
-    /// A lexeme of the token is made up before the next one.
-    Insert(TIdx<S>),
-    /// The next lexeme is left out.
-    Delete,
-    /// The next lexeme is taken as it is.
-    Shift,
-}
 
 /// Hands in, at an error, the sequences of repairs that are to be tested there.
 pub trait Recoverer<S: IndexStorage, L: Lexeme<S>> {

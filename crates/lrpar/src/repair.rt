@@ -6,18 +6,20 @@ ghost use Rattle.state_table.specs.Graphs.{GraphValue};
 ghost use Rattle.state_table.specs.Tables.{automaton_of};
 ghost use Rattle.lrpar.specs.Reducing.{IsTableFor, stack_of, AreStates};
 ghost use Rattle.lrpar.specs.Replay.{overlaid, IsOver};
-ghost use Rattle.lrpar.specs.Run.{AreLexemes, token_by};
-ghost use Rattle.lrpar.specs.Taking.{edit_of, edits_of, sequences_of, StepTells, SequenceTells, ListTells};
+ghost use Rattle.parse_trees.specs.Lexemes.{AreLexemes};
+ghost use Rattle.parse_trees.specs.Lex.{token_by};
+ghost use Rattle.parse_trees.specs.Edits.{edit_of, edits_of, sequences_of};
+ghost use Rattle.lrpar.specs.Taking.{StepTells, SequenceTells, ListTells};
 ghost use Rattle.lr_theory.specs.Repair.{insert, keep};
 
 use crate::full_table::FullTable;
-use crate::lex_api::Lexeme;
-use crate::lexeme_list::LexemeList;
 use crate::overlay::{Overlay, accepts_on, shift_on};
-use crate::recoverer::RepairStep;
 use cfg_base::index::IndexStorage;
 use cfg_base::symbol::TIdx;
 use cfg_numbered::yacc::grammar::NumberedGrammar;
+use parse_trees::lex_api::Lexeme;
+use parse_trees::lexeme_list::LexemeList;
+use parse_trees::parse_repair::{RepairStep, step_at};
 use state_table::StIdx;
 use std::alloc::{AllocError, Global};
 
@@ -144,14 +146,6 @@ fn gets_past<S: IndexStorage, L: Lexeme<S>, E: Copy>(
     let tidx = TIdx(lexemes.at(index).tok_id());
     let past = shift_on(grm, stable, limit, base, overlay, tidx)?;
     Ok(past)
-}
-
-/// The step of a number.
-pub(crate) fn step_at<S: IndexStorage>(steps: &[RepairStep<S>], number: usize) -> RepairStep<S>
-    requires { number < length steps.now }
-    ensures { slice_get steps.now number ≡ Some result }
-{
-    steps[number]
 }
 
 /// Whether the sequence can be taken where the lexeme at an index is next: its steps can be made, and the next lexeme behind

@@ -6,18 +6,20 @@ ghost use Rattle.lr_theory.specs.Machine.{Config};
 ghost use Rattle.state_table.specs.Graphs.{GraphValue};
 ghost use Rattle.state_table.specs.Tables.{automaton_of};
 ghost use Rattle.lrpar.specs.Reducing.{IsTableFor, stack_of};
-ghost use Rattle.lrpar.specs.Run.{AreLexemes, StartsByNext, StandFor, AreStacks, token_of, NextOf, NextInside, StartsBefore, Turned, StacksAfter, StartsAfter, TurnReduces, Advanced, StacksAdvanced, Ended, StacksEnded, token_by};
+ghost use Rattle.parse_trees.specs.Lexemes.{AreLexemes};
+ghost use Rattle.lrpar.specs.Run.{StartsByNext, StandFor, AreStacks, token_of, NextOf, NextInside, StartsBefore, Turned, StacksAfter, StartsAfter, TurnReduces, Advanced, StacksAdvanced, Ended, StacksEnded};
+ghost use Rattle.parse_trees.specs.Lex.{token_by};
 ghost use Rattle.lr_theory.specs.Chains.{ChainsWithin};
 ghost use Rattle.cfg_theory.specs.Grammar.{end_token};
 
 use crate::full_table::FullTable;
-use crate::lex_api::Lexeme;
-use crate::lexeme_list::LexemeList;
 use crate::stacks::{Stacks, reduce_onto, shift_onto};
-use crate::values::ValueStack;
 use cfg_base::index::IndexStorage;
 use cfg_base::symbol::TIdx;
 use cfg_numbered::yacc::grammar::NumberedGrammar;
+use parse_trees::lex_api::Lexeme;
+use parse_trees::lexeme_list::LexemeList;
+use parse_trees::values::ValueStack;
 use state_table::Action;
 use std::alloc::{AllocError, Global};
 

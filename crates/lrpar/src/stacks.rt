@@ -11,12 +11,12 @@ ghost use Rattle.lrpar.specs.Reducing.{states_of, stack_of, IsTableFor, AreState
 ghost use Rattle.state_table.specs.Graphs.{GraphValue};
 
 use crate::full_table::FullTable;
-use crate::lex_api::Lexeme;
-use crate::tops::put_above;
-use crate::values::ValueStack;
 use cfg_base::index::IndexStorage;
 use cfg_base::symbol::PIdx;
 use cfg_numbered::yacc::grammar::NumberedGrammar;
+use parse_trees::lex_api::Lexeme;
+use parse_trees::tops::put_above;
+use parse_trees::values::ValueStack;
 use state_table::StIdx;
 use std::alloc::{AllocError, Global};
 

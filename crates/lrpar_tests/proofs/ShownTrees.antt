@@ -4,10 +4,10 @@ use Rattle.std.specs.List.{AllByRecursion}
 use Rattle.cfg_theory.specs.Tree.{Tree, leaf, node, Forest, none, before}
 use Rattle.cfg_theory.specs.Fold.{Span, no_span, span_of, span_over}
 use Rattle.cfg_numbered.specs.Value.{GrammarValue}
-use Rattle.lrpar.specs.Lex.{Lex}
-use Rattle.lrpar.specs.FlatLines.{CanShowForest, CanShowPiece, CanShowTree}
-use Rattle.lrpar.specs.FlatTrees.{flat, flats, nonterm, piece_of, pieces_of, IsFlat, IsSomeTree, FlatValue}
-use Rattle.lrpar.specs.declared.flat.FlatNode.{FlatNode}
+use Rattle.parse_trees.specs.Lex.{Lex}
+use Rattle.parse_trees.specs.FlatLines.{CanShowForest, CanShowPiece, CanShowTree}
+use Rattle.parse_trees.specs.FlatTrees.{flat, flats, nonterm, piece_of, pieces_of, IsFlat, IsSomeTree, FlatValue}
+use Rattle.parse_trees.specs.declared.flat.FlatNode.{FlatNode}
 
 parted : {X : Type 0} (P : X → Type 0) (xs ys : List X) → AllByRecursion P (xs ++ ys) → AllByRecursion P xs × AllByRecursion P ys
 parted P [] ys all = (tt, all)

@@ -2,9 +2,9 @@
 
 ghost use Rattle.std.specs.Prelude.{◌≡◌, IsTrue, IfOk, Some};
 ghost use Rattle.std.specs.List.{AllByRecursion};
-ghost use Rattle.lrpar.specs.FlatLines.{CanShowPiece};
-ghost use Rattle.lrpar.specs.FlatTrees.{piece_of};
-ghost use Rattle.lrpar.specs.Shapes.{lexeme, over, nothing, along, shape_of, HasText};
+ghost use Rattle.parse_trees.specs.FlatLines.{CanShowPiece};
+ghost use Rattle.parse_trees.specs.FlatTrees.{piece_of};
+ghost use Rattle.parse_trees.specs.Shapes.{lexeme, over, nothing, along, shape_of, HasText};
 
 use cfg_base::index::IndexStorage;
 use cfg_base::symbol::RIdx;

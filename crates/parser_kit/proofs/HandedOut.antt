@@ -8,9 +8,8 @@ use Rattle.cfg_theory.specs.Grammar.{WellFormed}
 use Rattle.lr_theory.specs.Repair.{Edit}
 use Rattle.table_theory.specs.Cells.{NoPrecedences}
 use Rattle.lrpar.specs.Checked.{ParserValue}
-use Rattle.lrpar.specs.Lex.{Lex}
+use Rattle.parse_trees.specs.Lex.{Lex, span_by}
 use Rattle.lrpar.specs.Parses.{HasValue}
-use Rattle.lrpar.specs.Run.{span_by}
 use Rattle.lrpar.specs.Told.{HandsOut, IsHandedOut}
 use Rattle.lrpar.specs.declared.folded_parse.FoldedOutcome.{FoldedOutcome}
 use Rattle.lrpar.specs.declared.folded_parse.FoldedOutcome.TheVariants as folded

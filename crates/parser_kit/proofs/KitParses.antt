@@ -20,12 +20,11 @@ use Rattle.table_theory.specs.Cells.{Conflicts, NoPrecedences}
 use Rattle.table_theory.proofs.TableCells.{built_law, list_law}
 use Rattle.lrpar.specs.Checked.{ParserValue}
 use Rattle.lrpar.specs.FlatParses.{HasFlat, IsFlatParse}
-use Rattle.lrpar.specs.FlatTrees.{FlatValue}
-use Rattle.lrpar.specs.Lex.{Lex}
-use Rattle.lrpar.specs.Lexemes.{AreItems}
+use Rattle.parse_trees.specs.FlatTrees.{FlatValue}
+use Rattle.parse_trees.specs.Lex.{Lex, span_by, token_by}
+use Rattle.parse_trees.specs.Lexemes.{AreItems, AreLexemes}
 use Rattle.lrpar.specs.Made.{end_of, made_by}
 use Rattle.lrpar.specs.Parses.{AllThree, ErrorValue, HasValue, IsParse, IsToldError}
-use Rattle.lrpar.specs.Run.{AreLexemes, span_by, token_by}
 use Rattle.lrpar.specs.Told.{IsFoldedOutcome, as_told, told_of}
 use Rattle.lrpar.specs.declared.folded_parse.FoldedOutcome.{FoldedOutcome}
 use Rattle.lrpar.specs.declared.folded_parse.FoldedOutcome.TheVariants as folded

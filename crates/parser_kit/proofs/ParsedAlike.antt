@@ -9,11 +9,10 @@ use Rattle.lr_theory.specs.Machine.{Config, start_config}
 use Rattle.lr_theory.specs.Repair.{Edit, IsFirstTaken, Parses, Takes, with_rest}
 use Rattle.lr_theory.proofs.OneAnswer.{repaired_parses_are_unique}
 use Rattle.lrpar.specs.Checked.{ParserValue}
-use Rattle.lrpar.specs.Lex.{Lex}
+use Rattle.parse_trees.specs.Lex.{Lex, token_by}
 use Rattle.lrpar.specs.Made.{end_of, made_by, next_lexeme}
 use Rattle.lrpar.specs.ParseLaws.{ParsesAreOne, bare}
 use Rattle.lrpar.specs.Parses.{AllThree, ErrorValue, IsParsed, IsToldError}
-use Rattle.lrpar.specs.Run.{token_by}
 use Rattle.lrpar.specs.Told.{as_told, told_of}
 use Rattle.lrpar.specs.declared.parse_error.ParseError.{ParseError}
 use Rattle.state_table.specs.Tables.{automaton_of}

@@ -9,11 +9,10 @@ use Rattle.lr_theory.specs.Automaton.{Automaton, Complete}
 use Rattle.lr_theory.specs.Machine.{accepted, run, start_config}
 use Rattle.lr_theory.specs.Repair.{Edit, IsTrueError}
 use Rattle.lrpar.specs.Checked.{ParserValue}
-use Rattle.lrpar.specs.Lex.{Lex}
-use Rattle.lrpar.specs.Lexemes.{AreItems, IsFirstLexError}
+use Rattle.parse_trees.specs.Lex.{Lex, span_by, token_by}
+use Rattle.parse_trees.specs.Lexemes.{AreItems, IsFirstLexError, AreLexemes}
 use Rattle.lrpar.specs.Made.{end_of, made_by}
 use Rattle.lrpar.specs.Parses.{ErrorValue, FitsAt, HasValue, IsFlawless, IsParse}
-use Rattle.lrpar.specs.Run.{AreLexemes, span_by, token_by}
 use Rattle.lrpar.specs.Told.{as_told, told_of}
 use Rattle.lrpar.specs.declared.folded_parse.FoldedOutcome.{FoldedOutcome}
 use Rattle.lrpar.specs.declared.folded_parse.FoldedOutcome.TheVariants as folded

@@ -4,11 +4,11 @@ ghost use Rattle.std.specs.Prelude.{◌≡◌, ◌↔◌, IfOk, IfErr, IfSome, I
 ghost use Rattle.cfg_theory.specs.Derivation.{AllProductive};
 ghost use Rattle.lr_theory.specs.Automaton.{Complete};
 ghost use Rattle.lrpar.specs.FlatParses.{HasFlat};
-ghost use Rattle.lrpar.specs.Lexemes.{IsFirstLexError};
+ghost use Rattle.parse_trees.specs.Lexemes.{IsFirstLexError};
 ghost use Rattle.lrpar.specs.Parses.{HasValue};
-ghost use Rattle.lrpar.specs.Refusals.{IsParseRefusal};
-ghost use Rattle.lrpar.specs.Run.{span_by};
-ghost use Rattle.lrpar.specs.Stacks.{mapped_by, values_by};
+ghost use Rattle.parse_trees.specs.Refusals.{IsParseRefusal};
+ghost use Rattle.parse_trees.specs.Lex.{span_by};
+ghost use Rattle.parse_trees.specs.Stacks.{mapped_by, values_by};
 ghost use Rattle.lrpar.specs.declared.parse_error.LexParseError.TheVariants as errors;
 ghost use Rattle.state_table.specs.CellViews.{precedences_of};
 ghost use Rattle.state_table.specs.Tables.{AreContested, automaton_of};

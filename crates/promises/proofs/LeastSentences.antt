@@ -6,9 +6,8 @@ use Rattle.cfg_theory.specs.Cost.{IsCheapest}
 use Rattle.cfg_theory.specs.Derivation.{IsSentence}
 use Rattle.cfg_theory.specs.Grammar.{Grammar, Sym, rule, start_symbol}
 use Rattle.cfg_theory.specs.Tree.{Tree}
-use Rattle.lrpar.specs.Lex.{Lex}
-use Rattle.lrpar.specs.Lexemes.{AreItems}
-use Rattle.lrpar.specs.Run.{token_by}
+use Rattle.parse_trees.specs.Lex.{Lex, token_by}
+use Rattle.parse_trees.specs.Lexemes.{AreItems}
 use Rattle.parser_kit.specs.KitParses.{ItemsFollowSentences}
 
 module _ {L E X V F : Type 0} (lex : L → Lex) {G : Grammar} {items : List (Result L E)} (gives : Option V → Option (Tree L) → Type 0) where

@@ -4,8 +4,8 @@ use Rattle.std.specs.List.{slice_split, onto_first, AllByRecursion}
 use Rattle.std.proofs.lemmas.Bool.Decides.{nat_tests}
 use Rattle.std.proofs.lemmas.Str.{IsCharBoundary-start, IsCharBoundary-end, IsCharBoundary-before_ascii, IsCharBoundary-after_ascii}
 use Rattle.cfg_numbered.specs.Value.{GrammarValue}
-use Rattle.lrpar.specs.ErrorTexts.{FitsInput}
-use Rattle.lrpar.specs.Lexemes.{AreItems, IsFirstLexError}
+use Rattle.parse_trees.specs.ErrorTexts.{FitsInput}
+use Rattle.parse_trees.specs.Lexemes.{AreItems, IsFirstLexError}
 use Rattle.word_lines.specs.Words.{Word, words, words_in, token_named}
 use Rattle.word_lines.specs.Lexing.{span_of, item_by, item_of, items_of}
 use Rattle.word_lines.specs.declared.lexeme.WordLexeme.{WordLexeme}

@@ -4,8 +4,8 @@ use Rattle.std.proofs.lemmas.List.{take_more, take_all, drop_more, map-append, l
 use Rattle.std.specs.Prelude.{Vec}
 use Rattle.std.specs.declared.alloc.Global.{Global}
 use Rattle.lr_theory.specs.Repair.{Edit}
-use Rattle.lrpar.specs.Taking.{edits_of, sequences_of}
-use Rattle.lrpar.specs.declared.recoverer.RepairStep.{RepairStep}
+use Rattle.parse_trees.specs.Edits.{edits_of, sequences_of}
+use Rattle.parse_trees.specs.declared.parse_repair.RepairStep.{RepairStep}
 use Rattle.cfg_numbered.specs.Value.{GrammarValue}
 use Rattle.word_lines.specs.Repairs.{repair_line, IsFirstBadLine}
 use Rattle.word_lines.specs.RepairReading.{TakesLine}

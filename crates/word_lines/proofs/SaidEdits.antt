@@ -4,8 +4,8 @@ use Rattle.std.proofs.lemmas.List.{at_drop_all, map-append}
 use Rattle.std.proofs.lemmas.Slice.Eq.{bytes_eq-Decides}
 use Rattle.lr_theory.specs.Repair.{Edit}
 use Rattle.cfg_numbered.specs.Value.{GrammarValue}
-use Rattle.lrpar.specs.Taking.{edit_of, edits_of}
-use Rattle.lrpar.specs.declared.recoverer.RepairStep.{RepairStep}
+use Rattle.parse_trees.specs.Edits.{edit_of, edits_of}
+use Rattle.parse_trees.specs.declared.parse_repair.RepairStep.{RepairStep}
 use Rattle.word_lines.specs.Words.{has_bytes, words_in}
 use Rattle.word_lines.specs.Repairs.{insert_word, edit_alone, edit_before, edits_said, repair_line}
 use Rattle.word_lines.specs.RepairReading.{edits_before, said_by, edit_at, TakesPart, ReadsWord}

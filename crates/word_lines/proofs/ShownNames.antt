@@ -6,8 +6,8 @@ use Rattle.std.proofs.lemmas.Grind.{flat_map-append}
 use Rattle.std.proofs.lemmas.List.{map-id}
 use Rattle.std.proofs.lemmas.Bool.{cases_lt}
 use Rattle.cfg_numbered.specs.Value.{GrammarValue, shown_text}
-use Rattle.lrpar.specs.ErrorTexts.{name_or_number}
-use Rattle.lrpar.specs.Shapes.{joined}
+use Rattle.parse_trees.specs.ErrorTexts.{name_or_number}
+use Rattle.parse_trees.specs.Shapes.{joined}
 use Rattle.word_lines.specs.LineTexts.{shown_name, text_or_number}
 
 lent : (t : ℕ) (r : Option (Bor (List ℕ))) → text_or_number t (option_map (λ s. s.now) r) ≡ name_or_number t r

@@ -4,10 +4,9 @@ use Rattle.std.specs.List.{slice_split, AllByRecursion}
 use Rattle.std.proofs.lemmas.Bool.{cases_lt}
 use Rattle.cfg_theory.specs.Grammar.{Grammar, end_token}
 use Rattle.cfg_numbered.specs.Value.{GrammarValue, IsGrammar, IsTokenNamed}
-use Rattle.lrpar.specs.Lexemes.{AreItems, Misfit, IsMisfit}
-use Rattle.lrpar.specs.Lex.{Lex}
-use Rattle.lrpar.specs.Run.{AreLexemes}
-use Rattle.lrpar.specs.Refusals.{HasMisfit}
+use Rattle.parse_trees.specs.Lexemes.{AreItems, Misfit, IsMisfit, AreLexemes}
+use Rattle.parse_trees.specs.Lex.{Lex}
+use Rattle.parse_trees.specs.Refusals.{HasMisfit}
 use Rattle.word_lines.specs.Words.{Word, words, words_in, token_named}
 use Rattle.word_lines.specs.Lexing.{IsInside, lex_of, lexeme_of, item_by, item_of, items_of}
 use Rattle.word_lines.specs.declared.lexeme.WordLexeme.{WordLexeme}

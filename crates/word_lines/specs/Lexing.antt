@@ -3,7 +3,7 @@ use Rattle.std.specs.Prelude.{ℕ, ◌+◌, ◌<◌, false, List, length, map, O
 use Rattle.cfg_base.specs.SpanModel.{SpanModel}
 use Rattle.cfg_numbered.specs.Value.{GrammarValue}
 use Rattle.cfg_theory.specs.Grammar.{Grammar, end_token}
-use Rattle.lrpar.specs.Lex.{Lex}
+use Rattle.parse_trees.specs.Lex.{Lex}
 use Rattle.word_lines.specs.Words.{Word, words, words_in, token_named}
 use Rattle.word_lines.specs.declared.lexeme.WordLexeme.{WordLexeme}
 use Rattle.word_lines.specs.declared.lexeme.WordLexError.{WordLexError}

@@ -4,12 +4,12 @@ use Rattle.std.specs.Fmt.{decimal}
 use Rattle.std.specs.List.{AllByRecursion}
 use Rattle.cfg_numbered.specs.Value.{GrammarValue, shown_text}
 use Rattle.cfg_theory.specs.Tree.{Tree}
-use Rattle.lrpar.specs.ErrorTexts.{EditFits, lexing_error_text, parsing_error_text}
-use Rattle.lrpar.specs.FlatLines.{CanShowTree}
-use Rattle.lrpar.specs.FlatTrees.{FlatValue, IsFlat}
-use Rattle.lrpar.specs.Run.{span_by}
-use Rattle.lrpar.specs.Shapes.{joined, shape, tree_text}
-use Rattle.lrpar.specs.Shown.{shown_lists}
+use Rattle.parse_trees.specs.ErrorTexts.{EditFits, lexing_error_text, parsing_error_text}
+use Rattle.parse_trees.specs.FlatLines.{CanShowTree}
+use Rattle.parse_trees.specs.FlatTrees.{FlatValue, IsFlat}
+use Rattle.parse_trees.specs.Lex.{span_by}
+use Rattle.parse_trees.specs.Shapes.{joined, shape, tree_text}
+use Rattle.parse_trees.specs.Shown.{shown_lists}
 use Rattle.lrpar.specs.declared.parse_error.ParseError.{ParseError}
 use Rattle.word_lines.specs.Lexing.{lex_of}
 use Rattle.word_lines.specs.declared.lexeme.WordLexeme.{WordLexeme}

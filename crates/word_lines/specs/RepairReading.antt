@@ -5,7 +5,7 @@ use Rattle.lr_theory.specs.Repair.{Edit, insert}
 use Rattle.cfg_numbered.specs.Value.{GrammarValue}
 use Rattle.word_lines.specs.Words.{has_bytes, token_named}
 use Rattle.word_lines.specs.Repairs.{insert_word, edit_alone, edits_said, repair_line, IsFirstBadLine}
-use Rattle.lrpar.specs.Taking.{edit_of}
+use Rattle.parse_trees.specs.Edits.{edit_of}
 use Rattle.word_lines.specs.declared.repairs.WordRead.{WordRead}
 use Rattle.word_lines.specs.declared.repairs.WordRead.TheVariants as reads
 use Rattle.word_lines.specs.declared.repairs.RepairsError.{RepairsError}

@@ -29,7 +29,7 @@ impl<S: IndexStorage> Display for WordLexeme<S> {
 impl<S: IndexStorage> Lexeme<S> for WordLexeme<S> {
     ghost use Rattle.std.specs.Prelude.{true, ◌+◌};
     ghost use Rattle.std.proofs.Common.{ap};
-    ghost use Rattle.lrpar.specs.Lex.{lex_at};
+    ghost use Rattle.parse_trees.specs.Lex.{lex_at};
     ghost use Rattle.word_lines.specs.Lexing.{lex_of};
 
     ghost lex = { lex_of S.number };

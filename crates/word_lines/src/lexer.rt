@@ -4,9 +4,8 @@ ghost use Rattle.std.specs.Prelude.{◌≡◌, ◌+◌, ◌<◌, ◌≤◌, ◌^
 ghost use Rattle.std.specs.List.{AllByRecursion};
 ghost use Rattle.cfg_base.specs.Newlines.{newlines_of, line_of, line_start, column_of};
 ghost use Rattle.cfg_base.specs.Text.{line_end};
-ghost use Rattle.lrpar.specs.Lexemes.{AreItems, Misfit};
-ghost use Rattle.lrpar.specs.Refusals.{HasMisfit};
-ghost use Rattle.lrpar.specs.Run.{AreLexemes};
+ghost use Rattle.parse_trees.specs.Lexemes.{AreItems, Misfit, AreLexemes};
+ghost use Rattle.parse_trees.specs.Refusals.{HasMisfit};
 ghost use Rattle.word_lines.specs.Lexing.{IsInside, items_of, items_in, item_of, lex_of};
 ghost use Rattle.word_lines.specs.declared.lexeme.WordLexeme.{WordLexeme};
 

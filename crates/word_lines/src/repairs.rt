@@ -2,7 +2,7 @@
 
 ghost use Rattle.std.specs.Prelude.{◌≡◌, [], ◌∷◌, ◌++◌, Some, map, option_map, IfOk, OnOk, IfErr};
 ghost use Rattle.std.specs.Str.Lines.{lines};
-ghost use Rattle.lrpar.specs.Taking.{edits_of, sequences_of};
+ghost use Rattle.parse_trees.specs.Edits.{edits_of, sequences_of};
 ghost use Rattle.word_lines.specs.Repairs.{repair_line};
 ghost use Rattle.word_lines.specs.RepairReading.{IsRepairsError, TakesLine, TakesPart, ReadsWord};
 
@@ -45,7 +45,7 @@ pub struct RepairLines<S: IndexStorage> {
 impl<S: IndexStorage> Model for RepairLines<S> {
     ghost use Rattle.std.specs.Prelude.{List};
     ghost use Rattle.lr_theory.specs.Repair.{Edit};
-    ghost use Rattle.lrpar.specs.Taking.{sequences_of};
+    ghost use Rattle.parse_trees.specs.Edits.{sequences_of};
 
     ghost Value = { List (List Edit) };
 

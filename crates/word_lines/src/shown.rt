@@ -2,7 +2,8 @@
 
 ghost use Rattle.std.specs.Prelude.{◌≡◌, ◌≤◌, ◌++◌, ◌∷◌, [], length, string_bytes, IfOk, OnOk};
 ghost use Rattle.std.specs.List.{flat_map, AllByRecursion};
-ghost use Rattle.lrpar.specs.ErrorTexts.{ErrorFits, error_text, name_or_number};
+ghost use Rattle.lrpar.specs.ErrorTexts.{ErrorFits, error_text};
+ghost use Rattle.parse_trees.specs.ErrorTexts.{name_or_number};
 ghost use Rattle.word_lines.specs.Lexing.{lex_of};
 ghost use Rattle.word_lines.specs.LineTexts.{ErrorCanBeShown, error_line, fault_line, shown_name};
 ghost use Rattle.word_lines.specs.declared.lexeme.WordLexeme.{WordLexeme};

@@ -4,10 +4,10 @@ ghost use Rattle.std.specs.Prelude.{◌≡◌, ◌<◌, ◌++◌, Some, length, 
 ghost use Rattle.std.specs.List.{flat_map};
 ghost use Rattle.cfg_theory.specs.Grammar.{end_token};
 ghost use Rattle.cfg_theory.specs.Tree.{Tree};
-ghost use Rattle.lrpar.specs.FlatLines.{CanShowPiece, CanVisit, visit_line};
-ghost use Rattle.lrpar.specs.FlatTrees.{IsFlat, pieces_of};
-ghost use Rattle.lrpar.specs.Run.{span_by};
-ghost use Rattle.lrpar.specs.Shapes.{HasText, lexeme_line, rule_line, token_text};
+ghost use Rattle.parse_trees.specs.FlatLines.{CanShowPiece, CanVisit, visit_line};
+ghost use Rattle.parse_trees.specs.FlatTrees.{IsFlat, pieces_of};
+ghost use Rattle.parse_trees.specs.Lex.{span_by};
+ghost use Rattle.parse_trees.specs.Shapes.{HasText, lexeme_line, rule_line, token_text};
 ghost use Rattle.word_lines.specs.Lexing.{lex_of};
 ghost use Rattle.word_lines.specs.LineTexts.{TreeCanBeShown, value_text};
 
@@ -79,7 +79,7 @@ fn node_at<S: IndexStorage>(
 }
 
 // Adds a rule's line.
-#[tactic(auto, unfolding(lrpar::specs::Shapes::rule_line))]
+#[tactic(auto, unfolding(parse_trees::specs::Shapes::rule_line))]
 fn push_rule<S: IndexStorage>(
     grm: &NumberedGrammar<S>,
     depth: usize,
@@ -96,7 +96,7 @@ fn push_rule<S: IndexStorage>(
 }
 
 // Adds a lexeme's line.
-#[tactic(auto, unfolding(lrpar::specs::Shapes::lexeme_line))]
+#[tactic(auto, unfolding(parse_trees::specs::Shapes::lexeme_line))]
 fn push_lexeme<S: IndexStorage>(
     grm: &NumberedGrammar<S>,
     line: &str,

@@ -2,7 +2,7 @@
 
 ghost use Rattle.std.specs.Prelude.{◌≡◌, [], ◌∷◌, ◌++◌, IfOk, OnOk};
 ghost use Rattle.lr_theory.specs.Repair.{insert};
-ghost use Rattle.lrpar.specs.Taking.{sequences_of};
+ghost use Rattle.parse_trees.specs.Edits.{sequences_of};
 ghost use Rattle.examples.specs.Offers.{any_token};
 
 use crate::editor::lexer::ByteLexeme;

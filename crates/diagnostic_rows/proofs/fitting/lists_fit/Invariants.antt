@@ -1,7 +1,7 @@
 use Rattle.std.proofs.Common.{take}
 use Rattle.std.specs.List.{AllByRecursion}
-use Rattle.lrpar.specs.Shown.{shown_lists}
-use Rattle.lrpar.specs.ErrorTexts.{EditFits}
+use Rattle.parse_trees.specs.Shown.{shown_lists}
+use Rattle.parse_trees.specs.ErrorTexts.{EditFits}
 use Rattle.diagnostic_rows.proofs.fitting.lists_fit.Given as goal
 
 abbrev pub invariant-lists : goal.invariant-lists

@@ -1,8 +1,8 @@
 use Rattle.std.proofs.Common.{map, subst, arith}
 use Rattle.std.proofs.lemmas.List.{take_all}
 use Rattle.std.specs.List.{AllByRecursion}
-use Rattle.lrpar.specs.Shown.{shown_of}
-use Rattle.lrpar.specs.ErrorTexts.{EditFits}
+use Rattle.parse_trees.specs.Shown.{shown_of}
+use Rattle.parse_trees.specs.ErrorTexts.{EditFits}
 use Rattle.diagnostic_rows.proofs.OneMore.{one_more}
 use Rattle.diagnostic_rows.proofs.fitting.sequence_fits.Goals as goal
 

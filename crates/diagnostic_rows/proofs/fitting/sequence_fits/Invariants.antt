@@ -1,7 +1,7 @@
 use Rattle.std.proofs.Common.{map, take}
 use Rattle.std.specs.List.{AllByRecursion}
-use Rattle.lrpar.specs.Shown.{shown_of}
-use Rattle.lrpar.specs.ErrorTexts.{EditFits}
+use Rattle.parse_trees.specs.Shown.{shown_of}
+use Rattle.parse_trees.specs.ErrorTexts.{EditFits}
 use Rattle.diagnostic_rows.proofs.fitting.sequence_fits.Given as goal
 
 abbrev pub invariant-repairs : goal.invariant-repairs

@@ -2,8 +2,8 @@ use Rattle.std.proofs.Common.{◌∙◌}
 use Rattle.std.proofs.lemmas.Option.{slice_get-get_or}
 use Rattle.std.proofs.lemmas.Result.{err_from_is_err_and}
 use Rattle.lrkit.proofs.OutBut.{one_more_text, text_begins, texts_begin}
-use Rattle.lrpar.specs.FlatLines.{visit_line}
-use Rattle.lrpar.specs.FlatTrees.{pieces_of}
+use Rattle.parse_trees.specs.FlatLines.{visit_line}
+use Rattle.parse_trees.specs.FlatTrees.{pieces_of}
 use Rattle.word_lines.specs.Lexing.{lex_of}
 use Rattle.lrkit.specs.Output.{id}
 use Rattle.lrkit.proofs.trees.write_visits.Goals as goal

@@ -2,8 +2,8 @@
 use Rattle.std.proofs.Common.{◌≡◌, ◌++◌, take}
 use Rattle.std.specs.List.{flat_map}
 use Rattle.byte_streams.specs.Sink.{IsOutBut}
-use Rattle.lrpar.specs.FlatLines.{visit_line}
-use Rattle.lrpar.specs.FlatTrees.{pieces_of}
+use Rattle.parse_trees.specs.FlatLines.{visit_line}
+use Rattle.parse_trees.specs.FlatTrees.{pieces_of}
 use Rattle.word_lines.specs.Lexing.{lex_of}
 use Rattle.lrkit.specs.Output.{id}
 use Rattle.lrkit.proofs.trees.write_visits.Given as goal

@@ -3,7 +3,7 @@ use Rattle.std.proofs.lemmas.List.{drop_all}
 use Rattle.lr_theory.specs.Repair.{with_rest}
 use Rattle.lr_theory.specs.Stack.{stack_yield}
 use Rattle.lrpar.specs.Made.{made_by}
-use Rattle.lrpar.specs.Taking.{edit_of, edits_of}
+use Rattle.parse_trees.specs.Edits.{edit_of, edits_of}
 use Rattle.lrpar.proofs.Applying.{way_begun, way_named, way_on, way_ended, edits_from}
 use Rattle.lrpar.proofs.apply.apply_steps.Goals as goal
 

@@ -6,8 +6,9 @@ use Rattle.lr_theory.specs.Stack.{stack_yield}
 use Rattle.state_table.specs.Graphs.{GraphValue}
 use Rattle.state_table.specs.Tables.{automaton_of}
 use Rattle.lrpar.specs.Made.{made_by}
-use Rattle.lrpar.specs.Run.{StartsByNext, StandFor, AreStacks, token_by}
-use Rattle.lrpar.specs.Taking.{edits_of}
+use Rattle.lrpar.specs.Run.{StartsByNext, StandFor, AreStacks}
+use Rattle.parse_trees.specs.Lex.{token_by}
+use Rattle.parse_trees.specs.Edits.{edits_of}
 use Rattle.lrpar.specs.Applied.{GoesOnWay}
 use Rattle.lrpar.proofs.apply.apply_steps.Given as goal
 

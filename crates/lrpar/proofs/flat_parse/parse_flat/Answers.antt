@@ -3,7 +3,7 @@ use Rattle.state_table.specs.Tables.{automaton_of}
 use Rattle.lrpar.specs.FlatParses.{HasFlat}
 use Rattle.lrpar.specs.Made.{end_of, made_by}
 use Rattle.lrpar.specs.Parsing.{errors_of}
-use Rattle.lrpar.specs.Run.{token_by, span_by}
+use Rattle.parse_trees.specs.Lex.{token_by, span_by}
 use Rattle.lrpar.specs.Told.{as_told}
 use Rattle.lrpar.proofs.Valued.{parse_gives}
 use Rattle.lrpar.proofs.flat_parse.parse_flat.Goals as goal

@@ -3,8 +3,8 @@ use Rattle.state_table.specs.Tables.{automaton_of}
 use Rattle.lrpar.specs.Made.{end_of, made_by}
 use Rattle.lrpar.specs.Parses.{HasValue}
 use Rattle.lrpar.specs.Parsing.{errors_of}
-use Rattle.lrpar.specs.Run.{token_by, span_by}
-use Rattle.lrpar.specs.Stacks.{values_by}
+use Rattle.parse_trees.specs.Lex.{token_by, span_by}
+use Rattle.parse_trees.specs.Stacks.{values_by}
 use Rattle.lrpar.specs.Told.{as_told}
 use Rattle.lrpar.proofs.Valued.{parse_gives}
 use Rattle.lrpar.proofs.folded_parse.parse_folded.Goals as goal

@@ -1,6 +1,6 @@
 use Rattle.std.proofs.Common.{ap, ◌∙◌, drop, map}
-use Rattle.lrpar.specs.Shown.{shown}
-use Rattle.lrpar.specs.Taking.{sequences_of}
+use Rattle.parse_trees.specs.Shown.{shown}
+use Rattle.parse_trees.specs.Edits.{sequences_of}
 use Rattle.lrpar.proofs.Valued.{told_more}
 use Rattle.lrpar.proofs.folded_parse.tell_errors.Goals as goal
 

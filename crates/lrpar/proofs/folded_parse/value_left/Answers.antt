@@ -1,4 +1,4 @@
-use Rattle.lrpar.specs.Run.{span_by}
+use Rattle.parse_trees.specs.Lex.{span_by}
 use Rattle.lrpar.proofs.Valued.{value_folded}
 use Rattle.lrpar.proofs.folded_parse.value_left.Goals as goal
 

@@ -1,4 +1,4 @@
-use Rattle.lrpar.specs.Run.{token_by}
+use Rattle.parse_trees.specs.Lex.{token_by}
 use Rattle.lrpar.proofs.NextTold.{InsideBelow}
 use Rattle.lrpar.proofs.next_tokens.are_inside.Given as goal
 

@@ -4,7 +4,7 @@ use Rattle.state_table.specs.Tables.{automaton_of}
 use Rattle.lrpar.specs.NextTokens.{Reaches}
 use Rattle.lrpar.specs.Reducing.{AreStates, stack_of}
 use Rattle.lrpar.specs.Replay.{overlaid}
-use Rattle.lrpar.specs.Run.{token_by}
+use Rattle.parse_trees.specs.Lex.{token_by}
 use Rattle.lrpar.specs.declared.overlay.Overlay.{Overlay}
 use Rattle.lrpar.proofs.NextTold.{over_one, over_nothing, one_state, comes_first, comes_on, stops_here}
 use Rattle.lrpar.proofs.Tested.{shifted_some}

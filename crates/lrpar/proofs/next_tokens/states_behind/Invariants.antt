@@ -1,6 +1,6 @@
 use Rattle.std.proofs.Common.{◌<◌, length}
 use Rattle.lrpar.specs.Replay.{overlaid, IsOver}
-use Rattle.lrpar.specs.Run.{token_by}
+use Rattle.parse_trees.specs.Lex.{token_by}
 use Rattle.lrpar.proofs.NextTold.{ComesWith}
 use Rattle.lrpar.proofs.next_tokens.states_behind.Given as goal
 

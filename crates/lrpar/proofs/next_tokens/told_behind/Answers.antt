@@ -1,7 +1,7 @@
 use Rattle.lrpar.specs.Made.{made_by}
 use Rattle.lrpar.specs.NextTokens.{HasError}
 use Rattle.lrpar.specs.Reducing.{stack_of}
-use Rattle.lrpar.specs.Run.{token_by}
+use Rattle.parse_trees.specs.Lex.{token_by}
 use Rattle.lrpar.proofs.NextTold.{after_all}
 use Rattle.lrpar.proofs.next_tokens.told_behind.Goals as goal
 

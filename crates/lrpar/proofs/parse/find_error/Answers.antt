@@ -1,6 +1,6 @@
 use Rattle.std.proofs.Common.{sym, ap, get_or, ◌∙◌}
 use Rattle.lrpar.specs.Made.{made_by, next_lexeme}
-use Rattle.lrpar.specs.Taking.{sequences_of}
+use Rattle.parse_trees.specs.Edits.{sequences_of}
 use Rattle.lrpar.proofs.Mending.{top_is, makes_tokens}
 use Rattle.lrpar.proofs.parse.find_error.Goals as goal
 

@@ -2,8 +2,8 @@ use Rattle.std.proofs.Common.{sym, ap, ◌∙◌}
 use Rattle.state_table.specs.Tables.{automaton_of}
 use Rattle.lrpar.specs.Made.{made_by}
 use Rattle.lrpar.specs.Reducing.{stack_of}
-use Rattle.lrpar.specs.Run.{token_by}
-use Rattle.lrpar.specs.Taking.{sequences_of}
+use Rattle.parse_trees.specs.Lex.{token_by}
+use Rattle.parse_trees.specs.Edits.{sequences_of}
 use Rattle.lrpar.proofs.Mending.{first_taken, none_listed}
 use Rattle.lrpar.proofs.parse.mend.Goals as goal
 

@@ -4,7 +4,7 @@ use Rattle.state_table.specs.Tables.{automaton_of}
 use Rattle.lrpar.specs.Made.{made_by, end_of, next_start}
 use Rattle.lrpar.specs.Parses.{HoldsValue, IsParse, IsParsed}
 use Rattle.lrpar.specs.Parsing.{error_of, errors_of, Underway}
-use Rattle.lrpar.specs.Run.{token_by}
+use Rattle.parse_trees.specs.Lex.{token_by}
 use Rattle.lrpar.proofs.Mending.{are_begun, starts_stand, no_end_of, more_errors, fewer_left}
 use Rattle.lrpar.proofs.ParseFacts.{is_parse}
 use Rattle.lrpar.proofs.Underways.{begun, accepts_with, few_errors_yet, gives_up_with, goes_on_with}

@@ -1,4 +1,4 @@
-use Rattle.lrpar.proofs.NodeStacks.{node_where}
+use Rattle.lrpar.proofs.NodesLeft.{node_where}
 use Rattle.lrpar.proofs.parse_generictree.node_left.Goals as goal
 
 pub returns-then-accepted : goal.returns-then-accepted

@@ -1,9 +1,9 @@
 use Rattle.std.proofs.Common.{ap, ◌∙◌, map}
 use Rattle.state_table.specs.Tables.{automaton_of}
 use Rattle.lrpar.specs.Made.{end_of, made_by}
-use Rattle.lrpar.specs.NodeValues.{HasNode}
+use Rattle.parse_trees.specs.NodeValues.{HasNode}
 use Rattle.lrpar.specs.Parsing.{errors_of}
-use Rattle.lrpar.specs.Run.{token_by}
+use Rattle.parse_trees.specs.Lex.{token_by}
 use Rattle.lrpar.specs.Told.{as_told}
 use Rattle.lrpar.proofs.Valued.{parse_gives}
 use Rattle.lrpar.proofs.parse_generictree.parse_nodes.Goals as goal

@@ -2,7 +2,7 @@ use Rattle.std.proofs.Common.{◌≡◌, of_calls}
 use Rattle.lr_theory.specs.Automaton.{Safe}
 use Rattle.state_table.specs.Graphs.{GraphValue}
 use Rattle.state_table.specs.Tables.{automaton_of}
-use Rattle.lrpar.specs.Stacks.{mapped_by}
+use Rattle.parse_trees.specs.Stacks.{mapped_by}
 use Rattle.lrpar.proofs.FoldsOver.{results_over}
 use Rattle.lrpar.proofs.parse_map.parse_mapped.Goals as goal
 

@@ -1,5 +1,5 @@
 use Rattle.std.proofs.Common.{subst}
-use Rattle.lrpar.specs.Refusals.{Admits}
+use Rattle.parse_trees.specs.Refusals.{Admits}
 use Rattle.lrpar.proofs.parser.parse_items.Goals as goal
 
 pub returns-in-Ok-parse_lexemes-clause-parsed : goal.returns-in-Ok-parse_lexemes-clause-parsed

@@ -1,7 +1,7 @@
 use Rattle.std.proofs.Common.{◌+◌, drop, arith}
 use Rattle.std.proofs.lemmas.List.{drop_all}
 use Rattle.lrpar.specs.Replay.{overlaid}
-use Rattle.lrpar.specs.Run.{token_by}
+use Rattle.parse_trees.specs.Lex.{token_by}
 use Rattle.lrpar.proofs.NextLexeme.{drop_from}
 use Rattle.lrpar.proofs.Tested.{past_tells, end_tells}
 use Rattle.lrpar.proofs.repair.gets_past.Goals as goal

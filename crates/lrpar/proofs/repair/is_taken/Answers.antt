@@ -2,9 +2,10 @@ use Rattle.std.proofs.Common.{◌+◌, drop, refl, arith, subst, ap}
 use Rattle.std.proofs.lemmas.List.{drop_all}
 use Rattle.lrpar.specs.Reducing.{stack_of}
 use Rattle.lrpar.specs.Replay.{overlaid}
-use Rattle.lrpar.specs.Run.{token_by}
-use Rattle.lrpar.specs.Taking.{edit_of, edits_of}
-use Rattle.lrpar.proofs.Tested.{Follows, drop_at, follows_on, follows_not, follows_end}
+use Rattle.parse_trees.specs.Lex.{token_by}
+use Rattle.parse_trees.specs.Edits.{edit_of, edits_of}
+use Rattle.lrpar.proofs.Tested.{Follows, follows_on, follows_not, follows_end}
+use Rattle.parse_trees.proofs.ListsAt.{drop_at}
 use Rattle.lrpar.proofs.repair.is_taken.Goals as goal
 
 pub returns-in_default : goal.returns-in_default

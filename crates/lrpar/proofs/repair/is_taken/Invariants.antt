@@ -1,8 +1,8 @@
 use Rattle.std.proofs.Common.{◌<◌, ◌≤◌, length, drop}
 use Rattle.lrpar.specs.Reducing.{stack_of}
 use Rattle.lrpar.specs.Replay.{overlaid, IsOver}
-use Rattle.lrpar.specs.Run.{token_by}
-use Rattle.lrpar.specs.Taking.{edits_of}
+use Rattle.parse_trees.specs.Lex.{token_by}
+use Rattle.parse_trees.specs.Edits.{edits_of}
 use Rattle.lrpar.proofs.Tested.{Follows}
 use Rattle.lrpar.proofs.repair.is_taken.Given as goal
 

@@ -1,6 +1,6 @@
 use Rattle.std.proofs.Common.{drop, arith}
 use Rattle.lrpar.specs.Replay.{overlaid}
-use Rattle.lrpar.specs.Run.{token_by}
+use Rattle.parse_trees.specs.Lex.{token_by}
 use Rattle.lrpar.proofs.Tested.{insert_tells, insert_tells_not, insert_tells_past, shifted_some}
 use Rattle.lrpar.proofs.repair.take_insert.Goals as goal
 

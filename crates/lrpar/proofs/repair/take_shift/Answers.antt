@@ -1,6 +1,6 @@
 use Rattle.std.proofs.Common.{◌+◌, drop}
 use Rattle.lrpar.specs.Replay.{overlaid}
-use Rattle.lrpar.specs.Run.{token_by}
+use Rattle.parse_trees.specs.Lex.{token_by}
 use Rattle.lrpar.proofs.NextLexeme.{drop_from}
 use Rattle.lrpar.proofs.Tested.{keep_tells, keep_tells_not, shifted_some}
 use Rattle.lrpar.proofs.repair.take_shift.Goals as goal

@@ -1,6 +1,6 @@
 use Rattle.std.proofs.Common.{arith}
 use Rattle.lrpar.specs.Replay.{overlaid}
-use Rattle.lrpar.specs.Run.{token_by}
+use Rattle.parse_trees.specs.Lex.{token_by}
 use Rattle.lrpar.proofs.Tested.{delete_tells_read}
 use Rattle.lrpar.proofs.repair.take_step.Goals as goal
 

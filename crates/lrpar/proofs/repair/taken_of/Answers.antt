@@ -2,8 +2,9 @@ use Rattle.std.proofs.Common.{drop, sym, subst, ◌∙◌}
 use Rattle.std.proofs.lemmas.Iterator.Consumers.{YieldsList-end}
 use Rattle.std.proofs.lemmas.Iterator.Adapters.{YieldsList-from_vec}
 use Rattle.lrpar.specs.Reducing.{stack_of}
-use Rattle.lrpar.specs.Run.{token_by}
-use Rattle.lrpar.specs.Taking.{sequences_of, ListTells}
+use Rattle.parse_trees.specs.Lex.{token_by}
+use Rattle.parse_trees.specs.Edits.{sequences_of}
+use Rattle.lrpar.specs.Taking.{ListTells}
 use Rattle.lrpar.proofs.Listed.{listed_none, listed_kept, listed_dropped, same_list}
 use Rattle.lrpar.proofs.repair.taken_of.Goals as goal
 

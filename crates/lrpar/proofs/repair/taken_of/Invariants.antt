@@ -1,7 +1,8 @@
 use Rattle.std.proofs.Common.{drop}
 use Rattle.lrpar.specs.Reducing.{stack_of}
-use Rattle.lrpar.specs.Run.{token_by}
-use Rattle.lrpar.specs.Taking.{sequences_of, ListTells}
+use Rattle.parse_trees.specs.Lex.{token_by}
+use Rattle.parse_trees.specs.Edits.{sequences_of}
+use Rattle.lrpar.specs.Taking.{ListTells}
 use Rattle.lrpar.proofs.repair.taken_of.Given as goal
 
 abbrev pub invariant-sequences : goal.invariant-sequences

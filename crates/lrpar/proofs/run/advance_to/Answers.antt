@@ -4,7 +4,8 @@ use Rattle.cfg_theory.specs.Grammar.{end_token}
 use Rattle.state_table.specs.Graphs.{GraphValue}
 use Rattle.state_table.specs.Tables.{automaton_of}
 use Rattle.lrpar.specs.Reducing.{states_of, stack_of}
-use Rattle.lrpar.specs.Run.{token_by, token_of}
+use Rattle.parse_trees.specs.Lex.{token_by}
+use Rattle.lrpar.specs.Run.{token_of}
 use Rattle.lrpar.proofs.Room.{room_less, still_short, bounded}
 use Rattle.lrpar.proofs.Joining.{goes_none, goes_more, accepts_more, fails_now, rest_same}
 use Rattle.lrpar.proofs.NextLexeme.{next_on}

@@ -6,7 +6,8 @@ use Rattle.lr_theory.specs.Machine.{Config}
 use Rattle.state_table.specs.Graphs.{GraphValue}
 use Rattle.state_table.specs.Tables.{automaton_of}
 use Rattle.lrpar.specs.Reducing.{stack_of}
-use Rattle.lrpar.specs.Run.{StandFor, AreStacks, GoesOn, token_by, token_of, NextOf, StartsKept}
+use Rattle.lrpar.specs.Run.{StandFor, AreStacks, GoesOn, token_of, NextOf, StartsKept}
+use Rattle.parse_trees.specs.Lex.{token_by}
 use Rattle.lrpar.proofs.Room.{room}
 use Rattle.lrpar.proofs.run.advance_to.Given as goal
 

@@ -10,7 +10,8 @@ use Rattle.state_table.specs.declared.stidx.StIdx.{StIdx}
 use Rattle.state_table.specs.declared.cells.Action.TheVariants as actions
 use Rattle.state_table.specs.Tables.{automaton_of}
 use Rattle.lrpar.specs.Reducing.{states_of, stack_of}
-use Rattle.lrpar.specs.Run.{StandFor, token_by, token_of, NextOf}
+use Rattle.lrpar.specs.Run.{StandFor, token_of, NextOf}
+use Rattle.parse_trees.specs.Lex.{token_by}
 use Rattle.lrpar.proofs.Reduced.{number_at, state_in}
 use Rattle.lrpar.proofs.Turning.{reduction_by, are_shifted, reduction_holds, stack_some, stepped, reduction_goes, turned_reduce, turned_shift, turned_accept}
 use Rattle.lrpar.proofs.NextLexeme.{next_is, token_within, end_is_none}

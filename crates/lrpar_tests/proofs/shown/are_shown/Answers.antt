@@ -1,8 +1,8 @@
 use Rattle.std.proofs.Common.{Some, subst, arith}
 use Rattle.std.proofs.lemmas.List.{take_all}
 use Rattle.std.specs.List.{AllByRecursion}
-use Rattle.lrpar.specs.FlatLines.{CanShowPiece}
-use Rattle.lrpar.specs.FlatTrees.{piece_of}
+use Rattle.parse_trees.specs.FlatLines.{CanShowPiece}
+use Rattle.parse_trees.specs.FlatTrees.{piece_of}
 use Rattle.lrpar_tests.proofs.OneMore.{one_more}
 use Rattle.lrpar_tests.proofs.shown.are_shown.Goals as goal
 

@@ -1,7 +1,7 @@
 use Rattle.std.proofs.Common.{Some, take}
 use Rattle.std.specs.List.{AllByRecursion}
-use Rattle.lrpar.specs.FlatLines.{CanShowPiece}
-use Rattle.lrpar.specs.FlatTrees.{piece_of}
+use Rattle.parse_trees.specs.FlatLines.{CanShowPiece}
+use Rattle.parse_trees.specs.FlatTrees.{piece_of}
 use Rattle.lrpar_tests.proofs.shown.are_shown.Given as goal
 
 abbrev pub invariant-nodes : goal.invariant-nodes

@@ -1,4 +1,4 @@
-use Rattle.lrpar.specs.Run.{span_by}
+use Rattle.parse_trees.specs.Lex.{span_by}
 use Rattle.lrpar_tests.proofs.ShownTrees.{value_can}
 use Rattle.lrpar_tests.proofs.shown.flat_shown.Goals as goal
 

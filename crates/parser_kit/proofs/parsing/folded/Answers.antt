@@ -1,5 +1,5 @@
 use Rattle.std.proofs.Common.{◌∙◌}
-use Rattle.lrpar.specs.Stacks.{values_by}
+use Rattle.parse_trees.specs.Stacks.{values_by}
 use Rattle.parser_kit.proofs.KitParses.{told_follows, told_ok, told_traceless}
 use Rattle.parser_kit.proofs.parsing.folded.Goals as goal
 

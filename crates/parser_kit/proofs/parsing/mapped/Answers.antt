@@ -1,5 +1,5 @@
 use Rattle.std.proofs.Common.{◌∙◌}
-use Rattle.lrpar.specs.Stacks.{mapped_by}
+use Rattle.parse_trees.specs.Stacks.{mapped_by}
 use Rattle.lrpar.specs.declared.parse_error.LexParseError.TheVariants as errors
 use Rattle.parser_kit.proofs.HandedOut.{handed_follows, handed_ok, handed_traceless}
 use Rattle.parser_kit.proofs.parsing.mapped.Goals as goal

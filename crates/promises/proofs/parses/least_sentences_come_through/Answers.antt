@@ -1,5 +1,5 @@
 use Rattle.lrpar.specs.FlatParses.{HasFlat}
-use Rattle.lrpar.specs.Run.{span_by}
+use Rattle.parse_trees.specs.Lex.{span_by}
 use Rattle.promises.proofs.LeastSentences.{least_come}
 use Rattle.promises.proofs.Undeclared.{undeclared}
 use Rattle.promises.proofs.parses.least_sentences_come_through.Goals as goal

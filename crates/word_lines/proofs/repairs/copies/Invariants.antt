@@ -1,6 +1,6 @@
 -- The sequences so far are copied.
 use Rattle.std.proofs.Common.{◌≡◌, take}
-use Rattle.lrpar.specs.Taking.{sequences_of}
+use Rattle.parse_trees.specs.Edits.{sequences_of}
 use Rattle.word_lines.proofs.repairs.copies.Given as goal
 
 abbrev pub invariant-sequences : goal.invariant-sequences

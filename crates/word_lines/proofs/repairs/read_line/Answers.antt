@@ -2,7 +2,7 @@ use Rattle.std.proofs.Common.{◌≤◌, length, arith, lit<}
 use Rattle.std.proofs.lemmas.Iterator.Consumers.{YieldsList-at, YieldsList-turn, YieldsList-end}
 use Rattle.std.proofs.lemmas.Iterator.Splits.{YieldsList-from_str_split}
 use Rattle.std.proofs.lemmas.List.{length_push}
-use Rattle.lrpar.specs.Taking.{edits_of}
+use Rattle.parse_trees.specs.Edits.{edits_of}
 use Rattle.word_lines.proofs.LexedParts.{parts_of}
 use Rattle.word_lines.proofs.SaidEdits.{SaidTo-start, SaidTo-on, SaidTo-off, SaidTo-waits, SaidTo-end}
 use Rattle.word_lines.proofs.repairs.read_line.Goals as goal

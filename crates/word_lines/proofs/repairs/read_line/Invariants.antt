@@ -1,6 +1,6 @@
 -- The parts so far are taken.
 use Rattle.std.proofs.Common.{length}
-use Rattle.lrpar.specs.Taking.{edits_of}
+use Rattle.parse_trees.specs.Edits.{edits_of}
 use Rattle.word_lines.proofs.SaidEdits.{SaidTo}
 use Rattle.word_lines.proofs.repairs.read_line.Given as goal
 

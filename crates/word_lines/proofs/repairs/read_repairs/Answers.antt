@@ -3,7 +3,7 @@ use Rattle.std.proofs.Common.{◌≡◌, ◌≤◌, length, arith, vec_len, refl
 use Rattle.std.proofs.lemmas.Iterator.Consumers.{YieldsList-at, YieldsList-turn, YieldsList-end}
 use Rattle.std.proofs.lemmas.Iterator.Splits.{YieldsList-from_lines}
 use Rattle.std.proofs.lemmas.List.{length_push, length-map}
-use Rattle.lrpar.specs.Taking.{edits_of, sequences_of}
+use Rattle.parse_trees.specs.Edits.{edits_of, sequences_of}
 use Rattle.word_lines.proofs.ReadLines.{ReadTo-on, ReadTo-off, ReadTo-end}
 use Rattle.word_lines.proofs.repairs.read_repairs.Goals as goal
 

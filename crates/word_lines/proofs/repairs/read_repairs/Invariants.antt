@@ -1,7 +1,7 @@
 -- The lines so far are read.
 use Rattle.std.proofs.Common.{length}
 use Rattle.std.specs.Str.Lines.{lines}
-use Rattle.lrpar.specs.Taking.{sequences_of}
+use Rattle.parse_trees.specs.Edits.{sequences_of}
 use Rattle.word_lines.proofs.ReadLines.{ReadTo}
 use Rattle.word_lines.proofs.repairs.read_repairs.Given as goal
 

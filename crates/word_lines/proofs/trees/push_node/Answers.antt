@@ -1,9 +1,9 @@
 use Rattle.std.proofs.Common.{subst, refl, arith}
 use Rattle.std.proofs.lemmas.List.{length-map}
-use Rattle.lrpar.specs.FlatLines.{CanShowPiece}
-use Rattle.lrpar.specs.FlatTrees.{piece_of, pieces_of}
-use Rattle.lrpar.specs.Run.{span_by}
-use Rattle.lrpar.proofs.FlatLines.{piece_is, visit_within}
+use Rattle.parse_trees.specs.FlatLines.{CanShowPiece}
+use Rattle.parse_trees.specs.FlatTrees.{piece_of, pieces_of}
+use Rattle.parse_trees.specs.Lex.{span_by}
+use Rattle.parse_trees.proofs.FlatLines.{piece_is, visit_within}
 use Rattle.word_lines.specs.Lexing.{lex_of}
 use Rattle.word_lines.proofs.trees.push_node.Goals as goal
 

@@ -1,8 +1,8 @@
 use Rattle.std.proofs.Common.{◌∙◌, sym, ap, subst}
 use Rattle.std.specs.List.{flat_map}
-use Rattle.lrpar.specs.FlatLines.{CanVisit, visit_line}
-use Rattle.lrpar.specs.Run.{span_by}
-use Rattle.lrpar.proofs.FlatLines.{tree_lines, tree_visits, whole_at}
+use Rattle.parse_trees.specs.FlatLines.{CanVisit, visit_line}
+use Rattle.parse_trees.specs.Lex.{span_by}
+use Rattle.parse_trees.proofs.FlatLines.{tree_lines, tree_visits, whole_at}
 use Rattle.word_lines.specs.Lexing.{lex_of}
 use Rattle.word_lines.proofs.trees.shown_nodes.Goals as goal
 

@@ -1,6 +1,6 @@
 -- The tokens so far are offered.
 use Rattle.std.proofs.Common.{◌≡◌}
-use Rattle.lrpar.specs.Taking.{sequences_of}
+use Rattle.parse_trees.specs.Edits.{sequences_of}
 use Rattle.examples.specs.Offers.{any_token}
 use Rattle.examples.proofs.editor.offers.all_offers.Given as goal
 

@@ -5,10 +5,10 @@ use Rattle.lr_theory.specs.Automaton.{Safe}
 use Rattle.state_table.specs.Graphs.{GraphValue}
 use Rattle.state_table.specs.Tables.{automaton_of}
 use Rattle.lrpar.specs.FlatParses.{IsFlatParse}
-use Rattle.lrpar.specs.FlatTrees.{FlatValue, IsFlatTree}
-use Rattle.lrpar.specs.Run.{token_by, span_by}
+use Rattle.parse_trees.specs.FlatTrees.{FlatValue, IsFlatTree}
+use Rattle.parse_trees.specs.Lex.{token_by, span_by}
 use Rattle.lrpar.specs.declared.parse_error.ParseError.{ParseError}
-use Rattle.lrpar.proofs.FlatReading.{tree_of}
+use Rattle.lrpar.proofs.FlatsLeft.{tree_of}
 use Rattle.lrpar.proofs.Instances.{within_at, within_weaker}
 use Rattle.lrpar.proofs.builder.RTParserBuilder.parse_flat.Goals as goal
 

@@ -2,7 +2,7 @@ use Rattle.std.proofs.Common.{◌≡◌, ◌∙◌}
 use Rattle.lr_theory.specs.Automaton.{Safe}
 use Rattle.state_table.specs.Graphs.{GraphValue}
 use Rattle.state_table.specs.Tables.{automaton_of}
-use Rattle.lrpar.specs.Stacks.{values_by}
+use Rattle.parse_trees.specs.Stacks.{values_by}
 use Rattle.lrpar.specs.Told.{IsFoldedOutcome}
 use Rattle.lrpar.proofs.Instances.{at_one}
 use Rattle.lrpar.proofs.builder.RTParserBuilder.parse_fold.Goals as goal

@@ -6,9 +6,8 @@ use Rattle.lr_theory.specs.Automaton.{Safe}
 use Rattle.state_table.specs.Graphs.{GraphValue}
 use Rattle.state_table.specs.Tables.{automaton_of}
 use Rattle.vob.specs.Packed.{Contents}
-use Rattle.lrpar.specs.Lex.{Lex}
+use Rattle.parse_trees.specs.Lex.{Lex, token_by}
 use Rattle.lrpar.specs.NextStates.{TellsAfter}
-use Rattle.lrpar.specs.Run.{token_by}
 use Rattle.lrpar.proofs.NextTold.{tells_none, tells_sound, tells_sound_end, tells_exact, tells_exact_end, tells_begins}
 use Rattle.lrpar.proofs.parserdata.ParserData.next_tokens.Goals as goal
 

@@ -1,7 +1,0 @@
-use Rattle.std.proofs.Common.{ℕ, ◌<◌}
-use Rattle.lrpar.specs.Lexemes.{IsGoodAt}
-use Rattle.lrpar.specs.LexemeViews.{IsOrderedAt}
-use Rattle.lrpar.proofs.lexemes.misfit_of.Given as goal
-
-abbrev pub invariant-lexemes : goal.invariant-lexemes
-invariant-lexemes g l = (j : ℕ) → j < l.index → IsGoodAt l.end g.L.Lexeme.lex l.lexemes j × IsOrderedAt g.L.Lexeme.lex l.lexemes j

@@ -1,6 +1,0 @@
-use Rattle.std.proofs.Common.{ap}
-use Rattle.lrpar.specs.NodeLists.{shapes_on}
-use Rattle.lrpar.proofs.node_values.NodeValues.with_room.Goals as goal
-
-pub returns : goal.returns
-returns g c = ap (shapes_on g.S.IndexStorage.number) c.in_ok-nodes.ensures.items

@@ -1,0 +1,5 @@
+use Rattle.std.proofs.Common.{◌≡◌, ◌++◌, string_bytes, replicate}
+use Rattle.parse_trees.proofs.node.push_spaces.Given as goal
+
+abbrev pub invariant-loop-at : goal.invariant-loop-at
+invariant-loop-at l = string_bytes l.text ≡ string_bytes l.initial.text ++ replicate l._at 32

@@ -1,0 +1,15 @@
+pub mod Stacks
+pub mod Lex
+pub mod Lexemes
+pub mod LexemeViews
+pub mod Refusals
+pub mod Edits
+pub mod Shown
+pub mod FlatTrees
+pub mod FlatReading
+pub mod FlatValues
+pub mod Shapes
+pub mod NodeLists
+pub mod FlatLines
+pub mod NodeValues
+pub mod ErrorTexts

@@ -85,7 +85,7 @@ impl<T: LexerTypes> LexParseError<T> {
                 Ok(text)
             }
             LexParseError::ParseError(error) => {
-                let text = parsing_text(alloc, lexer, epp, error)?;
+                let text = parsing_text(alloc, lexer, epp, error.lexeme, error.repairs.as_slice())?;
                 Ok(text)
             }
         }

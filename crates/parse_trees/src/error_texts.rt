@@ -8,7 +8,6 @@ ghost use Rattle.parse_trees.specs.Shown.{shown_of, shown_lists};
 ghost use Rattle.parse_trees.specs.ErrorTexts.{seen_as, join, before_shown, shown_parts, Touches, escaped, comma_joined, number_front, sequence_lines, repairs_text, part_text, sequence_text, lexing_error_text, parsing_error_text, AnswersNames, ShownFits, EditFits};
 
 use crate::lex_api::{Lexeme, LexerTypes, NonStreamingLexer};
-use crate::parse_error::ParseError;
 use crate::parse_repair::ParseRepair;
 use cfg_base::index::IndexStorage;
 use cfg_base::span::Span;
@@ -334,7 +333,7 @@ fn sequences_of<
     Ok(sequences)
 }
 
-/// The text of an error of parsing.
+/// The text of an error of parsing at a lexeme, where these sequences of repairs can be taken.
 pub fn parsing_text<
     'input,
     T: LexerTypes,
@@ -344,16 +343,17 @@ pub fn parsing_text<
     alloc: Global,
     lexer: &X,
     epp: &F,
-    error: &ParseError<T::LexemeT, T::StorageT>,
+    lexeme: T::LexemeT,
+    repairs: &[Vec<ParseRepair<T::LexemeT, T::StorageT>>],
 ) -> Result<String, AllocError>
     requires names { F.IsAlwaysCallable epp.now }
-    requires within { (T.LexemeT.lex error.now.lexeme).places.end ≤ length (X.text lexer.now) }
-    requires fits { AllByRecursion (AllByRecursion (EditFits (X.text lexer.now) T.LexemeT.lex)) (shown_lists T.StorageT.number error.now.repairs.items) }
-    ensures { IfOk result (λ text. (names : ℕ → List ℕ) → AnswersNames T.StorageT.number (F.post epp.now) names → string_bytes text ≡ parsing_error_text names (X.text lexer.now) T.LexemeT.lex error.now.lexeme (shown_lists T.StorageT.number error.now.repairs.items)) }
+    requires within { (T.LexemeT.lex lexeme).places.end ≤ length (X.text lexer.now) }
+    requires fits { AllByRecursion (AllByRecursion (EditFits (X.text lexer.now) T.LexemeT.lex)) (shown_lists T.StorageT.number repairs.now) }
+    ensures { IfOk result (λ text. (names : ℕ → List ℕ) → AnswersNames T.StorageT.number (F.post epp.now) names → string_bytes text ≡ parsing_error_text names (X.text lexer.now) T.LexemeT.lex lexeme (shown_lists T.StorageT.number repairs.now)) }
 {
-    let ((line, column), _) = lexer.line_col(error.lexeme.span());
+    let ((line, column), _) = lexer.line_col(lexeme.span());
     let mut text = format!(in alloc; "Parsing error at line {line} column {column}.")?;
-    let sequences = sequences_of(alloc, lexer, epp, error.repairs.as_slice())?;
+    let sequences = sequences_of(alloc, lexer, epp, repairs)?;
     push_repairs(alloc, &mut text, sequences.as_slice())?;
     Ok(text)
 }

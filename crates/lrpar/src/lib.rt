@@ -1,4 +1,4 @@
-//! LR parsing over checked tables: what checks them, the run with any repairs, values and trees.
+//! LR parsing over checked tables: what checks them, the run with any repairs, the parses that make values and trees.
 //!
 //! ```rust
 //! use lrpar::{Lexer, LexerTypes, ParseRefusal, ParserData, RTParserBuilder};
@@ -27,6 +27,9 @@
 //! taken is applied. The contracts that matter most: `parserdata::ParserData::new` (a pair of a graph and a table is
 //! refused exactly where it isn't safe, at its least place, or where a chain of reductions passes the cap), and those of
 //! `builder::RTParserBuilder`, by `specs/Parses` (`IsParse`: what a parse comes to, and what follows of it).
+//!
+//! Lexemes, trees, the stacks of values and the texts of errors are those of `parse_trees`, whose modules `flat`, `lex_api`,
+//! `node` and `parse_repair` are handed out here.
 #![tactic(auto)]
 
 mod apply;

@@ -1,6 +1,5 @@
 -- What is told of edits and of sequences from each configuration that stands with the same states and lexemes.
 use Rattle.std.proofs.Common.{◌≡◌, ℕ, zero, suc, ◌+◌, ◌<◌, ◌≤◌, Bool, true, false, List, [], ◌∷◌, ◌++◌, length, take, drop, reverse, Some, None, refl, sym, ap, ◌∙◌, subst, arith, inr, ⊎_elim}
-use Rattle.std.specs.Prelude.{slice_get}
 use Rattle.std.proofs.lemmas.Bool.{cases_lt}
 use Rattle.std.proofs.lemmas.List.{take_all, length-map, length-reverse}
 use Rattle.cfg_theory.specs.Grammar.{end_token, Grammar, HasStart, start_symbol}

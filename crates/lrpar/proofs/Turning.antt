@@ -4,7 +4,7 @@ use Rattle.std.specs.Prelude.{slice_get}
 use Rattle.std.proofs.lemmas.List.{take_all, reverse-reverse}
 use Rattle.cfg_theory.specs.Grammar.{end_token, Grammar, head_of, body_of, WellFormed, start_symbol}
 use Rattle.cfg_theory.proofs.Start.{well_formed_start}
-use Rattle.cfg_theory.specs.Tree.{Tree, leaf, node, Forest, none, before}
+use Rattle.cfg_theory.specs.Tree.{Tree, leaf, node, Forest, none}
 use Rattle.lr_theory.specs.Automaton.{Action, shift, reduce, accept, Automaton, Safe}
 use Rattle.lr_theory.specs.Chains.{push_goto, goto_from, reduce_by, reduction}
 use Rattle.lr_theory.specs.Machine.{Config, Outcome, going, accepted, failed, stuck, next_or, pop, after_pop, after_goto, after_shift, after_accept, act, step_on, step, then_run, run}

@@ -1,8 +1,7 @@
 -- A run on stacks of values, in terms of the machine on stacks of trees.
-use Rattle.std.specs.Prelude.{◌≡◌, ◌<◌, ◌≤◌, ℕ, List, [], ◌∷◌, length, drop, slice_get, Option, Some, None}
+use Rattle.std.specs.Prelude.{◌≡◌, ◌<◌, ◌≤◌, ℕ, List, [], ◌∷◌, length, drop, Option, Some, None}
 use Rattle.cfg_theory.specs.Grammar.{Grammar, end_token}
 use Rattle.cfg_theory.specs.Tree.{Tree}
-use Rattle.cfg_theory.specs.Fold.{Span}
 use Rattle.lr_theory.specs.Machine.{Config, going, accepted, failed, run}
 use Rattle.lr_theory.specs.Stack.{Stands}
 use Rattle.state_table.specs.Graphs.{GraphValue}
@@ -11,7 +10,6 @@ use Rattle.parse_trees.specs.Lex.{Lex}
 use Rattle.lrpar.specs.Made.{next_start, end_of}
 use Rattle.state_table.specs.Tables.{automaton_of}
 use Rattle.lrpar.specs.Reducing.{states_of, stack_of, AreStates}
-use Rattle.parse_trees.specs.Stacks.{span_of_places}
 use Rattle.lrpar.specs.declared.stacks.Stacks.{Stacks}
 use Rattle.lrpar.specs.declared.run.Turn.{Turn}
 use Rattle.lrpar.specs.declared.run.Turn.TheVariants as turns

@@ -1,6 +1,5 @@
 -- Taking the edits of a sequence one after another.
-use Rattle.std.specs.Prelude.{◌≡◌, ◌≢◌, ◌≤◌, ℕ, Bool, true, false, List, [], ◌∷◌, drop, map, Option, Some, None, Vec}
-use Rattle.std.specs.declared.alloc.Global.{Global}
+use Rattle.std.specs.Prelude.{◌≡◌, ◌≢◌, ◌≤◌, ℕ, Bool, true, false, List, [], ◌∷◌, drop, Option, Some, None}
 use Rattle.cfg_theory.specs.Grammar.{Sym, Grammar, end_token, HasStart}
 use Rattle.lr_theory.specs.Automaton.{accept, Automaton, Safe}
 use Rattle.lr_theory.specs.Machine.{Config}

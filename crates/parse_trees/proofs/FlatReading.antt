@@ -1,6 +1,6 @@
 -- Nodes that are put together from the front of a tree's list come to the tree.
 use Rattle.std.proofs.Common.{◌≡◌, ℕ, zero, suc, ◌+◌, ◌<◌, ◌≤◌, List, [], ◌∷◌, ◌++◌, length, drop, Option, None, Some, refl, sym, ap, ◌∙◌, arith, append_assoc, append-nil}
-use Rattle.std.specs.Prelude.{Bool, true, false, Result, IfSome, nat_le, slice_get, option_map, option_and_then, if◌then◌else◌}
+use Rattle.std.specs.Prelude.{Bool, true, false, nat_le, slice_get, option_map, option_and_then, if◌then◌else◌}
 use Rattle.std.proofs.lemmas.Bool.{le-leb, leb-true}
 use Rattle.std.proofs.lemmas.List.{drop_all}
 use Rattle.cfg_theory.proofs.Lists.{drop_from_get}
@@ -8,8 +8,7 @@ use Rattle.cfg_theory.specs.Grammar.{Grammar, body_of}
 use Rattle.cfg_theory.specs.Tree.{Tree, leaf, node, Forest, none, before, count, roots, IsTree, AreTrees}
 use Rattle.cfg_theory.specs.Fold.{Span, no_span, span_of, span_over}
 use Rattle.lr_theory.specs.Machine.{pop}
-use Rattle.parse_trees.specs.FlatTrees.{Piece, nonterm, flat, flats, IsFlat, IsFlatTree, FlatValue}
-use Rattle.parse_trees.specs.Lex.{Lex, token_by, span_by}
+use Rattle.parse_trees.specs.FlatTrees.{Piece, nonterm, flat, flats, IsFlat}
 use Rattle.parse_trees.specs.FlatReading.{put, put_each}
 use Rattle.parse_trees.proofs.OnlyTree.{put_on, joined, joined_none}
 

@@ -1,12 +1,11 @@
 -- Nodes beside the machine's stack of trees.
-use Rattle.std.proofs.Common.{◌≡◌, ◌≤◌, ℕ, zero, suc, List, [], ◌∷◌, ◌++◌, length, map, reverse, get_or, Option, None, Some, Bool, true, refl, sym, ap, ◌∙◌, subst, arith}
+use Rattle.std.proofs.Common.{◌≡◌, ◌≤◌, ℕ, zero, suc, List, [], ◌∷◌, ◌++◌, length, map, reverse, get_or, Some, refl, sym, ap, ◌∙◌, arith}
 use Rattle.std.specs.Prelude.{option_map}
 use Rattle.std.proofs.lemmas.List.{length-map, length-reverse, reverse-reverse}
 use Rattle.cfg_theory.specs.Grammar.{Grammar, head_of}
 use Rattle.cfg_theory.specs.Tree.{Tree, leaf, node, Forest, none, before}
 use Rattle.lr_theory.specs.Machine.{pop}
 use Rattle.parse_trees.specs.NodeLists.{grab, shapes_on}
-use Rattle.parse_trees.specs.NodeValues.{HasNode}
 use Rattle.parse_trees.specs.Shapes.{Shape, Shapes, lexeme, over, nothing, shape, shapes, shape_of}
 use Rattle.parse_trees.specs.declared.node.Node.{Node}
 use Rattle.parse_trees.specs.declared.node.Node.TheVariants.{Term}

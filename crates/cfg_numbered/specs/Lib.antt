@@ -2,17 +2,3 @@ pub mod Symbols
 pub mod Value
 pub mod Info
 pub mod PrettyPrint
-pub mod Sets
-pub mod WorkLists
-pub mod Orders
-pub mod Firsts
-pub mod Follows
-pub mod Paths
-pub mod Passes
-pub mod CostTable
-pub mod Sentences
-pub mod Greatest
-pub mod TokenLists
-pub mod CheapestTable
-pub mod EarliestTable
-pub mod SharedLists

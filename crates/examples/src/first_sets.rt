@@ -7,8 +7,8 @@
 ghost use Rattle.std.specs.Prelude.{◌↔◌, ◌<◌, [], ◌∷◌, IsTrue};
 ghost use Rattle.cfg_theory.specs.Grammar.{rule};
 ghost use Rattle.cfg_theory.specs.Derivation.{Nullable, IsFirst, IsFollow};
-ghost use Rattle.cfg_numbered.specs.Firsts.{AreFirsts};
-ghost use Rattle.cfg_numbered.specs.Follows.{AreFollows};
+ghost use Rattle.cfg_sets.specs.Firsts.{AreFirsts};
+ghost use Rattle.cfg_sets.specs.Follows.{AreFollows};
 
 mod told;
 

@@ -5,8 +5,8 @@
 //! the same rule stands beside, or one that the rule doesn't derive, would break it.
 ghost use Rattle.std.specs.Prelude.{◌<◌, IfOk, IfSome};
 ghost use Rattle.cfg_theory.specs.Cost.{IsCheapest};
-ghost use Rattle.cfg_numbered.specs.CostTable.{cost_of};
-ghost use Rattle.cfg_numbered.specs.TokenLists.{tokens_of};
+ghost use Rattle.cfg_sentences.specs.CostTable.{cost_of};
+ghost use Rattle.cfg_sentences.specs.TokenLists.{tokens_of};
 
 mod told;
 

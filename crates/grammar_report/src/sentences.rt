@@ -6,7 +6,7 @@ use crate::faults::push_shown;
 use crate::names::{Grammar, push_line, push_token, push_word};
 use cfg_base::span::Span;
 use cfg_base::symbol::{RIdx, TIdx};
-use cfg_numbered::yacc::{CostError, SentenceError, SentenceGenerator};
+use cfg_sentences::{CostError, SentenceError, SentenceGenerator};
 use cfg_read::yacc::ast::GrammarAST;
 use lrpar_diagnostics::SpannedDiagnosticFormatter;
 use std::alloc::{AllocError, Global};

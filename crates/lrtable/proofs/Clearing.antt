@@ -8,8 +8,8 @@ use Rattle.std.proofs.lemmas.List.{get_or_past, length-set}
 use Rattle.vob.specs.Walk.{walk}
 use Rattle.vob.proofs.LawLemmas.{walk_exactly}
 use Rattle.table_theory.proofs.CellLists.{contains_nil, contains_head, contains_tail, contains_cases}
-use Rattle.cfg_numbered.specs.Sets.{SetRows, is_set, is_set_in}
-use Rattle.cfg_numbered.proofs.Bits.{none_set, row_set}
+use Rattle.vob.specs.Sets.{SetRows, is_set, is_set_in}
+use Rattle.vob.proofs.Bits.{none_set, row_set}
 
 never : false ≡ true → ⊥
 never e = cc

@@ -6,7 +6,7 @@ use Rattle.state_table.specs.ItemRows.{Core}
 use Rattle.lrtable.specs.Opening.{Front, RuleSets, IsOpen, HasRuleLook, AllFit, SameSizes, Opened, OpenedLook}
 use Rattle.lrtable.specs.Closes.{AreFronts}
 use Rattle.lrtable.specs.Stepping.{IsSized, IsClosureOf}
-use Rattle.cfg_numbered.proofs.Bits.{none_set, none_in}
+use Rattle.vob.proofs.Bits.{none_set, none_in}
 
 pub sized_on : (G : Grammar) (a b : RuleSets) → IsSized G a → SameSizes a b → IsSized G b
 sized_on G a b h s = record { tokens = s.tokens ∙ h.tokens; opened = s.opened ∙ h.opened; rows = s.rows ∙ h.rows }

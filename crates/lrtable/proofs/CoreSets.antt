@@ -4,11 +4,11 @@ use Rattle.std.specs.Prelude.{IsTrue}
 use Rattle.std.proofs.lemmas.Bool.{cases_lt}
 use Rattle.std.proofs.lemmas.List.{get_or_past}
 use Rattle.vob.specs.Bits.{bitwise, Meets}
-use Rattle.cfg_numbered.specs.Sets.{is_set}
+use Rattle.vob.specs.Sets.{is_set}
 use Rattle.lr_theory.specs.Itemset.{HasItem, HasLook, SameItems, Is, Union}
 use Rattle.state_table.specs.Meeting.{PairFits, RowsFit, row}
 use Rattle.state_table.specs.ItemRows.{Item, Ascends, set_of, join_rows, CoversRows, LacksRows}
-use Rattle.cfg_numbered.proofs.Bits.{joined}
+use Rattle.vob.proofs.Bits.{joined}
 use Rattle.lr_theory.proofs.ItemLists.{one_list}
 use Rattle.state_table.proofs.ItemSets.{has_item, has_look, one_place, nought, at_own}
 

@@ -2,7 +2,7 @@
 use Rattle.std.proofs.Common.{◌≡◌, ℕ, zero, suc, ◌+◌, ◌<◌, inl, inr, Bool, List, [], ◌∷◌, length, map, set, replicate, refl, sym, ap, ap₂, ◌∙◌, arith, get_or-set_same, get_or-set_other}
 use Rattle.std.proofs.lemmas.Bool.{cases_eq}
 use Rattle.std.proofs.lemmas.List.{map-set}
-use Rattle.cfg_numbered.proofs.Bits.{set_same}
+use Rattle.vob.proofs.Bits.{set_same}
 use Rattle.state_table.specs.ItemRows.{no_core, Item, Core, IsCoreOf}
 use Rattle.lrtable.specs.Gaining.{core_in}
 

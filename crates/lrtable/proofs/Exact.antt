@@ -8,9 +8,9 @@ use Rattle.cfg_theory.specs.Grammar.{Sym, rule, token, Grammar, WellFormed, IsNe
 use Rattle.cfg_theory.specs.First.{AllOf, FirstIsExact}
 use Rattle.cfg_theory.proofs.Derivation.{derives_rule, nullable_of, first_of_list, first_table_exact}
 use Rattle.lr_theory.specs.Canonical.{from_dot}
-use Rattle.cfg_numbered.specs.Sets.{is_set}
-use Rattle.cfg_numbered.specs.Firsts.{FirstSets, HasEpsilon, HasFirst, AreOf, AreFirsts, FirstsOf, AllWithin}
-use Rattle.cfg_numbered.proofs.FirstSteps.{body_within}
+use Rattle.vob.specs.Sets.{is_set}
+use Rattle.cfg_sets.specs.Firsts.{FirstSets, HasEpsilon, HasFirst, AreOf, AreFirsts, FirstsOf, AllWithin}
+use Rattle.cfg_sets.proofs.FirstSteps.{body_within}
 use Rattle.lrtable.specs.Closes.{IsRest}
 
 pub exact : (G : Grammar) (s : FirstSets) → AreFirsts G s → FirstIsExact G (HasEpsilon s) (HasFirst s)

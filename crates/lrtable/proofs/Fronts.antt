@@ -6,7 +6,7 @@ use Rattle.std.proofs.lemmas.Bool.{cases_lt, cases_eq}
 use Rattle.std.proofs.lemmas.List.{length-map, get_or_past, take-map, get_or_push, get_or_append_left, get_or_default}
 use Rattle.std.proofs.lemmas.List.Elements.{Contains-append_left, Contains-append_right, Contains-append_cases, Contains-push_cases}
 use Rattle.cfg_theory.specs.Grammar.{Grammar, rule, IsOf, IsNext, WellFormed, head_of}
-use Rattle.cfg_numbered.specs.Sets.{is_set}
+use Rattle.vob.specs.Sets.{is_set}
 use Rattle.cfg_base.specs.declared.symbol.PIdx.{PIdx}
 use Rattle.cfg_numbered.specs.Symbols.{numbers_of}
 use Rattle.cfg_numbered.specs.Value.{productions_of}
@@ -15,7 +15,7 @@ use Rattle.lrtable.proofs.OpenLaws.{mapped, map_next}
 use Rattle.lrtable.specs.Closes.{AreFronts, IsFrontOf, AreFrontsOf, PutsAt, PutsFront, joined_front}
 use Rattle.lr_theory.specs.Canonical.{from_dot}
 use Rattle.cfg_theory.specs.Derivation.{Nullable, IsFirst}
-use Rattle.cfg_numbered.proofs.Bits.{length-bitwise, joined}
+use Rattle.vob.proofs.Bits.{length-bitwise, joined}
 
 -- one symbol stands there
 pub next_is : (G : Grammar) (q d A B : ℕ) → IsNext G q d (rule A) → IsNext G q d (rule B) → A ≡ B

@@ -3,7 +3,7 @@ use Rattle.std.proofs.Common.{◌≡◌, ℕ, suc, ◌+◌, ◌<◌, ◌⊎◌, 
 use Rattle.std.specs.Prelude.{IsTrue}
 use Rattle.std.proofs.lemmas.Bool.{cases_eq}
 use Rattle.cfg_theory.specs.Grammar.{Sym, Grammar, InRange, IsNext}
-use Rattle.cfg_numbered.specs.Sets.{is_set}
+use Rattle.vob.specs.Sets.{is_set}
 use Rattle.lr_theory.specs.Itemset.{Items, Lookaheads, HasItem, HasLook, SameItems, SameLooks, Goto, GotoLook}
 use Rattle.state_table.specs.ItemRows.{Core, IsCoreOf, map_of, no_core}
 use Rattle.state_table.specs.Adding.{Adds, One, OneLooks}

@@ -4,7 +4,7 @@ use Rattle.std.proofs.lemmas.Bool.{cases_eq, cases_lt}
 use Rattle.std.proofs.lemmas.List.{length-replicate, get_or-replicate}
 use Rattle.vob.specs.Bits.{bitwise}
 use Rattle.cfg_theory.specs.Grammar.{Grammar, head_of}
-use Rattle.cfg_numbered.specs.Sets.{is_set}
+use Rattle.vob.specs.Sets.{is_set}
 use Rattle.lr_theory.specs.Building.{Building}
 use Rattle.state_table.specs.ItemRows.{no_core, Core}
 use Rattle.lrtable.specs.Gaining.{core_in, AreMarked, Gains, KeepsMarks}

@@ -6,8 +6,8 @@ use Rattle.std.proofs.lemmas.Bool.{cases_lt}
 use Rattle.std.proofs.lemmas.List.{get_or_past, length-replicate}
 use Rattle.std.proofs.lemmas.List.Elements.{Contains-append_left, Contains-push, Contains-push_cases}
 use Rattle.cfg_theory.specs.Grammar.{Sym}
-use Rattle.cfg_numbered.specs.Sets.{is_set, missing}
-use Rattle.cfg_numbered.proofs.Bits.{none_set, put_in, put_fills, put_again}
+use Rattle.vob.specs.Sets.{is_set, missing}
+use Rattle.vob.proofs.Bits.{none_set, put_in, put_fills, put_again}
 use Rattle.lr_theory.specs.Graph.{Leads}
 use Rattle.lrtable.specs.States.{Edge, StateValue, state_at}
 use Rattle.lrtable.specs.Pruning.{graph_of_states, IsLed, AreLinked, IsTargetOf, Marks, AreMarking}

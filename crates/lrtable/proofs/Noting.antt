@@ -6,8 +6,8 @@ use Rattle.std.proofs.lemmas.Grind.{take-set_at}
 use Rattle.std.proofs.lemmas.List.{take_more}
 use Rattle.std.proofs.lemmas.List.Elements.{Contains-append_left, Contains-push, Contains-push_cases}
 use Rattle.table_theory.proofs.CellLists.{contains_nil}
-use Rattle.cfg_numbered.specs.Sets.{SetRows, is_set, is_set_in}
-use Rattle.cfg_numbered.proofs.Bits.{none_set, put_in, row_set}
+use Rattle.vob.specs.Sets.{SetRows, is_set, is_set_in}
+use Rattle.vob.proofs.Bits.{none_set, put_in, row_set}
 use Rattle.lrtable.specs.Opening.{AreNoted}
 
 never : false ≡ true → ⊥

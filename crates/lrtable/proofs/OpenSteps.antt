@@ -4,11 +4,11 @@ use Rattle.std.specs.Prelude.{IsTrue, if◌then◌else◌}
 use Rattle.std.specs.List.{Contains}
 use Rattle.std.proofs.lemmas.Bool.{cases_eq}
 use Rattle.std.proofs.lemmas.List.Elements.{Contains-append_left, Contains-push, Contains-push_cases}
-use Rattle.cfg_numbered.specs.Sets.{is_set, is_set_in, joined_to, HasAllOf}
-use Rattle.cfg_numbered.specs.Passes.{PassStep}
+use Rattle.vob.specs.Sets.{is_set, is_set_in, joined_to, HasAllOf}
+use Rattle.vob.specs.Passes.{PassStep}
 use Rattle.lrtable.specs.Opening.{Front, RuleSets, IsOpen, HasRuleLook, Brings, room, StaysAt, FrontStep, Follows}
-use Rattle.cfg_numbered.proofs.Bits.{join, joined, put_in, row_set}
-use Rattle.cfg_numbered.proofs.Passed.{step_and}
+use Rattle.vob.proofs.Bits.{join, joined, put_in, row_set}
+use Rattle.cfg_sets.proofs.Passed.{step_and}
 
 never : false ≡ true → ⊥
 never e = cc

@@ -5,7 +5,7 @@ use Rattle.std.specs.List.{Contains}
 use Rattle.std.proofs.lemmas.List.{take_all}
 use Rattle.std.proofs.lemmas.List.Elements.{Contains-append_left, Contains-push, Contains-push_cases}
 use Rattle.cfg_theory.specs.Grammar.{Grammar, IsOf, WellFormed, head_of}
-use Rattle.cfg_numbered.specs.Sets.{is_set}
+use Rattle.vob.specs.Sets.{is_set}
 use Rattle.cfg_numbered.specs.Value.{productions_of}
 use Rattle.table_theory.proofs.CellLists.{contains_nil, contains_cases}
 use Rattle.cfg_numbered.proofs.RuleLists.{listed, alone}

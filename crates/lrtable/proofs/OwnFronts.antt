@@ -5,9 +5,9 @@ use Rattle.std.specs.List.{Contains}
 use Rattle.std.proofs.lemmas.Bool.{cases_eq}
 use Rattle.std.proofs.lemmas.List.Elements.{Contains-push}
 use Rattle.table_theory.proofs.CellLists.{contains_head, contains_nil, contains_cases}
-use Rattle.cfg_numbered.specs.Sets.{is_set, joined_to, HasAllOf}
-use Rattle.cfg_numbered.specs.Passes.{PassStep}
-use Rattle.cfg_numbered.proofs.Bits.{join}
+use Rattle.vob.specs.Sets.{is_set, joined_to, HasAllOf}
+use Rattle.vob.specs.Passes.{PassStep}
+use Rattle.vob.proofs.Bits.{join}
 use Rattle.lrtable.specs.Opening.{Front, RuleSets, IsOpen, OpenedLook, room, GainsOwn, IsClosedAt, Underway}
 use Rattle.lrtable.proofs.OpenLaws.{no_change, sizes_on, grows_on}
 use Rattle.lrtable.proofs.OpenSteps.{joined_in}

@@ -5,8 +5,8 @@ use Rattle.std.specs.List.{Contains}
 use Rattle.std.proofs.lemmas.List.{length-replicate}
 use Rattle.std.proofs.lemmas.List.Elements.{Contains-append_left, Contains-push, Contains-push_cases}
 use Rattle.table_theory.proofs.CellLists.{contains_nil, contains_head, contains_cases}
-use Rattle.cfg_numbered.specs.Sets.{is_set}
-use Rattle.cfg_numbered.proofs.Bits.{none_set}
+use Rattle.vob.specs.Sets.{is_set}
+use Rattle.vob.proofs.Bits.{none_set}
 use Rattle.lrtable.specs.Opening.{Front}
 use Rattle.lrtable.specs.Pruning.{Marks}
 use Rattle.lrtable.specs.Reaching.{PassesTo, PassedIn}

@@ -9,7 +9,7 @@ use Rattle.lr_theory.specs.Building.{Building, same_symbol}
 use Rattle.state_table.specs.ItemRows.{Core, IsCoreOf, map_of, set_of, join_rows, CoversRows, LacksRows}
 use Rattle.state_table.specs.Meeting.{row}
 use Rattle.lrtable.specs.States.{Edge, StateValue, no_state, state_at, edge_in, edge_of, AscendEdges, Matches, AreStates, IsLinked, IsPlaced, JoinsAt, JoinsNone, grown_at}
-use Rattle.cfg_numbered.proofs.Bits.{length-bitwise}
+use Rattle.vob.proofs.Bits.{length-bitwise}
 use Rattle.lrtable.proofs.CoreSets.{length_join, row_join}
 use Rattle.lrtable.proofs.Buckets.{keeps_kept, keeps_grown, adds_added}
 use Rattle.lrtable.proofs.EdgePlaces.{edges_grown}

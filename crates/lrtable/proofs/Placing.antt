@@ -10,7 +10,7 @@ use Rattle.lr_theory.specs.Building.{Building, same_symbol, with_edge, Joins, St
 use Rattle.state_table.specs.ItemRows.{Item, Core, Ascends, IsCoreOf, set_of, map_of, join_rows, CoversRows, LacksRows}
 use Rattle.state_table.specs.Meeting.{row}
 use Rattle.lrtable.specs.States.{Edge, StateValue, no_state, state_at, edge_in, edge_of, Matches, AreStates, IsPut, StaysApart, JoinsAt, JoinsNone}
-use Rattle.cfg_numbered.proofs.Bits.{set_same}
+use Rattle.vob.proofs.Bits.{set_same}
 use Rattle.state_table.proofs.ItemSets.{has_item, weakly, apart}
 use Rattle.lrtable.proofs.CoreSets.{same_cores, union_is, covers, lacks}
 

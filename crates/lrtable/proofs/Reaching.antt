@@ -6,8 +6,8 @@ use Rattle.std.proofs.lemmas.Bool.{cases_eq}
 use Rattle.std.proofs.lemmas.List.{get_or_push, get_or_append_left}
 use Rattle.std.proofs.lemmas.List.Elements.{Contains-append_left, Contains-push, Contains-push_cases}
 use Rattle.table_theory.proofs.CellLists.{contains_nil, contains_head, contains_tail, contains_cases}
-use Rattle.cfg_numbered.specs.Sets.{is_set, is_set_in}
-use Rattle.cfg_numbered.proofs.Bits.{put_in}
+use Rattle.vob.specs.Sets.{is_set, is_set_in}
+use Rattle.vob.proofs.Bits.{put_in}
 use Rattle.lrtable.specs.Opening.{Front, RuleSets, IsTidy, IsOpen, HasRuleLook, HasFront, Brings, Opened, OpenedLook, AreOpened, room, Comes, FrontComes, FrontStep, NamedIn, BroughtBy, GainsOwn, IsClosedAt, Underway}
 use Rattle.lrtable.specs.Reaching.{LeadsTo, PassesTo, BringsTo, IsReachedBy, MayBeReachedBy, IsAlone, AreListed}
 use Rattle.lrtable.proofs.Clearing.{set_below}

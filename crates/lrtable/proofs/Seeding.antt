@@ -7,7 +7,7 @@ use Rattle.cfg_theory.specs.Grammar.{rule, Grammar, IsNext}
 use Rattle.cfg_theory.specs.Derivation.{Nullable, IsFirst}
 use Rattle.lr_theory.specs.Canonical.{from_dot}
 use Rattle.lr_theory.specs.Itemset.{Items, Lookaheads, ItemSet, HasItem, HasLook, SameItems, SameLooks}
-use Rattle.cfg_numbered.specs.Sets.{is_set}
+use Rattle.vob.specs.Sets.{is_set}
 use Rattle.state_table.specs.Adding.{One, OneLooks}
 use Rattle.state_table.specs.ItemRows.{Item, IsAt, Core, IsCoreOf, map_of}
 use Rattle.state_table.specs.Meeting.{row}

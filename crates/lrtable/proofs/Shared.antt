@@ -5,7 +5,7 @@ use Rattle.std.proofs.lemmas.List.{get_or-map, get_or_past}
 use Rattle.std.proofs.lemmas.Bool.{cases_lt}
 use Rattle.vob.specs.Bits.{LacksSome}
 use Rattle.vob.specs.Packed.{Contents}
-use Rattle.cfg_numbered.specs.Sets.{is_set}
+use Rattle.vob.specs.Sets.{is_set}
 use Rattle.state_table.specs.ItemRows.{CoversRows, LacksRows}
 use Rattle.state_table.specs.Meeting.{PairFits, PairApart, AreAlike, row, rows_in}
 

@@ -5,8 +5,8 @@ use Rattle.std.specs.List.{Contains, AllPairs}
 use Rattle.std.proofs.lemmas.Bool.{cases_eq}
 use Rattle.std.proofs.lemmas.List.{length-replicate, length-set, length-map, get_or-set_same, get_or-set_other}
 use Rattle.cfg_theory.specs.Grammar.{Grammar, IsEnd, end_token}
-use Rattle.cfg_numbered.specs.Sets.{is_set}
-use Rattle.cfg_numbered.proofs.Bits.{none_set, put_in}
+use Rattle.vob.specs.Sets.{is_set}
+use Rattle.vob.proofs.Bits.{none_set, put_in}
 use Rattle.lr_theory.specs.Itemset.{HasItem, HasLook, StartItem, StartLook}
 use Rattle.lrtable.specs.Handling.{AreReached}
 use Rattle.state_table.specs.ItemRows.{Item, IsAt, Core, IsCoreOf, map_of}

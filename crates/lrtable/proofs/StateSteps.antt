@@ -5,13 +5,13 @@ use Rattle.std.proofs.lemmas.Bool.{cases_eq, cases_lt}
 use Rattle.std.proofs.lemmas.List.{get_or-map, length-map, map-set, map-append}
 use Rattle.vob.specs.Packed.{Contents}
 use Rattle.cfg_theory.specs.Grammar.{Sym}
-use Rattle.cfg_numbered.specs.Sets.{is_set, missing}
+use Rattle.vob.specs.Sets.{is_set, missing}
 use Rattle.state_table.specs.Meeting.{row, rows_in, AreAlike, RowsFit}
 use Rattle.std.proofs.Math.Decide.{ℕ_discrete}
 use Rattle.std.proofs.lemmas.List.Elements.{Contains-get_or}
 use Rattle.state_table.specs.ItemRows.{Item, Core, join_rows, LacksRows}
 use Rattle.lrtable.specs.States.{Edge, StateValue, state_at, IsPut, IsLinked, grown_at, no_state, StaysApart, IsApartFrom, JoinsAt, JoinsNone, ListsCore}
-use Rattle.cfg_numbered.proofs.Bits.{join, joined, join_fills, set_same}
+use Rattle.vob.proofs.Bits.{join, joined, join_fills, set_same}
 
 never : false ≡ true → ⊥
 never e = cc

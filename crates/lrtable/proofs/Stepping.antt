@@ -16,7 +16,7 @@ use Rattle.lrtable.specs.MovedItems.{IsKernel}
 use Rattle.lrtable.specs.States.{StateValue, no_state, state_at, edge_in, edge_of, AscendEdges, Matches, AreStates, IsPlaced, JoinsNone, AreBuckets, first_production}
 use Rattle.lrtable.proofs.Buckets.{buckets_kept}
 use Rattle.lrtable.specs.Stepping.{AreGotos, AreGotosOf, IsGotoAt, IsNextTaken, set_off}
-use Rattle.cfg_numbered.proofs.Bits.{set_same}
+use Rattle.vob.proofs.Bits.{set_same}
 use Rattle.lrtable.proofs.Handling.{skipped, placed_next, too_many, stepped, stepped_less}
 use Rattle.state_table.proofs.ItemSets.{has_item, nought, at_own}
 use Rattle.lrtable.proofs.Placing.{core_is, count_is}

@@ -7,8 +7,8 @@ use Rattle.std.proofs.lemmas.List.{get_or_default, get_or_append_left}
 use Rattle.std.proofs.lemmas.List.Elements.{Contains-get_or}
 use Rattle.std.proofs.Math.Seq.{get_or-append_seam}
 use Rattle.cfg_theory.specs.Grammar.{Sym, rule, token, Grammar, WellFormed, InRange, IsNext, head_of}
-use Rattle.cfg_numbered.specs.Sets.{is_set}
-use Rattle.cfg_numbered.proofs.Bits.{set_same}
+use Rattle.vob.specs.Sets.{is_set}
+use Rattle.vob.proofs.Bits.{set_same}
 use Rattle.lr_theory.specs.Itemset.{Items, Lookaheads, ItemSet, HasItem, HasLook, SameItems, Closure, ClosureLook, Goto, GotoLook, Is}
 use Rattle.lr_theory.specs.ItemLists.{Stands}
 use Rattle.lr_theory.specs.Graph.{core_of}

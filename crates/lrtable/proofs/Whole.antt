@@ -8,8 +8,8 @@ use Rattle.std.proofs.lemmas.List.FromFn.{length-range_with_len, get_or-range_wi
 use Rattle.std.proofs.lemmas.List.Elements.{Contains-append_left, Contains-push}
 use Rattle.table_theory.proofs.CellLists.{contains_head, contains_tail}
 use Rattle.cfg_theory.specs.Grammar.{Sym}
-use Rattle.cfg_numbered.specs.Sets.{is_set}
-use Rattle.cfg_numbered.proofs.Bits.{none_set, put_in}
+use Rattle.vob.specs.Sets.{is_set}
+use Rattle.vob.proofs.Bits.{none_set, put_in}
 use Rattle.lr_theory.specs.Graph.{Leads}
 use Rattle.lrtable.specs.States.{Edge, StateValue, no_state, state_at}
 use Rattle.lrtable.specs.Pruning.{graph_of_states, IsLed, AreLinked, IsTargetOf, Flagged, renumbered, renumbered_state, IsCut}

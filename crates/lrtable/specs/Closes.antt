@@ -6,7 +6,7 @@ use Rattle.cfg_theory.specs.Grammar.{Grammar, rule, IsOf, IsNext, head_of}
 use Rattle.cfg_theory.specs.Derivation.{Nullable, IsFirst}
 use Rattle.lr_theory.specs.Canonical.{from_dot}
 use Rattle.lr_theory.specs.Itemset.{Items, Lookaheads, ItemSet, HasItem, HasLook, Closure, ClosureLook}
-use Rattle.cfg_numbered.specs.Sets.{is_set}
+use Rattle.vob.specs.Sets.{is_set}
 use Rattle.lrtable.specs.Opening.{Front, RuleSets, IsOpen, HasRuleLook, HasFront, AreOpened}
 
 -- what follows the symbol behind the dot of (p, d): the tokens that it begins with, and whether it is nullable

@@ -1,6 +1,6 @@
 -- The sets to which the items of a closed state move, a set for each symbol by its rank.
 use Rattle.std.specs.Prelude.{◌≡◌, ℕ, ◌<◌, ◌⊎◌, ◌↔◌, Bool, false, List, length, get_or}
-use Rattle.cfg_numbered.specs.Sets.{is_set}
+use Rattle.vob.specs.Sets.{is_set}
 use Rattle.cfg_theory.specs.Grammar.{Sym, Grammar, InRange}
 use Rattle.lr_theory.specs.Itemset.{Items, Lookaheads, ItemSet, HasItem, HasLook, Goto, GotoLook}
 use Rattle.state_table.specs.ItemRows.{Core, map_of, IsCoreOf, no_core}

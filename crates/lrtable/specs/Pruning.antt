@@ -2,7 +2,7 @@
 use Rattle.std.specs.Prelude.{◌≡◌, ℕ, ◌+◌, ◌<◌, ◌≤◌, ◌⊎◌, ◌↔◌, Bool, IsTrue, List, length, map, get_or, Some}
 use Rattle.std.specs.List.{Contains, AllPairs}
 use Rattle.cfg_theory.specs.Grammar.{Sym}
-use Rattle.cfg_numbered.specs.Sets.{is_set, missing}
+use Rattle.vob.specs.Sets.{is_set, missing}
 use Rattle.lr_theory.specs.Graph.{Graph, Leads}
 use Rattle.state_table.specs.ItemRows.{map_of}
 use Rattle.lrtable.specs.States.{Edge, AscendEdges, StateValue, state_at, edge_of}

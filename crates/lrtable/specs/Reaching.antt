@@ -1,7 +1,7 @@
 -- What a rule leads to by the rules that stand first in productions, and what comes to these where it alone is open.
 use Rattle.std.specs.Prelude.{◌≡◌, ℕ, ◌<◌, ◌⊎◌, ◌↔◌, Bool, IsTrue, List, [], length, get_or}
 use Rattle.std.specs.List.{Contains}
-use Rattle.cfg_numbered.specs.Sets.{is_set}
+use Rattle.vob.specs.Sets.{is_set}
 use Rattle.lrtable.specs.Opening.{Front, RuleSets, IsOpen, HasRuleLook, HasFront, AllFit, NamedIn}
 
 -- the rules that A leads to

@@ -1,7 +1,7 @@
 -- A step of the building over the states: the closed state's items, moved into a set for each symbol, and their placing.
 use Rattle.std.specs.Prelude.{◌≡◌, ℕ, ◌+◌, ◌<◌, false, IsTrue, List, length, slice_set}
 use Rattle.cfg_theory.specs.Grammar.{Sym, Grammar, InRange, IsOf, head_of}
-use Rattle.cfg_numbered.specs.Sets.{is_set}
+use Rattle.vob.specs.Sets.{is_set}
 use Rattle.lr_theory.specs.Itemset.{Items, Lookaheads, HasItem, HasLook, Closure, ClosureLook, Goto, GotoLook, Is}
 use Rattle.lr_theory.specs.Graph.{core_of}
 use Rattle.lr_theory.specs.Building.{Building, Reached, IsTodo}

@@ -2,7 +2,7 @@
 -- of their lookaheads stand in the closed state.
 use Rattle.std.specs.Prelude.{◌≡◌, ℕ, suc, ◌<◌, ◌↔◌, Bool, IsTrue, List, length, get_or, Some}
 use Rattle.cfg_theory.specs.Grammar.{Grammar, InRange}
-use Rattle.cfg_numbered.specs.Sets.{is_set}
+use Rattle.vob.specs.Sets.{is_set}
 use Rattle.lr_theory.specs.Itemset.{HasItem, HasLook, SameItems, Closure, ClosureLook, Goto}
 use Rattle.lrtable.specs.declared.retaking.Retaken.{Retaken}
 use Rattle.lrtable.specs.Closes.{AreFronts}

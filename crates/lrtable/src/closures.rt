@@ -1,8 +1,8 @@
 //! Closures and goto sets as items that share their sets of lookaheads.
 
 ghost use Rattle.std.specs.Prelude.{◌≡◌, ◌<◌, ℕ, length, IfOk, IsTrue, OnOk};
-ghost use Rattle.cfg_numbered.specs.Firsts.{AreFirsts};
-ghost use Rattle.cfg_numbered.specs.Sets.{is_set};
+ghost use Rattle.cfg_sets.specs.Firsts.{AreFirsts};
+ghost use Rattle.vob.specs.Sets.{is_set};
 ghost use Rattle.cfg_numbered.specs.Symbols.{sym_of};
 ghost use Rattle.lr_theory.specs.Itemset.{HasItem, HasLook, Closure, ClosureLook, Goto, GotoLook, Is};
 ghost use Rattle.state_table.specs.Adding.{One, OneLooks};
@@ -21,7 +21,8 @@ use crate::rests::symbol_after;
 use crate::rooms::opened_room;
 use cfg_base::index::IndexStorage;
 use cfg_base::symbol::{PIdx, RIdx, SIdx, Symbol};
-use cfg_numbered::yacc::{NumberedGrammar, YaccFirsts};
+use cfg_numbered::yacc::NumberedGrammar;
+use cfg_sets::YaccFirsts;
 use state_table::cores::{CoreItem, CoreSet};
 use state_table::shared_sets::SharedSets;
 use state_table::stategraph::same_symbols;

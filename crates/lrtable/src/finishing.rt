@@ -1,7 +1,7 @@
 //! The state graph of a finished building.
 
 ghost use Rattle.std.specs.Prelude.{◌≡◌, ◌<◌, ◌≤◌, ℕ, [], length, map, get_or, IfOk, OnOk, IsErrOf, All};
-ghost use Rattle.cfg_numbered.specs.Firsts.{AreFirsts};
+ghost use Rattle.cfg_sets.specs.Firsts.{AreFirsts};
 ghost use Rattle.lr_theory.specs.Itemset.{FitsGrammar};
 ghost use Rattle.lr_theory.specs.Sizes.{StaysWithin};
 ghost use Rattle.lrtable.specs.Closers.{IsReady};
@@ -25,7 +25,8 @@ use crate::rooms::rules_behind;
 use crate::states::{BuildError, EdgeTo, State};
 use cfg_base::index::IndexStorage;
 use cfg_base::symbol::Symbol;
-use cfg_numbered::yacc::{NumberedGrammar, YaccFirsts};
+use cfg_numbered::yacc::NumberedGrammar;
+use cfg_sets::YaccFirsts;
 use state_table::cores::CoreSet;
 use state_table::itemset::{Itemset, of_shared};
 use state_table::shared_sets::SharedSets;

@@ -17,7 +17,8 @@ ghost use Rattle.lrtable.specs.declared.grammar_table.FromYaccError.TheVariants 
 use crate::finishing::graph_of_grammar;
 use crate::states::BuildError;
 use cfg_base::index::IndexStorage;
-use cfg_numbered::yacc::{NumberedGrammar, YaccFirsts};
+use cfg_numbered::yacc::NumberedGrammar;
+use cfg_sets::YaccFirsts;
 use state_table::stategraph::StateGraph;
 use state_table::statetable::{StateTable, StateTableError, StateTableNewError};
 use std::alloc::{AllocError, Global};

@@ -1,7 +1,7 @@
 //! Item sets with closure and goto.
 
 ghost use Rattle.std.specs.Prelude.{IfOk};
-ghost use Rattle.cfg_numbered.specs.Firsts.{AreFirsts};
+ghost use Rattle.cfg_sets.specs.Firsts.{AreFirsts};
 ghost use Rattle.cfg_numbered.specs.Symbols.{sym_of};
 ghost use Rattle.lr_theory.specs.Itemset.{ItemSet, HasItem, HasLook, Closure, ClosureLook, Goto, GotoLook, Is, FitsGrammar};
 
@@ -9,7 +9,8 @@ use crate::closures::{closed_set, moved_set};
 use crate::openers::Openers;
 use cfg_base::index::IndexStorage;
 use cfg_base::symbol::Symbol;
-use cfg_numbered::yacc::{NumberedGrammar, YaccFirsts};
+use cfg_numbered::yacc::NumberedGrammar;
+use cfg_sets::YaccFirsts;
 use state_table::itemset::of_shared;
 pub use state_table::itemset::{Items, Itemset};
 use std::alloc::{AllocError, Global};

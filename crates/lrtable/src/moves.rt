@@ -2,7 +2,7 @@
 
 ghost use Rattle.std.specs.Prelude.{◌≡◌, ◌<◌, ◌≤◌, ◌+◌, ℕ, List, length, map, IfOk, OnOk, IsTrue};
 ghost use Rattle.cfg_theory.specs.Grammar.{InRange, body_of};
-ghost use Rattle.cfg_numbered.specs.Sets.{is_set};
+ghost use Rattle.vob.specs.Sets.{is_set};
 ghost use Rattle.cfg_numbered.specs.Symbols.{sym_of};
 ghost use Rattle.lr_theory.specs.Itemset.{HasItem, HasLook, Closure, ClosureLook};
 ghost use Rattle.state_table.specs.Adding.{One, OneLooks};

@@ -1,7 +1,7 @@
 //! Numbers in the order in which they came, as long as there is room for them.
 
 ghost use Rattle.std.specs.Prelude.{◌≡◌, ◌<◌, Bool, List, false, true, length, slice_set, take, IfOk};
-ghost use Rattle.cfg_numbered.specs.Sets.{is_set};
+ghost use Rattle.vob.specs.Sets.{is_set};
 ghost use Rattle.lrtable.specs.Opening.{AreNoted};
 
 use std::alloc::{AllocError, Global};

@@ -2,7 +2,7 @@
 
 ghost use Rattle.std.specs.Prelude.{◌≡◌, ◌<◌, [], length, map, get_or, IfOk, IfSome, OnOk};
 ghost use Rattle.std.specs.List.{Contains};
-ghost use Rattle.cfg_numbered.specs.Firsts.{AreFirsts};
+ghost use Rattle.cfg_sets.specs.Firsts.{AreFirsts};
 ghost use Rattle.cfg_numbered.specs.Value.{productions_of};
 ghost use Rattle.lrtable.specs.Closes.{AreFronts, AreFrontsOf, PutsFront, PutsAt, joined_front};
 ghost use Rattle.lrtable.specs.Fronts.{front_of, front_with};
@@ -12,7 +12,8 @@ ghost use Rattle.lrtable.specs.Reaching.{AreReachedBy, IsReachedBy};
 use crate::rests::{Rest, rest_after, rule_after};
 use cfg_base::index::IndexStorage;
 use cfg_base::symbol::{PIdx, RIdx};
-use cfg_numbered::yacc::{NumberedGrammar, YaccFirsts};
+use cfg_numbered::yacc::NumberedGrammar;
+use cfg_sets::YaccFirsts;
 use std::alloc::{AllocError, Global};
 use std::marker::Model;
 

@@ -3,10 +3,10 @@
 
 ghost use Rattle.std.specs.Prelude.{◌≡◌, ℕ, Bool, List, ◌<◌, ◌≤◌, ◌+◌, ◌++◌, true, false, [], ◌∷◌, length, map, get_or, replicate, slice_set, IfOk, OnOk, IsTrue, ◌↔◌, if◌then◌else◌};
 ghost use Rattle.std.specs.List.{Contains};
-ghost use Rattle.cfg_numbered.specs.Passes.{PassStep};
-ghost use Rattle.cfg_numbered.specs.Sets.{joined_to, is_set, is_set_in, HasAllOf};
+ghost use Rattle.vob.specs.Passes.{PassStep};
+ghost use Rattle.vob.specs.Sets.{joined_to, is_set, is_set_in, HasAllOf};
 ghost use Rattle.lrtable.specs.Fronts.{front_of, front_with};
-ghost use Rattle.cfg_numbered.specs.Firsts.{AreFirsts};
+ghost use Rattle.cfg_sets.specs.Firsts.{AreFirsts};
 ghost use Rattle.lr_theory.specs.Itemset.{HasItem, HasLook};
 ghost use Rattle.state_table.specs.Adding.{One, OneLooks};
 ghost use Rattle.lrtable.specs.Closes.{Seeds, SeedsLook, AreFronts};
@@ -25,7 +25,8 @@ use crate::rests::{Rest, fill_rest, rule_after};
 use crate::rooms::production_counts;
 use crate::rule_rows::RuleRows;
 use cfg_base::index::IndexStorage;
-use cfg_numbered::yacc::{NumberedGrammar, YaccFirsts};
+use cfg_numbered::yacc::NumberedGrammar;
+use cfg_sets::YaccFirsts;
 use state_table::cores::{CoreItem, CoreSet};
 use state_table::rooms::bits_set;
 use std::alloc::{AllocError, Global};

@@ -1,9 +1,9 @@
 //! The building of the states, by Pager's merging.
 
 ghost use Rattle.std.specs.Prelude.{◌↔◌, IsTrue, ◌≡◌, ◌<◌, ◌≤◌, ◌+◌, ℕ, true, false, [], ◌∷◌, ◌++◌, length, map, take, replicate, slice_set, IfOk, OnOk, IsErrOf, MatchOption};
-ghost use Rattle.cfg_numbered.specs.Firsts.{AreFirsts};
+ghost use Rattle.cfg_sets.specs.Firsts.{AreFirsts};
 ghost use Rattle.cfg_theory.specs.Grammar.{IsEnd};
-ghost use Rattle.cfg_numbered.specs.Sets.{is_set};
+ghost use Rattle.vob.specs.Sets.{is_set};
 ghost use Rattle.lr_theory.specs.Building.{Building, IsGraph};
 ghost use Rattle.lr_theory.specs.Sizes.{StaysWithin};
 ghost use Rattle.lr_theory.specs.Itemset.{HasItem, HasLook, Closure, ClosureLook};
@@ -30,7 +30,8 @@ use crate::retaking::{Retaken, retake_all};
 use crate::states::{BuildError, EdgeTo, State, place};
 use cfg_base::index::IndexStorage;
 use cfg_base::symbol::SIdx;
-use cfg_numbered::yacc::{NumberedGrammar, YaccFirsts};
+use cfg_numbered::yacc::NumberedGrammar;
+use cfg_sets::YaccFirsts;
 use state_table::cores::{CoreItem, CoreSet};
 use state_table::rooms::bits_set;
 use std::alloc::{AllocError, Global};

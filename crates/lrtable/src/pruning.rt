@@ -2,7 +2,7 @@
 
 ghost use Rattle.std.specs.Prelude.{◌≡◌, ℕ, ◌+◌, ◌<◌, ◌↔◌, true, IsTrue, length, map, slice_set, IfOk, OnOk};
 ghost use Rattle.std.specs.List.{Contains, AllPairs};
-ghost use Rattle.cfg_numbered.specs.Sets.{is_set};
+ghost use Rattle.vob.specs.Sets.{is_set};
 ghost use Rattle.lrtable.specs.Pruning.{AreLinked, Flagged, IsLed, IsTargetOf, Marks, AreNumbered, IsCut, renumbered, renumbered_state};
 ghost use Rattle.lrtable.specs.States.{Edge, state_at};
 ghost use Rattle.lrtable.specs.StateViews.{edges_of, value_of};

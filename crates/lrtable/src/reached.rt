@@ -3,7 +3,7 @@
 
 ghost use Rattle.std.specs.Prelude.{◌≡◌, ◌<◌, ◌↔◌, ◌∷◌, ℕ, length, map, get_or, [], IfOk, IsTrue, OnOk};
 ghost use Rattle.std.specs.List.{Contains};
-ghost use Rattle.cfg_numbered.specs.Sets.{is_set};
+ghost use Rattle.vob.specs.Sets.{is_set};
 ghost use Rattle.lrtable.specs.Fronts.{front_of};
 ghost use Rattle.lrtable.specs.Opening.{Front, AllFit, HasFront, IsTidy, SameSizes};
 ghost use Rattle.lrtable.specs.Pruning.{Marks};

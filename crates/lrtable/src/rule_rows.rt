@@ -2,8 +2,8 @@
 
 ghost use Rattle.std.specs.Prelude.{◌≡◌, ◌<◌, ℕ, false, IfOk, IsTrue, [], length, get_or, replicate, slice_set};
 ghost use Rattle.std.specs.List.{Contains};
-ghost use Rattle.cfg_numbered.specs.Sets.{SetRows, is_set, is_set_in, missing_in, joined_to, HasAllOf};
-ghost use Rattle.cfg_numbered.specs.Passes.{PassStep};
+ghost use Rattle.vob.specs.Sets.{SetRows, is_set, is_set_in, missing_in, joined_to, HasAllOf};
+ghost use Rattle.vob.specs.Passes.{PassStep};
 
 use std::alloc::{AllocError, Global};
 use std::marker::Model;
@@ -18,7 +18,7 @@ pub(crate) struct RuleRows {
 
 impl Model for RuleRows {
     ghost use Rattle.std.specs.Prelude.{map, length};
-    ghost use Rattle.cfg_numbered.specs.Sets.{SetRows, AreRows};
+    ghost use Rattle.vob.specs.Sets.{SetRows, AreRows};
 
     ghost Value = { SetRows };
 

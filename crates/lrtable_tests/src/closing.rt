@@ -1,7 +1,7 @@
 //! Closures and goto sets.
 
 ghost use Rattle.std.specs.Prelude.{◌≡◌, length, IfOk};
-ghost use Rattle.cfg_numbered.specs.Firsts.{AreFirsts};
+ghost use Rattle.cfg_sets.specs.Firsts.{AreFirsts};
 ghost use Rattle.lr_theory.specs.Itemset.{FitsGrammar};
 
 use crate::make::made;

@@ -5,10 +5,10 @@ use Rattle.std.specs.List.{Contains}
 use Rattle.std.proofs.lemmas.List.{length-set, get_or-set_other}
 use Rattle.std.proofs.lemmas.List.Elements.{Contains-push, Contains-push_cases, Contains-append_left}
 use Rattle.std.proofs.lemmas.Bool.{cases_eq}
-use Rattle.cfg_numbered.specs.Sets.{is_set, missing}
-use Rattle.cfg_numbered.specs.WorkLists.{ListsNaming, StandsFrom}
-use Rattle.cfg_numbered.proofs.Bits.{put_in, put_fills, put_again}
-use Rattle.cfg_numbered.proofs.WorkSteps.{none_left, taken_off}
+use Rattle.vob.specs.Sets.{is_set, missing}
+use Rattle.cfg_sets.specs.WorkLists.{ListsNaming, StandsFrom}
+use Rattle.vob.proofs.Bits.{put_in, put_fills, put_again}
+use Rattle.cfg_sets.proofs.WorkSteps.{none_left, taken_off}
 use Rattle.cfg_theory.specs.Derivation.{IsProductive}
 use Rattle.cfg_theory.specs.Grammar.{Sym, rule, token, Grammar, WellFormed, IsNext, IsOf, head_of, body_of}
 use Rattle.cfg_theory.specs.Productive.{RulesIn, ProductiveIsExact, ProductiveTablesAreExact}

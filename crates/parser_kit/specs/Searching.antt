@@ -1,8 +1,8 @@
 -- A search for the rules that derive some text.
 use Rattle.std.specs.Prelude.{◌≡◌, ℕ, ◌+◌, ◌<◌, ◌≤◌, ◌⊎◌, Bool, true, false, IsTrue, List, length, Option, None, Some}
 use Rattle.std.specs.List.{Contains}
-use Rattle.cfg_numbered.specs.Sets.{is_set, missing}
-use Rattle.cfg_numbered.specs.WorkLists.{NamesOne}
+use Rattle.vob.specs.Sets.{is_set, missing}
+use Rattle.cfg_sets.specs.WorkLists.{NamesOne}
 use Rattle.cfg_theory.specs.Derivation.{IsProductive}
 use Rattle.cfg_theory.specs.Grammar.{Sym, rule, token, Grammar, head_of, IsNext}
 use Rattle.parser_kit.specs.declared.productive.Search.{Search}

@@ -3,7 +3,7 @@
 ghost use Rattle.std.specs.Prelude.{◌≡◌, ℕ, ◌<◌, [], length, get_or, slice_get, Some, replicate, IfOk, OnOk};
 ghost use Rattle.cfg_theory.specs.Grammar.{Sym};
 ghost use Rattle.cfg_numbered.specs.Symbols.{sym_of, syms_of};
-ghost use Rattle.cfg_numbered.specs.WorkLists.{AddsNamed, HasList, IsRule, IsSomeOf, ListsNaming};
+ghost use Rattle.cfg_sets.specs.WorkLists.{AddsNamed, HasList, IsRule, IsSomeOf, ListsNaming};
 
 use cfg_base::index::IndexStorage;
 use cfg_base::symbol::Symbol;

@@ -5,9 +5,9 @@
 //! most.
 
 ghost use Rattle.std.specs.Prelude.{◌≡◌, ℕ, ◌<◌, ◌≤◌, [], ◌∷◌, ◌++◌, IsTrue, IfOk, IfSome, OnOk, None, false, length, replicate};
-ghost use Rattle.cfg_numbered.specs.Sets.{is_set};
+ghost use Rattle.vob.specs.Sets.{is_set};
 ghost use Rattle.cfg_numbered.specs.Symbols.{sym_of};
-ghost use Rattle.cfg_numbered.specs.WorkLists.{HasList, ListsNaming};
+ghost use Rattle.cfg_sets.specs.WorkLists.{HasList, ListsNaming};
 ghost use Rattle.parser_kit.specs.Productive.{EachProductive, Tells};
 ghost use Rattle.parser_kit.specs.Searching.{AllFoundFrom, IsLookedAt, IsSearch, LooksAt, NamesUnfound, TellsHeld, TellsHold, room};
 

@@ -5,13 +5,13 @@ use Rattle.std.specs.List.{insert, AllPairs}
 use Rattle.std.proofs.lemmas.Bool.{cases_eq, cases_lt}
 use Rattle.std.proofs.lemmas.List.{get_or_default}
 use Rattle.std.proofs.lemmas.List.Edits.{length-insert, get_or-insert_below, get_or-insert_at, get_or-insert_above}
-use Rattle.cfg_numbered.specs.Sets.{is_set}
+use Rattle.vob.specs.Sets.{is_set}
 use Rattle.lr_theory.specs.Itemset.{HasItem, HasLook}
 use Rattle.state_table.specs.Meeting.{row}
 use Rattle.state_table.specs.ItemRows.{Item, IsAt, ItemBefore, Ascends, Core, map_of, IsCoreOf}
 use Rattle.state_table.specs.Adding.{Adds}
 use Rattle.state_table.proofs.ItemSets.{has_item, has_look}
-use Rattle.cfg_numbered.proofs.Bits.{join, joined}
+use Rattle.vob.proofs.Bits.{join, joined}
 
 -- ---- the order
 

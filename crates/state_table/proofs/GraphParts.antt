@@ -6,7 +6,7 @@ use Rattle.std.proofs.lemmas.Bool.{cases_lt}
 use Rattle.std.proofs.lemmas.List.{get_or_past}
 use Rattle.std.proofs.lemmas.Option.{unwrap_or-slice_get}
 use Rattle.cfg_theory.specs.Grammar.{Sym, rule, token, Grammar, WellFormed, body_of, end_token}
-use Rattle.cfg_numbered.specs.Sets.{is_set}
+use Rattle.vob.specs.Sets.{is_set}
 use Rattle.lr_theory.specs.Building.{same_symbol}
 use Rattle.lr_theory.specs.Itemset.{Entry, ItemSet, HasItem, FitsGrammar, entry_at}
 use Rattle.lr_theory.proofs.GraphLaws.{graph_finished}

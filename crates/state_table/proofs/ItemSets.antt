@@ -2,7 +2,7 @@
 use Rattle.std.proofs.Common.{◌≡◌, ℕ, zero, suc, ◌<◌, ◌⊎◌, inl, inr, ◌↔◌, Bool, true, false, List, [], ◌∷◌, length, get_or, Some, slice_get, refl, sym, ap, ◌∙◌, subst, subst₂, arith}
 use Rattle.std.specs.Prelude.{IsTrue}
 use Rattle.std.proofs.lemmas.Bool.{cases_eq, cases_lt}
-use Rattle.cfg_numbered.specs.Sets.{is_set}
+use Rattle.vob.specs.Sets.{is_set}
 use Rattle.lr_theory.specs.Itemset.{HasItem, HasLook, WeaklyCompatible, Cross, Meet}
 use Rattle.lr_theory.specs.Building.{Incompatible}
 use Rattle.vob.specs.Bits.{Meets}

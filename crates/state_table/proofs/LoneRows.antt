@@ -3,7 +3,7 @@ use Rattle.std.proofs.Common.{◌≡◌, ℕ, ◌+◌, ◌<◌, ◌≤◌, inl, 
 use Rattle.std.proofs.lemmas.Bool.{cases_eq, cases_lt}
 use Rattle.std.proofs.lemmas.List.{get_or_default}
 use Rattle.cfg_theory.specs.Grammar.{Grammar, end_token}
-use Rattle.cfg_numbered.specs.Sets.{is_set}
+use Rattle.vob.specs.Sets.{is_set}
 use Rattle.lr_theory.specs.Automaton.{Action}
 use Rattle.table_theory.specs.Cells.{Precedences, cell_by, pairs_at, shifts_at}
 use Rattle.state_table.specs.CellRows.{AreApart, HasOnlyShifts, OfProduction, OfToken, PartsValue, ReductionValue, StandsAt, cells_by, filled, filled_row, lone_cells, pairs_in, pairs_on, reductions_on, shift_to, shifts_in, shifts_on}

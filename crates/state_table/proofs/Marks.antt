@@ -4,8 +4,8 @@ use Rattle.std.specs.List.{filter, range_with_len}
 use Rattle.std.specs.declared.ops.Bound.TheVariants.{Unbounded}
 use Rattle.std.proofs.lemmas.Bool.{cases_eq}
 use Rattle.std.proofs.lemmas.List.{length-replicate, get_or-replicate}
-use Rattle.cfg_numbered.specs.Sets.{is_set}
-use Rattle.cfg_numbered.proofs.Bits.{join, joined, length-bitwise}
+use Rattle.vob.specs.Sets.{is_set}
+use Rattle.vob.proofs.Bits.{join, joined, length-bitwise}
 use Rattle.vob.specs.Walk.{has_item, indices_of, walk}
 use Rattle.state_table.specs.Marks.{LeavesOut}
 

@@ -7,8 +7,8 @@ use Rattle.std.proofs.lemmas.List.{get_or_default, get_or_append_left, get_or_pu
 use Rattle.std.proofs.lemmas.List.Elements.{All-head, All-tail, All-cons, All-append, All-take, All-drop, All-set, All-push, All-weaker}
 use Rattle.vob.specs.Packed.{Contents}
 use Rattle.vob.specs.Bits.{HoldsAll, LacksSome}
-use Rattle.cfg_numbered.specs.Sets.{is_set}
-use Rattle.cfg_numbered.proofs.Bits.{join, length-bitwise, set_same}
+use Rattle.vob.specs.Sets.{is_set}
+use Rattle.vob.proofs.Bits.{join, length-bitwise, set_same}
 use Rattle.lr_theory.specs.Itemset.{Items, Lookaheads, ItemSet, HasItem, HasLook, SameItems, SameLooks}
 use Rattle.state_table.specs.declared.cores.CoreItem.{CoreItem}
 use Rattle.state_table.specs.declared.shared_sets.SharedItem.{SharedItem}

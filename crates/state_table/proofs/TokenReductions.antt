@@ -8,7 +8,7 @@ use Rattle.vob.specs.Packed.{Contents}
 use Rattle.state_table.specs.Meeting.{rows_in}
 use Rattle.std.proofs.lemmas.List.{get_or-map, map-append, map_more, at_drop_more}
 use Rattle.cfg_base.specs.declared.symbol.PIdx.{PIdx}
-use Rattle.cfg_numbered.specs.Sets.{is_set}
+use Rattle.vob.specs.Sets.{is_set}
 use Rattle.table_theory.specs.Cells.{ReduceReduce, pairs_at}
 use Rattle.state_table.specs.declared.state_rows.Reduction.{Reduction}
 use Rattle.state_table.specs.CellRows.{ReductionValue, reductions_on, first_of, pair_with}

@@ -2,7 +2,7 @@
 use Rattle.std.specs.Prelude.{◌≡◌, ◌⊎◌, ℕ, ◌<◌, ◌≤◌, Bool, true, false, ◌&&◌, cond, nat_eq, List, [], ◌∷◌, length, Option, Some, None}
 use Rattle.std.specs.List.{AllByRecursion}
 use Rattle.cfg_theory.specs.Grammar.{Grammar, end_token}
-use Rattle.cfg_numbered.specs.Sets.{is_set}
+use Rattle.vob.specs.Sets.{is_set}
 use Rattle.lr_theory.specs.Automaton.{Action}
 use Rattle.table_theory.specs.Cells.{Precedence, Precedences, Candidates, ReduceReduce, ShiftReduce, shift_or_reduce, unsettled_entry, gathered, pairs_at, shifts_at, cell_of}
 use Rattle.state_table.specs.Cursors.{IsCursor}

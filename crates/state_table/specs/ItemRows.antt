@@ -1,7 +1,7 @@
 -- A set of core items as a program keeps it: the items in ascending order, which states of one core share, and beside
 -- each its lookaheads.
 use Rattle.vob.specs.Bits.{bitwise}
-use Rattle.cfg_numbered.specs.Sets.{is_set}
+use Rattle.vob.specs.Sets.{is_set}
 use Rattle.std.specs.Prelude.{◌≡◌, ℕ, ◌<◌, ◌||◌, Bool, IsTrue, List, [], ◌∷◌, length, get_or, ◌≤◌}
 use Rattle.lr_theory.specs.Itemset.{ItemSet}
 pub use Rattle.lr_theory.specs.ItemLists.{Item, Precedes as ItemBefore, Ascends, IsAt, set_of}

@@ -1,6 +1,6 @@
 -- Flags that stand for the numbers at which something may be.
 use Rattle.std.specs.Prelude.{◌≡◌, ℕ, ◌<◌, Bool, false, List, length}
-use Rattle.cfg_numbered.specs.Sets.{is_set}
+use Rattle.vob.specs.Sets.{is_set}
 
 -- numbers were marked: P is so of each that stays without a mark
 pub record LeavesOut (P : ℕ → Type 0) (old new : List Bool) : Type 0 where

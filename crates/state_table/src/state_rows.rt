@@ -4,7 +4,7 @@ ghost use Rattle.std.specs.Prelude.{◌≡◌, ◌<◌, ◌+◌, ◌++◌, ◌�
 ghost use Rattle.std.specs.Option.{option_or};
 ghost use Rattle.table_theory.specs.Cells.{pairs_at};
 ghost use Rattle.cfg_theory.specs.Grammar.{end_token};
-ghost use Rattle.cfg_numbered.specs.Sets.{is_set};
+ghost use Rattle.vob.specs.Sets.{is_set};
 ghost use Rattle.lr_theory.specs.Automaton.{Action as CellAction};
 ghost use Rattle.state_table.specs.CellRows.{AreApart, FitsParts, HasOnlyShifts, IsBlank, IsContested, IsPlain, StandsAt, cells_by, filled, filled_row, first_of, lone_cells, pair_with, pairs_in, pairs_on, reductions_on, shift_to, shifts_in, shifts_on};
 ghost use Rattle.state_table.specs.CellViews.{action_of, cells_of, pairs_of, parts_of, precedences_of, production_of, reduction_of, reductions_of, shifts_of, state_of, targets_of};

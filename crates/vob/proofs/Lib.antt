@@ -9,3 +9,4 @@ pub mod Alike
 pub mod Tested
 pub mod LawLemmas
 pub mod Meeting
+pub mod Bits

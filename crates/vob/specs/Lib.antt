@@ -7,3 +7,5 @@ pub mod Fed
 pub mod Lends
 pub mod Refusal
 pub mod ErrorText
+pub mod Sets
+pub mod Passes

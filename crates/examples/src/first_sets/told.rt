@@ -1,8 +1,8 @@
 //! What is printed of a text.
 
 ghost use Rattle.std.specs.Prelude.{◌<◌};
-ghost use Rattle.cfg_numbered.specs.Firsts.{AreFirsts};
-ghost use Rattle.cfg_numbered.specs.Follows.{AreFollows};
+ghost use Rattle.cfg_sets.specs.Firsts.{AreFirsts};
+ghost use Rattle.cfg_sets.specs.Follows.{AreFollows};
 
 use crate::first_sets::{begins, follows, is_nullable};
 use crate::text_errors::lines_of;

@@ -2,7 +2,7 @@ use Rattle.std.proofs.Common.{ℕ, arith, below_more, ap, ◌∙◌, sym}
 use Rattle.std.specs.Prelude.{IsTrue}
 use Rattle.std.proofs.lemmas.List.{length-map}
 use Rattle.vob.specs.Packed.{Contents}
-use Rattle.cfg_numbered.specs.Sets.{is_set}
+use Rattle.vob.specs.Sets.{is_set}
 use Rattle.state_table.specs.Meeting.{row, rows_in}
 use Rattle.lrtable.specs.MovedItems.{rows_from}
 use Rattle.lrtable.proofs.MovedRows.{count, row_of_moved, some_tokens}

@@ -1,6 +1,6 @@
 use Rattle.std.proofs.Common.{ℕ, ◌<◌}
 use Rattle.std.specs.Prelude.{IsTrue}
-use Rattle.cfg_numbered.specs.Sets.{is_set}
+use Rattle.vob.specs.Sets.{is_set}
 use Rattle.state_table.specs.Meeting.{row, rows_in}
 use Rattle.lrtable.specs.MovedItems.{rows_from}
 use Rattle.lrtable.proofs.meeting.hold_all.Given as goal

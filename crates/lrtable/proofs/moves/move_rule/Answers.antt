@@ -1,7 +1,7 @@
 use Rattle.std.proofs.Common.{map, arith, ◌∙◌}
 use Rattle.std.specs.Prelude.{IsTrue}
 use Rattle.std.proofs.lemmas.List.{length-map}
-use Rattle.cfg_numbered.specs.Sets.{is_set}
+use Rattle.vob.specs.Sets.{is_set}
 use Rattle.cfg_numbered.specs.Value.{productions_of}
 use Rattle.cfg_numbered.proofs.RuleLists.{alone}
 use Rattle.lrtable.specs.MovedItems.{row_from, set_of_moved}

@@ -1,6 +1,6 @@
 use Rattle.std.proofs.Common.{map}
 use Rattle.std.specs.Prelude.{IsTrue}
-use Rattle.cfg_numbered.specs.Sets.{is_set}
+use Rattle.vob.specs.Sets.{is_set}
 use Rattle.lrtable.specs.Gaining.{Gains, KeepsMarks}
 use Rattle.lrtable.specs.MovedItems.{row_from, set_of_moved}
 use Rattle.lrtable.proofs.Moving.{ListedBelow, ListedLooks}

@@ -2,7 +2,7 @@ use Rattle.std.proofs.Common.{◌<◌, ◌∙◌, List, length, map, sym, ap, su
 use Rattle.std.specs.Prelude.{IsTrue}
 use Rattle.std.specs.List.{Contains}
 use Rattle.std.proofs.lemmas.List.{get_or-map, length-map}
-use Rattle.cfg_numbered.specs.Sets.{is_set}
+use Rattle.vob.specs.Sets.{is_set}
 use Rattle.lrtable.specs.Pruning.{Flagged, IsTargetOf}
 use Rattle.lrtable.specs.States.{Edge, StateValue, no_state}
 use Rattle.lrtable.specs.StateViews.{edges_of, value_of}

@@ -1,7 +1,7 @@
 use Rattle.std.proofs.Common.{◌≡◌, ℕ, List, length, map, sym, ap, subst, subst₂, arith}
 use Rattle.std.specs.Prelude.{IsTrue, ◌↔◌}
 use Rattle.std.specs.List.{Contains}
-use Rattle.cfg_numbered.specs.Sets.{is_set}
+use Rattle.vob.specs.Sets.{is_set}
 use Rattle.std.proofs.lemmas.List.{length-map}
 use Rattle.lrtable.specs.Pruning.{AreLinked, IsLed, renumbered_state}
 use Rattle.lrtable.specs.States.{state_at}

@@ -1,5 +1,5 @@
 use Rattle.std.proofs.Common.{◌+◌, length, map}
-use Rattle.cfg_numbered.specs.Sets.{missing}
+use Rattle.vob.specs.Sets.{missing}
 use Rattle.lrtable.specs.Pruning.{AreMarking}
 use Rattle.lrtable.specs.StateViews.{value_of}
 use Rattle.lrtable.proofs.pruning.marks.Given as goal

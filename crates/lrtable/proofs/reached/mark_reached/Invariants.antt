@@ -1,5 +1,5 @@
 use Rattle.std.proofs.Common.{◌+◌, length}
-use Rattle.cfg_numbered.specs.Sets.{missing}
+use Rattle.vob.specs.Sets.{missing}
 use Rattle.lrtable.proofs.Passing.{ArePassing}
 use Rattle.lrtable.proofs.reached.mark_reached.Given as goal
 

@@ -7,7 +7,7 @@ use Rattle.lrtable.specs.Opening.{HasRuleLook, RuleSets}
 use Rattle.lrtable.specs.Reaching.{MayBeReachedBy}
 use Rattle.lrtable.specs.declared.openers.Opener.{Opener}
 use Rattle.lrtable.proofs.Reaching.{lists_more}
-use Rattle.cfg_numbered.proofs.Bits.{none_in}
+use Rattle.vob.proofs.Bits.{none_in}
 use Rattle.lrtable.proofs.reached.with_reached.Goals as goal
 
 pub rules-init : goal.rules-init

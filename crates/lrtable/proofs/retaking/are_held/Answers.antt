@@ -2,7 +2,7 @@ use Rattle.std.proofs.Common.{◌≡◌, length, sym, ap, ◌∙◌, subst, arit
 use Rattle.std.specs.Prelude.{IsTrue}
 use Rattle.std.proofs.lemmas.List.{length-map}
 use Rattle.vob.specs.Packed.{Contents}
-use Rattle.cfg_numbered.specs.Sets.{is_set}
+use Rattle.vob.specs.Sets.{is_set}
 use Rattle.state_table.specs.Meeting.{rows_in}
 use Rattle.lrtable.specs.MovedItems.{row_from}
 use Rattle.state_table.specs.CoreViews.{item_of, items_of}

@@ -2,8 +2,8 @@ use Rattle.std.proofs.Common.{◌≡◌, ◌≤◌, List, length, Some, slice_ge
 use Rattle.std.proofs.lemmas.List.{length-map}
 use Rattle.cfg_theory.specs.Grammar.{Sym, body_of}
 use Rattle.cfg_numbered.specs.Symbols.{sym_of}
-use Rattle.cfg_numbered.proofs.FollowSteps.{get_some}
-use Rattle.cfg_numbered.proofs.WorkSteps.{has_lists}
+use Rattle.cfg_sets.proofs.FollowSteps.{get_some}
+use Rattle.cfg_sets.proofs.WorkSteps.{has_lists}
 use Rattle.parser_kit.proofs.Searches.{names_unfound, found_more, found_all}
 use Rattle.parser_kit.specs.Searching.{TellsHeld}
 use Rattle.parser_kit.proofs.productive.held_from.Goals as goal

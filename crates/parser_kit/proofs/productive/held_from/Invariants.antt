@@ -1,7 +1,7 @@
 use Rattle.std.proofs.Common.{ℕ, ◌<◌, ◌≤◌}
 use Rattle.std.specs.Prelude.{IsTrue}
 use Rattle.cfg_theory.specs.Grammar.{rule, IsNext}
-use Rattle.cfg_numbered.specs.Sets.{is_set}
+use Rattle.vob.specs.Sets.{is_set}
 use Rattle.parser_kit.proofs.productive.held_from.Given as goal
 
 abbrev pub invariant-symbols : goal.invariant-symbols

@@ -1,6 +1,6 @@
 use Rattle.std.proofs.Common.{◌≡◌, ℕ, false, sym, ap, ◌∙◌}
 use Rattle.std.proofs.lemmas.Bool.{false≢true}
-use Rattle.cfg_numbered.specs.Sets.{is_set}
+use Rattle.vob.specs.Sets.{is_set}
 use Rattle.state_table.specs.declared.stidx.StIdx.{StIdx}
 use Rattle.state_table.proofs.BlankCells.{edge_more}
 use Rattle.state_table.proofs.state_rows.crosses.Goals as goal

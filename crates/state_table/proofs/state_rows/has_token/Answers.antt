@@ -1,5 +1,5 @@
 use Rattle.std.proofs.Common.{◌<◌, length, sym, ap, ◌∙◌, arith}
-use Rattle.cfg_numbered.specs.Sets.{is_set}
+use Rattle.vob.specs.Sets.{is_set}
 use Rattle.state_table.proofs.TokenReductions.{row_in}
 use Rattle.state_table.proofs.state_rows.has_token.Goals as goal
 

@@ -1,5 +1,5 @@
 use Rattle.std.proofs.Common.{sym, ◌∙◌, ap, ◌≡◌, get_or, []}
-use Rattle.cfg_numbered.specs.Sets.{is_set}
+use Rattle.vob.specs.Sets.{is_set}
 use Rattle.state_table.specs.CellViews.{pairs_of, production_of}
 use Rattle.state_table.specs.Meeting.{rows_in}
 use Rattle.state_table.proofs.TokenReductions.{first_noted, first_kept, pairs_noted, pairs_kept}

@@ -1,6 +1,6 @@
 use Rattle.std.proofs.Common.{◌≡◌, ℕ, Bool, true, false, cond, List, [], ◌∷◌, inr, refl, sym, ap, ◌∙◌, subst, get_or}
 use Rattle.std.specs.Prelude.{IfSome}
-use Rattle.cfg_numbered.specs.Sets.{is_set}
+use Rattle.vob.specs.Sets.{is_set}
 use Rattle.state_table.specs.CellRows.{IsPlain}
 use Rattle.state_table.specs.CellViews.{action_of, state_of}
 use Rattle.state_table.specs.Meeting.{rows_in}

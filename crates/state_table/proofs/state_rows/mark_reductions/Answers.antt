@@ -1,5 +1,5 @@
 use Rattle.std.proofs.Common.{◌≡◌, ◌+◌, [], false, get_or, take, ◌∙◌}
-use Rattle.cfg_numbered.specs.Sets.{is_set}
+use Rattle.vob.specs.Sets.{is_set}
 use Rattle.state_table.specs.CellRows.{reductions_on}
 use Rattle.state_table.specs.CellViews.{reductions_of}
 use Rattle.state_table.specs.Meeting.{rows_in}

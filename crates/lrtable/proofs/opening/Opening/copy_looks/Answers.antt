@@ -1,8 +1,8 @@
 use Rattle.std.proofs.Common.{◌≡◌, length, [], get_or, sym, ap, ◌∙◌, subst}
 use Rattle.std.specs.Prelude.{IsTrue, ◌↔◌}
-use Rattle.cfg_numbered.specs.Sets.{is_set}
+use Rattle.vob.specs.Sets.{is_set}
 use Rattle.lrtable.specs.Opening.{RuleSets}
-use Rattle.cfg_numbered.proofs.Bits.{copied}
+use Rattle.vob.proofs.Bits.{copied}
 use Rattle.lrtable.proofs.opening.Opening.copy_looks.Goals as goal
 
 pub returns-clause-width : goal.returns-clause-width

@@ -1,6 +1,6 @@
 use Rattle.std.proofs.Common.{false, length, replicate, sym, ap, ◌∙◌}
 use Rattle.std.proofs.lemmas.List.{length-replicate}
-use Rattle.cfg_numbered.specs.Sets.{SetRows}
+use Rattle.vob.specs.Sets.{SetRows}
 use Rattle.lrtable.proofs.Noting.{noted_none}
 use Rattle.lrtable.proofs.opening.Opening.empty.Goals as goal
 

@@ -1,6 +1,6 @@
 use Rattle.std.proofs.Common.{false, length, ap, ◌∙◌}
 use Rattle.std.proofs.lemmas.List.{length-replicate}
-use Rattle.cfg_numbered.proofs.TokenRows.{row_width, still_rows}
+use Rattle.cfg_sets.proofs.TokenRows.{row_width, still_rows}
 use Rattle.lrtable.proofs.RuleRowSteps.{cleared_value}
 use Rattle.lrtable.proofs.rule_rows.RuleRows.clear.Goals as goal
 

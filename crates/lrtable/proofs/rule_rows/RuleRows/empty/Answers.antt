@@ -1,4 +1,4 @@
-use Rattle.cfg_numbered.proofs.TokenRows.{empty_are_rows}
+use Rattle.cfg_sets.proofs.TokenRows.{empty_are_rows}
 use Rattle.lrtable.proofs.rule_rows.RuleRows.empty.Goals as goal
 
 pub invariant_of-result : goal.invariant_of-result

@@ -1,5 +1,5 @@
 use Rattle.std.proofs.Common.{◌≡◌, false, replicate}
-use Rattle.cfg_numbered.proofs.TokenRows.{rows_of}
+use Rattle.cfg_sets.proofs.TokenRows.{rows_of}
 use Rattle.lrtable.proofs.rule_rows.RuleRows.empty.Given as goal
 
 abbrev pub invariant-rows : goal.invariant-rows

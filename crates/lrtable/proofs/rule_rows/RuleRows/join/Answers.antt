@@ -1,5 +1,5 @@
 use Rattle.std.proofs.Common.{length, sym, ap, ◌∙◌}
-use Rattle.cfg_numbered.proofs.TokenRows.{row_is, row_width, join_rows, join_value, join_steps}
+use Rattle.cfg_sets.proofs.TokenRows.{row_is, row_width, join_rows, join_value, join_steps}
 use Rattle.lrtable.proofs.rule_rows.RuleRows.join.Goals as goal
 
 pub or-requires : goal.or-requires

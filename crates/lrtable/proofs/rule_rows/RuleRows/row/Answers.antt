@@ -1,4 +1,4 @@
-use Rattle.cfg_numbered.proofs.TokenRows.{row_is, row_width}
+use Rattle.cfg_sets.proofs.TokenRows.{row_is, row_width}
 use Rattle.lrtable.proofs.rule_rows.RuleRows.row.Goals as goal
 
 pub returns-clause-bits : goal.returns-clause-bits

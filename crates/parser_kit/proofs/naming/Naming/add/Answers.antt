@@ -1,4 +1,4 @@
-use Rattle.cfg_numbered.proofs.WorkSteps.{vec_last}
+use Rattle.cfg_sets.proofs.WorkSteps.{vec_last}
 use Rattle.parser_kit.proofs.naming.Naming.add.Goals as goal
 
 pub returns : goal.returns

@@ -1,9 +1,9 @@
 use Rattle.std.proofs.Common.{◌≡◌, ◌+◌, Some, slice_get, sym, subst, arith}
 use Rattle.std.proofs.lemmas.List.{length-map}
 use Rattle.cfg_numbered.specs.Symbols.{sym_of, syms_of}
-use Rattle.cfg_numbered.specs.WorkLists.{HasList, IsRule, IsSomeOf, IsSomeBelow}
-use Rattle.cfg_numbered.proofs.FollowSteps.{get_some}
-use Rattle.cfg_numbered.proofs.WorkSteps.{adds_both, some_more, some_all, adds_less}
+use Rattle.cfg_sets.specs.WorkLists.{HasList, IsRule, IsSomeOf, IsSomeBelow}
+use Rattle.cfg_sets.proofs.FollowSteps.{get_some}
+use Rattle.cfg_sets.proofs.WorkSteps.{adds_both, some_more, some_all, adds_less}
 use Rattle.parser_kit.proofs.naming.Naming.add_all.Goals as goal
 
 pub add_symbol-requires : goal.add_symbol-requires

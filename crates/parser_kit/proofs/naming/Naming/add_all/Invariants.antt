@@ -1,5 +1,5 @@
 use Rattle.cfg_numbered.specs.Symbols.{syms_of}
-use Rattle.cfg_numbered.specs.WorkLists.{AddsNamed, IsSomeBelow}
+use Rattle.cfg_sets.specs.WorkLists.{AddsNamed, IsSomeBelow}
 use Rattle.parser_kit.proofs.naming.Naming.add_all.Given as goal
 
 abbrev pub invariant-symbols : goal.invariant-symbols

@@ -1,7 +1,7 @@
 use Rattle.std.proofs.Common.{◌≡◌, ℕ, List, Some, length, slice_get, sym, ap, ◌∙◌, subst, arith}
 use Rattle.cfg_theory.specs.Grammar.{Sym, body_of}
-use Rattle.cfg_numbered.specs.WorkLists.{AddsNamed, HasList, IsSomeOf, ListsNaming}
-use Rattle.cfg_numbered.proofs.WorkSteps.{has_lists, lists_none, lists_more}
+use Rattle.cfg_sets.specs.WorkLists.{AddsNamed, HasList, IsSomeOf, ListsNaming}
+use Rattle.cfg_sets.proofs.WorkSteps.{has_lists, lists_none, lists_more}
 use Rattle.parser_kit.proofs.naming.Naming.new.Goals as goal
 
 pub add_all-requires : goal.add_all-requires

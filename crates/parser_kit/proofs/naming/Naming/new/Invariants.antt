@@ -1,4 +1,4 @@
-use Rattle.cfg_numbered.specs.WorkLists.{ListsNaming}
+use Rattle.cfg_sets.specs.WorkLists.{ListsNaming}
 use Rattle.parser_kit.proofs.naming.Naming.new.Given as goal
 
 abbrev pub invariant-prods : goal.invariant-prods

@@ -1,5 +1,5 @@
 use Rattle.std.proofs.Common.{◌<◌, List, ℕ, length, get_or, refl, sym, subst, arith}
-use Rattle.cfg_numbered.proofs.WorkSteps.{in_range, next_one}
+use Rattle.cfg_sets.proofs.WorkSteps.{in_range, next_one}
 use Rattle.parser_kit.proofs.Searches.{taken, still, stands_no}
 use Rattle.parser_kit.specs.Searching.{IsLookedAt}
 use Rattle.parser_kit.proofs.productive.Search.look_at_named.Goals as goal

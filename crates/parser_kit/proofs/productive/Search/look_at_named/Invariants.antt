@@ -1,5 +1,5 @@
 use Rattle.std.proofs.Common.{ℕ, ◌<◌, ◌≤◌, ◌⊎◌, length}
-use Rattle.cfg_numbered.specs.WorkLists.{StandsFrom}
+use Rattle.cfg_sets.specs.WorkLists.{StandsFrom}
 use Rattle.parser_kit.specs.Searching.{IsLookedAt, IsSearch, room}
 use Rattle.parser_kit.proofs.productive.Search.look_at_named.Given as goal
 

@@ -1,6 +1,6 @@
 use Rattle.std.proofs.Common.{◌≡◌, ◌<◌, ℕ, false, true, length, get_or, refl, ap, ◌∙◌, subst, rules}
 use Rattle.std.specs.Vec.{with_item}
-use Rattle.cfg_numbered.proofs.Bits.{join}
+use Rattle.vob.proofs.Bits.{join}
 use Rattle.state_table.specs.ItemRows.{Item}
 use Rattle.state_table.specs.declared.shared_sets.SharedItem.{SharedItem}
 use Rattle.state_table.specs.declared.shared_sets.SharedSets.{SharedSets}

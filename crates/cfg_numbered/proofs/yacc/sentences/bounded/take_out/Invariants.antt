@@ -1,5 +1,0 @@
-use Rattle.cfg_numbered.specs.Greatest.{TakesOut}
-use Rattle.cfg_numbered.proofs.yacc.sentences.bounded.take_out.Given as goal
-
-abbrev pub invariant-rules : goal.invariant-rules
-invariant-rules l = TakesOut l.group l.index l.initial.set.bits l.set.bits

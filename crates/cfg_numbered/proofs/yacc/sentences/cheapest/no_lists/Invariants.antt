@@ -1,5 +1,0 @@
-use Rattle.std.proofs.Common.{◌≡◌, [], replicate}
-use Rattle.cfg_numbered.proofs.yacc.sentences.cheapest.no_lists.Given as goal
-
-abbrev pub invariant-rules : goal.invariant-rules
-invariant-rules g l = l.table.items ≡ replicate l.counter []

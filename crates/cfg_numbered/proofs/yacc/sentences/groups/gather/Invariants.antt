@@ -1,5 +1,0 @@
-use Rattle.std.proofs.Common.{◌≡◌, length}
-use Rattle.cfg_numbered.proofs.yacc.sentences.groups.gather.Given as goal
-
-abbrev pub invariant-turns : goal.invariant-turns
-invariant-turns g l = length l.seen.bits ≡ l.costly.grammar.rules

@@ -1,5 +1,0 @@
-use Rattle.cfg_numbered.proofs.NarrowSteps.{NoneBelow}
-use Rattle.cfg_numbered.proofs.yacc.sentences.kept_costs.KeptCosts.names_any.Given as goal
-
-abbrev pub invariant-symbols : goal.invariant-symbols
-invariant-symbols g l = NoneBelow l.self.grammar (g.S.IndexStorage.number l.fn.pidx.0) l.index l.set.bits

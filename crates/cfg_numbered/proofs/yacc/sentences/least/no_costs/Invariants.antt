@@ -1,5 +1,0 @@
-use Rattle.std.proofs.Common.{◌≡◌, None, replicate}
-use Rattle.cfg_numbered.proofs.yacc.sentences.least.no_costs.Given as goal
-
-abbrev pub invariant-rules : goal.invariant-rules
-invariant-rules l = l.least.items ≡ replicate l.counter None

@@ -1,4 +1,0 @@
-use Rattle.cfg_numbered.proofs.yacc.sentences.needed.wanted_rules.Given as goal
-
-abbrev pub ghosts-find_with_blank : goal.ghosts-find_with_blank
-ghosts-find_with_blank g a = record { name = a.blank.name; parts = a.blank.parts }

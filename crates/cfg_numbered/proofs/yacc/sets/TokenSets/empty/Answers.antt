@@ -1,5 +1,0 @@
-use Rattle.cfg_numbered.proofs.TokenRows.{empty_are_rows}
-use Rattle.cfg_numbered.proofs.yacc.sets.TokenSets.empty.Goals as goal
-
-pub invariant_of-result : goal.invariant_of-result
-invariant_of-result c = empty_are_rows c.rows.counter c.args.width _ c.rows.invariant

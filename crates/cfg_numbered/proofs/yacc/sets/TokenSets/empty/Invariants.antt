@@ -1,6 +1,0 @@
-use Rattle.std.proofs.Common.{◌≡◌, false, replicate}
-use Rattle.cfg_numbered.proofs.TokenRows.{rows_of}
-use Rattle.cfg_numbered.proofs.yacc.sets.TokenSets.empty.Given as goal
-
-abbrev pub invariant-rows : goal.invariant-rows
-invariant-rows l = rows_of l.rows.items ≡ replicate l.counter (replicate l.width false)

@@ -1,0 +1,13 @@
+pub mod ProdSteps
+pub mod CostSteps
+pub mod RaiseSteps
+pub mod NarrowSteps
+pub mod SettleSteps
+pub mod OnceSteps
+pub mod Dictionary
+pub mod WantedSteps
+pub mod CheapestSteps
+pub mod ForkedLists
+pub mod EarliestSteps
+pub mod SharedSteps
+pub mod TurnSteps

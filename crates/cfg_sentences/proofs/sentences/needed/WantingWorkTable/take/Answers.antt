@@ -1,0 +1,76 @@
+use Rattle.std.proofs.Common.{◌≡◌, ℕ, ◌<◌, inl, inr, List, length, refl, sym, ap, ◌∙◌, subst, arith}
+use Rattle.std.proofs.lemmas.List.{length-map}
+use Rattle.cfg_base.specs.declared.symbol.PIdx.{PIdx}
+use Rattle.cfg_numbered.specs.Symbols.{numbers_of}
+use Rattle.cfg_sentences.specs.CostTable.{cost_of}
+use Rattle.cfg_sentences.specs.CheapestTable.{IsHandedOnOrWaits}
+use Rattle.cfg_sets.specs.WorkLists.{StandsFrom}
+use Rattle.cfg_numbered.specs.Value.{productions_of}
+use Rattle.cfg_sets.proofs.WorkSteps.{next_one, none_left}
+use Rattle.cfg_sets.proofs.FollowFills.{number_at, of_rule}
+use Rattle.cfg_sentences.proofs.WantedSteps.{wanted_off}
+use Rattle.cfg_sentences.proofs.sentences.needed.WantingWorkTable.take.Goals as goal
+
+pub prods-init : goal.prods-init
+prods-init g c =
+    let s = c.args.self.now in
+    let G = s.least.now.grammar in
+    let listed : numbers_of g.S.IndexStorage.number c.rule_to_prods-prods.result.now ≡ productions_of G c.args.rule = c.rule_to_prods-prods.ensures ∙ ap (productions_of G) c.rule_at.ensures in
+    record {
+      least = refl;
+      width = c.requires.sound;
+      kept = λ B h. h;
+      work = c.requires.work;
+      closed = λ p lt. elim (wanted_off G (cost_of s.least.now.costs) s.least.now.table s.wanted.bits c.args.work.now.list c.args.rule p lt (c.requires.closed p lt)) [
+        | inl h ↦ inl h
+        | inr stands ↦ inr (subst (λ (l : List ℕ). StandsFrom l 0 p) (sym listed) stands)
+      ];
+      room = omega arith;
+    }
+
+pub want_by-requires-clause-production : goal.want_by-requires-clause-production
+want_by-requires-clause-production g c =
+    let number = g.S.IndexStorage.number in
+    let G = c.args.self.now.least.now.grammar in
+    let xs = c.rule_to_prods-prods.result.now in
+    let i = c.prods.index in
+    let x = c.index-prods-index.result in
+    let listed : numbers_of number xs ≡ productions_of G c.args.rule = c.rule_to_prods-prods.ensures ∙ ap (productions_of G) c.rule_at.ensures in
+    let count = length-map xs (λ (q : PIdx _). number q.0) in
+    let lt = c.prods-test.true in
+    subst (λ v. number x.0 < length v.grammar.productions) (sym c.prods.invariant.least)
+    (of_rule G c.args.rule i (number x.0) (numbers_of number xs) listed (omega (arith, count, lt)) (number_at number xs i x lt c.index-prods-index.is))
+
+pub prods-preserved : goal.prods-preserved
+prods-preserved g c =
+    let number = g.S.IndexStorage.number in
+    let least = c.prods.self.least.now in
+    let inv = c.prods.invariant in
+    let next = c.in_ok-want_by.ensures in
+    let wants = next.wants in
+    let was = inv.room in
+    let less = wants.room in
+    let i = c.prods.index in
+    let xs = c.rule_to_prods-prods.result.now in
+    let x = c.index-prods-index.result in
+    let count = length-map xs (λ (q : PIdx _). number q.0) in
+    let lt = c.prods-test.true in
+    record {
+      least = inv.least;
+      width = next.width;
+      kept = λ B h. wants.kept B (inv.kept B h);
+      work = wants.rules ∙ inv.work;
+      closed = λ p in_range. next_one (IsHandedOnOrWaits least.grammar (cost_of least.costs) least.table c.prods.self.wanted.bits c.prods.work.list) (IsHandedOnOrWaits least.grammar (cost_of least.costs) least.table c.want_by.new.wanted.bits c.want_by.new.work.list) (numbers_of number xs) i (number x.0) (omega (arith, count, lt)) (number_at number xs i x lt c.index-prods-index.is) wants.closed (inl next.here) p (inv.closed p in_range);
+      room = omega (arith, was, less);
+    }
+
+pub returns-clause-closed : goal.returns-clause-closed
+returns-clause-closed g c = λ p in_range.
+    let number = g.S.IndexStorage.number in
+    let xs = c.rule_to_prods-prods.result.now in
+    let count = length-map xs (λ (q : PIdx _). number q.0) in
+    let end = c.prods-test.false in
+    elim (c.prods.invariant.closed p in_range) [
+      | inl h ↦ h
+      | inr stands ↦ absurd (none_left (numbers_of number xs) c.prods.index p (omega (arith, count, end)) stands)
+    ]

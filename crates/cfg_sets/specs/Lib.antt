@@ -1,0 +1,5 @@
+pub mod WorkLists
+pub mod Orders
+pub mod Firsts
+pub mod Follows
+pub mod Paths

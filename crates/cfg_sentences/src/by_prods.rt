@@ -6,10 +6,10 @@ ghost use Rattle.cfg_theory.specs.Grammar.{Grammar};
 ghost use Rattle.cfg_sets.specs.WorkLists.{ListsNaming, NamesOne, TakesIn};
 ghost use Rattle.cfg_sets.specs.Orders.{IsOrder};
 
+use cfg_base::steps::Steps;
 use cfg_sets::naming::Naming;
 use cfg_sets::orders::Order;
 use cfg_sets::work_list::{WorkList, WorkTable, fill};
-use cfg_base::steps::Steps;
 use std::alloc::{AllocError, Global};
 use std::marker::Brand;
 use std::sync::ledger::{Blank, Ledger};

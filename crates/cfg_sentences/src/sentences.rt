@@ -22,9 +22,9 @@ mod token_costs;
 mod token_lists;
 mod unbounded;
 
-use cfg_numbered::yacc::grammar::NumberedGrammar;
 use cfg_base::index::IndexStorage;
 use cfg_base::symbol::{RIdx, TIdx};
+use cfg_numbered::yacc::grammar::NumberedGrammar;
 use cfg_theory::cost::productive_rules_have_least_costs;
 use cheapest_first::cheapest_first;
 use least::LeastCosts;
@@ -88,28 +88,26 @@ impl<'a, S: IndexStorage> Model for SentenceGenerator<'a, S> {
     ghost invariant = { λ s. AreGreatest s.least.grammar (cost_of s.least.costs) s.unbounded.bits s.greatest.items };
 }
 
-impl<S: IndexStorage> NumberedGrammar<S> {
+impl<'a, S: IndexStorage> SentenceGenerator<'a, S> {
     /// Costs of the rules' sentences, by costs of the tokens: `f` is called once for each token in order,
     /// the end token too.
-    pub fn sentence_generator<F: Fn(TIdx<S>) -> u8 + Drop>(
-        &self,
+    pub fn new<F: Fn(TIdx<S>) -> u8 + Drop>(
         alloc: Global,
+        grm: &'a NumberedGrammar<S>,
         f: F,
-    ) -> Result<SentenceGenerator<'_, S>, AllocError>
+    ) -> Result<Self, AllocError>
         requires { F.IsAlwaysCallable f }
-        ensures grammar { IfOk result (λ s. s.grammar ≡ self.now.grammar) }
-        ensures costs { IfOk result (λ s. AreAnswers S.number (F.post f) self.now.grammar.tokens s.costs) }
+        ensures grammar { IfOk result (λ s. s.grammar ≡ grm.now.grammar) }
+        ensures costs { IfOk result (λ s. AreAnswers S.number (F.post f) grm.now.grammar.tokens s.costs) }
     {
         let mut costs = Vec::new(alloc);
-        'tokens: for number in 0..self.tokens_len().0.to_usize() {
-            costs.push(f(self.token_at(number)))?;
+        'tokens: for number in 0..grm.tokens_len().0.to_usize() {
+            costs.push(f(grm.token_at(number)))?;
         }
-        let made = SentenceGenerator::of_costs(alloc, self, costs)?;
+        let made = SentenceGenerator::of_costs(alloc, grm, costs)?;
         Ok(made)
     }
-}
 
-impl<'a, S: IndexStorage> SentenceGenerator<'a, S> {
     /// Computes the costs of the rules, by a cost for each token, in order.
     fn of_costs(
         alloc: Global,

@@ -9,7 +9,6 @@ ghost use Rattle.cfg_sets.specs.Firsts.{FirstSets, HasEpsilon, HasFirst, AreFirs
 ghost use Rattle.cfg_sets.specs.Orders.{IsOrder};
 ghost use Rattle.vob.specs.Passes.{PassStep, Anything};
 
-use cfg_numbered::yacc::grammar::NumberedGrammar;
 use crate::naming::Naming;
 use crate::orders::Order;
 use crate::sets::{TokenSets, clear_unless};
@@ -17,6 +16,7 @@ use crate::work_list::{WorkList, WorkTable, fill};
 use cfg_base::index::IndexStorage;
 use cfg_base::steps::Steps;
 use cfg_base::symbol::{RIdx, Symbol, TIdx};
+use cfg_numbered::yacc::grammar::NumberedGrammar;
 use cfg_theory::first::first_tables_are_exact;
 use std::alloc::{AllocError, Global};
 use std::marker::{Brand, Model, PhantomData};
@@ -40,15 +40,6 @@ impl<S: IndexStorage> Model for YaccFirsts<S> {
     ghost view = { λ s. record { tokens = s.firsts.width; rows = s.firsts.rows; epsilons = s.epsilons.bits } };
 
     ghost invariant = { λ s. length s.firsts.rows ≡ length s.epsilons.bits };
-}
-
-impl<S: IndexStorage> NumberedGrammar<S> {
-    /// The FIRST sets of the rules.
-    pub fn firsts(&self, alloc: Global) -> Result<YaccFirsts<S>, AllocError>
-        ensures { IfOk result (λ f. AreFirsts self.now.grammar f) }
-    {
-        YaccFirsts::new(alloc, self)
-    }
 }
 
 impl<S: IndexStorage> YaccFirsts<S> {

@@ -10,13 +10,13 @@ ghost use Rattle.cfg_sets.specs.Orders.{IsOrder};
 ghost use Rattle.vob.specs.Passes.{PassStep, Anything};
 
 use crate::firsts::YaccFirsts;
-use cfg_numbered::yacc::grammar::NumberedGrammar;
 use crate::orders::Order;
 use crate::sets::TokenSets;
 use crate::work_list::{WorkList, WorkTable, fill};
 use cfg_base::index::IndexStorage;
 use cfg_base::steps::Steps;
 use cfg_base::symbol::{PIdx, RIdx, Symbol, TIdx};
+use cfg_numbered::yacc::grammar::NumberedGrammar;
 use cfg_theory::first::{first_tables_are_exact, follow_tables_are_exact};
 use std::alloc::{AllocError, Global};
 use std::marker::{Brand, Model, PhantomData};
@@ -36,15 +36,6 @@ impl<S: IndexStorage> Model for YaccFollows<S> {
     ghost Value = { FollowSets };
 
     ghost view = { λ s. record { tokens = s.follows.width; rows = s.follows.rows } };
-}
-
-impl<S: IndexStorage> NumberedGrammar<S> {
-    /// The FOLLOW sets of the rules.
-    pub fn follows(&self, alloc: Global) -> Result<YaccFollows<S>, AllocError>
-        ensures { IfOk result (λ f. AreFollows self.now.grammar f) }
-    {
-        YaccFollows::new(alloc, self)
-    }
 }
 
 impl<S: IndexStorage> YaccFollows<S> {

@@ -6,9 +6,9 @@ ghost use Rattle.cfg_theory.specs.Grammar.{Sym, Grammar};
 ghost use Rattle.cfg_numbered.specs.Symbols.{sym_of, syms_of};
 ghost use Rattle.cfg_sets.specs.WorkLists.{ListsNaming, AddsNamed, IsRule, IsSomeOf, HasList};
 
-use cfg_numbered::yacc::grammar::NumberedGrammar;
 use cfg_base::index::IndexStorage;
 use cfg_base::symbol::Symbol;
+use cfg_numbered::yacc::grammar::NumberedGrammar;
 use std::alloc::{AllocError, Global};
 use std::marker::Model;
 

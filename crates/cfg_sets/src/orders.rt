@@ -4,10 +4,10 @@
 ghost use Rattle.std.specs.Prelude.{◌≡◌, ◌<◌, [], ◌∷◌, ◌++◌, IfOk, OnOk, MatchOption, length, get_or};
 ghost use Rattle.cfg_sets.specs.Orders.{IsOrder};
 
-use cfg_numbered::yacc::grammar::NumberedGrammar;
 use crate::work_list::WorkList;
 use cfg_base::index::IndexStorage;
 use cfg_base::symbol::{PIdx, Symbol};
+use cfg_numbered::yacc::grammar::NumberedGrammar;
 use std::alloc::{AllocError, Global};
 use std::marker::Model;
 use vob::Vob;
@@ -100,7 +100,7 @@ fn go_on<S: IndexStorage>(
 }
 
 /// Puts all rules on the stack, the first on top.
-pub(crate) fn push_rules(rules: usize, stack: &mut Vec<Stop>) -> Result<(), AllocError> {
+pub fn push_rules(rules: usize, stack: &mut Vec<Stop>) -> Result<(), AllocError> {
     'rules: for number in 0..rules {
         let rule = rules - 1 - number;
         let is_behind = false;

@@ -8,26 +8,29 @@ ghost use Rattle.vob.specs.Sets.{is_set, missing};
 ghost use Rattle.cfg_sets.specs.Paths.{AreReached, IsReachedFrom, IsIn, HasPlace, Reaches, ReachGoesOn, with_rule};
 ghost use Rattle.vob.specs.Passes.{PassStep};
 
-use cfg_numbered::yacc::grammar::NumberedGrammar;
 use crate::work_list::{WorkList, WorkTable, fill};
 use cfg_base::index::IndexStorage;
 use cfg_base::steps::Steps;
 use cfg_base::symbol::{PIdx, RIdx, Symbol};
+use cfg_numbered::yacc::grammar::NumberedGrammar;
 use cfg_theory::rules::path_tables_are_exact;
 use std::alloc::{AllocError, Global};
 use std::marker::Brand;
 use std::sync::ledger::{Blank, Ledger};
 use vob::Vob;
 
-impl<S: IndexStorage> NumberedGrammar<S> {
-    /// Whether a rule reaches another, or itself, by one or more references in productions.
-    pub fn has_path(&self, alloc: Global, from: RIdx<S>, to: RIdx<S>) -> Result<bool, AllocError>
-        requires from { S.number from.0 < self.now.grammar.rules }
-        requires to { S.number to.0 < self.now.grammar.rules }
-        ensures { IfOk result (λ b. IsTrue b ↔ HasPath self.now.grammar (S.number from.0) (S.number to.0)) }
-    {
-        find_with_blank::<S, Brand>(alloc, self, from, to, Blank::new(1))
-    }
+/// Whether a rule reaches another, or itself, by one or more references in productions.
+pub fn has_path<S: IndexStorage>(
+    alloc: Global,
+    grm: &NumberedGrammar<S>,
+    from: RIdx<S>,
+    to: RIdx<S>,
+) -> Result<bool, AllocError>
+    requires from { S.number from.0 < grm.now.grammar.rules }
+    requires to { S.number to.0 < grm.now.grammar.rules }
+    ensures { IfOk result (λ b. IsTrue b ↔ HasPath grm.now.grammar (S.number from.0) (S.number to.0)) }
+{
+    find_with_blank::<S, Brand>(alloc, grm, from, to, Blank::new(1))
 }
 
 /// Puts a symbol into the set, where it is a rule, and says whether that changed the set.
@@ -43,7 +46,7 @@ fn add_symbol<S: IndexStorage>(symbol: Symbol<S>, reached: &mut Vob) -> bool
 }
 
 /// Puts a symbol into the set, where it is a rule. That waits from then on, where it wasn't there.
-pub(crate) fn reach<S: IndexStorage>(
+pub fn reach<S: IndexStorage>(
     symbol: Symbol<S>,
     reached: &mut Vob,
     work: &mut WorkList,

@@ -4,15 +4,14 @@ pub mod from_ast;
 pub mod grammar;
 
 pub use cfg_base::span::SpansKind;
-pub use cfg_numbered::yacc::{
-    CostError, NumberedGrammar, SentenceError, SentenceGenerator, YaccFirsts, YaccFollows, firsts,
-    follows, sentences, sets,
-};
+pub use cfg_numbered::yacc::NumberedGrammar;
 pub use cfg_read::yacc::{
     ASTModificationError, ASTWithValidityInfo, AssocKind, KindError, Precedence, PrecedenceLevel,
     YaccGrammarError, YaccGrammarErrorKind, YaccGrammarFailure, YaccGrammarResult,
     YaccGrammarWarning, YaccGrammarWarningKind, YaccKind, YaccOriginalActionKind, ast, parser,
     validity,
 };
+pub use cfg_sentences::{CostError, SentenceError, SentenceGenerator, sentences};
+pub use cfg_sets::{YaccFirsts, YaccFollows, firsts, follows, sets};
 pub use from_ast::{TooMany, YaccGrammarMakeError};
 pub use grammar::YaccGrammar;

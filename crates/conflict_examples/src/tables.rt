@@ -6,6 +6,7 @@ use crate::predecessors::Predecessors;
 use cfg_base::index::IndexStorage;
 use cfg_base::symbol::{RIdx, Symbol, TIdx};
 use cfg_numbered::yacc::NumberedGrammar;
+use cfg_sets::YaccFirsts;
 use state_table::stategraph::StateGraph;
 use std::alloc::{AllocError, Global};
 use vob::Vob;
@@ -31,7 +32,7 @@ fn first_sets<S: IndexStorage>(
     alloc: Global,
     grm: &NumberedGrammar<S>,
 ) -> Result<Vec<Vob>, AllocError> {
-    let firsts = grm.firsts(alloc)?;
+    let firsts = YaccFirsts::new(alloc, grm)?;
     let mut sets = Vec::new(alloc);
     'rules: for number in 0..grm.rules_len().0.to_usize() {
         let set = firsts.firsts(grm.rule_at(number)).clone()?;

@@ -1,8 +1,7 @@
 //! What calls on a grammar answer of a long chain of rules, each of which is the next one.
 
 use crate::make::grammar;
-use cfg_numbered::yacc::grammar::NumberedGrammar;
-use cfgrammar::yacc::SentenceError;
+use cfgrammar::yacc::{SentenceError, YaccGrammar};
 use std::alloc::{AllocError, Global};
 
 const RULES: u32 = 100_000;
@@ -19,11 +18,7 @@ fn text_of(alloc: Global) -> Result<String, AllocError> {
 }
 
 /// Tells whether the first rule reaches the last one, and the other way round.
-fn push_paths(
-    alloc: Global,
-    out: &mut String,
-    grm: &NumberedGrammar<u32>,
-) -> Result<(), AllocError> {
+fn push_paths(alloc: Global, out: &mut String, grm: &YaccGrammar<u32>) -> Result<(), AllocError> {
     let Some(first) = grm.rule_idx("r0") else {
         return out.push_str("no first rule\n");
     };
@@ -36,11 +31,7 @@ fn push_paths(
 }
 
 /// Tells that the sets of all rules are made.
-fn push_sets(
-    alloc: Global,
-    out: &mut String,
-    grm: &NumberedGrammar<u32>,
-) -> Result<(), AllocError> {
+fn push_sets(alloc: Global, out: &mut String, grm: &YaccGrammar<u32>) -> Result<(), AllocError> {
     let firsts = grm.firsts(alloc)?;
     drop(firsts);
     let follows = grm.follows(alloc)?;
@@ -49,11 +40,7 @@ fn push_sets(
 }
 
 /// Tells the least and the greatest cost of the first rule, and the length of its first cheapest token list.
-fn push_costs(
-    alloc: Global,
-    out: &mut String,
-    grm: &NumberedGrammar<u32>,
-) -> Result<(), AllocError> {
+fn push_costs(alloc: Global, out: &mut String, grm: &YaccGrammar<u32>) -> Result<(), AllocError> {
     let Some(first) = grm.rule_idx("r0") else {
         return out.push_str("no first rule\n");
     };
@@ -77,11 +64,7 @@ fn push_costs(
 }
 
 /// Tells what each call answers.
-fn push_chain(
-    alloc: Global,
-    out: &mut String,
-    grm: &NumberedGrammar<u32>,
-) -> Result<(), AllocError> {
+fn push_chain(alloc: Global, out: &mut String, grm: &YaccGrammar<u32>) -> Result<(), AllocError> {
     push_paths(alloc, out, grm)?;
     push_sets(alloc, out, grm)?;
     push_costs(alloc, out, grm)
@@ -93,7 +76,6 @@ pub fn tell(alloc: Global) -> Result<String, AllocError> {
     let text = text_of(alloc)?;
     match grammar(alloc, text.as_str())? {
         Some(grm) => {
-            let grm = grm.into_numbered();
             let pushed = push_chain(alloc, &mut out, &grm);
             drop(grm);
             pushed?;

@@ -6,8 +6,8 @@ use crate::faults::push_shown;
 use crate::names::{Grammar, push_line, push_token, push_word};
 use cfg_base::span::Span;
 use cfg_base::symbol::{RIdx, TIdx};
-use cfg_sentences::{CostError, SentenceError, SentenceGenerator};
 use cfg_read::yacc::ast::GrammarAST;
+use cfg_sentences::{CostError, SentenceError, SentenceGenerator};
 use lrpar_diagnostics::SpannedDiagnosticFormatter;
 use std::alloc::{AllocError, Global};
 
@@ -67,7 +67,7 @@ pub(crate) fn push_all_unproductive(
     grm: &Grammar,
     ast: &GrammarAST,
 ) -> Result<(), AllocError> {
-    let costs = grm.sentence_generator(alloc, |_token| 1)?;
+    let costs = SentenceGenerator::new(alloc, grm, |_token| 1)?;
     let pushed = push_unproductive_of(alloc, text, formatter, grm, ast, &costs);
     drop(costs);
     pushed
@@ -146,7 +146,7 @@ pub(crate) fn push_sentences(
     ast: &GrammarAST,
 ) -> Result<(), AllocError> {
     push_line(text, "\nCheapest sentences:")?;
-    let costs = grm.sentence_generator(alloc, |_token| 1)?;
+    let costs = SentenceGenerator::new(alloc, grm, |_token| 1)?;
     let pushed = push_sentences_of(alloc, text, grm, ast, &costs);
     drop(costs);
     pushed

@@ -138,7 +138,7 @@ impl<S: IndexStorage> NumberedGrammar<S> {
     }
 
     /// A law: what is called with this grammar may rely on its being well formed.
-    pub(crate) fn stays_well_formed(&self)
+    pub fn stays_well_formed(&self)
         ensures { WellFormed self.now.grammar }
     {
         self.start_prod();

@@ -11,9 +11,9 @@ ghost use Rattle.cfg_sentences.specs.Greatest.{Settles, AreSettled, TakesOut, Pu
 use super::groups::{gather, left_behind};
 use super::kept_costs::KeptCosts;
 use super::unbounded::{names_kept, put_rule};
-use cfg_sets::naming::Naming;
 use cfg_base::index::IndexStorage;
 use cfg_base::symbol::{PIdx, RIdx};
+use cfg_sets::naming::Naming;
 use cfg_theory::cost::unbounded_rules_gain;
 use std::alloc::{AllocError, Global};
 use vob::Vob;

@@ -5,10 +5,10 @@
 ghost use Rattle.std.specs.Prelude.{◌≡◌, ◌<◌, OnOk, IfOk, length};
 
 use super::kept_costs::KeptCosts;
-use cfg_sets::naming::Naming;
-use cfg_sets::orders::{Stop, push_rules};
 use cfg_base::index::IndexStorage;
 use cfg_base::symbol::{PIdx, Symbol};
+use cfg_sets::naming::Naming;
+use cfg_sets::orders::{Stop, push_rules};
 use std::alloc::{AllocError, Global};
 use vob::Vob;
 

@@ -12,10 +12,10 @@ ghost use Rattle.cfg_sentences.specs.CheapestTable.{GivesLeast};
 
 use super::token_costs::{BOUND, TokenCosts};
 use crate::by_prods::{ByProds, ProdTable, close_by_prods};
-use cfg_sets::naming::Naming;
-use cfg_sets::orders::Order;
 use cfg_base::index::IndexStorage;
 use cfg_base::symbol::{PIdx, RIdx, Symbol};
+use cfg_sets::naming::Naming;
+use cfg_sets::orders::Order;
 use std::alloc::{AllocError, Global};
 use std::marker::Model;
 

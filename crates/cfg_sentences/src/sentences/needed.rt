@@ -6,11 +6,11 @@ ghost use Rattle.cfg_sentences.specs.CostTable.{cost_of};
 ghost use Rattle.cfg_sentences.specs.CheapestTable.{AreNamedIn, IsHandedOn, Wants};
 
 use super::least::LeastCosts;
-use cfg_sets::paths::reach;
-use cfg_sets::work_list::{WorkList, WorkTable, fill};
 use cfg_base::index::IndexStorage;
 use cfg_base::steps::Steps;
 use cfg_base::symbol::{PIdx, RIdx};
+use cfg_sets::paths::reach;
+use cfg_sets::work_list::{WorkList, WorkTable, fill};
 use std::alloc::{AllocError, Global};
 use std::marker::Brand;
 use std::sync::ledger::{Blank, Ledger};

@@ -9,11 +9,11 @@ ghost use Rattle.cfg_sets.specs.WorkLists.{ListsNaming};
 ghost use Rattle.cfg_sets.specs.Orders.{IsOrder};
 ghost use Rattle.cfg_sentences.specs.CostTable.{bound, cost_of, cost_at, HasCost, AllHaveCosts, AreCapped, IsCost, HasNoCost};
 
+use cfg_base::index::IndexStorage;
+use cfg_base::symbol::{PIdx, RIdx, Symbol};
 use cfg_numbered::yacc::grammar::NumberedGrammar;
 use cfg_sets::naming::Naming;
 use cfg_sets::orders::Order;
-use cfg_base::index::IndexStorage;
-use cfg_base::symbol::{PIdx, RIdx, Symbol};
 use std::alloc::{AllocError, Global};
 use std::marker::Model;
 

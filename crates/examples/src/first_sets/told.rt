@@ -65,10 +65,7 @@ fn push_follows<S: IndexStorage>(
 }
 
 /// The sets of each rule, the added start rule `^` among them.
-fn sets_told<S: IndexStorage>(
-    alloc: Global,
-    grm: &NumberedGrammar<S>,
-) -> Result<String, AllocError> {
+fn sets_told<S: IndexStorage>(alloc: Global, grm: &YaccGrammar<S>) -> Result<String, AllocError> {
     let firsts = grm.firsts(alloc)?;
     let sets = grm.follows(alloc)?;
     let mut out = String::new(alloc);

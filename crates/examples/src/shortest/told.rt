@@ -50,10 +50,7 @@ fn lines<S: IndexStorage>(
 }
 
 /// A shortest list of each rule: each token costs 1.
-fn lists_told<S: IndexStorage>(
-    alloc: Global,
-    grm: &NumberedGrammar<S>,
-) -> Result<String, AllocError> {
+fn lists_told<S: IndexStorage>(alloc: Global, grm: &YaccGrammar<S>) -> Result<String, AllocError> {
     let sentences = grm.sentence_generator(alloc, |_token| 1)?;
     let told = lines(alloc, grm, &sentences);
     drop(sentences);

@@ -12,7 +12,7 @@ tokens-preserved g c = answers_push g.S.IndexStorage.number (λ x r. g.F.Fn.post
 pub returns-clause-costs : goal.returns-clause-costs
 returns-clause-costs g c =
     let number = g.S.IndexStorage.number in
-    let tokens = c.args.self.now.grammar.tokens in
+    let tokens = c.args.grm.now.grammar.tokens in
     let le = c.tokens.auto.number-end in
     let ge = c.tokens-test.false in
     let end = c.to_usize-number-end.ensures.value ∙ c.tokens_len.ensures in

@@ -10,6 +10,8 @@ mod numbers;
 #[cfg(test)]
 mod refusals;
 #[cfg(test)]
+mod same;
+#[cfg(test)]
 mod sentences;
 #[cfg(test)]
 mod sizes;

@@ -3,12 +3,12 @@
 ghost use Rattle.std.specs.Prelude.{◌<◌, length};
 
 use crate::make::{TREE, made};
+use crate::same::same;
 use cfgrammar::index::IndexStorage;
 use cfgrammar::yacc::grammar::laws::walks_stay_below;
 use cfgrammar::yacc::{YaccFirsts, YaccGrammar};
 use cfgrammar::{RIdx, TIdx};
 use std::alloc::{AllocError, Global};
-use std::process::Abort;
 use std::test::*;
 
 /// Whether the token wasn't in the rule's set, and is once it is put there.
@@ -61,7 +61,7 @@ fn longest_name<S: IndexStorage>(grm: &YaccGrammar<S>) -> usize {
 #[test]
 fn loops_give_all_rules(rt: HostRuntime) -> Result<(), Fail> {
     let grm = made::<u8>(rt.alloc(), TREE, "%% S: Long T; Long: 'a'; T: ;")?;
-    assert_eq!(rt; longest_name(&grm), 4);
-    assert_eq!(rt; longest_name_by_numbers(&grm), 4);
+    same(&rt, "by an iterator", longest_name(&grm), 4);
+    same(&rt, "by numbers", longest_name_by_numbers(&grm), 4);
     Ok(())
 }

@@ -1,11 +1,11 @@
 //! Costs of sentences by costs that a function tells, and the first of very many cheapest ones.
 
 use crate::make::{TREE, made};
+use crate::same::same;
 use cfgrammar::index::IndexStorage;
 use cfgrammar::yacc::SentenceError;
 use std::alloc::Global;
 use std::cell::Cell;
-use std::process::Abort;
 use std::test::*;
 
 /// Least and greatest cost of the rule of this name, with each token at this cost.
@@ -32,12 +32,10 @@ fn costs<S: IndexStorage>(
 #[test]
 fn costs_of_three(rt: HostRuntime) -> Result<(), Fail> {
     let text = "%token a %% S: O 'b'; O: 'a' | ;";
-    let (least, greatest) = costs::<u8>(rt.alloc(), text, "S", 3)?;
-    assert_eq!(rt; least, 3);
-    assert_eq!(rt; greatest, Some(6));
-    let (least, greatest) = costs::<u32>(rt.alloc(), text, "O", 3)?;
-    assert_eq!(rt; least, 0);
-    assert_eq!(rt; greatest, Some(3));
+    let found = costs::<u8>(rt.alloc(), text, "S", 3)?;
+    same(&rt, "S", found, (3, Some(6)));
+    let found = costs::<u32>(rt.alloc(), text, "O", 3)?;
+    same(&rt, "O", found, (0, Some(3)));
     Ok(())
 }
 
@@ -72,24 +70,20 @@ fn first_tokens<S: IndexStorage>(alloc: Global, end: u8, cost: u8) -> Result<(us
 /// There are 2 to the power of 1,024 cheapest lists.
 #[test]
 fn first_of_very_many_lists(rt: HostRuntime) -> Result<(), Fail> {
-    let (tokens, firsts) = first_tokens::<u8>(rt.alloc(), 1, 1)?;
-    assert_eq!(rt; tokens, 1024);
-    assert_eq!(rt; firsts, 1024);
-    let (tokens, firsts) = first_tokens::<u32>(rt.alloc(), 1, 1)?;
-    assert_eq!(rt; tokens, 1024);
-    assert_eq!(rt; firsts, 1024);
+    let found = first_tokens::<u8>(rt.alloc(), 1, 1)?;
+    same(&rt, "u8", found, (1024, 1024));
+    let found = first_tokens::<u32>(rt.alloc(), 1, 1)?;
+    same(&rt, "u32", found, (1024, 1024));
     Ok(())
 }
 
 /// As many, where the end token costs nothing, and where no token does.
 #[test]
 fn first_of_very_many_lists_of_free_tokens(rt: HostRuntime) -> Result<(), Fail> {
-    let (tokens, firsts) = first_tokens::<u8>(rt.alloc(), 0, 1)?;
-    assert_eq!(rt; tokens, 1024);
-    assert_eq!(rt; firsts, 1024);
-    let (tokens, firsts) = first_tokens::<u8>(rt.alloc(), 0, 0)?;
-    assert_eq!(rt; tokens, 1024);
-    assert_eq!(rt; firsts, 1024);
+    let found = first_tokens::<u8>(rt.alloc(), 0, 1)?;
+    same(&rt, "free end", found, (1024, 1024));
+    let found = first_tokens::<u8>(rt.alloc(), 0, 0)?;
+    same(&rt, "all free", found, (1024, 1024));
     Ok(())
 }
 
@@ -108,9 +102,7 @@ fn asked<S: IndexStorage>(alloc: Global, text: &str) -> Result<usize, Fail> {
 #[test]
 fn costs_are_asked_once_in_order(rt: HostRuntime) -> Result<(), Fail> {
     let text = "%token a b %% S: 'c' 'b' T; T: 'a' 'b' | ;";
-    let found = asked::<u8>(rt.alloc(), text)?;
-    assert_eq!(rt; found, 1234);
-    let found = asked::<u32>(rt.alloc(), text)?;
-    assert_eq!(rt; found, 1234);
+    same(&rt, "u8", asked::<u8>(rt.alloc(), text)?, 1234);
+    same(&rt, "u32", asked::<u32>(rt.alloc(), text)?, 1234);
     Ok(())
 }

@@ -1,6 +1,7 @@
 //! Counts that fit an index type, and counts that don't.
 
 use crate::make::{TREE, refusal};
+use crate::same::same;
 use std::alloc::{AllocError, Global};
 use std::process::Abort;
 use std::test::*;
@@ -21,9 +22,9 @@ fn push_names(
 
 fn compare(rt: &(impl Abort + AllocGlobal), text: &str, wanted: &str) -> Result<(), Fail> {
     let found = refusal::<u8>(rt.alloc(), TREE, text)?;
-    assert_eq!(rt; found.as_str(), wanted);
+    same(rt, "u8", found.as_str(), wanted);
     let found = refusal::<u16>(rt.alloc(), TREE, text)?;
-    assert_eq!(rt; found.as_str(), "");
+    same(rt, "u16", found.as_str(), "");
     Ok(())
 }
 

@@ -13,3 +13,5 @@ mod make;
 mod next;
 #[cfg(test)]
 mod prefix;
+#[cfg(test)]
+mod same;

@@ -2,6 +2,7 @@
 
 use crate::lexeme::RowLexeme;
 use crate::make::judged;
+use crate::same::same;
 use cfg_base::index::IndexStorage;
 use cfg_numbered::yacc::grammar::NumberedGrammar;
 use lrpar::{Lexeme, ParserData, ParserDataError};
@@ -77,27 +78,27 @@ const LIST: &str = "%start L %% L: 'ID' | ;";
 #[test]
 fn next_tokens_are_told(rt: HostRuntime) -> Result<(), Fail> {
     let found = next::<u8>(rt.alloc(), MERGED, &["a", "q"])?;
-    assert_eq!(rt; found.as_str(), " t x");
+    same(&rt, "a q", found.as_str(), " t x");
     let found = next::<u16>(rt.alloc(), MERGED, &["b", "q"])?;
-    assert_eq!(rt; found.as_str(), " u x");
+    same(&rt, "b q", found.as_str(), " u x");
     let found = next::<u32>(rt.alloc(), MERGED, &["a", "q", "x"])?;
-    assert_eq!(rt; found.as_str(), " $");
+    same(&rt, "a q x", found.as_str(), " $");
     let found = next::<u8>(rt.alloc(), SUMS, &["(", "INT", "+"])?;
-    assert_eq!(rt; found.as_str(), " ( INT");
+    same(&rt, "behind INT +", found.as_str(), " ( INT");
     let found = next::<u8>(rt.alloc(), SUMS, &["(", "INT", ")"])?;
-    assert_eq!(rt; found.as_str(), " + * $");
+    same(&rt, "behind INT", found.as_str(), " + * $");
     let found = next::<u8>(rt.alloc(), LIST, &[])?;
-    assert_eq!(rt; found.as_str(), " ID $");
+    same(&rt, "empty list", found.as_str(), " ID $");
     Ok(())
 }
 
 #[test]
 fn lexemes_with_an_error_have_none(rt: HostRuntime) -> Result<(), Fail> {
     let found = next::<u8>(rt.alloc(), MERGED, &["a", "q", "u"])?;
-    assert_eq!(rt; found.as_str(), "none");
+    same(&rt, "wrong token", found.as_str(), "none");
     let found = next::<u8>(rt.alloc(), SUMS, &["(", "INT", "+", ")"])?;
-    assert_eq!(rt; found.as_str(), "none");
+    same(&rt, "wrong end", found.as_str(), "none");
     let found = next::<u8>(rt.alloc(), LIST, &["$"])?;
-    assert_eq!(rt; found.as_str(), "none");
+    same(&rt, "end token", found.as_str(), "none");
     Ok(())
 }

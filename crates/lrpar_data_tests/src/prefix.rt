@@ -2,6 +2,7 @@
 
 use crate::make::judged;
 use crate::next::names_of;
+use crate::same::same;
 use cfg_base::index::IndexStorage;
 use cfg_numbered::yacc::grammar::NumberedGrammar;
 use lrpar::{ParserData, ParserDataError, Prefix};
@@ -61,12 +62,19 @@ fn told_of<S: IndexStorage>(alloc: Global, text: &str, names: &[&str]) -> Result
 fn refused_tokens_leave_the_stack(rt: HostRuntime) -> Result<(), Fail> {
     let merged = "%start S %% S: 'a' A 't' | 'a' B | 'b' A 'u' | 'b' B; A: 'q'; B: 'q' 'x';";
     let found = told_of::<u8>(rt.alloc(), merged, &["a", "q", "u", "x", "$", "x"])?;
-    assert_eq!(rt; found.as_str(), " a b | q | t x ! | t x | $ ! | $ ! | $ 3");
+    same(
+        &rt,
+        "merged",
+        found.as_str(),
+        " a b | q | t x ! | t x | $ ! | $ ! | $ 3",
+    );
     let sums = "%start E %% E: E '+' T | T; T: T '*' F | F; F: '(' E ')' | 'INT';";
     let found = told_of::<u16>(rt.alloc(), sums, &["(", "INT", "*", "+", "INT", ")"])?;
-    assert_eq!(rt;
+    same(
+        &rt,
+        "sums",
         found.as_str(),
-        " ( INT | ( INT | + * ) | ( INT ! | ( INT | + * ) | + * $ 5"
+        " ( INT | ( INT | + * ) | ( INT ! | ( INT | + * ) | + * $ 5",
     );
     Ok(())
 }

@@ -1,5 +1,6 @@
 //! Formatters by their trait, and the lines that a formatter lends.
 
+use crate::same::same;
 use cfg_base::span::{Span, Spanned, SpansKind};
 use lrpar_diagnostics::{DiagnosticFormatter, SpannedDiagnosticFormatter};
 use std::alloc::{AllocError, Global};
@@ -51,15 +52,15 @@ fn both<D: DiagnosticFormatter, E: Spanned + Error>(
 fn formatters_go_by_their_trait(rt: HostRuntime) -> Result<(), AllocError> {
     let formatter = SpannedDiagnosticFormatter::new(rt.alloc(), "a\nb", "g.y")?;
     let (error, warning) = both(rt.alloc(), &formatter, &Nowhere)?;
-    assert_eq!(rt; error.as_str(), "");
-    assert_eq!(rt; warning.as_str(), "");
+    same(&rt, "error", error.as_str(), "");
+    same(&rt, "warning", warning.as_str(), "");
     Ok(())
 }
 
 #[test]
 fn lines_are_lent(rt: HostRuntime) -> Result<(), AllocError> {
     let formatter = SpannedDiagnosticFormatter::new(rt.alloc(), "a\nb\n", "g.y")?;
-    assert_eq!(rt; formatter.nlc().byte_to_line_num(2), Some(2));
-    assert_eq!(rt; formatter.nlc().byte_to_line_num(5), None);
+    same(&rt, "2", formatter.nlc().byte_to_line_num(2), Some(2));
+    same(&rt, "5", formatter.nlc().byte_to_line_num(5), None);
     Ok(())
 }

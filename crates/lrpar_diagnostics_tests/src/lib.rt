@@ -4,3 +4,5 @@
 
 #[cfg(test)]
 mod bounds;
+#[cfg(test)]
+mod same;

@@ -2,6 +2,7 @@
 
 use crate::lexer::{RowLexeme, RowTypes, lexer_of};
 use crate::make::data;
+use crate::same::same;
 use crate::spell::leaf;
 use cfg_base::index::IndexStorage;
 use lrpar::flat::FlatNode;
@@ -79,11 +80,23 @@ const NODES: &str = "1@0 2[0,1]/1 0@1 1@2 2[2,3]/1 1[2,3]/2 0[0,3]/6  6.0 1.1 0.
 #[test]
 fn trees_are_lists(rt: HostRuntime) -> Result<(), Fail> {
     let lexemes = &[(1, 0, 1), (0, 1, 1), (1, 2, 1)];
-    assert_eq!(rt; flat::<u8>(rt.alloc(), SUMS, lexemes)?.as_str(), NODES);
-    assert_eq!(rt; flat::<u16>(rt.alloc(), SUMS, lexemes)?.as_str(), NODES);
-    assert_eq!(rt;
+    same(
+        &rt,
+        "u8",
+        flat::<u8>(rt.alloc(), SUMS, lexemes)?.as_str(),
+        NODES,
+    );
+    same(
+        &rt,
+        "u16",
+        flat::<u16>(rt.alloc(), SUMS, lexemes)?.as_str(),
+        NODES,
+    );
+    same(
+        &rt,
+        "u32",
         flat::<u32>(rt.alloc(), SUMS, &[(1, 0, 1), (0, 1, 1)])?.as_str(),
-        "none"
+        "none",
     );
     Ok(())
 }

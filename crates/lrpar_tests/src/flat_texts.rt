@@ -2,6 +2,7 @@
 
 use crate::lexer::{RowLexeme, RowTypes, lexer_of};
 use crate::make::data;
+use crate::same::same;
 use crate::shown::flat_shown;
 use cfg_numbered::yacc::grammar::NumberedGrammar;
 use lrpar::flat::Visit;
@@ -132,7 +133,7 @@ fn trees_are_shown(rt: HostRuntime) -> Result<(), Fail> {
     for index in 0..TREES.len() {
         let (text, input, lexemes, nodes, tree) = TREES[index];
         let found = shown(rt.alloc(), text, input, lexemes, nodes)?;
-        assert_eq!(rt; found.as_str(), tree, "tree {index}");
+        same(&rt, input, found.as_str(), tree);
     }
     Ok(())
 }

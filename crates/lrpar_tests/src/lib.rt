@@ -21,6 +21,8 @@ mod parses;
 #[cfg(test)]
 mod repairs;
 #[cfg(test)]
+mod same;
+#[cfg(test)]
 mod shown;
 #[cfg(test)]
 mod spell;

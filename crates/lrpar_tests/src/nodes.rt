@@ -2,6 +2,7 @@
 
 use crate::lexer::{RowLexeme, RowLexer, RowTypes, lexer_of};
 use crate::make::data;
+use crate::same::same;
 use crate::shown::pair_shown;
 use cfg_base::symbol::RIdx;
 use lrpar::{Lexeme, NoRecovery, Node, ParseRefusal, ParserData, RTParserBuilder};
@@ -17,7 +18,7 @@ fn nodes_are_shown(rt: HostRuntime) -> Result<(), Fail> {
     );
     let text = pair_shown(rt.alloc(), data.grm(), "x\u{E9}", RIdx(1), lexemes);
     drop(data);
-    assert_eq!(rt; text?.as_str(), "S\n a x\n b \u{E9}\n");
+    same(&rt, "tree", text?.as_str(), "S\n a x\n b \u{E9}\n");
     Ok(())
 }
 

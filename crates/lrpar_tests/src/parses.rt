@@ -2,6 +2,7 @@
 
 use crate::lexer::{RowLexeme, RowTypes, lexer_of};
 use crate::make::data;
+use crate::same::same;
 use crate::spell::{branch, leaf, told};
 use cfg_base::index::IndexStorage;
 use cfg_base::span::Span;
@@ -112,11 +113,11 @@ fn lines_are_parsed(rt: HostRuntime) -> Result<(), Fail> {
     for index in 0..LINES.len() {
         let (text, lexemes, told) = LINES[index];
         let found = parsed::<u8>(rt.alloc(), text, lexemes)?;
-        assert_eq!(rt; found.as_str(), told, "line {index}");
+        same(&rt, text, found.as_str(), told);
         let found = parsed::<u16>(rt.alloc(), text, lexemes)?;
-        assert_eq!(rt; found.as_str(), told, "line {index}");
+        same(&rt, text, found.as_str(), told);
         let found = parsed::<u32>(rt.alloc(), text, lexemes)?;
-        assert_eq!(rt; found.as_str(), told, "line {index}");
+        same(&rt, text, found.as_str(), told);
     }
     Ok(())
 }
@@ -124,10 +125,10 @@ fn lines_are_parsed(rt: HostRuntime) -> Result<(), Fail> {
 #[test]
 fn lexemes_are_refused(rt: HostRuntime) -> Result<(), Fail> {
     let found = parsed::<u8>(rt.alloc(), SUMS, &[(2, 0, 1)])?;
-    assert_eq!(rt; found.as_str(), "outside 0");
+    same(&rt, "end token", found.as_str(), "outside 0");
     let found = parsed::<u8>(rt.alloc(), SUMS, &[(3, 0, 1)])?;
-    assert_eq!(rt; found.as_str(), "outside 0");
+    same(&rt, "past the tokens", found.as_str(), "outside 0");
     let found = parsed::<u8>(rt.alloc(), SUMS, &[(1, 4, 1), (0, 2, 1)])?;
-    assert_eq!(rt; found.as_str(), "decreases 1");
+    same(&rt, "decreasing", found.as_str(), "decreases 1");
     Ok(())
 }

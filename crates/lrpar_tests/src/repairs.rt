@@ -3,6 +3,7 @@
 use crate::lexer::{RowLexeme, RowTypes, lexer_of};
 use crate::lines::{Lines, lines_of};
 use crate::make::data;
+use crate::same::same;
 use crate::spell::{branch, leaf, told};
 use cfg_base::index::IndexStorage;
 use cfg_base::span::Span;
@@ -49,9 +50,11 @@ const TAILS: &str = "%start S %% S: 'a' A 't' | 'a' B | 'b' A 'u' | 'b' B; A: 'q
 #[test]
 fn errors_are_mended(rt: HostRuntime) -> Result<(), Fail> {
     let found = mended::<u8>(rt.alloc(), SUMS, &[(1, 0, 2), (0, 3, 1)], "d 1")?;
-    assert_eq!(rt;
+    same(
+        &rt,
+        "one sequence a place",
         found.as_str(),
-        "0:1[0,4]( 2:2[0,2]( 1@0 ) 0@3 1:1[4,4]( 2:2[4,4]( 1@4 ) ) ); error at 2@4+0 faulty, insert 1"
+        "0:1[0,4]( 2:2[0,2]( 1@0 ) 0@3 1:1[4,4]( 2:2[4,4]( 1@4 ) ) ); error at 2@4+0 faulty, insert 1",
     );
     let found = mended::<u16>(
         rt.alloc(),
@@ -59,14 +62,18 @@ fn errors_are_mended(rt: HostRuntime) -> Result<(), Fail> {
         &[(0, 0, 1), (4, 2, 1), (3, 4, 1)],
         "5d 1d",
     )?;
-    assert_eq!(rt;
+    same(
+        &rt,
+        "reductions before",
         found.as_str(),
-        "0:1[0,4]( 0@0 4:2[2,3]( 4@2 ) 1@4 ); error at 3@4+1, insert 1 delete 3@4"
+        "0:1[0,4]( 0@0 4:2[2,3]( 4@2 ) 1@4 ); error at 3@4+1, insert 1 delete 3@4",
     );
     let found = mended::<u32>(rt.alloc(), SUMS, &[(1, 0, 2), (0, 3, 1)], " 2 c s d 101")?;
-    assert_eq!(rt;
+    same(
+        &rt,
+        "several sequences",
         found.as_str(),
-        "0:1[0,4]( 2:2[0,2]( 1@0 ) 0@3 0:1[4,4]( 2:2[4,4]( 1@4 ) 0@4 1:1[4,4]( 2:2[4,4]( 1@4 ) ) ) ); error at 2@4+0 faulty, insert 1 insert 0 insert 1"
+        "0:1[0,4]( 2:2[0,2]( 1@0 ) 0@3 0:1[4,4]( 2:2[4,4]( 1@4 ) 0@4 1:1[4,4]( 2:2[4,4]( 1@4 ) ) ) ); error at 2@4+0 faulty, insert 1 insert 0 insert 1",
     );
     Ok(())
 }

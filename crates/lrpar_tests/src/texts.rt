@@ -1,6 +1,7 @@
 //! Errors and refusals as texts.
 
 use crate::lexer::{RowError, RowLexeme, RowTypes};
+use crate::same::same;
 use cfg_base::span::Span;
 use lrpar::{LexParseError, Lexeme, ParseError, ParseRefusal};
 use lrtable::StIdx;
@@ -8,31 +9,45 @@ use std::alloc::{AllocError, Global};
 use std::fmt::Display;
 use std::test::*;
 
-/// The text that is shown of a value.
-fn shown<D: Display>(alloc: Global, value: &D) -> Result<String, AllocError> {
-    format!(in alloc; "{value}")
+/// Returns what a value prints, and drops it.
+fn printed<D: Display + Drop>(alloc: Global, value: D) -> Result<String, AllocError> {
+    let text = format!(in alloc; "{value}");
+    drop(value);
+    text
+}
+
+/// An error at a lexeme without repairs.
+fn error_at(alloc: Global, lexeme: RowLexeme<u8>) -> ParseError<RowLexeme<u8>, u8> {
+    ParseError {
+        stidx: StIdx(1),
+        lexeme,
+        repairs: Vec::new(alloc),
+    }
 }
 
 #[test]
 fn errors_have_texts(rt: HostRuntime) -> Result<(), Fail> {
+    let alloc = rt.alloc();
     let lexeme: RowLexeme<u8> = RowLexeme::new(0, 2, 1);
-    let told = format!(in rt.alloc(); "Parse error at lexeme {lexeme:?}")?;
-    let error = ParseError {
-        stidx: StIdx(1),
-        lexeme,
-        repairs: Vec::new(rt.alloc()),
-    };
-    assert_eq!(rt; shown(rt.alloc(), &error)?.as_str(), told.as_str());
-    let error = LexParseError::<RowTypes<u8>>::from(error);
-    assert_eq!(rt; shown(rt.alloc(), &error)?.as_str(), told.as_str());
+    let told = format!(in alloc; "Parse error at lexeme {lexeme:?}")?;
+    let found = printed(alloc, error_at(alloc, lexeme))?;
+    same(&rt, "parse error", found.as_str(), told.as_str());
+    let error = LexParseError::<RowTypes<u8>>::from(error_at(alloc, lexeme));
+    let found = printed(alloc, error)?;
+    same(&rt, "either error", found.as_str(), told.as_str());
     let span = Span::new(2, 3);
     let error = LexParseError::<RowTypes<u8>>::from(RowError { span });
-    assert_eq!(rt; shown(rt.alloc(), &error)?.as_str(), "no token");
-    let refusal = ParseRefusal::LexemeOutside(1);
-    assert_eq!(rt; shown(rt.alloc(), &refusal)?.as_str(), "LexemeOutside");
-    let refusal = ParseRefusal::StartDecreases(1);
-    assert_eq!(rt; shown(rt.alloc(), &refusal)?.as_str(), "StartDecreases");
-    let refusal = ParseRefusal::Memory(AllocError);
-    assert_eq!(rt; shown(rt.alloc(), &refusal)?.as_str(), "Memory");
+    same(
+        &rt,
+        "lexing error",
+        printed(alloc, error)?.as_str(),
+        "no token",
+    );
+    let found = printed(alloc, ParseRefusal::LexemeOutside(1))?;
+    same(&rt, "outside", found.as_str(), "LexemeOutside");
+    let found = printed(alloc, ParseRefusal::StartDecreases(1))?;
+    same(&rt, "decreasing", found.as_str(), "StartDecreases");
+    let found = printed(alloc, ParseRefusal::Memory(AllocError))?;
+    same(&rt, "memory", found.as_str(), "Memory");
     Ok(())
 }

@@ -3,6 +3,7 @@
 use crate::lexer::{NO_TOKEN, RowLexeme, RowLexer, RowTypes, lexer_of};
 use crate::lines::lines_of;
 use crate::make::data;
+use crate::same::same;
 use crate::ways::{acted, mapped, treed, treed_by_actions, unvalued};
 use cfg_base::index::IndexStorage;
 use lrpar::{ParserData, RTParserBuilder, Recoverer};
@@ -82,14 +83,16 @@ const LINE: &str = "2/0 1/1
 
 #[test]
 fn lines_have_values(rt: HostRuntime) -> Result<(), Fail> {
-    assert_eq!(rt;
+    same(
+        &rt,
+        "sum",
         row::<u8>(rt.alloc(), SUMS, &[(1, 0, 1), (0, 1, 1), (1, 2, 1)], None)?.as_str(),
-        SUM
+        SUM,
     );
     let found = row::<u16>(rt.alloc(), "%start S %% S: 'a' L; L: ;", &[(0, 0, 1)], None)?;
-    assert_eq!(rt; found.as_str(), AFTER);
+    same(&rt, "empty behind", found.as_str(), AFTER);
     let found = row::<u32>(rt.alloc(), "%start S %% S: L; L: 'ID' | ;", &[], None)?;
-    assert_eq!(rt; found.as_str(), LINE);
+    same(&rt, "empty line", found.as_str(), LINE);
     Ok(())
 }
 
@@ -107,11 +110,15 @@ const MENDED_TAIL: &str = "0@0 4@2 2/1 1@4 1/3; error at 3@4, insert 1 delete 3@
 
 #[test]
 fn mended_lines_have_values(rt: HostRuntime) -> Result<(), Fail> {
-    assert_eq!(rt;
+    same(
+        &rt,
+        "sum",
         row::<u8>(rt.alloc(), SUMS, &[(1, 0, 2), (0, 3, 1)], Some("d 1"))?.as_str(),
-        MENDED_SUM
+        MENDED_SUM,
     );
-    assert_eq!(rt;
+    same(
+        &rt,
+        "tail",
         row::<u16>(
             rt.alloc(),
             TAILS,
@@ -119,7 +126,7 @@ fn mended_lines_have_values(rt: HostRuntime) -> Result<(), Fail> {
             Some("5d 1d"),
         )?
         .as_str(),
-        MENDED_TAIL
+        MENDED_TAIL,
     );
     Ok(())
 }
@@ -144,19 +151,25 @@ none; fault at 3
 
 #[test]
 fn lines_have_no_values(rt: HostRuntime) -> Result<(), Fail> {
-    assert_eq!(rt;
+    same(
+        &rt,
+        "cut sum",
         row::<u32>(rt.alloc(), SUMS, &[(1, 0, 2), (0, 3, 1)], None)?.as_str(),
-        CUT_SUM
+        CUT_SUM,
     );
     let lexemes = &[(1, 0, 2), (0, 3, 1), (0, 5, 1), (1, 7, 2)];
-    assert_eq!(rt;
+    same(
+        &rt,
+        "second plus",
         row::<u8>(rt.alloc(), SUMS, lexemes, Some("s"))?.as_str(),
-        SECOND_PLUS
+        SECOND_PLUS,
     );
     let lexemes = &[(1, 0, 2), (NO_TOKEN, 3, 1), (NO_TOKEN, 5, 2)];
-    assert_eq!(rt;
+    same(
+        &rt,
+        "faults",
         row::<u16>(rt.alloc(), SUMS, lexemes, Some("d"))?.as_str(),
-        FAULTY
+        FAULTY,
     );
     Ok(())
 }
@@ -175,17 +188,23 @@ decreases 1";
 
 #[test]
 fn lexemes_are_refused(rt: HostRuntime) -> Result<(), Fail> {
-    assert_eq!(rt;
+    same(
+        &rt,
+        "end token",
         row::<u8>(rt.alloc(), SUMS, &[(2, 0, 1)], None)?.as_str(),
-        OUTSIDE
+        OUTSIDE,
     );
-    assert_eq!(rt;
+    same(
+        &rt,
+        "past the tokens",
         row::<u16>(rt.alloc(), SUMS, &[(3, 0, 1)], None)?.as_str(),
-        OUTSIDE
+        OUTSIDE,
     );
-    assert_eq!(rt;
+    same(
+        &rt,
+        "decreasing",
         row::<u32>(rt.alloc(), SUMS, &[(1, 4, 1), (0, 2, 1)], None)?.as_str(),
-        DECREASES
+        DECREASES,
     );
     Ok(())
 }

@@ -3,12 +3,12 @@
 ghost use Rattle.std.specs.Prelude.{length, OnOk};
 ghost use Rattle.state_table.specs.Itemsets.{HasWidth};
 
+use crate::same::same;
 use crate::spell::push_items;
 use cfg_base::index::IndexStorage;
 use cfg_base::symbol::{PIdx, SIdx};
 use lrtable::itemset::Itemset;
 use std::alloc::{AllocError, Global};
-use std::process::Abort;
 use std::test::*;
 use vob::Vob;
 
@@ -64,8 +64,8 @@ const ADDED: &str = "new 7.2;\nold 7.2;\nnew 7.2 1;\nold 7.2 1;\nnew 2.7 1;7.2 1
 
 #[test]
 fn items_are_added(rt: HostRuntime) -> Result<(), Fail> {
-    assert_eq!(rt; added::<u8>(rt.alloc(), 2, 7)?.as_str(), ADDED);
-    assert_eq!(rt; added::<u16>(rt.alloc(), 2, 7)?.as_str(), ADDED);
-    assert_eq!(rt; added::<u32>(rt.alloc(), 2, 7)?.as_str(), ADDED);
+    same(&rt, "u8", added::<u8>(rt.alloc(), 2, 7)?.as_str(), ADDED);
+    same(&rt, "u16", added::<u16>(rt.alloc(), 2, 7)?.as_str(), ADDED);
+    same(&rt, "u32", added::<u32>(rt.alloc(), 2, 7)?.as_str(), ADDED);
     Ok(())
 }

@@ -5,13 +5,13 @@ ghost use Rattle.cfg_sets.specs.Firsts.{AreFirsts};
 ghost use Rattle.lr_theory.specs.Itemset.{FitsGrammar};
 
 use crate::make::made;
+use crate::same::same;
 use crate::spell::push_items;
 use cfg_base::index::IndexStorage;
 use cfg_base::symbol::{RIdx, SIdx, Symbol, TIdx};
 use cfgrammar::yacc::{YaccFirsts, YaccGrammar};
 use lrtable::itemset::{Closing, Itemset};
 use std::alloc::{AllocError, Global};
-use std::process::Abort;
 use std::test::*;
 use vob::Vob;
 
@@ -82,20 +82,22 @@ const BEHIND_EMPTY: &str = "0.0 5;1.0 5;8.0 5;\n0.1 5;\n0.1 5;2.0 5;3.0 2 4;6.0 
 #[test]
 fn sets_are_closed_and_passed_on(rt: HostRuntime) -> Result<(), Fail> {
     let found = passed::<u8>(rt.alloc(), POINTERS, &Symbol::Token(TIdx(1)))?;
-    assert_eq!(rt; found.as_str(), POINTER);
+    same(&rt, "token in u8", found.as_str(), POINTER);
     let found = passed::<u16>(rt.alloc(), WITHOUT_END, &Symbol::Token(TIdx(0)))?;
-    assert_eq!(rt; found.as_str(), NESTED);
+    same(&rt, "token in u16", found.as_str(), NESTED);
     let found = passed::<u32>(rt.alloc(), EMPTY, &Symbol::Token(TIdx(0)))?;
-    assert_eq!(rt; found.as_str(), BEHIND_EMPTY);
+    same(&rt, "token in u32", found.as_str(), BEHIND_EMPTY);
     Ok(())
 }
 
 #[test]
 fn sets_are_passed_on_over_rules(rt: HostRuntime) -> Result<(), Fail> {
     let found = passed::<u32>(rt.alloc(), POINTERS, &Symbol::Rule(RIdx(2)))?;
-    assert_eq!(rt;
+    same(
+        &rt,
+        "rule",
         found.as_str(),
-        "0.0 3;1.0 3;2.0 0 3;3.0 0 3;4.0 3;5.0 3;\n0.1 3;4.1 3;\n0.1 3;4.1 3;"
+        "0.0 3;1.0 3;2.0 0 3;3.0 0 3;4.0 3;5.0 3;\n0.1 3;4.1 3;\n0.1 3;4.1 3;",
     );
     Ok(())
 }

@@ -12,4 +12,6 @@ mod make;
 #[cfg(test)]
 mod rows;
 #[cfg(test)]
+mod same;
+#[cfg(test)]
 mod spell;

@@ -3,15 +3,16 @@
 ghost use Rattle.std.specs.Prelude.{◌≡◌};
 ghost use Rattle.state_table.specs.Rows.{Rises};
 
+use crate::same::same;
 use cfg_base::steps::Steps;
 use cfg_base::symbol::PIdx;
 use lrtable::rows::row_search;
 use lrtable::statetable::{StateTableError, StateTableErrorKind};
 use lrtable::stidx::StIdx;
 use lrtable::{FromYaccError, Minimiser};
-use std::alloc::AllocError;
+use std::alloc::{AllocError, Global};
+use std::fmt::Display;
 use std::marker::Brand;
-use std::process::Abort;
 use std::sync::ledger::{Blank, Ledger};
 use std::test::*;
 
@@ -36,15 +37,15 @@ fn rows_are_searched(rt: HostRuntime) {
         (8, Some(80)),
     ] {
         let found = searched::<Brand>(&row, number, Blank::new(1));
-        assert_eq!(rt; found, wanted, "at {number}");
+        same(&rt, "row", (number, found), (number, wanted));
     }
 }
 
 #[test]
 fn state_indices_are_numbers(rt: HostRuntime) {
-    assert_eq!(rt; usize::from(StIdx(255u8)), 255);
-    assert_eq!(rt; u32::from(StIdx(65_535u16)), 65_535);
-    assert_eq!(rt; StIdx(7u32).as_storaget(), 7);
+    same(&rt, "u8", usize::from(StIdx(255u8)), 255);
+    same(&rt, "u16", u32::from(StIdx(65_535u16)), 65_535);
+    same(&rt, "u32", StIdx(7u32).as_storaget(), 7);
     assert!(rt; StIdx(2u8) < StIdx(10u8));
 }
 
@@ -53,24 +54,28 @@ const TOLD: StateTableError<u8> = StateTableError {
     pidx: PIdx(3),
 };
 
+/// Returns what a value prints, and drops it.
+fn printed<E: Display + Drop>(alloc: Global, error: E) -> Result<String, AllocError> {
+    let text = format!(in alloc; "{error}");
+    drop(error);
+    text
+}
+
+const TOLD_OF: &str = "Pager StateTableError { kind: AcceptReduceConflict, pidx: PIdx(3) }";
+
 #[test]
 fn refusals_have_texts(rt: HostRuntime) -> Result<(), Fail> {
     let alloc = rt.alloc();
-    let told = FromYaccError::StateTable(TOLD);
-    assert_eq!(rt;
-        format!(in alloc; "{told}")?.as_str(),
-        "Accept/reduce conflict"
-    );
-    let many = FromYaccError::<u8>::TooManyStates(256);
-    assert_eq!(rt; format!(in alloc; "{many}")?.as_str(), "TooManyStates");
-    let large = FromYaccError::<u16>::TooLarge;
-    assert_eq!(rt; format!(in alloc; "{large}")?.as_str(), "TooLarge");
-    let memory = FromYaccError::<u32>::Memory(AllocError);
-    assert_eq!(rt; format!(in alloc; "{memory}")?.as_str(), "Memory");
+    let told = printed(alloc, FromYaccError::StateTable(TOLD))?;
+    same(&rt, "conflict", told.as_str(), "Accept/reduce conflict");
+    let told = printed(alloc, FromYaccError::<u8>::TooManyStates(256))?;
+    same(&rt, "states", told.as_str(), "TooManyStates");
+    let told = printed(alloc, FromYaccError::<u16>::TooLarge)?;
+    same(&rt, "large", told.as_str(), "TooLarge");
+    let told = printed(alloc, FromYaccError::<u32>::Memory(AllocError))?;
+    same(&rt, "memory", told.as_str(), "Memory");
     let minimiser = Minimiser::Pager;
-    assert_eq!(rt;
-        format!(in alloc; "{minimiser:?} {TOLD:?}")?.as_str(),
-        "Pager StateTableError { kind: AcceptReduceConflict, pidx: PIdx(3) }"
-    );
+    let told = format!(in alloc; "{minimiser:?} {TOLD:?}")?;
+    same(&rt, "debugging", told.as_str(), TOLD_OF);
     Ok(())
 }

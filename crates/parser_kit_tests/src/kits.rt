@@ -1,5 +1,6 @@
 //! What texts come to: a kit with its counts, or why there is none.
 
+use crate::same::same;
 use crate::texts::{declared, repeated};
 use cfg_base::index::IndexStorage;
 use cfg_read::yacc::{YaccGrammarError, YaccKind, YaccOriginalActionKind};
@@ -164,13 +165,13 @@ fn first_wrong<S: IndexStorage>(
 #[test]
 fn kits_tell_of_their_texts(rt: HostRuntime) -> Result<(), Fail> {
     let found = first_wrong::<u8>(rt.alloc(), TEXTS, false)?;
-    assert_eq!(rt; found, TEXTS.len());
+    same(&rt, "u8", found, TEXTS.len());
     let found = first_wrong::<u16>(rt.alloc(), TEXTS, false)?;
-    assert_eq!(rt; found, TEXTS.len());
+    same(&rt, "u16", found, TEXTS.len());
     let found = first_wrong::<u32>(rt.alloc(), TEXTS, false)?;
-    assert_eq!(rt; found, TEXTS.len());
+    same(&rt, "u32", found, TEXTS.len());
     let found = first_wrong::<u8>(rt.alloc(), SECTIONS, true)?;
-    assert_eq!(rt; found, SECTIONS.len());
+    same(&rt, "sections", found, SECTIONS.len());
     Ok(())
 }
 
@@ -178,16 +179,21 @@ fn kits_tell_of_their_texts(rt: HostRuntime) -> Result<(), Fail> {
 fn numbers_have_an_end(rt: HostRuntime) -> Result<(), Fail> {
     let text = declared(rt.alloc(), 255)?;
     let found = judged::<u8>(rt.alloc(), text.as_str())?;
-    assert_eq!(rt; found.as_str(), "too many tokens: 256");
+    same(
+        &rt,
+        "255 tokens of u8",
+        found.as_str(),
+        "too many tokens: 256",
+    );
     let found = judged::<u16>(rt.alloc(), text.as_str())?;
-    assert_eq!(rt; found.as_str(), "0 0 true true");
+    same(&rt, "255 tokens of u16", found.as_str(), "0 0 true true");
     let found = judged::<u8>(rt.alloc(), declared(rt.alloc(), 254)?.as_str())?;
-    assert_eq!(rt; found.as_str(), "0 0 true true");
+    same(&rt, "254 tokens", found.as_str(), "0 0 true true");
     let found = judged::<u8>(rt.alloc(), repeated(rt.alloc(), 253)?.as_str())?;
-    assert_eq!(rt; found.as_str(), "0 0 true true");
+    same(&rt, "253 symbols", found.as_str(), "0 0 true true");
     let found = judged::<u8>(rt.alloc(), repeated(rt.alloc(), 254)?.as_str())?;
-    assert_eq!(rt; found.as_str(), "too many states: 256");
+    same(&rt, "254 symbols", found.as_str(), "too many states: 256");
     let found = judged::<u8>(rt.alloc(), repeated(rt.alloc(), 256)?.as_str())?;
-    assert_eq!(rt; found.as_str(), "too many symbols: 256");
+    same(&rt, "256 symbols", found.as_str(), "too many symbols: 256");
     Ok(())
 }

@@ -12,6 +12,8 @@ mod parses;
 #[cfg(test)]
 mod repaired;
 #[cfg(test)]
+mod same;
+#[cfg(test)]
 mod spell;
 #[cfg(test)]
 mod texts;

@@ -1,6 +1,7 @@
 //! Lines through kits.
 
 use crate::lexer::{RowLexeme, RowLexer, RowTypes, lexer_of};
+use crate::same::same;
 use crate::spell::{branch, by_rule, flat_told, leaf, mapped_told, told};
 use crate::texts::any_of;
 use cfg_base::index::IndexStorage;
@@ -93,21 +94,30 @@ const TWO: &str = "%start S %% S: 'a' A 'd' | 'b' B 'd' | 'a' B 'e' | 'b' A 'e';
 #[test]
 fn lines_are_parsed(rt: HostRuntime) -> Result<(), Fail> {
     let found = parsed::<u8>(rt.alloc(), TWO, &[(0, 0, 1), (4, 2, 1), (3, 4, 1)])?;
-    assert_eq!(rt;
+    same(
+        &rt,
+        "merged",
         found.as_str(),
-        "2:1[0,5]( 0@0 5:3[2,3]( 4@2 ) 3@4 ) / 1( 0@0 3( 4@2 ) 3@4 ) / 5 nodes"
+        "2:1[0,5]( 0@0 5:3[2,3]( 4@2 ) 3@4 ) / 1( 0@0 3( 4@2 ) 3@4 ) / 5 nodes",
     );
     let found = parsed::<u16>(
         rt.alloc(),
         "%start E %% E: E '+' E | 'n';",
         &[(1, 0, 1), (0, 2, 1), (1, 4, 1), (0, 6, 1), (1, 8, 1)],
     )?;
-    assert_eq!(rt;
+    same(
+        &rt,
+        "sums",
         found.as_str(),
-        "0:1[0,9]( 1:1[0,1]( 1@0 ) 0@2 0:1[4,9]( 1:1[4,5]( 1@4 ) 0@6 1:1[8,9]( 1@8 ) ) ) / 1( 1( 1@0 ) 0@2 1( 1( 1@4 ) 0@6 1( 1@8 ) ) ) / 10 nodes"
+        "0:1[0,9]( 1:1[0,1]( 1@0 ) 0@2 0:1[4,9]( 1:1[4,5]( 1@4 ) 0@6 1:1[8,9]( 1@8 ) ) ) / 1( 1( 1@0 ) 0@2 1( 1( 1@4 ) 0@6 1( 1@8 ) ) ) / 10 nodes",
     );
     let found = parsed::<u8>(rt.alloc(), any_of(rt.alloc(), 65)?.as_str(), &[(64, 0, 3)])?;
-    assert_eq!(rt; found.as_str(), "64:1[0,3]( 64@0 ) / 1( 64@0 ) / 2 nodes");
+    same(
+        &rt,
+        "65 tokens",
+        found.as_str(),
+        "64:1[0,3]( 64@0 ) / 1( 64@0 ) / 2 nodes",
+    );
     Ok(())
 }
 
@@ -115,17 +125,26 @@ fn lines_are_parsed(rt: HostRuntime) -> Result<(), Fail> {
 fn errors_are_told(rt: HostRuntime) -> Result<(), Fail> {
     let text = "%start S %% S: A 'x' 'y' | B 'x' 'z'; A: 'a'; B: 'a';";
     let found = parsed::<u32>(rt.alloc(), text, &[(3, 0, 1), (0, 2, 1), (2, 4, 1)])?;
-    assert_eq!(rt;
+    same(
+        &rt,
+        "merged",
         found.as_str(),
-        "none; error at 2@4 / none, 1 errors / none"
+        "none; error at 2@4 / none, 1 errors / none",
     );
     let text = "%start S %% S: 'a' U | 'b'; U: 'u' U;";
     let found = parsed::<u16>(rt.alloc(), text, &[(0, 0, 1), (2, 2, 1)])?;
-    assert_eq!(rt;
+    same(
+        &rt,
+        "without a sentence",
         found.as_str(),
-        "none; error at 3@3 faulty / none, 1 errors / none"
+        "none; error at 3@3 faulty / none, 1 errors / none",
     );
     let found = parsed::<u8>(rt.alloc(), text, &[(9, 0, 1)])?;
-    assert_eq!(rt; found.as_str(), "outside 0 / refused / refused");
+    same(
+        &rt,
+        "outside",
+        found.as_str(),
+        "outside 0 / refused / refused",
+    );
     Ok(())
 }

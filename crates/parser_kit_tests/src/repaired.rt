@@ -2,6 +2,7 @@
 
 use crate::lexer::{RowLexeme, RowLexer, RowTypes, lexer_of};
 use crate::lines::lines_of;
+use crate::same::same;
 use crate::spell::{branch, leaf, told};
 use cfg_base::index::IndexStorage;
 use cfg_base::span::Span;
@@ -86,14 +87,14 @@ fn repairs_leave_no_trace(rt: HostRuntime) -> Result<(), Fail> {
     let right = [(1, 0, 2), (0, 3, 1), (1, 7, 2)];
     let errors = "; error at 0@5, delete 0@5; error at 1@10, delete 1@10";
     let (found, again) = both::<u8>(rt.alloc(), SUMS, (&wrong, "d"), (&right, errors))?;
-    assert_eq!(rt; found.as_str(), again.as_str());
+    same(&rt, "deleted", found.as_str(), again.as_str());
 
     // `ID +`, where one is made up at the end.
     let wrong = [(1, 0, 2), (0, 3, 1)];
     let right = [(1, 0, 2), (0, 3, 1), (1, 4, 0)];
     let errors = "; error at 2@4 faulty, insert 1";
     let (found, again) = both::<u32>(rt.alloc(), SUMS, (&wrong, "d 1"), (&right, errors))?;
-    assert_eq!(rt; found.as_str(), again.as_str());
+    same(&rt, "inserted", found.as_str(), again.as_str());
 
     // A state whose reduction came before the error: what the lexemes as repaired give is the same.
     let text = "%start S %% S: 'a' A 't' | 'a' B | 'b' A 'u' | 'b' B; A: 'q'; B: 'q' 'x';";
@@ -101,6 +102,6 @@ fn repairs_leave_no_trace(rt: HostRuntime) -> Result<(), Fail> {
     let right = [(0, 0, 1), (4, 2, 1), (1, 4, 0)];
     let errors = "; error at 3@4, insert 1 delete 3@4";
     let (found, again) = both::<u16>(rt.alloc(), text, (&wrong, "5d 1d"), (&right, errors))?;
-    assert_eq!(rt; found.as_str(), again.as_str());
+    same(&rt, "reduced before", found.as_str(), again.as_str());
     Ok(())
 }

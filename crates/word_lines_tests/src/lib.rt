@@ -6,4 +6,6 @@ mod make;
 #[cfg(test)]
 mod repairs;
 #[cfg(test)]
+mod same;
+#[cfg(test)]
 mod words;

@@ -1,6 +1,7 @@
 //! Texts of repairs.
 
 use crate::make::{SUMS, grammar};
+use crate::same::same;
 use std::alloc::Global;
 use std::test::*;
 use word_lines::{RepairsError, read_repairs};
@@ -35,7 +36,7 @@ const TEXTS: &[(&str, usize)] = &[
 #[test]
 fn first_bad_line_is_told(rt: HostRuntime) -> Result<(), Fail> {
     for row in TEXTS {
-        assert_eq!(rt; told(rt.alloc(), row.0)?, row.1);
+        same(&rt, row.0, told(rt.alloc(), row.0)?, row.1);
     }
     Ok(())
 }

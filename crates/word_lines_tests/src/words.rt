@@ -1,6 +1,7 @@
 //! Lines and their items.
 
 use crate::make::{SUMS, grammar};
+use crate::same::same;
 use cfg_base::index::IndexStorage;
 use cfg_base::span::Span;
 use lrpar::{LexError, Lexeme, Lexer, NonStreamingLexer};
@@ -64,11 +65,13 @@ const ITEMS: &[(&str, &str)] = &[
 #[test]
 fn words_are_items(rt: HostRuntime) -> Result<(), Fail> {
     for row in ITEMS {
-        assert_eq!(rt; shown::<u8>(rt.alloc(), row.0)?.as_str(), row.1);
+        same(&rt, row.0, shown::<u8>(rt.alloc(), row.0)?.as_str(), row.1);
     }
-    assert_eq!(rt;
+    same(
+        &rt,
+        "u32",
         shown::<u32>(rt.alloc(), "ID +")?.as_str(),
-        "1[0,2] 0[3,4] "
+        "1[0,2] 0[3,4] ",
     );
     Ok(())
 }
@@ -80,7 +83,7 @@ fn one_list_serves_line_after_line(rt: HostRuntime) -> Result<(), Fail> {
     let mut room = LexerRoom::new(alloc);
     for row in ITEMS {
         let lexer = WordLexer::in_room(alloc, room, &grm, row.0)?;
-        assert_eq!(rt; items_of(alloc, &lexer)?.as_str(), row.1);
+        same(&rt, row.0, items_of(alloc, &lexer)?.as_str(), row.1);
         room = lexer.into_room();
     }
     drop(room);
@@ -94,9 +97,9 @@ fn columns_count_characters(rt: HostRuntime) -> Result<(), Fail> {
     let grm = grammar::<u16>(alloc, SUMS)?;
     let lexer = WordLexer::new(alloc, &grm, "ä 语 ID")?;
     let span = Span::new(7, 9);
-    assert_eq!(rt; lexer.line_col(span), ((1, 5), (1, 7)));
-    assert_eq!(rt; lexer.span_str(span), "ID");
-    assert_eq!(rt; lexer.span_lines_str(span), "ä 语 ID");
+    same(&rt, "columns", lexer.line_col(span), ((1, 5), (1, 7)));
+    same(&rt, "span", lexer.span_str(span), "ID");
+    same(&rt, "lines", lexer.span_lines_str(span), "ä 语 ID");
     drop(grm);
     Ok(())
 }

@@ -307,6 +307,27 @@ fn path_from<'a, S: IndexStorage>(
     Ok(path)
 }
 
+/// Searches from a visit on, until the needs of one are met or none waits, and returns the path.
+fn path_of_search<'a, S: IndexStorage>(
+    alloc: Global,
+    source: &Source<'a, S>,
+    search: &mut Search<S>,
+    start: Visit<S>,
+) -> Result<Option<Vec<StIdx<S>>>, AllocError> {
+    search.put(start)?;
+    let mut outer = Vec::with_capacity(alloc, 16)?;
+    'steps: for _ in 0..MOST_STEPS {
+        if let Some(index) = search.done {
+            let path = path_from(alloc, source, search.visits.as_slice(), index)?;
+            return Ok(Some(path));
+        }
+        if !search.go_on(source, &mut outer)? {
+            return Ok(None);
+        }
+    }
+    Ok(None)
+}
+
 /// Returns the states of a path to the state, the start state first, after which the needed items have the token as lookahead.
 pub(crate) fn path_to<'a, S: IndexStorage>(
     alloc: Global,
@@ -333,16 +354,7 @@ pub(crate) fn path_to<'a, S: IndexStorage>(
         seen: BTreeSet::new(alloc),
         done: None,
     };
-    search.put(start)?;
-    let mut outer = Vec::with_capacity(alloc, 16)?;
-    'steps: for _ in 0..MOST_STEPS {
-        if let Some(index) = search.done {
-            let path = path_from(alloc, source, search.visits.as_slice(), index)?;
-            return Ok(Some(path));
-        }
-        if !search.go_on(source, &mut outer)? {
-            return Ok(None);
-        }
-    }
-    Ok(None)
+    let path = path_of_search(alloc, source, &mut search, start);
+    drop(search);
+    path
 }

@@ -86,15 +86,28 @@ impl<'a, S: IndexStorage> ExampleFinder<'a, S> {
         ensures state { IfOk result (λ o. IfSome o (λ x. Leads (graph_of self.now.graph) (example_of S.number x).string (S.number entry.now.3.0))) }
     {
         let (listed, first, second, stidx) = *entry;
-        let found = self.pair_on(alloc, listed, first, second, stidx)?;
-        if found.is_some() {
-            return Ok(found);
+        match self.pair_on(alloc, listed, first, second, stidx)? {
+            Some(example) => Ok(Some(example)),
+            None => self.pair_on_any(alloc, first, second, stidx),
         }
+    }
+
+    /// Returns an example of a pair of reductions on the first token that has one.
+    fn pair_on_any(
+        &self,
+        alloc: Global,
+        first: PIdx<S>,
+        second: PIdx<S>,
+        stidx: StIdx<S>,
+    ) -> Result<Option<ConflictExample<S>>, AllocError>
+        ensures example { IfOk result (λ o. IfSome o (λ x. IsExample self.now.grammar.grammar (example_of S.number x) (reduce (S.number first.0)) (reduce (S.number second.0)))) }
+        ensures state { IfOk result (λ o. IfSome o (λ x. Leads (graph_of self.now.graph) (example_of S.number x).string (S.number stidx.0))) }
+    {
         'tokens: for number in 0..self.grm.tokens_len().0.to_usize() {
             let token = self.grm.token_at(number);
-            let found = self.pair_on(alloc, token, first, second, stidx)?;
-            if found.is_some() {
-                return Ok(found);
+            match self.pair_on(alloc, token, first, second, stidx)? {
+                Some(example) => return Ok(Some(example)),
+                None => {}
             }
         }
         Ok(None)

@@ -51,10 +51,24 @@ fn is_made<T: Block>(
 fn joined<T: Block>(alloc: Global, at: usize, to: usize) -> Result<(bool, bool, bool), VobError> {
     let mut list = made::<T>(alloc, 0, at)?;
     let other = made::<T>(alloc, at, to)?;
-    list.extend_from_vob(&other)?;
-    let whole = is_made(alloc, &list, 0, to)?;
-    let second = parts_into(&mut list, &other, at)? && holds(&other, at, to);
-    Ok((whole, is_made(alloc, &list, 0, at)?, second))
+    let found = join_and_part(alloc, &mut list, &other, at, to);
+    drop(list);
+    drop(other);
+    found
+}
+
+/// Joins two lists and parts them again, and returns whether the joined list, the first part and the second are right.
+fn join_and_part<T: Block>(
+    alloc: Global,
+    list: &mut Vob<T>,
+    other: &Vob<T>,
+    at: usize,
+    to: usize,
+) -> Result<(bool, bool, bool), VobError> {
+    list.extend_from_vob(other)?;
+    let whole = is_made(alloc, list, 0, to)?;
+    let second = parts_into(list, other, at)? && holds(other, at, to);
+    Ok((whole, is_made(alloc, list, 0, at)?, second))
 }
 
 /// Parts a list, and returns whether the second part is this one and the room of the first is as before.

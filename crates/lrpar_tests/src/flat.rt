@@ -4,7 +4,7 @@ use crate::lexer::{RowLexeme, RowTypes, lexer_of};
 use crate::make::data;
 use crate::same::same;
 use crate::spell::leaf;
-use cfg_base::index::IndexStorage;
+use cfg_base::index::{IndexOrder, IndexStorage};
 use lrpar::flat::FlatNode;
 use lrpar::{FlatTree, ParseRefusal, ParserData, RTParserBuilder};
 use std::alloc::{AllocError, Global};
@@ -27,7 +27,7 @@ fn node_text<S: IndexStorage>(
 }
 
 /// The nodes, and the walk over them by index and depth.
-fn tree_text<S: IndexStorage>(
+fn tree_text<S: IndexOrder>(
     alloc: Global,
     tree: &FlatTree<S, RowLexeme<S>>,
 ) -> Result<String, AllocError> {
@@ -46,7 +46,7 @@ fn tree_text<S: IndexStorage>(
 }
 
 /// The flat tree of the lexemes over checked data.
-fn told_by<S: IndexStorage>(
+fn told_by<S: IndexOrder>(
     alloc: Global,
     checked: &ParserData<S>,
     lexemes: &[(u8, u16, u16)],
@@ -62,7 +62,7 @@ fn told_by<S: IndexStorage>(
 }
 
 /// The flat tree of the lexemes by the grammar of a text.
-fn flat<S: IndexStorage>(
+fn flat<S: IndexOrder>(
     alloc: Global,
     text: &str,
     lexemes: &[(u8, u16, u16)],

@@ -1,6 +1,6 @@
 //! Lexemes by hand.
 
-use cfg_base::index::IndexStorage;
+use cfg_base::index::{IndexOrder, IndexStorage};
 use cfg_base::span::Span;
 use lrpar::{LexError, Lexeme, Lexer, LexerTypes};
 use std::alloc::{AllocError, Global};
@@ -25,7 +25,7 @@ impl<S: IndexStorage> Display for RowLexeme<S> {
     }
 }
 
-impl<S: IndexStorage> Lexeme<S> for RowLexeme<S> {
+impl<S: IndexOrder> Lexeme<S> for RowLexeme<S> {
     ghost use Rattle.parse_trees.specs.Lex.{lex_at};
     ghost use Rattle.std.specs.Prelude.{true, ◌+◌};
     ghost use Rattle.std.proofs.Common.{ap};
@@ -87,7 +87,7 @@ pub struct RowTypes<S> {
     storage: PhantomData<S>,
 }
 
-impl<S: IndexStorage> LexerTypes for RowTypes<S> {
+impl<S: IndexOrder> LexerTypes for RowTypes<S> {
     type LexemeT = RowLexeme<S>;
 
     type StorageT = S;
@@ -101,7 +101,7 @@ pub struct RowLexer<S> {
     items: Vec<Result<RowLexeme<S>, RowError>>,
 }
 
-impl<S: IndexStorage> Lexer<RowTypes<S>> for RowLexer<S> {
+impl<S: IndexOrder> Lexer<RowTypes<S>> for RowLexer<S> {
     ghost lexed = { λ l. l.items.items };
 
     fn iter<'a>(&'a self) -> Iter<'a, Result<RowLexeme<S>, RowError>> {
@@ -113,7 +113,7 @@ impl<S: IndexStorage> Lexer<RowTypes<S>> for RowLexer<S> {
 pub const NO_TOKEN: u8 = 255;
 
 /// Lexemes of these tokens, starts and lengths, and a fault for each that is of no token.
-pub fn lexer_of<S: IndexStorage>(
+pub fn lexer_of<S: IndexOrder>(
     alloc: Global,
     lexemes: &[(u8, u16, u16)],
 ) -> Result<RowLexer<S>, AllocError> {

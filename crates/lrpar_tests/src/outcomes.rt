@@ -2,12 +2,12 @@
 
 use crate::lexer::{RowLexeme, RowTypes};
 use crate::spell::{leaf, push_repair};
-use cfg_base::index::IndexStorage;
+use cfg_base::index::IndexOrder;
 use lrpar::{LexParseError, Lexeme, ParseError, ParseRefusal};
 use std::alloc::{AllocError, Global};
 
 /// An error of a parse: its lexeme, whether that was made up, and the listed sequences.
-fn push_parse_error<S: IndexStorage>(
+fn push_parse_error<S: IndexOrder>(
     alloc: Global,
     text: &mut String,
     error: &ParseError<RowLexeme<S>, S>,
@@ -27,7 +27,7 @@ fn push_parse_error<S: IndexStorage>(
 }
 
 /// An error of lexing or of parsing.
-fn push_error<S: IndexStorage>(
+fn push_error<S: IndexOrder>(
     alloc: Global,
     text: &mut String,
     error: &LexParseError<RowTypes<S>>,
@@ -42,7 +42,7 @@ fn push_error<S: IndexStorage>(
 }
 
 /// The errors behind the text of a value.
-pub fn push_errors<S: IndexStorage>(
+pub fn push_errors<S: IndexOrder>(
     alloc: Global,
     text: &mut String,
     errors: &[LexParseError<RowTypes<S>>],
@@ -63,7 +63,7 @@ pub fn refusal(alloc: Global, refusal: &ParseRefusal) -> Result<String, AllocErr
 }
 
 /// The value, or that there is none, and the errors.
-pub fn told<S: IndexStorage>(
+pub fn told<S: IndexOrder>(
     alloc: Global,
     outcome: &Result<(Option<String>, Vec<LexParseError<RowTypes<S>>>), ParseRefusal>,
 ) -> Result<String, AllocError> {
@@ -81,7 +81,7 @@ pub fn told<S: IndexStorage>(
 }
 
 /// The errors.
-pub fn errors_told<S: IndexStorage>(
+pub fn errors_told<S: IndexOrder>(
     alloc: Global,
     outcome: &Result<Vec<LexParseError<RowTypes<S>>>, ParseRefusal>,
 ) -> Result<String, AllocError> {

@@ -4,7 +4,7 @@ use crate::lexer::{RowLexeme, RowTypes, lexer_of};
 use crate::make::data;
 use crate::same::same;
 use crate::spell::{branch, leaf, told};
-use cfg_base::index::IndexStorage;
+use cfg_base::index::IndexOrder;
 use cfg_base::span::Span;
 use cfg_base::symbol::{PIdx, RIdx};
 use lrpar::{ParserData, RTParserBuilder};
@@ -12,7 +12,7 @@ use std::alloc::{AllocError, Global};
 use std::test::*;
 
 /// What the lexemes come to over checked data, where nothing is handed in.
-fn told_by<S: IndexStorage>(
+fn told_by<S: IndexOrder>(
     alloc: Global,
     checked: &ParserData<S>,
     lexemes: &[(u8, u16, u16)],
@@ -28,7 +28,7 @@ fn told_by<S: IndexStorage>(
 }
 
 /// What the lexemes come to by the grammar of a text.
-fn parsed<S: IndexStorage>(
+fn parsed<S: IndexOrder>(
     alloc: Global,
     text: &str,
     lexemes: &[(u8, u16, u16)],

@@ -3,7 +3,7 @@
 use crate::lexer::{RowLexeme, RowTypes};
 use crate::outcomes::{push_errors, refusal};
 use crate::spell::leaf;
-use cfg_base::index::IndexStorage;
+use cfg_base::index::IndexOrder;
 use lrpar::{LexParseError, Node, ParseRefusal};
 use std::alloc::{AllocError, Global};
 
@@ -11,7 +11,7 @@ use std::alloc::{AllocError, Global};
 const NODES: usize = 100;
 
 /// A node: its lexeme, or its rule and the number of nodes below, which wait then with the first one on top.
-fn push_node<'a, S: IndexStorage>(
+fn push_node<'a, S: IndexOrder>(
     alloc: Global,
     text: &mut String,
     node: &'a Node<RowLexeme<S>, S>,
@@ -31,7 +31,7 @@ fn push_node<'a, S: IndexStorage>(
 }
 
 /// The nodes of a tree, each before those below it.
-pub fn tree_text<S: IndexStorage>(
+pub fn tree_text<S: IndexOrder>(
     alloc: Global,
     tree: &Node<RowLexeme<S>, S>,
 ) -> Result<String, AllocError> {
@@ -57,10 +57,7 @@ type Outcome<S> = Result<
 >;
 
 /// The tree, or that there is none, and the errors.
-pub fn tree_told<S: IndexStorage>(
-    alloc: Global,
-    outcome: &Outcome<S>,
-) -> Result<String, AllocError> {
+pub fn tree_told<S: IndexOrder>(alloc: Global, outcome: &Outcome<S>) -> Result<String, AllocError> {
     match outcome {
         Err(e) => refusal(alloc, e),
         Ok((tree, errors)) => {

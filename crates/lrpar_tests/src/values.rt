@@ -5,13 +5,13 @@ use crate::lines::lines_of;
 use crate::make::data;
 use crate::same::same;
 use crate::ways::{acted, mapped, treed, treed_by_actions, unvalued};
-use cfg_base::index::IndexStorage;
+use cfg_base::index::IndexOrder;
 use lrpar::{ParserData, RTParserBuilder, Recoverer};
 use std::alloc::{AllocError, Global};
 use std::test::*;
 
 /// A line of text for each call: by functions of rules, by actions, as a tree, as a tree by actions, by errors alone.
-fn each_way<S: IndexStorage, R: Recoverer<S, RowLexeme<S>>>(
+fn each_way<S: IndexOrder, R: Recoverer<S, RowLexeme<S>>>(
     alloc: Global,
     parser: &RTParserBuilder<'_, RowTypes<S>, R>,
     lexer: &RowLexer<S>,
@@ -29,7 +29,7 @@ fn each_way<S: IndexStorage, R: Recoverer<S, RowLexeme<S>>>(
 }
 
 /// With these sequences at each error, or none handed in.
-fn run<S: IndexStorage>(
+fn run<S: IndexOrder>(
     alloc: Global,
     data: &ParserData<S>,
     lexemes: &[(u8, u16, u16)],
@@ -47,7 +47,7 @@ fn run<S: IndexStorage>(
 }
 
 /// What the lexemes come to over the grammar of a text.
-fn row<S: IndexStorage>(
+fn row<S: IndexOrder>(
     alloc: Global,
     text: &str,
     lexemes: &[(u8, u16, u16)],

@@ -6,7 +6,7 @@ use crate::lexer::{RowLexeme, RowLexer, RowTypes};
 use crate::outcomes::{errors_told, told};
 use crate::spell::leaf;
 use crate::trees::tree_told;
-use cfg_base::index::IndexStorage;
+use cfg_base::index::{IndexOrder, IndexStorage};
 use cfg_base::span::Span;
 use cfg_base::symbol::{PIdx, RIdx};
 use lrpar::{AStackType, Actions, GenericTreeActions, RTParserBuilder, Recoverer};
@@ -66,7 +66,7 @@ fn postfix_action<S: IndexStorage>(
 /// Answers texts.
 pub struct PostfixActions;
 
-impl<S: IndexStorage> Actions<RowTypes<S>, RowLexer<S>> for PostfixActions {
+impl<S: IndexOrder> Actions<RowTypes<S>, RowLexer<S>> for PostfixActions {
     type ActionT = String;
 
     ghost answers = { λ actions lexer p r span vs v. Unit {0} };
@@ -91,7 +91,7 @@ impl<S: IndexStorage> Actions<RowTypes<S>, RowLexer<S>> for PostfixActions {
 type Parser<'a, S, R> = RTParserBuilder<'a, RowTypes<S>, R>;
 
 /// By functions of rules.
-pub fn mapped<S: IndexStorage, R: Recoverer<S, RowLexeme<S>>>(
+pub fn mapped<S: IndexOrder, R: Recoverer<S, RowLexeme<S>>>(
     alloc: Global,
     parser: &Parser<'_, S, R>,
     lexer: &RowLexer<S>,
@@ -109,7 +109,7 @@ pub fn mapped<S: IndexStorage, R: Recoverer<S, RowLexeme<S>>>(
 }
 
 /// By actions.
-pub fn acted<S: IndexStorage, R: Recoverer<S, RowLexeme<S>>>(
+pub fn acted<S: IndexOrder, R: Recoverer<S, RowLexeme<S>>>(
     alloc: Global,
     parser: &Parser<'_, S, R>,
     lexer: &RowLexer<S>,
@@ -121,7 +121,7 @@ pub fn acted<S: IndexStorage, R: Recoverer<S, RowLexeme<S>>>(
 }
 
 /// As a tree by rules.
-pub fn treed<S: IndexStorage, R: Recoverer<S, RowLexeme<S>>>(
+pub fn treed<S: IndexOrder, R: Recoverer<S, RowLexeme<S>>>(
     alloc: Global,
     parser: &Parser<'_, S, R>,
     lexer: &RowLexer<S>,
@@ -133,7 +133,7 @@ pub fn treed<S: IndexStorage, R: Recoverer<S, RowLexeme<S>>>(
 }
 
 /// As a tree by rules, which actions make.
-pub fn treed_by_actions<S: IndexStorage, R: Recoverer<S, RowLexeme<S>>>(
+pub fn treed_by_actions<S: IndexOrder, R: Recoverer<S, RowLexeme<S>>>(
     alloc: Global,
     parser: &Parser<'_, S, R>,
     lexer: &RowLexer<S>,
@@ -145,7 +145,7 @@ pub fn treed_by_actions<S: IndexStorage, R: Recoverer<S, RowLexeme<S>>>(
 }
 
 /// By its errors alone.
-pub fn unvalued<S: IndexStorage, R: Recoverer<S, RowLexeme<S>>>(
+pub fn unvalued<S: IndexOrder, R: Recoverer<S, RowLexeme<S>>>(
     alloc: Global,
     parser: &Parser<'_, S, R>,
     lexer: &RowLexer<S>,

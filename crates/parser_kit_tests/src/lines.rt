@@ -3,7 +3,7 @@
 ghost use Rattle.std.specs.Prelude.{IfOk};
 
 use crate::lexer::RowLexeme;
-use cfg_base::index::IndexStorage;
+use cfg_base::index::{IndexOrder, IndexStorage};
 use cfg_base::symbol::TIdx;
 use lrpar::{Recoverer, RepairStep};
 use lrtable::StIdx;
@@ -15,7 +15,7 @@ pub struct Lines<S> {
     sequences: Vec<Vec<RepairStep<S>>>,
 }
 
-impl<S: IndexStorage> Recoverer<S, RowLexeme<S>> for Lines<S> {
+impl<S: IndexOrder> Recoverer<S, RowLexeme<S>> for Lines<S> {
     ghost answers = { λ lines state index lexeme offered. Unit {0} };
 
     fn sequences(

@@ -4,7 +4,7 @@ use crate::lexer::{RowLexeme, RowLexer, RowTypes, lexer_of};
 use crate::same::same;
 use crate::spell::{branch, by_rule, flat_told, leaf, mapped_told, told};
 use crate::texts::any_of;
-use cfg_base::index::IndexStorage;
+use cfg_base::index::IndexOrder;
 use cfg_base::span::Span;
 use cfg_base::symbol::{PIdx, RIdx};
 use cfg_read::yacc::{YaccKind, YaccOriginalActionKind};
@@ -16,7 +16,7 @@ use std::test::*;
 const TREE: YaccKind = YaccKind::Original(YaccOriginalActionKind::GenericParseTree);
 
 /// What the lexemes fold to.
-fn folded<S: IndexStorage>(
+fn folded<S: IndexOrder>(
     alloc: Global,
     kit: &ParserKit<S>,
     lexer: &RowLexer<S>,
@@ -36,7 +36,7 @@ fn folded<S: IndexStorage>(
 }
 
 /// What the lexemes come to by rule.
-fn mapped<S: IndexStorage>(
+fn mapped<S: IndexOrder>(
     alloc: Global,
     kit: &ParserKit<S>,
     lexer: &RowLexer<S>,
@@ -54,7 +54,7 @@ fn mapped<S: IndexStorage>(
 }
 
 /// What the lexemes come to by each call that parses.
-fn parsed_by<S: IndexStorage>(
+fn parsed_by<S: IndexOrder>(
     alloc: Global,
     kit: &ParserKit<S>,
     lexemes: &[(u8, u16, u16)],
@@ -70,7 +70,7 @@ fn parsed_by<S: IndexStorage>(
 }
 
 /// What the lexemes come to with the kit of a text that has one.
-fn parsed<S: IndexStorage>(
+fn parsed<S: IndexOrder>(
     alloc: Global,
     text: &str,
     lexemes: &[(u8, u16, u16)],

@@ -4,7 +4,7 @@ use crate::lexer::{RowLexeme, RowLexer, RowTypes, lexer_of};
 use crate::lines::lines_of;
 use crate::same::same;
 use crate::spell::{branch, leaf, told};
-use cfg_base::index::IndexStorage;
+use cfg_base::index::IndexOrder;
 use cfg_base::span::Span;
 use cfg_base::symbol::{PIdx, RIdx};
 use cfg_read::yacc::{YaccKind, YaccOriginalActionKind};
@@ -16,7 +16,7 @@ use std::test::*;
 const TREE: YaccKind = YaccKind::Original(YaccOriginalActionKind::GenericParseTree);
 
 /// What the lexemes fold to where this recoverer is asked at each error.
-fn folded_by<S: IndexStorage, R: Recoverer<S, RowLexeme<S>>>(
+fn folded_by<S: IndexOrder, R: Recoverer<S, RowLexeme<S>>>(
     alloc: Global,
     kit: &ParserKit<S>,
     lexer: &RowLexer<S>,
@@ -33,7 +33,7 @@ fn folded_by<S: IndexStorage, R: Recoverer<S, RowLexeme<S>>>(
 }
 
 /// What the lexemes fold to where these sequences are handed in at each error.
-fn repaired<S: IndexStorage>(
+fn repaired<S: IndexOrder>(
     alloc: Global,
     kit: &ParserKit<S>,
     lexemes: &[(u8, u16, u16)],
@@ -45,7 +45,7 @@ fn repaired<S: IndexStorage>(
 }
 
 /// What the lexemes fold to without repairs.
-fn plain<S: IndexStorage>(
+fn plain<S: IndexOrder>(
     alloc: Global,
     kit: &ParserKit<S>,
     lexemes: &[(u8, u16, u16)],
@@ -55,7 +55,7 @@ fn plain<S: IndexStorage>(
 }
 
 /// What lexemes come to with repairs, and what those that the repairs leave come to without, with the errors behind.
-fn both<S: IndexStorage>(
+fn both<S: IndexOrder>(
     alloc: Global,
     text: &str,
     (lexemes, letters): (&[(u8, u16, u16)], &str),

@@ -1,7 +1,7 @@
 //! Values and errors of parses as texts.
 
 use crate::lexer::{RowError, RowLexeme, RowTypes};
-use cfg_base::index::IndexStorage;
+use cfg_base::index::{IndexOrder, IndexStorage};
 use cfg_base::span::Span;
 use cfg_base::symbol::{PIdx, RIdx};
 use lrpar::{
@@ -120,7 +120,7 @@ pub fn by_rule<S: IndexStorage>(
 }
 
 /// What a parse by rule comes to: its value, and how many errors there are.
-pub fn mapped_told<S: IndexStorage>(
+pub fn mapped_told<S: IndexOrder>(
     alloc: Global,
     outcome: Result<(Option<String>, Vec<LexParseError<RowTypes<S>>>), ParseRefusal>,
 ) -> Result<String, AllocError> {
@@ -137,7 +137,7 @@ pub fn mapped_told<S: IndexStorage>(
 }
 
 /// What a parse to a flat tree comes to: how many nodes there are.
-pub fn flat_told<S: IndexStorage>(
+pub fn flat_told<S: IndexOrder>(
     alloc: Global,
     outcome: Result<
         Result<

@@ -12,14 +12,14 @@ ghost use Rattle.state_table.specs.Graphs.{IsGraphValue, edge_count, graph_of, t
 
 use crate::itemset::Itemset;
 pub use crate::stidx::StIdx;
-use cfg_base::index::IndexStorage;
+use cfg_base::index::{IndexOrder, IndexStorage};
 use cfg_base::symbol::Symbol;
 use std::hash::Hash;
 use std::marker::{Model, PhantomData};
 use std::slice::Iter;
 
 /// A law: equality, order and hash of a state's index are those of its number.
-pub fn state_index_is_its_number<S: IndexStorage>()
+pub fn state_index_is_its_number<S: IndexOrder>()
     ensures equal { (a b : StIdx S) → ⟦<StIdx<S> as PartialEq>⟧.eq a b ≡ S.eq a.0 b.0 }
     ensures order { (a b : StIdx S) → ⟦<StIdx<S> as Ord>⟧.cmp a b ≡ nat_cmp (S.number a.0) (S.number b.0) }
     ensures hash { (a : StIdx S) → ⟦<StIdx<S> as Hash>⟧.hash_input a ≡ S.hash_input a.0 }

@@ -1,6 +1,6 @@
 //! Words as lexemes.
 
-use cfg_base::index::IndexStorage;
+use cfg_base::index::{IndexOrder, IndexStorage};
 use cfg_base::span::Span;
 use lrpar::{LexError, Lexeme, LexerTypes};
 use std::fmt;
@@ -26,7 +26,7 @@ impl<S: IndexStorage> Display for WordLexeme<S> {
     }
 }
 
-impl<S: IndexStorage> Lexeme<S> for WordLexeme<S> {
+impl<S: IndexOrder> Lexeme<S> for WordLexeme<S> {
     ghost use Rattle.std.specs.Prelude.{true, ◌+◌};
     ghost use Rattle.std.proofs.Common.{ap};
     ghost use Rattle.parse_trees.specs.Lex.{lex_at};
@@ -90,7 +90,7 @@ pub struct WordLexerTypes<S> {
     storage: PhantomData<S>,
 }
 
-impl<S: IndexStorage> LexerTypes for WordLexerTypes<S> {
+impl<S: IndexOrder> LexerTypes for WordLexerTypes<S> {
     type LexemeT = WordLexeme<S>;
 
     type StorageT = S;

@@ -11,7 +11,7 @@ ghost use Rattle.word_lines.specs.declared.lexeme.WordLexeme.{WordLexeme};
 
 use crate::lexeme::{WordLexError, WordLexeme, WordLexerTypes};
 use crate::names::find_token;
-use cfg_base::index::{IndexStorage, each_number_is_of_one_value};
+use cfg_base::index::{IndexOrder, IndexStorage, each_number_is_of_one_value};
 use cfg_base::newlinecache::NewlineCache;
 use cfg_base::span::Span;
 use cfg_numbered::yacc::grammar::NumberedGrammar;
@@ -185,7 +185,7 @@ fn item_at<S: IndexStorage>(
     }
 }
 
-impl<'input, S: IndexStorage> Lexer<WordLexerTypes<S>> for WordLexer<'input, S> {
+impl<'input, S: IndexOrder> Lexer<WordLexerTypes<S>> for WordLexer<'input, S> {
     ghost lexed = { λ l. l.items };
 
     fn iter<'a>(&'a self) -> Iter<'a, Result<WordLexeme<S>, WordLexError>> {
@@ -193,8 +193,7 @@ impl<'input, S: IndexStorage> Lexer<WordLexerTypes<S>> for WordLexer<'input, S> 
     }
 }
 
-impl<'input, S: IndexStorage> NonStreamingLexer<'input, WordLexerTypes<S>>
-    for WordLexer<'input, S> {
+impl<'input, S: IndexOrder> NonStreamingLexer<'input, WordLexerTypes<S>> for WordLexer<'input, S> {
     ghost text = { λ l. l.text };
 
     fn span_str(&self, span: Span) -> &'input str {

@@ -10,14 +10,14 @@ ghost use Rattle.word_lines.specs.declared.lexeme.WordLexeme.{WordLexeme};
 
 use crate::lexeme::{WordLexError, WordLexeme, WordLexerTypes};
 use crate::lexer::WordLexer;
-use cfg_base::index::IndexStorage;
+use cfg_base::index::{IndexOrder, IndexStorage};
 use cfg_base::symbol::TIdx;
 use cfg_numbered::yacc::grammar::NumberedGrammar;
 use lrpar::{LexParseError, ParseError};
 use std::alloc::{AllocError, Global};
 
 /// Adds the text of an error of lexing a line, and LF.
-pub fn push_fault<'a, S: IndexStorage>(
+pub fn push_fault<'a, S: IndexOrder>(
     alloc: Global,
     grm: &'a NumberedGrammar<S>,
     lexer: &WordLexer<'a, S>,
@@ -31,7 +31,7 @@ pub fn push_fault<'a, S: IndexStorage>(
 }
 
 /// Adds the texts of errors of parsing a line, with LF behind each.
-pub fn push_errors<'a, S: IndexStorage>(
+pub fn push_errors<'a, S: IndexOrder>(
     alloc: Global,
     grm: &'a NumberedGrammar<S>,
     lexer: &WordLexer<'a, S>,
@@ -49,7 +49,7 @@ pub fn push_errors<'a, S: IndexStorage>(
 
 /// Adds the text of an error of parsing a line, and LF. It shows a token by the text of `%epp`, else by its name, else by its
 /// number.
-pub fn push_error<'a, S: IndexStorage>(
+pub fn push_error<'a, S: IndexOrder>(
     alloc: Global,
     grm: &'a NumberedGrammar<S>,
     lexer: &WordLexer<'a, S>,
@@ -63,7 +63,7 @@ pub fn push_error<'a, S: IndexStorage>(
 }
 
 // Adds the text of an error, and LF.
-fn push_told<'a, S: IndexStorage>(
+fn push_told<'a, S: IndexOrder>(
     alloc: Global,
     grm: &'a NumberedGrammar<S>,
     lexer: &WordLexer<'a, S>,
@@ -81,7 +81,7 @@ fn push_told<'a, S: IndexStorage>(
 }
 
 // The text of an error.
-fn told_text<'a, S: IndexStorage>(
+fn told_text<'a, S: IndexOrder>(
     alloc: Global,
     grm: &'a NumberedGrammar<S>,
     lexer: &WordLexer<'a, S>,

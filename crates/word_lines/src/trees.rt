@@ -12,7 +12,7 @@ ghost use Rattle.word_lines.specs.Lexing.{lex_of};
 ghost use Rattle.word_lines.specs.LineTexts.{TreeCanBeShown, value_text};
 
 use crate::lexeme::WordLexeme;
-use cfg_base::index::IndexStorage;
+use cfg_base::index::{IndexOrder, IndexStorage};
 use cfg_base::symbol::{RIdx, TIdx};
 use cfg_numbered::yacc::grammar::NumberedGrammar;
 use lrpar::FlatTree;
@@ -23,7 +23,7 @@ use std::alloc::{AllocError, Global};
 const MOST_SPACES: usize = 65_536;
 
 /// Answers the nodes of a tree in the order in which they are shown.
-pub fn shown_nodes<S: IndexStorage>(
+pub fn shown_nodes<S: IndexOrder>(
     alloc: Global,
     grm: &NumberedGrammar<S>,
     line: &str,

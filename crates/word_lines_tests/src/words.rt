@@ -2,7 +2,7 @@
 
 use crate::make::{SUMS, grammar};
 use crate::same::same;
-use cfg_base::index::IndexStorage;
+use cfg_base::index::IndexOrder;
 use cfg_base::span::Span;
 use lrpar::{LexError, Lexeme, Lexer, NonStreamingLexer};
 use std::alloc::{AllocError, Global};
@@ -11,7 +11,7 @@ use std::test::*;
 use word_lines::{LexerRoom, WordLexError, WordLexeme, WordLexer};
 
 /// Puts an item: the token's number, or `?` for a word that is no token, its span, and its text.
-fn put_item<S: IndexStorage>(
+fn put_item<S: IndexOrder>(
     alloc: Global,
     out: &mut String,
     lexer: &WordLexer<S>,
@@ -33,7 +33,7 @@ fn put_item<S: IndexStorage>(
 }
 
 /// The items of a lexer.
-fn items_of<S: IndexStorage>(alloc: Global, lexer: &WordLexer<S>) -> Result<String, AllocError> {
+fn items_of<S: IndexOrder>(alloc: Global, lexer: &WordLexer<S>) -> Result<String, AllocError> {
     let mut out = String::new(alloc);
     for item in lexer.iter() {
         put_item(alloc, &mut out, lexer, *item)?;
@@ -42,7 +42,7 @@ fn items_of<S: IndexStorage>(alloc: Global, lexer: &WordLexer<S>) -> Result<Stri
 }
 
 /// The items of a line.
-fn shown<S: IndexStorage>(alloc: Global, line: &str) -> Result<String, Fail> {
+fn shown<S: IndexOrder>(alloc: Global, line: &str) -> Result<String, Fail> {
     let grm = grammar::<S>(alloc, SUMS)?;
     let lexer = WordLexer::new(alloc, &grm, line)?;
     let out = items_of(alloc, &lexer)?;

@@ -4,7 +4,7 @@
 set -eu
 here=$(dirname "$(readlink -f "$0")")
 . "$here/../count.sh"
-prepare 1000 1 1 -- cfg_theory lr_theory table_theory vob cfg_base cfg_read cfg_numbered state_table lrtable lrpar_diagnostics
+prepare 1000 1 1 -- cfg_theory lr_theory table_theory vob cfg_base cfg_read cfg_numbered state_table lrpar_diagnostics
 for bytes in 1000000 10000000; do
     none=$(count $bytes 0 0)
     once=$(count $bytes 1 0)

@@ -9,7 +9,7 @@ python3 "$here/grammars" "$work"
 if [ -n "${PROGRAM:-}" ]; then
     program=$PROGRAM
 else
-    prepare "$work/pairs.y" examples -- vob cfg_theory cfg_base cfg_read cfg_numbered cfgrammar lr_theory table_theory state_table lrtable parse_trees lrpar \
+    prepare "$work/pairs.y" examples -- vob cfg_theory cfg_base cfg_read cfg_numbered cfg_sets cfg_sentences cfgrammar lr_theory table_theory state_table lrtable parse_trees lrpar \
         parser_kit word_lines lrpar_diagnostics conflict_examples grammar_report
 fi
 for file in "$work"/*.y; do

@@ -9,7 +9,7 @@ here=$(dirname "$(readlink -f "$0")")
 if [ -n "${PROGRAM:-}" ]; then
     program=$PROGRAM
 else
-    prepare make near 4 1 -- vob cfg_theory cfg_base cfg_read cfg_numbered cfgrammar
+    prepare make near 4 1 -- vob cfg_theory cfg_base cfg_read cfg_numbered cfg_sets cfg_sentences cfgrammar
 fi
 # once WHAT FAMILY SIZE: the instructions of doing it once.
 once() {

@@ -9,7 +9,7 @@ python3 "$here/text" > "$work/declared.y"
 if [ -n "${PROGRAM:-}" ]; then
     program=$PROGRAM
 else
-    prepare make "$work/declared.y" -- vob cfg_theory cfg_base cfg_read cfg_numbered cfgrammar
+    prepare make "$work/declared.y" -- vob cfg_theory cfg_base cfg_read cfg_numbered cfg_sets cfg_sentences cfgrammar
 fi
 for file in "$work/declared.y" "$@"; do
     bytes=$(wc -c < "$file")

@@ -5,7 +5,7 @@ set -eu
 here=$(dirname "$(readlink -f "$0")")
 . "$here/../count.sh"
 first=$(readlink -f "$1")
-prepare "$first" table "$(readlink -f "$2")" -- cfg_theory lr_theory table_theory vob cfg_base cfg_read cfg_numbered cfgrammar state_table lrtable parse_trees lrpar word_lines
+prepare "$first" table "$(readlink -f "$2")" -- cfg_theory lr_theory table_theory vob cfg_base cfg_read cfg_numbered cfg_sets cfg_sentences cfgrammar state_table lrtable parse_trees lrpar word_lines
 while [ $# -gt 1 ]; do
     table=$(count "$1" table "$2")
     data=$(count "$1" data "$2")

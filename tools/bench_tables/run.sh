@@ -5,7 +5,7 @@ set -eu
 here=$(dirname "$(readlink -f "$0")")
 . "$here/../count.sh"
 first=$(readlink -f "$1")
-prepare "$first" table -- cfg_theory lr_theory table_theory vob cfg_base cfg_read cfg_numbered cfgrammar state_table lrtable
+prepare "$first" table -- cfg_theory lr_theory table_theory vob cfg_base cfg_read cfg_numbered cfg_sets cfg_sentences cfgrammar state_table lrtable
 for file in "$@"; do
     none=$(count "$file" make)
     firsts=$(count "$file" firsts)

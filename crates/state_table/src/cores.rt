@@ -1,4 +1,5 @@
-//! Items in ascending order, each with its lookaheads: the cores of states, and the sets that become states.
+//! Items in ascending order, each with its lookaheads: the cores of states, and the sets that become states. These are for
+//! crates that build states; others see an `Itemset`.
 
 ghost use Rattle.std.specs.Prelude.{◌≡◌, ◌<◌, ◌≤◌, ◌↔◌, ℕ, true, false, [], length, get_or, IfOk, IsTrue, OnOk};
 ghost use Rattle.std.specs.List.{insert};

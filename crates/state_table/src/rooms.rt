@@ -1,4 +1,5 @@
-//! How much room rows are to have. Nothing rests on it but how often room is asked for.
+//! How much room rows are to have, here and in crates that build states. Nothing rests on it but how often room is asked
+//! for.
 
 use vob::Vob;
 use vob::block::Block;

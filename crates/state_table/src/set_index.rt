@@ -1,4 +1,4 @@
-//! Indices of sets as items keep them.
+//! Indices of sets as items keep them, for crates that build states.
 
 ghost use Rattle.std.specs.Prelude.{◌≡◌};
 

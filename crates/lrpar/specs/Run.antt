@@ -6,7 +6,7 @@ use Rattle.lr_theory.specs.Machine.{Config, going, accepted, failed, run}
 use Rattle.lr_theory.specs.Stack.{Stands}
 use Rattle.state_table.specs.Graphs.{GraphValue}
 use Rattle.state_table.specs.TableValues.{TableValue}
-use Rattle.parse_trees.specs.Lex.{Lex}
+use Rattle.parse_trees.specs.Lex.{Lex, token_by}
 use Rattle.lrpar.specs.Made.{next_start, end_of}
 use Rattle.state_table.specs.Tables.{automaton_of}
 use Rattle.lrpar.specs.Reducing.{states_of, stack_of, AreStates}

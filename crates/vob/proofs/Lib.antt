@@ -1,6 +1,7 @@
 pub mod Digit
 pub mod Spell
 pub mod Pack
+pub mod Rooms
 pub mod Setwise
 pub mod Shifted
 pub mod Refused

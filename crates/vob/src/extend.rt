@@ -6,12 +6,12 @@ ghost use Rattle.std.specs.Iterator.{Drains, ExtendsWithItems, IsFinite, YieldsT
 ghost use Rattle.vob.specs.Digits.{digits};
 ghost use Rattle.vob.specs.Refusal.{IsGrowthRefusal};
 
-use crate::block::Block;
 use crate::error::VobError;
+use crate::word::Word;
 use crate::{Vob, shift};
 use std::alloc::{AllocError, Global};
 
-impl<T: Block> Vob<T> {
+impl<T: Word> Vob<T> {
     /// Adds the items of a slice at the end.
     #[tactic(auto, using(crate::proofs::Refused::all_refusals))]
     pub fn extend_from_slice(&mut self, other: &[bool]) -> Result<(), VobError>
@@ -100,14 +100,14 @@ impl<T: Block> Vob<T> {
         ensures capacity { self.old.capacity ≤ self.new.capacity }
     {
         let bits = [
-            byte.bit(7),
-            byte.bit(6),
-            byte.bit(5),
-            byte.bit(4),
-            byte.bit(3),
-            byte.bit(2),
-            byte.bit(1),
-            byte.bit(0),
+            byte.digit(7),
+            byte.digit(6),
+            byte.digit(5),
+            byte.digit(4),
+            byte.digit(3),
+            byte.digit(2),
+            byte.digit(1),
+            byte.digit(0),
         ];
         self.fill_from_slice(bits.as_slice());
     }

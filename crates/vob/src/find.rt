@@ -4,19 +4,19 @@ ghost use Rattle.std.specs.Prelude.{◌≡◌, ◌<◌, ◌≤◌, ◌+◌, ◌-
 ghost use Rattle.std.specs.List.{flat_map};
 ghost use Rattle.vob.specs.Walk.{indices_of};
 
-use crate::block::Block;
+use crate::word::Word;
 use std::marker::Model;
 
 /// The indices from one up to before another whose bit has a value. Contracts see it as those that are left.
 #[derive(Drop)]
-pub struct Indices<'a, T: Block> {
+pub struct Indices<'a, T: Word> {
     blocks: &'a [T],
     value: bool,
     from: usize,
     to: usize,
 }
 
-impl<'a, T: Block> Model for Indices<'a, T> {
+impl<'a, T: Word> Model for Indices<'a, T> {
     ghost use Rattle.std.specs.Prelude.{List, ℕ, length, ◌≤◌};
     ghost use Rattle.std.specs.List.{flat_map};
     ghost use Rattle.vob.specs.Walk.{indices_of};
@@ -28,7 +28,7 @@ impl<'a, T: Block> Model for Indices<'a, T> {
     ghost invariant = { λ it. it.to ≤ length (flat_map T.bits it.blocks.now) };
 }
 
-impl<'a, T: Block> Indices<'a, T> {
+impl<'a, T: Word> Indices<'a, T> {
     /// Begins with all indices of bits that have the value.
     pub fn new(blocks: &'a [T], value: bool, from: usize, to: usize) -> Self
         requires { to ≤ length (flat_map T.bits blocks.now) }
@@ -91,7 +91,7 @@ impl<'a, T: Block> Indices<'a, T> {
 }
 
 /// Counts the bits from one index up to before another that have the value.
-fn count_indices<T: Block>(blocks: &[T], value: bool, from: usize, to: usize) -> usize
+fn count_indices<T: Word>(blocks: &[T], value: bool, from: usize, to: usize) -> usize
     requires { to ≤ length (flat_map T.bits blocks.now) }
     ensures { result ≡ length (indices_of value (flat_map T.bits blocks.now) from to) }
 {
@@ -102,34 +102,34 @@ fn count_indices<T: Block>(blocks: &[T], value: bool, from: usize, to: usize) ->
         let used = at % width;
         let taken = (width - used).min(to - at);
         count += matching(blocks[at / width], value)
-            .low(used + taken)
-            .shifted_down(used)
-            .ones();
+            .low_part(used + taken)
+            .moved_down(used)
+            .set_count();
         at += taken;
     }
     count
 }
 
 /// Makes a block in which a bit is set where it has the value here.
-pub(crate) fn matching<T: Block>(block: T, value: bool) -> T
+pub(crate) fn matching<T: Word>(block: T, value: bool) -> T
     ensures { T.bits result ≡ (if value then T.bits block else map not (T.bits block)) }
 {
-    if value { block } else { block.flipped() }
+    if value { block } else { block.turned() }
 }
 
 /// Counts the bits of a block from an index up that don't have the value, before the first that has it.
-fn others_above<T: Block>(block: T, value: bool, index: usize) -> usize
+fn others_above<T: Word>(block: T, value: bool, index: usize) -> usize
     requires { index < T.BITS }
     ensures within { index + result ≤ T.BITS }
     ensures before { (i : ℕ) → index ≤ i → i < index + result → slice_index_or (T.bits block) i false ≡ not value }
     ensures found { index + result < T.BITS → slice_index_or (T.bits block) (index + result) false ≡ value }
 {
-    let zeros = matching(block, value).shifted_down(index).zeros_below();
+    let zeros = matching(block, value).moved_down(index).clear_below();
     zeros.min(T::BITS - index)
 }
 
 /// Counts the bits of a block below an index that don't have the value, after the last that has it.
-fn others_below<T: Block>(block: T, value: bool, index: usize) -> usize
+fn others_below<T: Word>(block: T, value: bool, index: usize) -> usize
     requires some { 0 < index }
     requires within { index ≤ T.BITS }
     ensures within { result ≤ index }
@@ -137,13 +137,13 @@ fn others_below<T: Block>(block: T, value: bool, index: usize) -> usize
     ensures found { (i : ℕ) → i + result + 1 ≡ index → slice_index_or (T.bits block) i false ≡ value }
 {
     let zeros = matching(block, value)
-        .shifted_up(T::BITS - index)
-        .zeros_above();
+        .moved_up(T::BITS - index)
+        .clear_above();
     zeros.min(index)
 }
 
 /// Finds the first bit that has the value, from one index up to before another.
-fn first_index<T: Block>(blocks: &[T], value: bool, from: usize, to: usize) -> Option<usize>
+fn first_index<T: Word>(blocks: &[T], value: bool, from: usize, to: usize) -> Option<usize>
     requires { to ≤ length (flat_map T.bits blocks.now) }
     ensures cases { MatchOption result ((i : ℕ) → from ≤ i → i < to → slice_index_or (flat_map T.bits blocks.now) i false ≡ not value)
         (λ p. (from ≤ p) × (p < to) × (slice_index_or (flat_map T.bits blocks.now) p false ≡ value) × ((i : ℕ) → from ≤ i → i < p → slice_index_or (flat_map T.bits blocks.now) i false ≡ not value)) }
@@ -165,7 +165,7 @@ fn first_index<T: Block>(blocks: &[T], value: bool, from: usize, to: usize) -> O
 }
 
 /// Finds the last bit that has the value, from one index up to before another.
-fn last_index<T: Block>(blocks: &[T], value: bool, from: usize, to: usize) -> Option<usize>
+fn last_index<T: Word>(blocks: &[T], value: bool, from: usize, to: usize) -> Option<usize>
     requires { to ≤ length (flat_map T.bits blocks.now) }
     ensures cases { MatchOption result ((i : ℕ) → from ≤ i → i < to → slice_index_or (flat_map T.bits blocks.now) i false ≡ not value)
         (λ p. (from ≤ p) × (p < to) × (slice_index_or (flat_map T.bits blocks.now) p false ≡ value) × ((i : ℕ) → p < i → i < to → slice_index_or (flat_map T.bits blocks.now) i false ≡ not value)) }

@@ -5,12 +5,12 @@ ghost use Rattle.std.specs.List.{flat_map};
 ghost use Rattle.vob.specs.Packed.{Contents, blocks_for};
 ghost use Rattle.vob.specs.Refusal.{IsGrowthRefusal};
 
-use crate::block::Block;
 use crate::error::VobError;
+use crate::word::Word;
 use crate::{Vob, packed};
 use std::alloc::AllocError;
 
-impl<T: Block> Vob<T> {
+impl<T: Word> Vob<T> {
     /// Sets the item at `index`, and tells whether that changed it.
     pub fn set(&mut self, index: usize, value: bool) -> bool
         requires { index < length self.old.bits }

@@ -9,8 +9,8 @@ ghost use Rattle.std.specs.Prelude.{replicate, ◌*◌};
 ghost use Rattle.vob.specs.Packed.{blocks_for};
 ghost use Rattle.vob.specs.Walk.{walk};
 
-use crate::block::Block;
 use crate::find::Indices;
+use crate::word::Word;
 use crate::{Vob, packed};
 use std::iter::{DoubleEndedIterator, ExactSizeIterator, FusedIterator};
 use std::marker::Model;
@@ -18,13 +18,13 @@ use std::ops::{Bound, RangeBounds};
 
 /// An iterator over the items of a list, in order. Contracts see it as those that are left.
 #[derive(Drop)]
-pub struct Iter<'a, T: Block> {
+pub struct Iter<'a, T: Word> {
     blocks: &'a [T],
     from: usize,
     to: usize,
 }
 
-impl<'a, T: Block> Model for Iter<'a, T> {
+impl<'a, T: Word> Model for Iter<'a, T> {
     ghost use Rattle.std.specs.Prelude.{List, Bool, length, take, drop, ◌≤◌};
     ghost use Rattle.std.specs.List.{flat_map};
 
@@ -37,11 +37,11 @@ impl<'a, T: Block> Model for Iter<'a, T> {
 
 /// An iterator over the indices whose item is set, in order. Contracts see it as those that are left.
 #[derive(Drop)]
-pub struct IterSetBits<'a, T: Block> {
+pub struct IterSetBits<'a, T: Word> {
     set: Indices<'a, T>,
 }
 
-impl<'a, T: Block> Model for IterSetBits<'a, T> {
+impl<'a, T: Word> Model for IterSetBits<'a, T> {
     ghost use Rattle.std.specs.Prelude.{List, ℕ};
 
     ghost Value = { List ℕ };
@@ -51,11 +51,11 @@ impl<'a, T: Block> Model for IterSetBits<'a, T> {
 
 /// An iterator over the indices whose item isn't set, in order. Contracts see it as those that are left.
 #[derive(Drop)]
-pub struct IterUnsetBits<'a, T: Block> {
+pub struct IterUnsetBits<'a, T: Word> {
     unset: Indices<'a, T>,
 }
 
-impl<'a, T: Block> Model for IterUnsetBits<'a, T> {
+impl<'a, T: Word> Model for IterUnsetBits<'a, T> {
     ghost use Rattle.std.specs.Prelude.{List, ℕ};
 
     ghost Value = { List ℕ };
@@ -65,12 +65,12 @@ impl<'a, T: Block> Model for IterUnsetBits<'a, T> {
 
 /// An iterator over the blocks of a list, in order. Contracts see it as those that are left.
 #[derive(Drop)]
-pub struct StorageIter<'a, T: Block> {
+pub struct StorageIter<'a, T: Word> {
     blocks: &'a [T],
     from: usize,
 }
 
-impl<'a, T: Block> Model for StorageIter<'a, T> {
+impl<'a, T: Word> Model for StorageIter<'a, T> {
     ghost use Rattle.std.specs.Prelude.{List, length, drop, ◌≤◌};
 
     ghost Value = { List T };
@@ -80,7 +80,7 @@ impl<'a, T: Block> Model for StorageIter<'a, T> {
     ghost invariant = { λ it. it.from ≤ length it.blocks.now };
 }
 
-impl<T: Block> Vob<T> {
+impl<T: Word> Vob<T> {
     /// Iterates over the blocks.
     pub fn iter_storage(&self) -> StorageIter<'_, T>
         ensures { flat_map T.bits result ≡ self.now.bits ++ replicate (blocks_for T.BITS (length self.now.bits) * T.BITS - length self.now.bits) false }
@@ -155,7 +155,7 @@ fn end_of(end: Bound<&usize>, len: usize) -> usize
     }
 }
 
-impl<'a, T: Block> Iter<'a, T> {
+impl<'a, T: Word> Iter<'a, T> {
     /// Counts the items that are left.
     pub fn count(self) -> usize
         ensures { result ≡ length self.entry }
@@ -164,7 +164,7 @@ impl<'a, T: Block> Iter<'a, T> {
     }
 }
 
-impl<'a, T: Block> Iterator for Iter<'a, T> {
+impl<'a, T: Word> Iterator for Iter<'a, T> {
     type Item = bool;
 
     ghost next_gives = { YieldsFirst (λ s. s) };
@@ -191,7 +191,7 @@ impl<'a, T: Block> Iterator for Iter<'a, T> {
     }
 }
 
-impl<'a, T: Block> DoubleEndedIterator for Iter<'a, T> {
+impl<'a, T: Word> DoubleEndedIterator for Iter<'a, T> {
     ghost next_back_gives = { YieldsLast (λ s. s) };
 
     fn next_back(&mut self) -> Option<bool> {
@@ -205,13 +205,13 @@ impl<'a, T: Block> DoubleEndedIterator for Iter<'a, T> {
     }
 }
 
-impl<'a, T: Block> ExactSizeIterator for Iter<'a, T> {
+impl<'a, T: Word> ExactSizeIterator for Iter<'a, T> {
     fn len(&self) -> usize {
         self.to - self.from
     }
 }
 
-impl<'a, T: Block> IterSetBits<'a, T> {
+impl<'a, T: Word> IterSetBits<'a, T> {
     /// Counts the indices that are left.
     pub fn count(self) -> usize
         ensures { result ≡ length self.entry }
@@ -220,7 +220,7 @@ impl<'a, T: Block> IterSetBits<'a, T> {
     }
 }
 
-impl<'a, T: Block> Iterator for IterSetBits<'a, T> {
+impl<'a, T: Word> Iterator for IterSetBits<'a, T> {
     type Item = usize;
 
     ghost next_gives = { YieldsFirst (λ s. s) };
@@ -242,7 +242,7 @@ impl<'a, T: Block> Iterator for IterSetBits<'a, T> {
     }
 }
 
-impl<'a, T: Block> DoubleEndedIterator for IterSetBits<'a, T> {
+impl<'a, T: Word> DoubleEndedIterator for IterSetBits<'a, T> {
     ghost next_back_gives = { YieldsLast (λ s. s) };
 
     fn next_back(&mut self) -> Option<usize> {
@@ -250,9 +250,9 @@ impl<'a, T: Block> DoubleEndedIterator for IterSetBits<'a, T> {
     }
 }
 
-impl<'a, T: Block> FusedIterator for IterSetBits<'a, T> {}
+impl<'a, T: Word> FusedIterator for IterSetBits<'a, T> {}
 
-impl<'a, T: Block> IterUnsetBits<'a, T> {
+impl<'a, T: Word> IterUnsetBits<'a, T> {
     /// Counts the indices that are left.
     pub fn count(self) -> usize
         ensures { result ≡ length self.entry }
@@ -261,7 +261,7 @@ impl<'a, T: Block> IterUnsetBits<'a, T> {
     }
 }
 
-impl<'a, T: Block> Iterator for IterUnsetBits<'a, T> {
+impl<'a, T: Word> Iterator for IterUnsetBits<'a, T> {
     type Item = usize;
 
     ghost next_gives = { YieldsFirst (λ s. s) };
@@ -283,7 +283,7 @@ impl<'a, T: Block> Iterator for IterUnsetBits<'a, T> {
     }
 }
 
-impl<'a, T: Block> DoubleEndedIterator for IterUnsetBits<'a, T> {
+impl<'a, T: Word> DoubleEndedIterator for IterUnsetBits<'a, T> {
     ghost next_back_gives = { YieldsLast (λ s. s) };
 
     fn next_back(&mut self) -> Option<usize> {
@@ -291,9 +291,9 @@ impl<'a, T: Block> DoubleEndedIterator for IterUnsetBits<'a, T> {
     }
 }
 
-impl<'a, T: Block> FusedIterator for IterUnsetBits<'a, T> {}
+impl<'a, T: Word> FusedIterator for IterUnsetBits<'a, T> {}
 
-impl<'a, T: Block> IntoIterator for &'a Vob<T> {
+impl<'a, T: Word> IntoIterator for &'a Vob<T> {
     type Item = bool;
 
     type IntoIter = Iter<'a, T>;
@@ -305,7 +305,7 @@ impl<'a, T: Block> IntoIterator for &'a Vob<T> {
     }
 }
 
-impl<'a, T: Block> StorageIter<'a, T> {
+impl<'a, T: Word> StorageIter<'a, T> {
     /// Counts the blocks that are left.
     pub fn count(self) -> usize
         ensures { result ≡ length self.entry }
@@ -314,7 +314,7 @@ impl<'a, T: Block> StorageIter<'a, T> {
     }
 }
 
-impl<'a, T: Block> Iterator for StorageIter<'a, T> {
+impl<'a, T: Word> Iterator for StorageIter<'a, T> {
     type Item = T;
 
     ghost next_gives = { YieldsFirst (λ s. s) };

@@ -10,12 +10,12 @@ ghost use Rattle.vob.specs.Packed.{Contents, blocks_for};
 ghost use Rattle.vob.specs.Walk.{walk, has_item};
 
 use crate::Vob;
-use crate::block::Block;
+use crate::word::Word;
 use std::hash::Hash;
 
 /// `==` answers true exactly if the lists are equal, and equal lists feed a hasher the same. Stored blocks
 /// of two lists have the same bits, and the lists one length, exactly if the lists are equal.
-pub fn equal_as_lists<T: Block>()
+pub fn equal_as_lists<T: Word>()
     ensures equal { (a b : Contents) → IsTrue (⟦<Vob<T> as PartialEq>⟧.eq a b) ↔ (a.bits ≡ b.bits) }
     ensures hash { (a b : Contents) → a.bits ≡ b.bits → ⟦<Vob<T> as Hash>⟧.hash_input a ≡ ⟦<Vob<T> as Hash>⟧.hash_input b }
     ensures storage { (a b : List Bool) (xs ys : List T) → flat_map T.bits xs ≡ a ++ replicate (blocks_for T.BITS (length a) * T.BITS - length a) false → flat_map T.bits ys ≡ b ++ replicate (blocks_for T.BITS (length b) * T.BITS - length b) false → (a ≡ b) ↔ ((length a ≡ length b) × (flat_map T.bits xs ≡ flat_map T.bits ys)) }
@@ -102,7 +102,7 @@ pub fn or_changes_seldom()
 /// blocks, so it is the same in blocks of every type: where a clause gives no value but a condition, as for
 /// the flag of a change, a step of a walk or what `pop` takes, two answers that meet it are one. Stored
 /// blocks of two types spell the same items.
-pub fn block_types_agree<T: Block, U: Block>()
+pub fn block_types_agree<T: Word, U: Word>()
     ensures changed { (old new : List Bool) (a b : Bool) → (IsTrue a ↔ (new ≢ old)) → (IsTrue b ↔ (new ≢ old)) → a ≡ b }
     ensures set { (xs : List Bool) (index : ℕ) (value a b : Bool) → (IsTrue a ↔ (slice_index_or xs index false ≡ not value)) → (IsTrue b ↔ (slice_index_or xs index false ≡ not value)) → a ≡ b }
     ensures next { (s t u : List ℕ) (a b : Option ℕ) → YieldsFirst (λ (l : List ℕ). l) s a t → YieldsFirst (λ (l : List ℕ). l) s b u → (a ≡ b) × (t ≡ u) }

@@ -41,19 +41,20 @@ pub mod raw;
 mod sets;
 mod shift;
 mod traits;
+pub mod word;
 
-use crate::block::Block;
+use crate::word::Word;
 use std::alloc::{AllocError, Global};
 use std::marker::Model;
 
 /// A list of truth values in blocks of `T`.
 #[derive(Drop)]
-pub struct Vob<T: Block = usize> {
+pub struct Vob<T: Word = usize> {
     len: usize,
     blocks: Vec<T>,
 }
 
-impl<T: Block> Model for Vob<T> {
+impl<T: Word> Model for Vob<T> {
     ghost use Rattle.std.specs.Prelude.{take, min, ◌*◌, ◌-◌, ◌^◌};
     ghost use Rattle.std.specs.List.{flat_map};
     ghost use Rattle.std.specs.Vec.{vec_capacity};
@@ -99,7 +100,7 @@ impl Vob<usize> {
     }
 }
 
-impl<T: Block> Vob<T> {
+impl<T: Word> Vob<T> {
     /// Creates an empty `Vob` with room for at least `capacity` items. Room for none takes no memory.
     pub fn new_with_storage_type(alloc: Global, capacity: usize) -> Result<Self, AllocError>
         ensures bits { IfOk result (λ v. v.bits ≡ []) }

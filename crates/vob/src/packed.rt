@@ -5,11 +5,11 @@ ghost use Rattle.std.specs.List.{flat_map};
 ghost use Rattle.std.specs.Vec.{vec_capacity};
 ghost use Rattle.vob.specs.Packed.{Packs, Spells, blocks_for};
 
-use crate::block::Block;
+use crate::word::Word;
 use std::alloc::{AllocError, Global};
 
 /// Tells how many blocks `len` items take.
-pub(crate) fn blocks_for<T: Block>(len: usize) -> usize
+pub(crate) fn blocks_for<T: Word>(len: usize) -> usize
     ensures { result ≡ blocks_for T.BITS len }
 {
     let whole = len / T::BITS;
@@ -17,11 +17,7 @@ pub(crate) fn blocks_for<T: Block>(len: usize) -> usize
 }
 
 /// Copies the blocks of `len` items. Those of no item take no memory.
-pub(crate) fn copied<T: Block>(
-    alloc: Global,
-    blocks: &[T],
-    len: usize,
-) -> Result<Vec<T>, AllocError>
+pub(crate) fn copied<T: Word>(alloc: Global, blocks: &[T], len: usize) -> Result<Vec<T>, AllocError>
     requires { Packs T.BITS len (flat_map T.bits blocks.now) }
     ensures items { IfOk result (λ v. v.items ≡ blocks.now) }
     ensures empty { len ≡ 0 → IsOk result }
@@ -32,27 +28,27 @@ pub(crate) fn copied<T: Block>(
 }
 
 /// Reads the bit at `index`.
-pub(crate) fn bit_at<T: Block>(blocks: &[T], index: usize) -> bool
+pub(crate) fn bit_at<T: Word>(blocks: &[T], index: usize) -> bool
     requires { index < length (flat_map T.bits blocks.now) }
     ensures { result ≡ slice_index_or (flat_map T.bits blocks.now) index false }
 {
     let width = T::BITS;
-    blocks[index / width].bit(index % width)
+    blocks[index / width].digit(index % width)
 }
 
 /// Writes the bit at `index`.
-pub(crate) fn put_bit<T: Block>(blocks: &mut Vec<T>, index: usize, value: bool)
+pub(crate) fn put_bit<T: Word>(blocks: &mut Vec<T>, index: usize, value: bool)
     requires { index < length (flat_map T.bits blocks.old.items) }
     ensures bits { flat_map T.bits blocks.new.items ≡ slice_set (flat_map T.bits blocks.old.items) index value }
     ensures capacity { vec_capacity blocks.new ≡ vec_capacity blocks.old }
 {
     let width = T::BITS;
     let block = &mut blocks[index / width];
-    *block = block.with_bit(index % width, value);
+    *block = block.with_digit(index % width, value);
 }
 
 /// Gives the bits from the index `len` up to the end of its block one value.
-pub(crate) fn fill_above<T: Block>(blocks: &mut Vec<T>, len: usize, value: bool)
+pub(crate) fn fill_above<T: Word>(blocks: &mut Vec<T>, len: usize, value: bool)
     requires { blocks_for T.BITS len * T.BITS ≤ length (flat_map T.bits blocks.old.items) }
     ensures count { length blocks.new.items ≡ length blocks.old.items }
     ensures bits { flat_map T.bits blocks.new.items ≡ take len (flat_map T.bits blocks.old.items) ++ (replicate (blocks_for T.BITS len * T.BITS - len) value ++ drop (blocks_for T.BITS len * T.BITS) (flat_map T.bits blocks.old.items)) }
@@ -64,11 +60,11 @@ pub(crate) fn fill_above<T: Block>(blocks: &mut Vec<T>, len: usize, value: bool)
         return;
     }
     let block = &mut blocks[len / width];
-    *block = block.low(used).either(T::filled(value).shifted_up(used));
+    *block = block.low_part(used).in_either(T::all(value).moved_up(used));
 }
 
 /// Drops the bits from the index `len` on.
-pub(crate) fn cut<T: Block>(blocks: &mut Vec<T>, len: usize)
+pub(crate) fn cut<T: Word>(blocks: &mut Vec<T>, len: usize)
     requires { len ≤ length (flat_map T.bits blocks.old.items) }
     ensures bits { flat_map T.bits blocks.new.items ≡ take len (flat_map T.bits blocks.old.items) ++ replicate (blocks_for T.BITS len * T.BITS - len) false }
     ensures capacity { vec_capacity blocks.new ≡ vec_capacity blocks.old }
@@ -78,7 +74,7 @@ pub(crate) fn cut<T: Block>(blocks: &mut Vec<T>, len: usize)
 }
 
 /// Adds items that all are `value` up to `new_len`, and unused bits up to the end of a block.
-pub(crate) fn widen<T: Block>(
+pub(crate) fn widen<T: Word>(
     blocks: &mut Vec<T>,
     len: usize,
     new_len: usize,
@@ -91,14 +87,14 @@ pub(crate) fn widen<T: Block>(
     ensures room { new_len ≤ vec_capacity blocks.old * T.BITS → IsOk result }
     ensures capacity { vec_capacity blocks.old ≤ vec_capacity blocks.new }
 {
-    blocks.resize(blocks_for::<T>(new_len), T::filled(value))?;
+    blocks.resize(blocks_for::<T>(new_len), T::all(value))?;
     fill_above(blocks, len, value);
     fill_above(blocks, new_len, false);
     Ok(())
 }
 
 /// Makes room for one more item.
-pub(crate) fn cover<T: Block>(blocks: &mut Vec<T>, len: usize) -> Result<(), AllocError>
+pub(crate) fn cover<T: Word>(blocks: &mut Vec<T>, len: usize) -> Result<(), AllocError>
     requires { Packs T.BITS len (flat_map T.bits blocks.old.items) }
     ensures ok { OnOk result (flat_map T.bits blocks.new.items ≡ take len (flat_map T.bits blocks.old.items) ++ replicate (blocks_for T.BITS (len + 1) * T.BITS - len) false) }
     ensures err { OnErr result (blocks.new.items ≡ blocks.old.items) }
@@ -106,13 +102,13 @@ pub(crate) fn cover<T: Block>(blocks: &mut Vec<T>, len: usize) -> Result<(), All
     ensures capacity { vec_capacity blocks.old ≤ vec_capacity blocks.new }
 {
     if len % T::BITS == 0 {
-        blocks.push(T::filled(false))?;
+        blocks.push(T::all(false))?;
     }
     Ok(())
 }
 
 /// Clears the unused bits of as many blocks as the length takes.
-pub(crate) fn mask<T: Block>(blocks: &mut Vec<T>, len: usize)
+pub(crate) fn mask<T: Word>(blocks: &mut Vec<T>, len: usize)
     requires { length blocks.old.items ≡ blocks_for T.BITS len }
     ensures count { length blocks.new.items ≡ length blocks.old.items }
     ensures bits { flat_map T.bits blocks.new.items ≡ take len (flat_map T.bits blocks.old.items) ++ replicate (blocks_for T.BITS len * T.BITS - len) false }
@@ -121,7 +117,7 @@ pub(crate) fn mask<T: Block>(blocks: &mut Vec<T>, len: usize)
 }
 
 /// Tells whether the blocks spell `len` items, with no unused bit set.
-pub(crate) fn spells<T: Block>(blocks: &[T], len: usize) -> bool
+pub(crate) fn spells<T: Word>(blocks: &[T], len: usize) -> bool
     ensures { IsTrue result ↔ Spells T.BITS len (length blocks.now) (flat_map T.bits blocks.now) }
 {
     if blocks.len() != blocks_for::<T>(len) {
@@ -132,5 +128,5 @@ pub(crate) fn spells<T: Block>(blocks: &[T], len: usize) -> bool
         return true;
     }
     let last = blocks[len / width];
-    last.same(last.low(len % width))
+    last.is_same(last.low_part(len % width))
 }

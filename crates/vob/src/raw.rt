@@ -5,6 +5,7 @@ ghost use Rattle.std.specs.List.{flat_map};
 ghost use Rattle.vob.specs.Packed.{Spells, blocks_for};
 
 use crate::block::Block;
+use crate::word::Word;
 use crate::{Vob, packed};
 use std::alloc::AllocError;
 
@@ -22,7 +23,7 @@ pub struct VobRecord {
     pub vec: Vec<usize>,
 }
 
-impl<T: Block> Vob<T> {
+impl<T: Word> Vob<T> {
     /// Takes the list apart.
     pub fn into_raw(self) -> RawVob<T>
         ensures len { result.len ≡ length self.bits }
@@ -34,7 +35,7 @@ impl<T: Block> Vob<T> {
     }
 }
 
-impl<T: Block> RawVob<T> {
+impl<T: Word> RawVob<T> {
     ghost use Rattle.std.specs.Borrow.{sem};
     ghost use Rattle.vob.specs.Lends.{lends_blocks};
 

@@ -6,8 +6,8 @@ ghost use Rattle.std.specs.Vec.{vec_capacity};
 ghost use Rattle.vob.specs.Bits.{bitwise, differs, Meets, IsApart, HoldsAll, LacksSome};
 ghost use Rattle.vob.specs.Pointwise.{item_of};
 
-use crate::block::Block;
 use crate::find::matching;
+use crate::word::Word;
 use crate::{Vob, packed};
 
 /// An operation on two lists of one length, item by item.
@@ -18,7 +18,7 @@ enum Pointwise {
     Xor,
 }
 
-impl<T: Block> Vob<T> {
+impl<T: Word> Vob<T> {
     /// Keeps an item set where it is set in both lists, and tells whether that changed the list.
     pub fn and(&mut self, other: &Vob<T>) -> bool
         requires { length self.old.bits ≡ length other.now.bits }
@@ -91,26 +91,26 @@ impl<T: Block> Vob<T> {
         ensures bits { self.new.bits ≡ replicate (length self.old.bits) value }
         ensures capacity { self.new.capacity ≡ self.old.capacity }
     {
-        fill_blocks(&mut self.blocks, T::filled(value));
+        fill_blocks(&mut self.blocks, T::all(value));
         packed::fill_above(&mut self.blocks, self.len, false);
     }
 }
 
 impl Pointwise {
     /// Does the operation on each bit of two blocks.
-    fn of<T: Block>(self, a: T, b: T) -> T
+    fn of<T: Word>(self, a: T, b: T) -> T
         ensures { T.bits result ≡ bitwise (item_of self) (T.bits a) (T.bits b) }
     {
         match self {
-            Pointwise::And => a.both(b),
-            Pointwise::Or => a.either(b),
-            Pointwise::Xor => a.differing(b),
+            Pointwise::And => a.in_both(b),
+            Pointwise::Or => a.in_either(b),
+            Pointwise::Xor => a.in_one(b),
         }
     }
 }
 
 /// Combines each block with the other list's, and tells whether that changed a bit.
-fn combine_blocks<T: Block>(how: Pointwise, to: &mut Vec<T>, from: &[T]) -> bool
+fn combine_blocks<T: Word>(how: Pointwise, to: &mut Vec<T>, from: &[T]) -> bool
     requires { length to.old.items ≡ length from.now }
     ensures bits { flat_map T.bits to.new.items ≡ bitwise (item_of how) (flat_map T.bits to.old.items) (flat_map T.bits from.now) }
     ensures changed { IsTrue result ↔ (flat_map T.bits to.new.items ≢ flat_map T.bits to.old.items) }
@@ -120,24 +120,24 @@ fn combine_blocks<T: Block>(how: Pointwise, to: &mut Vec<T>, from: &[T]) -> bool
     'each: for k in 0..from.len() {
         let block = to[k];
         let new = how.of(block, from[k]);
-        changed |= !new.same(block);
+        changed |= !new.is_same(block);
         to[k] = new;
     }
     changed
 }
 
 /// Turns each bit.
-fn flip_blocks<T: Block>(blocks: &mut Vec<T>)
+fn flip_blocks<T: Word>(blocks: &mut Vec<T>)
     ensures bits { flat_map T.bits blocks.new.items ≡ map not (flat_map T.bits blocks.old.items) }
     ensures capacity { vec_capacity blocks.new ≡ vec_capacity blocks.old }
 {
     'each: for k in 0..blocks.len() {
-        blocks[k] = blocks[k].flipped();
+        blocks[k] = blocks[k].turned();
     }
 }
 
 /// Gives each block one value.
-fn fill_blocks<T: Block>(blocks: &mut Vec<T>, with: T)
+fn fill_blocks<T: Word>(blocks: &mut Vec<T>, with: T)
     ensures items { blocks.new.items ≡ replicate (length blocks.old.items) with }
     ensures capacity { vec_capacity blocks.new ≡ vec_capacity blocks.old }
 {
@@ -147,12 +147,12 @@ fn fill_blocks<T: Block>(blocks: &mut Vec<T>, with: T)
 }
 
 /// Tells whether as many blocks have the same bits.
-pub(crate) fn same_blocks<T: Block>(a: &[T], b: &[T]) -> bool
+pub(crate) fn same_blocks<T: Word>(a: &[T], b: &[T]) -> bool
     requires { length a.now ≡ length b.now }
     ensures { IsTrue result ↔ (flat_map T.bits a.now ≡ flat_map T.bits b.now) }
 {
     'each: for k in 0..a.len() {
-        if !a[k].same(b[k]) {
+        if !a[k].is_same(b[k]) {
             return false;
         }
     }
@@ -161,13 +161,13 @@ pub(crate) fn same_blocks<T: Block>(a: &[T], b: &[T]) -> bool
 
 /// Tells whether at some index a bit is set in one list of blocks and has a value in another. It ends at the first such
 /// block.
-fn blocks_meet<T: Block>(blocks: &[T], others: &[T], value: bool) -> bool
+fn blocks_meet<T: Word>(blocks: &[T], others: &[T], value: bool) -> bool
     requires { length blocks.now ≡ length others.now }
     ensures { IsTrue result ↔ Meets (flat_map T.bits blocks.now) (if value then flat_map T.bits others.now else map not (flat_map T.bits others.now)) }
 {
     'each: for k in 0..blocks.len() {
-        let common = blocks[k].both(matching(others[k], value));
-        if common.zeros_below() < T::BITS {
+        let common = blocks[k].in_both(matching(others[k], value));
+        if common.clear_below() < T::BITS {
             return true;
         }
     }

@@ -5,30 +5,30 @@ ghost use Rattle.std.specs.List.{flat_map};
 ghost use Rattle.std.specs.Vec.{vec_capacity};
 ghost use Rattle.vob.specs.Packed.{Packs, blocks_for};
 
-use crate::block::Block;
 use crate::packed;
+use crate::word::Word;
 use std::alloc::{AllocError, Global};
 
 /// Makes a block of the bits from the index `by` of the block `at` on. What lies past the end is false.
-fn block_from<T: Block>(blocks: &[T], at: usize, by: usize) -> T
+fn block_from<T: Word>(blocks: &[T], at: usize, by: usize) -> T
     requires there { at < length blocks.now }
     requires below { by < T.BITS }
     ensures { T.bits result ≡ take T.BITS (drop (at * T.BITS + by) (flat_map T.bits blocks.now) ++ replicate by false) }
 {
     let width = T::BITS;
-    let low = blocks[at].shifted_down(by);
+    let low = blocks[at].moved_down(by);
     if by == 0 {
         return low;
     }
     if at + 1 == blocks.len() {
         return low;
     }
-    low.either(blocks[at + 1].shifted_up(width - by))
+    low.in_either(blocks[at + 1].moved_up(width - by))
 }
 
 /// Adds `count` blocks of the bits that other blocks have from the index `from` on. What lies past their end is
 /// false.
-fn append<T: Block>(blocks: &mut Vec<T>, others: &[T], from: usize, count: usize)
+fn append<T: Word>(blocks: &mut Vec<T>, others: &[T], from: usize, count: usize)
     requires there { from / T.BITS + count ≤ length others.now }
     requires room { vec_len blocks.old + count ≤ vec_capacity blocks.old }
     ensures bits { flat_map T.bits blocks.new.items ≡ flat_map T.bits blocks.old.items ++ take (count * T.BITS) (drop from (flat_map T.bits others.now) ++ replicate (from % T.BITS) false) }
@@ -43,7 +43,7 @@ fn append<T: Block>(blocks: &mut Vec<T>, others: &[T], from: usize, count: usize
 }
 
 /// Writes the low bits of a block where the last one has unused bits.
-fn fill_last<T: Block>(blocks: &mut Vec<T>, len: usize, block: T)
+fn fill_last<T: Word>(blocks: &mut Vec<T>, len: usize, block: T)
     requires packs { Packs T.BITS len (flat_map T.bits blocks.old.items) }
     requires part { 0 < len % T.BITS }
     ensures bits { flat_map T.bits blocks.new.items ≡ take len (flat_map T.bits blocks.old.items) ++ take (T.BITS - len % T.BITS) (T.bits block) }
@@ -52,11 +52,11 @@ fn fill_last<T: Block>(blocks: &mut Vec<T>, len: usize, block: T)
 {
     let width = T::BITS;
     let last = &mut blocks[len / width];
-    *last = last.either(block.shifted_up(len % width));
+    *last = last.in_either(block.moved_up(len % width));
 }
 
 /// Adds the items of other blocks behind the items of these, where there is room for them.
-pub(crate) fn join<T: Block>(blocks: &mut Vec<T>, len: usize, others: &[T], count: usize)
+pub(crate) fn join<T: Word>(blocks: &mut Vec<T>, len: usize, others: &[T], count: usize)
     requires packs { Packs T.BITS len (flat_map T.bits blocks.old.items) }
     requires others { Packs T.BITS count (flat_map T.bits others.now) }
     requires room { len + count ≤ vec_capacity blocks.old * T.BITS }
@@ -79,7 +79,7 @@ pub(crate) fn join<T: Block>(blocks: &mut Vec<T>, len: usize, others: &[T], coun
 }
 
 /// Copies the items from the index `at` on into blocks of their own.
-pub(crate) fn part<T: Block>(
+pub(crate) fn part<T: Word>(
     alloc: Global,
     blocks: &[T],
     at: usize,

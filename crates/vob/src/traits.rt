@@ -9,14 +9,14 @@ ghost use Rattle.std.specs.Bool.{beq};
 ghost use Rattle.vob.specs.Bits.{bitwise, differs};
 ghost use Rattle.vob.specs.Fed.{fed_list};
 
-use crate::block::Block;
+use crate::word::Word;
 use crate::{Vob, packed, sets};
 use std::alloc::AllocError;
 use std::fmt;
 use std::hash::{Hash, Hasher};
 use std::ops::{BitAnd, BitAndAssign, BitOr, BitOrAssign, BitXor, BitXorAssign, Index};
 
-impl<T: Block> Clone for Vob<T> {
+impl<T: Word> Clone for Vob<T> {
     ghost is_clone = { λ v w. w.bits ≡ v.bits };
 
     // Cloning a list without items takes no memory.
@@ -31,7 +31,7 @@ impl<T: Block> Clone for Vob<T> {
     }
 }
 
-impl<T: Block> PartialEq for Vob<T> {
+impl<T: Word> PartialEq for Vob<T> {
     ghost eq = { λ a b. pointwise beq a.bits b.bits };
 
     ghost laws = { Prim.search (comparing, rules) };
@@ -47,11 +47,11 @@ impl<T: Block> PartialEq for Vob<T> {
     }
 }
 
-impl<T: Block> Eq for Vob<T> {
+impl<T: Word> Eq for Vob<T> {
     ghost laws = { Prim.search (comparing, rules) };
 }
 
-impl<T: Block> Hash for Vob<T> {
+impl<T: Word> Hash for Vob<T> {
     ghost hash_input = { λ v. fed_list v.bits };
 
     ghost respects_eq = { λ x y e. ap fed_list ((pointwise_decides booleans_Decides x.bits y.bits).0 e) };
@@ -65,7 +65,7 @@ impl<T: Block> Hash for Vob<T> {
     }
 }
 
-impl<T: Block> Index<usize> for Vob<T> {
+impl<T: Word> Index<usize> for Vob<T> {
     type Output = bool;
 
     ghost can_index = { λ v i. i < length v.bits };
@@ -82,7 +82,7 @@ impl<T: Block> Index<usize> for Vob<T> {
 }
 
 /// Prints the items as `Vob[101]`.
-impl<T: Block> fmt::Debug for Vob<T> {
+impl<T: Word> fmt::Debug for Vob<T> {
     fn fmt<W: fmt::Write>(&self, f: &mut fmt::Formatter<W>) -> fmt::Result {
         f.write_str("Vob[")?;
         for item in self.iter() {
@@ -92,7 +92,7 @@ impl<T: Block> fmt::Debug for Vob<T> {
     }
 }
 
-impl<'b, T: Block> BitAndAssign<&'b Vob<T>> for Vob<T> {
+impl<'b, T: Word> BitAndAssign<&'b Vob<T>> for Vob<T> {
     ghost can_bitand_assign = { λ a b. length a.bits ≡ length b.now.bits };
 
     ghost bitand_assign_gives = { λ a b c. c.bits ≡ bitwise (λ x y. x && y) a.bits b.now.bits };
@@ -102,7 +102,7 @@ impl<'b, T: Block> BitAndAssign<&'b Vob<T>> for Vob<T> {
     }
 }
 
-impl<'b, T: Block> BitAnd<&'b Vob<T>> for Vob<T> {
+impl<'b, T: Word> BitAnd<&'b Vob<T>> for Vob<T> {
     type Output = Vob<T>;
 
     ghost can_bitand = { λ a b. length a.bits ≡ length b.now.bits };
@@ -115,7 +115,7 @@ impl<'b, T: Block> BitAnd<&'b Vob<T>> for Vob<T> {
     }
 }
 
-impl<'a, 'b, T: Block> BitAnd<&'b Vob<T>> for &'a Vob<T> {
+impl<'a, 'b, T: Word> BitAnd<&'b Vob<T>> for &'a Vob<T> {
     type Output = Result<Vob<T>, AllocError>;
 
     ghost can_bitand = { λ a b. length a.now.bits ≡ length b.now.bits };
@@ -129,7 +129,7 @@ impl<'a, 'b, T: Block> BitAnd<&'b Vob<T>> for &'a Vob<T> {
     }
 }
 
-impl<'b, T: Block> BitOrAssign<&'b Vob<T>> for Vob<T> {
+impl<'b, T: Word> BitOrAssign<&'b Vob<T>> for Vob<T> {
     ghost can_bitor_assign = { λ a b. length a.bits ≡ length b.now.bits };
 
     ghost bitor_assign_gives = { λ a b c. c.bits ≡ bitwise (λ x y. x || y) a.bits b.now.bits };
@@ -139,7 +139,7 @@ impl<'b, T: Block> BitOrAssign<&'b Vob<T>> for Vob<T> {
     }
 }
 
-impl<'b, T: Block> BitOr<&'b Vob<T>> for Vob<T> {
+impl<'b, T: Word> BitOr<&'b Vob<T>> for Vob<T> {
     type Output = Vob<T>;
 
     ghost can_bitor = { λ a b. length a.bits ≡ length b.now.bits };
@@ -152,7 +152,7 @@ impl<'b, T: Block> BitOr<&'b Vob<T>> for Vob<T> {
     }
 }
 
-impl<'a, 'b, T: Block> BitOr<&'b Vob<T>> for &'a Vob<T> {
+impl<'a, 'b, T: Word> BitOr<&'b Vob<T>> for &'a Vob<T> {
     type Output = Result<Vob<T>, AllocError>;
 
     ghost can_bitor = { λ a b. length a.now.bits ≡ length b.now.bits };
@@ -166,7 +166,7 @@ impl<'a, 'b, T: Block> BitOr<&'b Vob<T>> for &'a Vob<T> {
     }
 }
 
-impl<'b, T: Block> BitXorAssign<&'b Vob<T>> for Vob<T> {
+impl<'b, T: Word> BitXorAssign<&'b Vob<T>> for Vob<T> {
     ghost can_bitxor_assign = { λ a b. length a.bits ≡ length b.now.bits };
 
     ghost bitxor_assign_gives = { λ a b c. c.bits ≡ bitwise differs a.bits b.now.bits };
@@ -176,7 +176,7 @@ impl<'b, T: Block> BitXorAssign<&'b Vob<T>> for Vob<T> {
     }
 }
 
-impl<'b, T: Block> BitXor<&'b Vob<T>> for Vob<T> {
+impl<'b, T: Word> BitXor<&'b Vob<T>> for Vob<T> {
     type Output = Vob<T>;
 
     ghost can_bitxor = { λ a b. length a.bits ≡ length b.now.bits };
@@ -189,7 +189,7 @@ impl<'b, T: Block> BitXor<&'b Vob<T>> for Vob<T> {
     }
 }
 
-impl<'a, 'b, T: Block> BitXor<&'b Vob<T>> for &'a Vob<T> {
+impl<'a, 'b, T: Word> BitXor<&'b Vob<T>> for &'a Vob<T> {
     type Output = Result<Vob<T>, AllocError>;
 
     ghost can_bitxor = { λ a b. length a.now.bits ≡ length b.now.bits };

@@ -8,10 +8,10 @@ use Rattle.vob.proofs.Vob.indices.Goals as goal
 
 pub returns : goal.returns
 returns g c =
-    let bits = g.T.Block.bits in
-    let w = g.T.Block.BITS in
-    let some = g.met.T.Block.some_law in
-    let each = pack.width_of bits w g.T.FixedWidth.bits_of g.met.T.Block.bits_law in
+    let bits = g.T.Word.bits in
+    let w = g.T.Word.BITS in
+    let some = g.met.T.Word.some_law in
+    let each = pack.width_of bits w g.T.Word.number g.met.T.Word.number_law in
     let n = c.self.inside.len in
     let all = flat_map bits c.self.inside.blocks.items in
     let v = c.args.value in

@@ -6,10 +6,10 @@ use Rattle.vob.proofs.Vob.into_raw.Goals as goal
 
 pub returns-clause-count : goal.returns-clause-count
 returns-clause-count g c =
-    let bits = g.T.Block.bits in
-    let w = g.T.Block.BITS in
-    let some = g.met.T.Block.some_law in
-    let each = pack.width_of bits w g.T.FixedWidth.bits_of g.met.T.Block.bits_law in
+    let bits = g.T.Word.bits in
+    let w = g.T.Word.BITS in
+    let some = g.met.T.Word.some_law in
+    let each = pack.width_of bits w g.T.Word.number g.met.T.Word.number_law in
     let n = c.self.inside.len in
     let all = flat_map bits c.self.inside.blocks.items in
     let view : take n all ≡ c.args.self.bits = ap (λ b. b.bits) c.self.view_is in
@@ -18,10 +18,10 @@ returns-clause-count g c =
 
 pub returns-clause-blocks : goal.returns-clause-blocks
 returns-clause-blocks g c =
-    let bits = g.T.Block.bits in
-    let w = g.T.Block.BITS in
-    let some = g.met.T.Block.some_law in
-    let each = pack.width_of bits w g.T.FixedWidth.bits_of g.met.T.Block.bits_law in
+    let bits = g.T.Word.bits in
+    let w = g.T.Word.BITS in
+    let some = g.met.T.Word.some_law in
+    let each = pack.width_of bits w g.T.Word.number g.met.T.Word.number_law in
     let n = c.self.inside.len in
     let all = flat_map bits c.self.inside.blocks.items in
     let view : take n all ≡ c.args.self.bits = ap (λ b. b.bits) c.self.view_is in

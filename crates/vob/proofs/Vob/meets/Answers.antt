@@ -6,15 +6,15 @@ use Rattle.vob.proofs.Vob.meets.Goals as goal
 
 pub blocks_meet-requires : goal.blocks_meet-requires
 blocks_meet-requires g c =
-    let bits = g.T.Block.bits in
-    let w = g.T.Block.BITS in
-    let some = g.met.T.Block.some_law in
-    let each = pack.width_of bits w g.T.FixedWidth.bits_of g.met.T.Block.bits_law in
+    let bits = g.T.Word.bits in
+    let w = g.T.Word.BITS in
+    let some = g.met.T.Word.some_law in
+    let each = pack.width_of bits w g.T.Word.number g.met.T.Word.number_law in
     as_many bits w each c.args.self.now.bits c.args.other.now.bits c.get_storage.result.now c.get_storage-2.result.now some c.requires c.get_storage.ensures c.get_storage-2.ensures
 
 pub returns-clause-meets : goal.returns-clause-meets
 returns-clause-meets g c =
-    let w = g.T.Block.BITS in
+    let w = g.T.Word.BITS in
     let a = c.args.self.now.bits in
     let b = c.args.other.now.bits in
     let p = meets_padded a b _ _ (blocks_for w (length a) * w - length a) (replicate (blocks_for w (length b) * w - length b) false) c.requires c.get_storage.ensures c.get_storage-2.ensures in
@@ -22,7 +22,7 @@ returns-clause-meets g c =
 
 pub returns-clause-apart : goal.returns-clause-apart
 returns-clause-apart g c =
-    let w = g.T.Block.BITS in
+    let w = g.T.Word.BITS in
     let a = c.args.self.now.bits in
     let b = c.args.other.now.bits in
     let p = meets_padded a b _ _ (blocks_for w (length a) * w - length a) (replicate (blocks_for w (length b) * w - length b) false) c.requires c.get_storage.ensures c.get_storage-2.ensures in

@@ -7,10 +7,10 @@ use Rattle.vob.proofs.Vob.shrink_to_fit.Goals as goal
 
 pub returns-clause-frees : goal.returns-clause-frees
 returns-clause-frees g c h =
-    let bits = g.T.Block.bits in
-    let w = g.T.Block.BITS in
-    let some = g.met.T.Block.some_law in
-    let each = pack.width_of bits w g.T.FixedWidth.bits_of g.met.T.Block.bits_law in
+    let bits = g.T.Word.bits in
+    let w = g.T.Word.BITS in
+    let some = g.met.T.Word.some_law in
+    let each = pack.width_of bits w g.T.Word.number g.met.T.Word.number_law in
     let n = c.self.inside.len in
     let xs = c.self.inside.blocks in
     let len : length c.args.self.now.bits ≡ n = ap (λ b. length b.bits) (sym c.self.view_is) ∙ pack.length_kept w n (flat_map bits xs.items) some c.self.invariant in

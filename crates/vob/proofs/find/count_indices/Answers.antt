@@ -9,27 +9,27 @@ use Rattle.vob.proofs.find.count_indices.Goals as goal
 
 pub bounds-blocks-at : goal.bounds-blocks-at
 bounds-blocks-at g c =
-    let bits = g.T.Block.bits in
-    let w = g.T.Block.BITS in
-    let some = g.met.T.Block.some_law in
-    let each = pack.width_of bits w g.T.FixedWidth.bits_of g.met.T.Block.bits_law in
+    let bits = g.T.Word.bits in
+    let w = g.T.Word.BITS in
+    let some = g.met.T.Word.some_law in
+    let each = pack.width_of bits w g.T.Word.number g.met.T.Word.number_law in
     pack.block_below bits w each c.args.blocks.now c.each.at c.BITS-width.result some c.BITS-width.ensures (omega arith)
 
 pub offset_bounds-blocks-at : goal.offset_bounds-blocks-at
 offset_bounds-blocks-at g c =
-    let bits = g.T.Block.bits in
-    let w = g.T.Block.BITS in
-    let some = g.met.T.Block.some_law in
-    let each = pack.width_of bits w g.T.FixedWidth.bits_of g.met.T.Block.bits_law in
+    let bits = g.T.Word.bits in
+    let w = g.T.Word.BITS in
+    let some = g.met.T.Word.some_law in
+    let each = pack.width_of bits w g.T.Word.number g.met.T.Word.number_law in
     let h = pack.block_below bits w each c.args.blocks.now c.each.at c.BITS-width.result some c.BITS-width.ensures (omega arith) in
     omega arith
 
 pub overflow_add-count : goal.overflow_add-count
 overflow_add-count g c =
-    let bits = g.T.Block.bits in
-    let w = g.T.Block.BITS in
-    let some = g.met.T.Block.some_law in
-    let each = pack.width_of bits w g.T.FixedWidth.bits_of g.met.T.Block.bits_law in
+    let bits = g.T.Word.bits in
+    let w = g.T.Word.BITS in
+    let some = g.met.T.Word.some_law in
+    let each = pack.width_of bits w g.T.Word.number g.met.T.Word.number_law in
     let b = c.BITS-width.result in
     let e = c.BITS-width.ensures in
     let xs = c.args.blocks.now in
@@ -41,19 +41,19 @@ overflow_add-count g c =
     let i = c.each.invariant in
     let r : at % b < b = mod_below at b (omega arith) in
     let high : at + n ≤ c.args.to = omega arith in
-    let more : c.ones-count.result ≡ length (indices_of v all at (at + n)) =
-    c.ones-count.ensures ∙ walks.counted bits w each xs at b n c.index-blocks-at.result v (bits c.matching.result) (bits c.low.result) (bits c.shifted_down.result) some e (omega arith) (omega arith) (omega arith) c.index-blocks-at.is c.matching.ensures c.low.ensures c.shifted_down.ensures in
-    let sum : c.each.count + c.ones-count.result ≡ length (indices_of v all c.args.from (at + n)) =
+    let more : c.set_count-count.result ≡ length (indices_of v all at (at + n)) =
+    c.set_count-count.ensures ∙ walks.counted bits w each xs at b n c.index-blocks-at.result v (bits c.matching.result) (bits c.low_part.result) (bits c.moved_down.result) some e (omega arith) (omega arith) (omega arith) c.index-blocks-at.is c.matching.ensures c.low_part.ensures c.moved_down.ensures in
+    let sum : c.each.count + c.set_count-count.result ≡ length (indices_of v all c.args.from (at + n)) =
     ap₂ (λ p q. p + q) i.count more ∙ sym (ap length (walks.indices_split v all c.args.from at (at + n) i.low (omega arith)) ∙ length-append (indices_of v all c.args.from at) (indices_of v all at (at + n))) in
     let least = walks.length-indices v all c.args.from (at + n) in
     search rules
 
 pub each-preserved : goal.each-preserved
 each-preserved g c =
-    let bits = g.T.Block.bits in
-    let w = g.T.Block.BITS in
-    let some = g.met.T.Block.some_law in
-    let each = pack.width_of bits w g.T.FixedWidth.bits_of g.met.T.Block.bits_law in
+    let bits = g.T.Word.bits in
+    let w = g.T.Word.BITS in
+    let some = g.met.T.Word.some_law in
+    let each = pack.width_of bits w g.T.Word.number g.met.T.Word.number_law in
     let b = c.BITS-width.result in
     let e = c.BITS-width.ensures in
     let xs = c.args.blocks.now in
@@ -65,8 +65,8 @@ each-preserved g c =
     let i = c.each.invariant in
     let r : at % b < b = mod_below at b (omega arith) in
     let high : at + n ≤ c.args.to = omega arith in
-    let more : c.ones-count.result ≡ length (indices_of v all at (at + n)) =
-    c.ones-count.ensures ∙ walks.counted bits w each xs at b n c.index-blocks-at.result v (bits c.matching.result) (bits c.low.result) (bits c.shifted_down.result) some e (omega arith) (omega arith) (omega arith) c.index-blocks-at.is c.matching.ensures c.low.ensures c.shifted_down.ensures in
-    let sum : c.each.count + c.ones-count.result ≡ length (indices_of v all c.args.from (at + n)) =
+    let more : c.set_count-count.result ≡ length (indices_of v all at (at + n)) =
+    c.set_count-count.ensures ∙ walks.counted bits w each xs at b n c.index-blocks-at.result v (bits c.matching.result) (bits c.low_part.result) (bits c.moved_down.result) some e (omega arith) (omega arith) (omega arith) c.index-blocks-at.is c.matching.ensures c.low_part.ensures c.moved_down.ensures in
+    let sum : c.each.count + c.set_count-count.result ≡ length (indices_of v all c.args.from (at + n)) =
     ap₂ (λ p q. p + q) i.count more ∙ sym (ap length (walks.indices_split v all c.args.from at (at + n) i.low (omega arith)) ∙ length-append (indices_of v all c.args.from at) (indices_of v all at (at + n))) in
     record { count = sum; low = omega (arith, i.low); high = omega arith }

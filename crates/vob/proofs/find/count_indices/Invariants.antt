@@ -6,7 +6,7 @@ use Rattle.vob.proofs.find.count_indices.Given as goal
 abbrev pub invariant-each : goal.invariant-each
 invariant-each g l =
     record {
-      count : l.count ≡ length (indices_of l.value (flat_map g.T.Block.bits l.blocks) l.from l.at);
+      count : l.count ≡ length (indices_of l.value (flat_map g.T.Word.bits l.blocks) l.from l.at);
       low : l.from ≤ l.at;
       high : l.at ≤ l.to + (l.from - l.to);
     }

@@ -5,27 +5,27 @@ use Rattle.vob.proofs.find.first_index.Goals as goal
 
 pub bounds-blocks-at : goal.bounds-blocks-at
 bounds-blocks-at g c =
-    let bits = g.T.Block.bits in
-    let w = g.T.Block.BITS in
-    let some = g.met.T.Block.some_law in
-    let each = pack.width_of bits w g.T.FixedWidth.bits_of g.met.T.Block.bits_law in
+    let bits = g.T.Word.bits in
+    let w = g.T.Word.BITS in
+    let some = g.met.T.Word.some_law in
+    let each = pack.width_of bits w g.T.Word.number g.met.T.Word.number_law in
     pack.block_below bits w each c.args.blocks.now c.each.at c.BITS-width.result some c.BITS-width.ensures (omega arith)
 
 pub offset_bounds-blocks-at : goal.offset_bounds-blocks-at
 offset_bounds-blocks-at g c =
-    let bits = g.T.Block.bits in
-    let w = g.T.Block.BITS in
-    let some = g.met.T.Block.some_law in
-    let each = pack.width_of bits w g.T.FixedWidth.bits_of g.met.T.Block.bits_law in
+    let bits = g.T.Word.bits in
+    let w = g.T.Word.BITS in
+    let some = g.met.T.Word.some_law in
+    let each = pack.width_of bits w g.T.Word.number g.met.T.Word.number_law in
     let h = pack.block_below bits w each c.args.blocks.now c.each.at c.BITS-width.result some c.BITS-width.ensures (omega arith) in
     omega arith
 
 pub returns-then-others-to : goal.returns-then-others-to
 returns-then-others-to g c =
-    let bits = g.T.Block.bits in
-    let w = g.T.Block.BITS in
-    let some = g.met.T.Block.some_law in
-    let each = pack.width_of bits w g.T.FixedWidth.bits_of g.met.T.Block.bits_law in
+    let bits = g.T.Word.bits in
+    let w = g.T.Word.BITS in
+    let some = g.met.T.Word.some_law in
+    let each = pack.width_of bits w g.T.Word.number g.met.T.Word.number_law in
     let b = c.BITS-width.result in
     let e = c.BITS-width.ensures in
     let xs = c.args.blocks.now in
@@ -39,10 +39,10 @@ returns-then-others-to g c =
 
 pub returns-then-others-rest : goal.returns-then-others-rest
 returns-then-others-rest g c =
-    let bits = g.T.Block.bits in
-    let w = g.T.Block.BITS in
-    let some = g.met.T.Block.some_law in
-    let each = pack.width_of bits w g.T.FixedWidth.bits_of g.met.T.Block.bits_law in
+    let bits = g.T.Word.bits in
+    let w = g.T.Word.BITS in
+    let some = g.met.T.Word.some_law in
+    let each = pack.width_of bits w g.T.Word.number g.met.T.Word.number_law in
     let b = c.BITS-width.result in
     let e = c.BITS-width.ensures in
     let xs = c.args.blocks.now in
@@ -57,10 +57,10 @@ returns-then-others-rest g c =
 
 pub each-preserved : goal.each-preserved
 each-preserved g c =
-    let bits = g.T.Block.bits in
-    let w = g.T.Block.BITS in
-    let some = g.met.T.Block.some_law in
-    let each = pack.width_of bits w g.T.FixedWidth.bits_of g.met.T.Block.bits_law in
+    let bits = g.T.Word.bits in
+    let w = g.T.Word.BITS in
+    let some = g.met.T.Word.some_law in
+    let each = pack.width_of bits w g.T.Word.number g.met.T.Word.number_law in
     let b = c.BITS-width.result in
     let e = c.BITS-width.ensures in
     let xs = c.args.blocks.now in

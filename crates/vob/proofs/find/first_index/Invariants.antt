@@ -6,7 +6,7 @@ abbrev pub invariant-each : goal.invariant-each
 invariant-each g l =
     record {
       low : l.from ≤ l.at;
-      before : (i : ℕ) → l.from ≤ i → i < l.at → get_or (flat_map g.T.Block.bits l.blocks) i false ≡ not l.value;
+      before : (i : ℕ) → l.from ≤ i → i < l.at → get_or (flat_map g.T.Word.bits l.blocks) i false ≡ not l.value;
     }
 
 abbrev pub decreases-each : goal.decreases-each

@@ -6,7 +6,7 @@ abbrev pub invariant-each : goal.invariant-each
 invariant-each g l =
     record {
       high : l.at ≤ l.to;
-      after : (i : ℕ) → l.at ≤ i → i < l.to → get_or (flat_map g.T.Block.bits l.blocks) i false ≡ not l.value;
+      after : (i : ℕ) → l.at ≤ i → i < l.to → get_or (flat_map g.T.Word.bits l.blocks) i false ≡ not l.value;
     }
 
 abbrev pub decreases-each : goal.decreases-each

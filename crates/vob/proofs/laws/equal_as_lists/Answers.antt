@@ -10,5 +10,5 @@ pub returns : goal.returns
 returns g c = record {
   equal = λ a b. pointwise_decides booleans_Decides a.bits b.bits;
   hash = λ a b e. ap fed_list e;
-  storage = λ a b xs ys h k. law.stored_same g.T.Block.BITS a b (flat_map g.T.Block.bits xs) (flat_map g.T.Block.bits ys) h k;
+  storage = λ a b xs ys h k. law.stored_same g.T.Word.BITS a b (flat_map g.T.Word.bits xs) (flat_map g.T.Word.bits ys) h k;
 }

@@ -6,10 +6,10 @@ use Rattle.vob.proofs.packed.cut.Goals as goal
 
 pub fill_above-requires : goal.fill_above-requires
 fill_above-requires g c =
-    let bits = g.T.Block.bits in
-    let w = g.T.Block.BITS in
-    let some = g.met.T.Block.some_law in
-    let each = pack.width_of bits w g.T.FixedWidth.bits_of g.met.T.Block.bits_law in
+    let bits = g.T.Word.bits in
+    let w = g.T.Word.BITS in
+    let some = g.met.T.Word.some_law in
+    let each = pack.width_of bits w g.T.Word.number g.met.T.Word.number_law in
     let xs = c.args.blocks.now.items in
     let is = c.truncate.ensures.items ∙ ap (λ k. take k xs) c.blocks_for.ensures in
     let l = ap (λ ys. length (flat_map bits ys)) is ∙ pack.length_cut_down bits w each xs c.args.len some c.requires in
@@ -17,10 +17,10 @@ fill_above-requires g c =
 
 pub returns-clause-bits : goal.returns-clause-bits
 returns-clause-bits g c =
-    let bits = g.T.Block.bits in
-    let w = g.T.Block.BITS in
-    let some = g.met.T.Block.some_law in
-    let each = pack.width_of bits w g.T.FixedWidth.bits_of g.met.T.Block.bits_law in
+    let bits = g.T.Word.bits in
+    let w = g.T.Word.BITS in
+    let some = g.met.T.Word.some_law in
+    let each = pack.width_of bits w g.T.Word.number g.met.T.Word.number_law in
     let xs = c.args.blocks.now.items in
     let n = c.args.len in
     let is = c.truncate.ensures.items ∙ ap (λ k. take k xs) c.blocks_for.ensures in

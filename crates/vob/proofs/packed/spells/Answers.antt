@@ -5,10 +5,10 @@ use Rattle.vob.proofs.packed.spells.Goals as goal
 
 pub returns-then-len-width-eq0 : goal.returns-then-len-width-eq0
 returns-then-len-width-eq0 g c =
-    let bits = g.T.Block.bits in
-    let w = g.T.Block.BITS in
-    let some = g.met.T.Block.some_law in
-    let each = pack.width_of bits w g.T.FixedWidth.bits_of g.met.T.Block.bits_law in
+    let bits = g.T.Word.bits in
+    let w = g.T.Word.BITS in
+    let some = g.met.T.Word.some_law in
+    let each = pack.width_of bits w g.T.Word.number g.met.T.Word.number_law in
     let xs = c.args.blocks.now in
     let n = c.args.len in
     let e : length xs ≡ blocks_for w n = omega arith in
@@ -17,10 +17,10 @@ returns-then-len-width-eq0 g c =
 
 pub returns : goal.returns
 returns g c =
-    let bits = g.T.Block.bits in
-    let w = g.T.Block.BITS in
-    let some = g.met.T.Block.some_law in
-    let each = pack.width_of bits w g.T.FixedWidth.bits_of g.met.T.Block.bits_law in
+    let bits = g.T.Word.bits in
+    let w = g.T.Word.BITS in
+    let some = g.met.T.Word.some_law in
+    let each = pack.width_of bits w g.T.Word.number g.met.T.Word.number_law in
     let xs = c.args.blocks.now in
     let n = c.args.len in
     let b = c.BITS-width.result in
@@ -28,5 +28,5 @@ returns g c =
     let e : length xs ≡ blocks_for w n = omega arith in
     let part : n % w ≡ 0 → ⊥ = subst (λ b. n % b ≡ 0 → ⊥) c.BITS-width.ensures c.if-len-width-eq0.false in
     let is : x ≡ get_or xs (n / w) x = subst (λ b. x ≡ get_or xs (n / b) x) c.BITS-width.ensures c.index-blocks-len.is in
-    let low : bits c.low.result ≡ take (n % w) (bits x) ++ replicate (w - n % w) false = subst (λ b. bits c.low.result ≡ take (n % b) (bits x) ++ replicate (w - n % b) false) c.BITS-width.ensures c.low.ensures in
-    pack.part_spelled bits w each xs n x c.low.result c.same.result some e part is low c.same.ensures
+    let low : bits c.low_part.result ≡ take (n % w) (bits x) ++ replicate (w - n % w) false = subst (λ b. bits c.low_part.result ≡ take (n % b) (bits x) ++ replicate (w - n % b) false) c.BITS-width.ensures c.low_part.ensures in
+    pack.part_spelled bits w each xs n x c.low_part.result c.is_same.result some e part is low c.is_same.ensures

@@ -5,4 +5,4 @@ use Rattle.vob.proofs.Meeting.{turned}
 use Rattle.vob.proofs.sets.blocks_meet.Given as goal
 
 abbrev pub invariant-each : goal.invariant-each
-invariant-each g l = Meets (flat_map g.T.Block.bits (take l.k l.blocks)) (turned l.value (flat_map g.T.Block.bits (take l.k l.others))) → ⊥
+invariant-each g l = Meets (flat_map g.T.Word.bits (take l.k l.blocks)) (turned l.value (flat_map g.T.Word.bits (take l.k l.others))) → ⊥

@@ -9,10 +9,10 @@ use Rattle.vob.proofs.sets.combine_blocks.Goals as goal
 
 pub each-preserved : goal.each-preserved
 each-preserved g c =
-    let bits = g.T.Block.bits in
-    let w = g.T.Block.BITS in
-    let some = g.met.T.Block.some_law in
-    let each = pack.width_of bits w g.T.FixedWidth.bits_of g.met.T.Block.bits_law in
+    let bits = g.T.Word.bits in
+    let w = g.T.Word.BITS in
+    let some = g.met.T.Word.some_law in
+    let each = pack.width_of bits w g.T.Word.number g.met.T.Word.number_law in
     let op = item_of c.args.how in
     let xs = c.each.to.items in
     let init = c.args.to.now.items in
@@ -29,15 +29,15 @@ each-preserved g c =
       capacity = v.capacity;
       rest = setwise.rest_more bits w each xs init k y v.rest;
       done = setwise.combined_more bits w each op xs init from k x y z c.requires v.size h v.rest v.done c.index-block.ensures c.index-from-k.is c.of-new.ensures;
-      flag = setwise.flag_more_at bits w each xs init k x y c.each.changed c.same.result v.size h' v.rest v.flag c.index-block.ensures c.same.ensures;
+      flag = setwise.flag_more_at bits w each xs init k x y c.each.changed c.is_same.result v.size h' v.rest v.flag c.index-block.ensures c.is_same.ensures;
     }
 
 pub returns-clause-changed : goal.returns-clause-changed
 returns-clause-changed g c =
-    let bits = g.T.Block.bits in
-    let w = g.T.Block.BITS in
-    let some = g.met.T.Block.some_law in
-    let each = pack.width_of bits w g.T.FixedWidth.bits_of g.met.T.Block.bits_law in
+    let bits = g.T.Word.bits in
+    let w = g.T.Word.BITS in
+    let some = g.met.T.Word.some_law in
+    let each = pack.width_of bits w g.T.Word.number g.met.T.Word.number_law in
     let xs = c.each.to.items in
     let init = c.args.to.now.items in
     let k = c.each.k in

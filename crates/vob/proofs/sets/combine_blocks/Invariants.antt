@@ -8,7 +8,7 @@ use Rattle.vob.proofs.sets.combine_blocks.Given as goal
 
 abbrev pub invariant-each : goal.invariant-each
 invariant-each g l =
-    let bits = g.T.Block.bits in
+    let bits = g.T.Word.bits in
     let init = l.fn.to.items in
     record {
       size : length l.to.items ≡ length init;

@@ -5,7 +5,7 @@ use Rattle.vob.proofs.sets.flip_blocks.Given as goal
 
 abbrev pub invariant-each : goal.invariant-each
 invariant-each g l =
-    let bits = g.T.Block.bits in
+    let bits = g.T.Word.bits in
     let init = l.fn.blocks.items in
     record {
       size : length l.blocks.items ≡ length init;

@@ -6,10 +6,10 @@ use Rattle.vob.proofs.shift.append.Goals as goal
 
 pub each-preserved : goal.each-preserved
 each-preserved g c =
-    let bits = g.T.Block.bits in
-    let w = g.T.Block.BITS in
-    let some = g.met.T.Block.some_law in
-    let each = pack.width_of bits w g.T.FixedWidth.bits_of g.met.T.Block.bits_law in
+    let bits = g.T.Word.bits in
+    let w = g.T.Word.BITS in
+    let some = g.met.T.Word.some_law in
+    let each = pack.width_of bits w g.T.Word.number g.met.T.Word.number_law in
     let e = c.BITS-width.ensures in
     let from = c.args.from in
     let k = c.each.k in

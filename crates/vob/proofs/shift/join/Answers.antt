@@ -12,10 +12,10 @@ use Rattle.vob.proofs.shift.join.Goals as goal
 
 pub unwrap-requires : goal.unwrap-requires
 unwrap-requires g c =
-    let bits = g.T.Block.bits in
-    let w = g.T.Block.BITS in
-    let some = g.met.T.Block.some_law in
-    let each = pack.width_of bits w g.T.FixedWidth.bits_of g.met.T.Block.bits_law in
+    let bits = g.T.Word.bits in
+    let w = g.T.Word.BITS in
+    let some = g.met.T.Word.some_law in
+    let each = pack.width_of bits w g.T.Word.number g.met.T.Word.number_law in
     let n = c.args.len in
     let m = c.args.count in
     let b = c.BITS-width.result in
@@ -33,10 +33,10 @@ unwrap-requires g c =
 
 pub returns-then-used-eq0-clause-bits : goal.returns-then-used-eq0-clause-bits
 returns-then-used-eq0-clause-bits g c =
-    let bits = g.T.Block.bits in
-    let w = g.T.Block.BITS in
-    let some = g.met.T.Block.some_law in
-    let each = pack.width_of bits w g.T.FixedWidth.bits_of g.met.T.Block.bits_law in
+    let bits = g.T.Word.bits in
+    let w = g.T.Word.BITS in
+    let some = g.met.T.Word.some_law in
+    let each = pack.width_of bits w g.T.Word.number g.met.T.Word.number_law in
     let n = c.args.len in
     let m = c.args.count in
     let b = c.BITS-width.result in
@@ -53,15 +53,15 @@ returns-then-used-eq0-clause-bits g c =
 
 pub returns-then-count-eq0-clause-bits : goal.returns-then-count-eq0-clause-bits
 returns-then-count-eq0-clause-bits g c =
-    let bits = g.T.Block.bits in
-    shift.joined_none g.T.Block.BITS c.args.len c.args.count (flat_map bits c.args.blocks.now.items) (flat_map bits c.args.others.now) c.requires.packs (omega arith)
+    let bits = g.T.Word.bits in
+    shift.joined_none g.T.Word.BITS c.args.len c.args.count (flat_map bits c.args.blocks.now.items) (flat_map bits c.args.others.now) c.requires.packs (omega arith)
 
 pub overflow_sub-more : goal.overflow_sub-more
 overflow_sub-more g c =
-    let bits = g.T.Block.bits in
-    let w = g.T.Block.BITS in
-    let some = g.met.T.Block.some_law in
-    let each = pack.width_of bits w g.T.FixedWidth.bits_of g.met.T.Block.bits_law in
+    let bits = g.T.Word.bits in
+    let w = g.T.Word.BITS in
+    let some = g.met.T.Word.some_law in
+    let each = pack.width_of bits w g.T.Word.number g.met.T.Word.number_law in
     let n = c.args.len in
     let m = c.args.count in
     let b = c.BITS-width.result in
@@ -77,10 +77,10 @@ overflow_sub-more g c =
 
 pub append-requires-clause-there : goal.append-requires-clause-there
 append-requires-clause-there g c =
-    let bits = g.T.Block.bits in
-    let w = g.T.Block.BITS in
-    let some = g.met.T.Block.some_law in
-    let each = pack.width_of bits w g.T.FixedWidth.bits_of g.met.T.Block.bits_law in
+    let bits = g.T.Word.bits in
+    let w = g.T.Word.BITS in
+    let some = g.met.T.Word.some_law in
+    let each = pack.width_of bits w g.T.Word.number g.met.T.Word.number_law in
     let n = c.args.len in
     let m = c.args.count in
     let b = c.BITS-width.result in
@@ -102,10 +102,10 @@ append-requires-clause-there g c =
 
 pub append-requires-clause-room : goal.append-requires-clause-room
 append-requires-clause-room g c =
-    let bits = g.T.Block.bits in
-    let w = g.T.Block.BITS in
-    let some = g.met.T.Block.some_law in
-    let each = pack.width_of bits w g.T.FixedWidth.bits_of g.met.T.Block.bits_law in
+    let bits = g.T.Word.bits in
+    let w = g.T.Word.BITS in
+    let some = g.met.T.Word.some_law in
+    let each = pack.width_of bits w g.T.Word.number g.met.T.Word.number_law in
     let n = c.args.len in
     let m = c.args.count in
     let b = c.BITS-width.result in
@@ -122,10 +122,10 @@ append-requires-clause-room g c =
 
 pub returns-clause-bits : goal.returns-clause-bits
 returns-clause-bits g c =
-    let bits = g.T.Block.bits in
-    let w = g.T.Block.BITS in
-    let some = g.met.T.Block.some_law in
-    let each = pack.width_of bits w g.T.FixedWidth.bits_of g.met.T.Block.bits_law in
+    let bits = g.T.Word.bits in
+    let w = g.T.Word.BITS in
+    let some = g.met.T.Word.some_law in
+    let each = pack.width_of bits w g.T.Word.number g.met.T.Word.number_law in
     let n = c.args.len in
     let m = c.args.count in
     let b = c.BITS-width.result in

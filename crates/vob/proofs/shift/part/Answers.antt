@@ -6,19 +6,19 @@ use Rattle.vob.proofs.shift.part.Goals as goal
 
 pub append-requires-clause-there : goal.append-requires-clause-there
 append-requires-clause-there g c =
-    let bits = g.T.Block.bits in
-    let w = g.T.Block.BITS in
-    let some = g.met.T.Block.some_law in
-    let each = pack.width_of bits w g.T.FixedWidth.bits_of g.met.T.Block.bits_law in
+    let bits = g.T.Word.bits in
+    let w = g.T.Word.BITS in
+    let some = g.met.T.Word.some_law in
+    let each = pack.width_of bits w g.T.Word.number g.met.T.Word.number_law in
     let n = pack.blocks_are bits w each c.args.blocks.now c.args.len some c.requires.packs in
     omega (arith, shift.part_fits w c.args.len c.args.at some c.requires.within)
 
 pub returns-clause-bits : goal.returns-clause-bits
 returns-clause-bits g c =
-    let bits = g.T.Block.bits in
-    let w = g.T.Block.BITS in
-    let some = g.met.T.Block.some_law in
-    let each = pack.width_of bits w g.T.FixedWidth.bits_of g.met.T.Block.bits_law in
+    let bits = g.T.Word.bits in
+    let w = g.T.Word.BITS in
+    let some = g.met.T.Word.some_law in
+    let each = pack.width_of bits w g.T.Word.number g.met.T.Word.number_law in
     let all = flat_map bits c.args.blocks.now in
     let at = c.args.at in
     c.append.ensures.bits

@@ -12,10 +12,10 @@ use Rattle.vob.proofs.traits.VobPartialEq.eq.Goals as goal
 
 pub same_blocks-requires : goal.same_blocks-requires
 same_blocks-requires g c =
-    let bits = g.T.Block.bits in
-    let w = g.T.Block.BITS in
-    let some = g.met.T.Block.some_law in
-    let each = pack.width_of bits w g.T.FixedWidth.bits_of g.met.T.Block.bits_law in
+    let bits = g.T.Word.bits in
+    let w = g.T.Word.BITS in
+    let some = g.met.T.Word.some_law in
+    let each = pack.width_of bits w g.T.Word.number g.met.T.Word.number_law in
     let m = c.self.inside.len in
     let n = c.other.inside.len in
     let xs = c.self.inside.blocks.items in
@@ -25,10 +25,10 @@ same_blocks-requires g c =
 
 pub returns : goal.returns
 returns g c =
-    let bits = g.T.Block.bits in
-    let w = g.T.Block.BITS in
-    let some = g.met.T.Block.some_law in
-    let each = pack.width_of bits w g.T.FixedWidth.bits_of g.met.T.Block.bits_law in
+    let bits = g.T.Word.bits in
+    let w = g.T.Word.BITS in
+    let some = g.met.T.Word.some_law in
+    let each = pack.width_of bits w g.T.Word.number g.met.T.Word.number_law in
     let m = c.self.inside.len in
     let n = c.other.inside.len in
     let xs = c.self.inside.blocks.items in

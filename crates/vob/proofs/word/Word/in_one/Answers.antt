@@ -1,0 +1,15 @@
+use Rattle.std.proofs.Common.{sym, ap, ap₂, ◌∙◌}
+use Rattle.vob.specs.Bits.{bitwise, differs}
+use Rattle.vob.specs.Digits.{digits}
+use Rattle.vob.proofs.Digit as digit
+use Rattle.vob.proofs.word.Word.in_one.Goals as goal
+
+pub returns : goal.returns
+returns g c =
+    let n = g.Self.Word.number in
+    let k = g.Self.Word.BITS in
+    let law = g.met.Self.Word.number_law in
+    law c.xor_digits.result
+    ∙ ap (digits k) c.xor_digits.ensures
+    ∙ digit.digits-xor k (n c.args.self) (n c.args.other)
+    ∙ ap₂ (bitwise differs) (sym (law c.args.self)) (sym (law c.args.other))

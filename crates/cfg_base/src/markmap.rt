@@ -263,8 +263,9 @@ impl<K: Ord, V> MarkMap<K, V> {
             slot.marks = marks;
             return Ok(());
         }
+        let key = key.clone()?;
         let slot = Slot { value: None, marks };
-        self.slots.insert(key.clone()?, slot)?;
+        drop(self.slots.insert(key, slot)?);
         Ok(())
     }
 
@@ -304,7 +305,7 @@ impl<K: Ord, V> MarkMap<K, V> {
             return Ok(key);
         }
         let kept = key.clone()?;
-        self.insert(key, value)?;
+        drop(self.insert(key, value)?);
         Ok(kept)
     }
 

@@ -122,7 +122,7 @@ fn put_located(
 {
     let text = String::from_str(alloc, key.as_str())?;
     let value = HeaderValue::try_from_header_value(alloc, value)?;
-    let _old = located.insert(text, value)?;
+    drop(located.insert(text, value)?);
     Ok(())
 }
 

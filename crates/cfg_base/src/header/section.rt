@@ -107,7 +107,7 @@ fn error_at(
 fn put(header: &mut Header<Span>, key: String, value: HeaderValue<Span>) -> Result<(), AllocError>
     ensures { OnOk result (SetsValue string_cmp header.old header.new key (Some value)) }
 {
-    let _old = header.insert(key, value)?;
+    drop(header.insert(key, value)?);
     Ok(())
 }
 

@@ -105,8 +105,9 @@ impl<'a> Scanner<'a> {
                 Ok((Namespaced { namespace, member }, end))
             }
             PathShape::Within(middle, end) => {
-                let namespace = Some(self.located(alloc, offset, middle)?);
+                let outer = self.located(alloc, offset, middle)?;
                 let member = self.located(alloc, middle + 2, end)?;
+                let namespace = Some(outer);
                 Ok((Namespaced { namespace, member }, end))
             }
             PathShape::Unfinished(end) => Err(Fault::At(HeaderErrorKind::IllegalName, end + 2)),

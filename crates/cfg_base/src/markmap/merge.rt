@@ -146,7 +146,7 @@ fn add_keys<'a, K: Ord + Clone, V: Drop>(
         if !slots.contains_key(key) {
             let again = key.clone()?;
             added.push(key)?;
-            slots.insert(again, blank_slot())?;
+            drop(slots.insert(again, blank_slot())?);
         }
     }
     Ok(())
@@ -157,7 +157,7 @@ fn take_out<K: Ord + Drop, V: Drop>(slots: &mut BTreeMap<K, Slot<V>>, mut added:
     ensures { slots.new.entries ≡ without K.cmp slots.old.entries (map (λ k. k.now) added.entry.items) }
 {
     'keys: while let Some(key) = added.pop() {
-        let _ = slots.remove(key);
+        drop(slots.remove(key));
     }
 }
 

@@ -5,4 +5,4 @@ use Rattle.cfg_base.proofs.header.convert.put_located.Goals as goal
 
 pub returns : goal.returns
 returns c =
-    puts_mapped Span c.args.located.now c.insert.new.self c.args.key.now c.in_ok-text.text c.args.value.now c.in_ok-value.value (c.in_ok-text.ensures.ok ∙ c.as_str.ensures.value) c.in_ok-value.ensures.key c.in_ok-value.ensures.value c.in_ok-_old.ensures.ok
+    puts_mapped Span c.args.located.now c.insert.new.self c.args.key.now c.in_ok-text.text c.args.value.now c.in_ok-value.value (c.in_ok-text.ensures.ok ∙ c.as_str.ensures.value) c.in_ok-value.ensures.key c.in_ok-value.ensures.value c.in_ok-insert.ensures.ok

@@ -8,7 +8,7 @@ returns-in_ok-member-in-Alone-clause-ok c = alone_path c.in_ok-member-in-Alone.m
 
 pub returns-in_ok-member-in-Within-clause-ok : goal.returns-in_ok-member-in-Within-clause-ok
 returns-in_ok-member-in-Within-clause-ok c =
-    within_path c.in_ok-located-in-Within.field-0 c.in_ok-member-in-Within.member (sym c.in-Within.ensures.value) c.in_ok-located-in-Within.ensures.word c.in_ok-located-in-Within.ensures.span c.in_ok-member-in-Within.ensures.word c.in_ok-member-in-Within.ensures.span
+    within_path c.in_ok-outer-in-Within.outer c.in_ok-member-in-Within.member (sym c.in-Within.ensures.value) c.in_ok-outer-in-Within.ensures.word c.in_ok-outer-in-Within.ensures.span c.in_ok-member-in-Within.ensures.word c.in_ok-member-in-Within.ensures.span
 
 pub returns-in-Unfinished-clause-err : goal.returns-in-Unfinished-clause-err
 returns-in-Unfinished-clause-err c = no_member (sym c.in-Unfinished.ensures.value)

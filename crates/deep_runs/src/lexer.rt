@@ -2,7 +2,7 @@
 
 ghost use Rattle.std.specs.Prelude.{◌<◌, ◌^◌};
 
-use cfg_base::index::IndexStorage;
+use cfg_base::index::{IndexOrder, IndexStorage};
 use cfg_base::span::Span;
 use lrpar::{LexError, Lexeme, Lexer, LexerTypes};
 use std::alloc::{AllocError, Global};
@@ -27,7 +27,7 @@ impl<S: IndexStorage> Display for PlainLexeme<S> {
     }
 }
 
-impl<S: IndexStorage> Lexeme<S> for PlainLexeme<S> {
+impl<S: IndexOrder> Lexeme<S> for PlainLexeme<S> {
     ghost use Rattle.parse_trees.specs.Lex.{lex_at};
     ghost use Rattle.std.specs.Prelude.{true, ◌+◌};
     ghost use Rattle.std.proofs.Common.{ap};
@@ -89,7 +89,7 @@ pub struct PlainTypes<S> {
     storage: PhantomData<S>,
 }
 
-impl<S: IndexStorage> LexerTypes for PlainTypes<S> {
+impl<S: IndexOrder> LexerTypes for PlainTypes<S> {
     type LexemeT = PlainLexeme<S>;
 
     type StorageT = S;
@@ -103,7 +103,7 @@ pub struct PlainLexer<S> {
     items: Vec<Result<PlainLexeme<S>, PlainError>>,
 }
 
-impl<S: IndexStorage> Lexer<PlainTypes<S>> for PlainLexer<S> {
+impl<S: IndexOrder> Lexer<PlainTypes<S>> for PlainLexer<S> {
     ghost lexed = { λ l. l.items.items };
 
     fn iter<'a>(&'a self) -> Iter<'a, Result<PlainLexeme<S>, PlainError>> {
@@ -112,7 +112,7 @@ impl<S: IndexStorage> Lexer<PlainTypes<S>> for PlainLexer<S> {
 }
 
 /// Adds lexemes of a token, each of one byte.
-fn push_many<S: IndexStorage>(
+fn push_many<S: IndexOrder>(
     items: &mut Vec<Result<PlainLexeme<S>, PlainError>>,
     token: S,
     start: usize,
@@ -127,7 +127,7 @@ fn push_many<S: IndexStorage>(
 }
 
 /// As many lexemes of the first token, and behind them as many of the second.
-pub fn lexer_of<S: IndexStorage>(
+pub fn lexer_of<S: IndexOrder>(
     alloc: Global,
     first: (S, u32),
     second: (S, u32),

@@ -1,7 +1,7 @@
 //! Tables whose reductions go on without an end, and the parts that their refusal hands back.
 
 use crate::make::judged;
-use cfg_base::index::IndexStorage;
+use cfg_base::index::{IndexOrder, IndexStorage};
 use cfg_base::symbol::{RIdx, TIdx};
 use lrpar::ParserDataError;
 use lrpar::parserdata::Parts;
@@ -26,7 +26,7 @@ fn counts_of<S: IndexStorage>(parts: &Parts<S>) -> [usize; 9] {
 }
 
 /// Whether a refusal is of this chain past a cap of 1000, is shown by its name and hands parts of these counts back.
-fn is_long<S: IndexStorage>(
+fn is_long<S: IndexOrder>(
     alloc: Global,
     refusal: &ParserDataError<S>,
     chain: (StIdx<S>, Option<RIdx<S>>, TIdx<S>),
@@ -52,7 +52,7 @@ fn is_long<S: IndexStorage>(
 }
 
 /// Whether data of a text are refused so.
-fn is_long_at<S: IndexStorage>(
+fn is_long_at<S: IndexOrder>(
     alloc: Global,
     text: &str,
     chain: (StIdx<S>, Option<RIdx<S>>, TIdx<S>),

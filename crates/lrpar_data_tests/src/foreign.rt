@@ -1,7 +1,7 @@
 //! Grammars with the graphs and the tables of others, and the parts that a refusal hands back.
 
 use crate::make::{grammar, judged, tables};
-use cfg_base::index::IndexStorage;
+use cfg_base::index::{IndexOrder, IndexStorage};
 use cfg_base::symbol::TIdx;
 use cfg_numbered::yacc::grammar::NumberedGrammar;
 use lrpar::parserdata::{Cell, Parts};
@@ -91,7 +91,7 @@ fn come_back<S: IndexStorage>(
 }
 
 /// Whether the grammar of one text is unsafe with the tables of another at this place, and all three parts are handed back.
-fn is_unsafe_at<S: IndexStorage>(
+fn is_unsafe_at<S: IndexOrder>(
     alloc: Global,
     text: &str,
     tabled: &str,

@@ -1,6 +1,6 @@
 //! Lexemes by hand.
 
-use cfg_base::index::IndexStorage;
+use cfg_base::index::{IndexOrder, IndexStorage};
 use cfg_base::span::Span;
 use lrpar::Lexeme;
 use std::fmt;
@@ -21,7 +21,7 @@ impl<S: IndexStorage> Display for RowLexeme<S> {
     }
 }
 
-impl<S: IndexStorage> Lexeme<S> for RowLexeme<S> {
+impl<S: IndexOrder> Lexeme<S> for RowLexeme<S> {
     ghost use Rattle.parse_trees.specs.Lex.{lex_at};
     ghost use Rattle.std.specs.Prelude.{true, ◌+◌};
     ghost use Rattle.std.proofs.Common.{ap};

@@ -3,7 +3,7 @@
 use crate::lexeme::RowLexeme;
 use crate::make::judged;
 use crate::same::same;
-use cfg_base::index::IndexStorage;
+use cfg_base::index::{IndexOrder, IndexStorage};
 use cfg_numbered::yacc::grammar::NumberedGrammar;
 use lrpar::{Lexeme, ParserData, ParserDataError};
 use std::alloc::{AllocError, Global};
@@ -11,7 +11,7 @@ use std::test::*;
 use vob::Vob;
 
 /// Lexemes of the tokens with these names; `$` is the end token.
-fn lexemes_of<S: IndexStorage>(
+fn lexemes_of<S: IndexOrder>(
     alloc: Global,
     grm: &NumberedGrammar<S>,
     names: &[&str],
@@ -44,7 +44,7 @@ pub(crate) fn names_of<S: IndexStorage>(
 }
 
 /// What may come after lexemes of the tokens with these names.
-fn next_of<S: IndexStorage>(
+fn next_of<S: IndexOrder>(
     alloc: Global,
     data: &ParserData<S>,
     names: &[&str],
@@ -57,7 +57,7 @@ fn next_of<S: IndexStorage>(
 }
 
 /// The same by the grammar of a text.
-fn next<S: IndexStorage>(alloc: Global, text: &str, names: &[&str]) -> Result<String, Fail> {
+fn next<S: IndexOrder>(alloc: Global, text: &str, names: &[&str]) -> Result<String, Fail> {
     let data = match judged::<S>(alloc, text, text)? {
         Ok(data) => data,
         Err(ParserDataError::Memory(e)) => return Err(e.into()),

@@ -2,7 +2,7 @@
 
 ghost use Rattle.std.specs.Prelude.{◌+◌, ◌<◌, ◌^◌};
 
-use cfg_base::index::IndexStorage;
+use cfg_base::index::{IndexOrder, IndexStorage};
 use cfg_base::span::Span;
 use cfg_numbered::yacc::NumberedGrammar;
 use lrpar::{LexError, Lexeme, Lexer, LexerTypes};
@@ -28,7 +28,7 @@ impl<S: IndexStorage> Display for ByteLexeme<S> {
     }
 }
 
-impl<S: IndexStorage> Lexeme<S> for ByteLexeme<S> {
+impl<S: IndexOrder> Lexeme<S> for ByteLexeme<S> {
     ghost use Rattle.parse_trees.specs.Lex.{lex_at};
     ghost use Rattle.std.specs.Prelude.{true, ◌+◌};
     ghost use Rattle.std.proofs.Common.{ap};
@@ -90,7 +90,7 @@ pub struct ByteTypes<S> {
     storage: PhantomData<S>,
 }
 
-impl<S: IndexStorage> LexerTypes for ByteTypes<S> {
+impl<S: IndexOrder> LexerTypes for ByteTypes<S> {
     type LexemeT = ByteLexeme<S>;
 
     type StorageT = S;
@@ -104,7 +104,7 @@ pub struct ByteLexer<S> {
     items: Vec<Result<ByteLexeme<S>, ByteError>>,
 }
 
-impl<S: IndexStorage> Lexer<ByteTypes<S>> for ByteLexer<S> {
+impl<S: IndexOrder> Lexer<ByteTypes<S>> for ByteLexer<S> {
     ghost lexed = { λ l. l.items.items };
 
     fn iter<'a>(&'a self) -> Iter<'a, Result<ByteLexeme<S>, ByteError>> {
@@ -113,7 +113,7 @@ impl<S: IndexStorage> Lexer<ByteTypes<S>> for ByteLexer<S> {
 }
 
 /// The lexeme of a byte, whose token has that byte for its name.
-fn lexeme_at<S: IndexStorage>(
+fn lexeme_at<S: IndexOrder>(
     alloc: Global,
     grm: &NumberedGrammar<S>,
     byte: u8,
@@ -132,7 +132,7 @@ fn lexeme_at<S: IndexStorage>(
 }
 
 /// The lexemes of a text, which blanks and lines part.
-pub fn lexer_of<S: IndexStorage>(
+pub fn lexer_of<S: IndexOrder>(
     alloc: Global,
     grm: &NumberedGrammar<S>,
     text: &str,

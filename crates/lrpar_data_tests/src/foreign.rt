@@ -144,24 +144,8 @@ fn is_taken_again<S: IndexStorage>(alloc: Global, text: &str) -> Result<bool, Fa
         Err(_) => return Err("no table".into()),
     };
     drop(first);
-    match full_table(alloc, &grm, &sgraph) {
-        Ok(stable) => is_taken(alloc, grm, sgraph, stable),
-        Err(fail) => {
-            drop(grm);
-            drop(sgraph);
-            Err(fail)
-        }
-    }
-}
-
-/// The table of a graph, with full rows.
-fn full_table<S: IndexStorage>(
-    alloc: Global,
-    grm: &NumberedGrammar<S>,
-    sgraph: &StateGraph<S>,
-) -> Result<StateTable<S>, Fail> {
-    match StateTable::new(alloc, grm, sgraph) {
-        Ok(stable) => Ok(stable.with_full_rows(alloc)?),
+    match StateTable::new(alloc, &grm, &sgraph) {
+        Ok(stable) => is_taken(alloc, grm, sgraph, stable.with_full_rows(alloc)?),
         Err(StateTableNewError::Memory(e)) => Err(e.into()),
         Err(_) => Err("no table of the graph".into()),
     }

@@ -14,9 +14,11 @@ pub const MOST_BYTES: usize = 67_108_864;
 /// What gives bytes, tells them where they are known, and counts its failures: each one, and nothing
 /// else, raises the count by one, or finds it at `u64::MAX`.
 pub trait Source {
-    // The bytes that reads will give from here on, where they are known.
+    /// The bytes that the reads from here on give, to the end of the input; `None` where an implementer doesn't
+    /// say which.
     ghost known: { Self → Option (List ℕ) };
 
+    /// The count of failed reads so far, which `failures` returns.
     ghost faults: { Self → ℕ };
 
     /// As `std::io::Read::read`.
@@ -31,9 +33,13 @@ pub trait Source {
 /// Why an input is no text.
 #[derive(Debug, Drop)]
 pub enum InputFault {
+    /// A read of the source failed.
     Read,
+    /// The input has more than `MOST_BYTES` bytes.
     TooLong,
+    /// The input was read to its end, and its bytes aren't UTF-8.
     NotUtf8,
+    /// The request for memory that was refused.
     Memory(AllocError),
 }
 

@@ -14,9 +14,10 @@ pub const MOST_WAITING: usize = 65_536;
 /// else, raises the count by one, or finds it at `u64::MAX`. An error is a failure, and so is a write that takes nothing
 /// of a text that isn't empty.
 pub trait Sink {
-    // The bytes that were taken, where they are known.
+    /// All bytes that were taken so far, in order; `None` where an implementer doesn't say which.
     ghost known: { Self → Option (List ℕ) };
 
+    /// The count of failed writes so far, which `failures` returns.
     ghost faults: { Self → ℕ };
 
     /// As `std::io::Write::write`.

@@ -39,7 +39,9 @@ pub enum MergeBehavior {
 /// The marks of a key.
 #[derive(Clone, Copy, Debug, PartialEq, Eq)]
 pub struct Marks {
+    /// Whether a reader of the map has looked at the key; a value whose key isn't used is listed by `unused`.
     pub used: bool,
+    /// Whether the key has to have a value; one without is listed by `missing`.
     pub required: bool,
     /// What a merge does with the key; the map's default where there is none.
     pub behavior: Option<MergeBehavior>,
@@ -48,7 +50,9 @@ pub struct Marks {
 /// What a map has at a key.
 #[derive(Drop)]
 pub struct Slot<V> {
+    /// `None` where the key has marks alone.
     pub value: Option<V>,
+    /// What was marked of the key, whether it has a value or not.
     pub marks: Marks,
 }
 

@@ -10,15 +10,20 @@ pub type PrecedenceLevel = u64;
 /// How tightly a token or production binds.
 #[derive(Clone, Copy, Debug, PartialEq, Eq)]
 pub struct Precedence {
+    /// The number of the line that names the token; a greater one binds tighter.
     pub level: PrecedenceLevel,
+    /// Decides between a shift and a reduction of the same level.
     pub kind: AssocKind,
 }
 
 /// To which side the tokens of a precedence line group.
 #[derive(Clone, Copy, Debug, PartialEq, Eq)]
 pub enum AssocKind {
+    /// `%left`: at equal levels the reduction is made.
     Left,
+    /// `%right`: at equal levels the token is shifted.
     Right,
+    /// `%nonassoc`: at equal levels the token is an error.
     Nonassoc,
 }
 

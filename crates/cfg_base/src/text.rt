@@ -11,6 +11,7 @@ pub enum GapPart {
     Part(usize),
     /// A `/*` without `*/`.
     Unclosed,
+    /// Neither a white byte nor a comment.
     NoPart,
 }
 

@@ -16,23 +16,25 @@ use std::sync::ledger::{Blank, Ledger};
 
 /// A table over the rules of a grammar that productions fill.
 pub trait ProdTable {
-    // The grammar.
+    /// The grammar whose productions fill the table. No call changes it.
     ghost grammar: { Self → Grammar };
 
-    // What is so of the table at all times.
+    /// What holds of the table at all times, such as that each entry is true of its rule.
     ghost is_sound: { Self → Type 0 };
 
-    // How often the table can still change.
+    /// An upper bound of how often the table can still change; each change lessens it.
     ghost room: { Self → ℕ };
 
-    // The table is closed under a production.
+    /// The table is closed under a production: to take that one in again would change nothing.
     ghost is_closed_by: { Self → ℕ → Type 0 };
 
-    // What the table is filled from stays as it is.
+    /// Two tables are filled from the same data, which no call changes.
     ghost is_of_same: { Self → Self → Type 0 };
 
+    /// A table is filled from the same data as itself.
     ghost same_refl: { (s : Self) → is_of_same s s };
 
+    /// Tables with the same data as a third one have the same data.
     ghost same_trans: { (s t u : Self) → is_of_same s t → is_of_same t u → is_of_same s u };
 
     /// Takes in a production, and gives its rule where that changed what the table tells of the rule.
@@ -48,7 +50,9 @@ pub trait ProdTable {
 /// Such a table, with the productions that name each rule.
 #[derive(Drop)]
 pub struct ByProds<'n, T> {
+    /// The table that is filled.
     pub table: T,
+    /// The productions that name each rule: where the table changes at a rule, these are taken in again.
     pub naming: &'n Naming,
 }
 

@@ -15,7 +15,9 @@ use vob::Vob;
 /// A rule to which a walk comes: before those that its productions name, and again behind them.
 #[derive(Clone, Copy)]
 pub struct Stop {
+    /// The rule's number.
     pub rule: usize,
+    /// Whether the walk comes back from the rules that the rule's productions name.
     pub is_behind: bool,
 }
 

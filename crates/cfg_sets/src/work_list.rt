@@ -110,23 +110,25 @@ impl WorkList {
 
 /// A table over numbered rules that a work list fills.
 pub trait WorkTable {
-    // How many rules there are.
+    /// The number of rules. Rules are numbered from 0, and no call changes it.
     ghost rules: { Self → ℕ };
 
-    // What is so of the table at all times.
+    /// What holds of the table at all times, such as that each entry is true of its rule.
     ghost is_sound: { Self → Type 0 };
 
-    // How often the table can still change.
+    /// An upper bound of how often the table can still change; each change lessens it.
     ghost room: { Self → ℕ };
 
-    // The table is closed, but for what rests on the rules of the list.
+    /// The table is closed, except for what depends on the rules of the list.
     ghost is_closed_but: { Self → List ℕ → Type 0 };
 
-    // What the table is filled from stays as it is.
+    /// Two tables are filled from the same data, which no call changes.
     ghost is_of_same: { Self → Self → Type 0 };
 
+    /// A table is filled from the same data as itself.
     ghost same_refl: { (s : Self) → is_of_same s s };
 
+    /// Tables with the same data as a third one have the same data.
     ghost same_trans: { (s t u : Self) → is_of_same s t → is_of_same t u → is_of_same s u };
 
     /// Brings up to date what rests on a rule that was taken off the list. Each rule of which the table tells more

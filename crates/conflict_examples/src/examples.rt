@@ -17,9 +17,11 @@ use std::alloc::{AllocError, Global};
 pub struct ConflictExample<S> {
     /// What stands before the token, rules and tokens.
     pub symbols: Vec<Symbol<S>>,
+    /// The token on which the conflict is; the end token where it is at the text's end.
     pub token: TIdx<S>,
     /// For a shift against a reduction the shift, for a pair the reduction that the entry names first.
     pub first: ActionExample<S>,
+    /// The reduction against a shift, or the other reduction of a pair.
     pub second: ActionExample<S>,
 }
 

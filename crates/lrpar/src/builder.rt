@@ -36,7 +36,9 @@ use std::marker::PhantomData;
 /// A parser over checked data, and the recoverer that it asks at errors.
 #[derive(Drop)]
 pub struct RTParserBuilder<'a, T: LexerTypes, R> {
+    /// The grammar and the table that each parse runs on.
     pub checked: &'a ParserData<T::StorageT>,
+    /// Returns the repairs that are tried at an error.
     pub recoverer: &'a R,
     types: PhantomData<T>,
 }

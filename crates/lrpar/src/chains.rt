@@ -22,8 +22,11 @@ use std::alloc::{AllocError, Global};
 /// A chain of reductions on a token that leave a state: from the state alone, or with its goto on the rule above it.
 #[derive(Clone, Copy, Debug, PartialEq, Eq)]
 pub struct LongChain<S> {
+    /// The state on top of the stack when the chain begins.
     pub state: StIdx<S>,
+    /// `None` where the chain begins in the state alone; else the rule whose goto is above the state.
     pub ridx: Option<RIdx<S>>,
+    /// The token on which all of these reductions are made.
     pub tidx: TIdx<S>,
 }
 

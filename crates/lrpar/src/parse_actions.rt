@@ -29,7 +29,9 @@ use std::alloc::{AllocError, Global};
 /// An argument of an action: what an action answered, or a lexeme.
 #[derive(Debug, Drop)]
 pub enum AStackType<LexemeT, ActionT> {
+    /// The value that an action returned for a rule's node.
     ActionType(ActionT),
+    /// The lexeme of a token.
     Lexeme(LexemeT),
 }
 

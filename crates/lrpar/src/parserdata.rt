@@ -63,8 +63,11 @@ impl<S: IndexStorage> Model for ParserData<S> {
 /// The parts of data that were refused.
 #[derive(Drop)]
 pub struct Parts<S: IndexStorage> {
+    /// The grammar, as it was passed.
     pub grm: NumberedGrammar<S>,
+    /// The graph, as it was passed.
     pub sgraph: StateGraph<S>,
+    /// The table, as it was passed.
     pub stable: StateTable<S>,
 }
 
@@ -73,16 +76,24 @@ pub struct Parts<S: IndexStorage> {
 pub enum ParserDataError<S: IndexStorage> {
     /// A run on the table could be stuck or accept what is no derivation: the least place that doesn't fit.
     UnsafeTable {
+        /// The least state that doesn't fit.
         state: StIdx<S>,
+        /// The first part of the state that doesn't fit.
         cell: Cell<S>,
+        /// What was passed, to be used again.
         parts: Parts<S>,
     },
     /// More than `cap` reductions come one after another: the least such chain.
     TooManyReductions {
+        /// The state at which the chain begins.
         state: StIdx<S>,
+        /// `None` where the chain begins in the state alone; else the rule whose goto is above the state.
         rule: Option<RIdx<S>>,
+        /// The token on which all of these reductions are made.
         token: TIdx<S>,
+        /// The greatest number of reductions allowed one after another on a token.
         cap: u16,
+        /// What was passed, to be used again.
         parts: Parts<S>,
     },
     /// There is no memory.

@@ -17,7 +17,7 @@ pub trait DiagnosticFormatter {
     ghost use Rattle.cfg_base.specs.SpanModel.{SpanModel};
     ghost use Rattle.cfg_base.specs.declared.span.SpansKind.{SpansKind};
 
-    // The text of a message with its spans, and what these are.
+    /// The text for a message, its spans, and what these are. An implementer says here what both calls return.
     ghost shows: { Self → List ℕ → List SpanModel → SpansKind → List ℕ };
 
     /// An error as a text: its spans underlined in order, the first with what the error prints.

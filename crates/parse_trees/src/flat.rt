@@ -26,12 +26,18 @@ use std::marker::Model;
 /// A lexeme, or a production with its span and the number of nodes below it, which stand right before it.
 #[derive(Clone, Copy)]
 pub enum FlatNode<S, L> {
+    /// A leaf.
     Term {
+        /// The lexeme, which has the token and the span.
         lexeme: L,
     },
+    /// A node of a production.
     Nonterm {
+        /// The production's number, which names the rule too.
         pidx: PIdx<S>,
+        /// From the first byte of the node's first lexeme to the last one's end; empty where it has none.
         span: Span,
+        /// The number of all nodes below, at every depth; they come right before this one.
         below: usize,
     },
 }
@@ -39,7 +45,9 @@ pub enum FlatNode<S, L> {
 /// A node on a walk: its index, and how many nodes stand above it.
 #[derive(Clone, Copy, Debug, PartialEq, Eq)]
 pub struct Visit {
+    /// The index in the tree's vector of nodes.
     pub index: usize,
+    /// The number of nodes above it; 0 for the root.
     pub depth: usize,
 }
 
@@ -269,7 +277,9 @@ fn preorder_of<S: IndexStorage, L: Lexeme<S>>(
 /// The trees on a parser's stack, one behind the other, and behind how many nodes each ends. The last one is on top.
 #[derive(Drop)]
 pub struct FlatBuilder<S: IndexStorage, L: Lexeme<S>> {
+    /// The nodes of all trees, each node behind those below it.
     pub nodes: Vec<FlatNode<S, L>>,
+    /// For each tree the number of nodes up to its root, that one included.
     pub ends: Vec<usize>,
 }
 

@@ -22,6 +22,7 @@ use std::alloc::{AllocError, Global};
 /// The trees of a run by their nodes.
 #[derive(Drop)]
 pub struct FlatValues<S: IndexStorage, L: Lexeme<S>> {
+    /// The trees of the stack.
     pub builder: FlatBuilder<S, L>,
 }
 

@@ -71,9 +71,13 @@ where
 /// The values and spans of the symbols of a run, the last ones on top, and the functions that give the values.
 #[derive(Drop)]
 pub struct FoldedValues<'a, V, F, R> {
+    /// The values, one for each symbol on the stack.
     pub values: Vec<V>,
+    /// The byte spans of the same symbols.
     pub spans: Vec<Span>,
+    /// Returns the value of a lexeme.
     pub fterm: &'a F,
+    /// Returns the value of a node, by its production, rule, span and the values of its symbols.
     pub fnonterm: &'a R,
 }
 

@@ -16,11 +16,16 @@ use std::alloc::{AllocError, Global};
 
 /// A lexeme, or a rule with the nodes of its symbols.
 pub enum Node<L: Lexeme<S>, S: IndexStorage> {
+    /// A leaf.
     Term {
+        /// The lexeme, which has the token and the span.
         lexeme: L,
     },
+    /// A node of a rule.
     Nonterm {
+        /// The rule's number.
         ridx: RIdx<S>,
+        /// The nodes of the symbols of one of the rule's productions, in order.
         nodes: Vec<Node<L, S>>,
     },
 }

@@ -19,6 +19,7 @@ use std::alloc::{AllocError, Global};
 /// The trees of a run by their rules, the last one on top.
 #[derive(Drop)]
 pub struct NodeValues<S: IndexStorage, L: Lexeme<S>> {
+    /// One tree for each symbol on the stack.
     pub nodes: Vec<Node<L, S>>,
 }
 

@@ -18,13 +18,16 @@ pub trait ValueStack<S: IndexStorage, L: Lexeme<S>> {
     /// No entry starts after this offset.
     ghost starts_by: { Self → ℕ → Type 0 };
 
+    /// What starts by an offset starts by each later one. An implementer proves it.
     ghost starts_later: { (s : Self) (m n : ℕ) → starts_by s m → m ≤ n → starts_by s n };
 
     /// What no call changes of a stack is the same of both.
     ghost keeps: { Self → Self → Type 0 };
 
+    /// A stack keeps itself. An implementer proves it.
     ghost keeps_all: { (s : Self) → keeps s s };
 
+    /// What two calls after each other keep is kept by both. An implementer proves it.
     ghost keeps_on: { (s t u : Self) → keeps s t → keeps t u → keeps s u };
 
     /// Puts an entry for a lexeme on top.

@@ -23,9 +23,13 @@ pub enum GrammarKitError<S> {
     /// More than `cap` reductions come on a token one after another: from a state, or, with a rule, after its goto on the
     /// rule. The least such place is told.
     TooManyReductions {
+        /// The state at which the chain begins.
         state: StIdx<S>,
+        /// `None` where the chain begins in the state alone; else the rule whose goto is above the state.
         rule: Option<RIdx<S>>,
+        /// The token on which all of these reductions are made.
         token: TIdx<S>,
+        /// The greatest number of reductions allowed one after another on a token.
         cap: u16,
     },
     /// There is no memory.

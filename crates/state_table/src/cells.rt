@@ -18,9 +18,13 @@ use std::alloc::AllocError;
 /// What a table does at a state and a token.
 #[derive(Clone, Copy, Debug, PartialEq, Eq)]
 pub enum Action<S> {
+    /// Reads the token and goes to this state.
     Shift(StIdx<S>),
+    /// Replaces the symbols of this production by its rule, without reading the token.
     Reduce(PIdx<S>),
+    /// Ends the run with a sentence. It comes on the end token alone.
     Accept,
+    /// The token is an error here.
     Error,
 }
 

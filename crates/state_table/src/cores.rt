@@ -16,14 +16,18 @@ use vob::Vob;
 /// A production with a dot.
 #[derive(Clone, Copy)]
 pub struct CoreItem<S> {
+    /// The production's number.
     pub pidx: PIdx<S>,
+    /// The number of symbols before the dot.
     pub dot: SIdx<S>,
 }
 
 /// Items in ascending order, and the lookaheads of each.
 #[derive(Drop)]
 pub struct CoreSet<S> {
+    /// In ascending order of production and then dot.
     pub items: Vec<CoreItem<S>>,
+    /// For each item, at the same index, its lookaheads: one bit for each token of the grammar.
     pub looks: Vec<Vob>,
 }
 

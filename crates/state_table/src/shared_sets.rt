@@ -19,14 +19,18 @@ use vob::Vob;
 /// An item, and the index of its lookaheads.
 #[derive(Clone, Copy)]
 pub struct SharedItem<S> {
+    /// The production with its dot.
     pub item: CoreItem<S>,
+    /// Where its lookaheads are among the sets.
     pub set: SetIndex,
 }
 
 /// Items in ascending order, and the sets of lookaheads that they share.
 #[derive(Drop)]
 pub struct SharedSets<S> {
+    /// In ascending order of production and then dot.
     pub entries: Vec<SharedItem<S>>,
+    /// Sets of lookaheads, each with one bit for each token of the grammar. Several items may share one.
     pub sets: Vec<Vob>,
 }
 

@@ -386,6 +386,7 @@ pub enum StateTableErrorKind {
 /// Why no table is made of a grammar.
 #[derive(Clone, Copy, Debug, PartialEq, Eq)]
 pub struct StateTableError<S> {
+    /// What the conflict is.
     pub kind: StateTableErrorKind,
     /// The least production that reduces where a text has ended.
     pub pidx: PIdx<S>,

@@ -16,9 +16,10 @@ pub trait Block: PrimInt + Word {
         ensures fits { Self.fits (Self.value self) }
         ensures below { Self.bits_of self < 2 ^ Self.BITS };
 
-    // The bits are the binary digits of the number.
+    /// The bits are the binary digits of the number that `PrimInt` gives the block.
     ghost bits_law: { (x : Self) → Self.bits x ≡ digits Self.BITS (Self.bits_of x) };
 
+    /// `PrimInt` and `Word` have the same number of bits.
     ghost width_law: { Self.BITS ≡ bit_len Self.width };
 
     /// Makes a block whose bits all are `value`.

@@ -12,14 +12,18 @@ use std::alloc::AllocError;
 /// A list taken apart: its length and its blocks, which need not go together.
 #[derive(Drop)]
 pub struct RawVob<T> {
+    /// The number of bits.
     pub len: usize,
+    /// The blocks; the first bit is the lowest one of the first block.
     pub blocks: Vec<T>,
 }
 
 /// A list of items as plain data: its length and its blocks.
 #[derive(Debug, Drop)]
 pub struct VobRecord {
+    /// The number of bits.
     pub len: usize,
+    /// The blocks; the first bit is the lowest one of the first block.
     pub vec: Vec<usize>,
 }
 

@@ -13,10 +13,13 @@ pub trait Word: Copy {
     /// The number of bits of a word.
     const BITS: usize;
 
+    /// The number of bits of a word, as contracts see it.
     ghost BITS: { ℕ };
 
+    /// The number whose binary digits the bits are.
     ghost number: { Self → ℕ };
 
+    /// The bits, the least significant first.
     ghost bits: { Self → List Bool };
 
     /// Does nothing: its contract says that a number has no more digits than the word has bits.
@@ -71,11 +74,13 @@ pub trait Word: Copy {
     fn has_digits_of(self, other: Self) -> bool
         ensures { IsTrue result ↔ (number self ≡ number other) };
 
-    // The bits are the binary digits of the number.
+    /// The bits are the binary digits of the number.
     ghost number_law: { (x : Self) → bits x ≡ digits BITS (number x) };
 
+    /// A word has at least one bit.
     ghost some_law: { 0 < BITS };
 
+    /// A word has at most 128 bits, so that a count of them fits any index.
     ghost most_law: { BITS ≤ 128 };
 
     /// Makes a word whose bits all are `value`.

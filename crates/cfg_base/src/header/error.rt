@@ -11,12 +11,17 @@ use std::fmt::{Debug, Display, Formatter, Write};
 /// What is wrong.
 #[derive(Clone, Copy, Debug, PartialEq, Eq)]
 pub enum HeaderErrorKind {
+    /// A section is required, and the text doesn't begin with one.
     MissingGrmtoolsSection,
+    /// A word is wanted, and none begins here.
     IllegalName,
+    /// This character is wanted, and another one or the text's end is here.
     ExpectedToken(char),
+    /// This character was found in place of what the text names. The reader of this crate never returns it.
     UnexpectedToken(char, &'static str),
     /// A key that is there more than once.
     DuplicateEntry,
+    /// A number is past `u64::MAX` (`"number"`), or an array is within 64 others (`"array"`).
     InvalidEntry(&'static str),
     /// What the value should have been, and why it isn't.
     ConversionError(&'static str, &'static str),
@@ -46,7 +51,9 @@ impl Error for HeaderErrorKind {}
 /// What is wrong, and where: for a repeated key all its spans, the first one first.
 #[derive(Debug, PartialEq, Eq, Drop)]
 pub struct HeaderError<T> {
+    /// What is wrong at the locations.
     pub kind: HeaderErrorKind,
+    /// For `DuplicateEntry` each appearance of the key, the first one first; else one location.
     pub locations: Vec<T>,
 }
 

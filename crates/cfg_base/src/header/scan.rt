@@ -50,18 +50,31 @@ fn text_len(bytes: &[u8]) -> usize
 /// What begins at an offset, by its first character.
 #[derive(Clone, Copy, Debug, PartialEq, Eq)]
 pub enum TokenKind {
+    /// `A` to `Z` or `a` to `z`.
     Letter,
+    /// `_`, with which a word may begin too.
     Underscore,
+    /// `0` to `9`.
     Digit,
+    /// `"`, which begins and ends a text.
     Quote,
+    /// `!`, which clears a flag.
     Exclamation,
+    /// `{`, which opens the section.
     OpenBrace,
+    /// `}`, which ends the section.
     CloseBrace,
+    /// `[`, which opens an array.
     OpenBracket,
+    /// `]`, which ends an array.
     CloseBracket,
+    /// `(`, which opens a constructor's argument.
     OpenParen,
+    /// `)`, which ends a constructor's argument.
     CloseParen,
+    /// `,`, which separates pairs and an array's items.
     Comma,
+    /// `:`, which separates a key from its setting; two of them are part of a path.
     Colon,
     /// Any other character, or the text's end.
     Other,
@@ -108,12 +121,14 @@ pub enum PathShape {
     Within(usize, usize),
     /// A word that ends here, and `::` without a word behind.
     Unfinished(usize),
+    /// No word begins here.
     NoPath,
 }
 
 /// Reads a text, at offsets that its calls are given.
 #[derive(Clone, Copy, Debug)]
 pub struct Scanner<'a> {
+    /// The whole text, from its first byte, so that offsets are those of the file.
     pub text: &'a str,
 }
 

@@ -48,8 +48,11 @@ impl<T: Drop> From<AllocFailed<T>> for Fault {
 /// A key in lower case, where it stands, and its value.
 #[derive(Debug, Drop)]
 pub struct Pair {
+    /// The key's word in lower case; of `!key` without the `!`.
     pub key: String,
+    /// The byte offsets of the key's word.
     pub span: Span,
+    /// A flag, or the setting behind the `:`.
     pub value: Value<Span>,
 }
 

@@ -6,7 +6,9 @@ ghost use Rattle.cfg_base.specs.HeaderTexts.{value_text, primary_of, setting_tex
 /// A word, or one word within another, each with its location.
 #[derive(Debug, PartialEq, Eq, Drop)]
 pub struct Namespaced<T> {
+    /// The word before `::`, with its location; `None` where one word stands alone.
     pub namespace: Option<(String, T)>,
+    /// The word itself, or the one behind `::`, with its location.
     pub member: (String, T),
 }
 
@@ -14,13 +16,20 @@ pub struct Namespaced<T> {
 /// with their quotes; an array has those of its two brackets.
 #[derive(Debug, PartialEq, Eq, Drop)]
 pub enum Setting<T> {
+    /// A path: `word` or `word::word`.
     Unitary(Namespaced<T>),
+    /// A path with another one in parentheses.
     Constructor {
+        /// The path before the parenthesis.
         ctor: Namespaced<T>,
+        /// The path within the parentheses.
         arg: Namespaced<T>,
     },
+    /// A decimal number, and the location of its digits.
     Num(u64, T),
+    /// The text between two `"`, and the location with the quotes.
     String(String, T),
+    /// The items of an array, the location of its `[`, and that of its `]`.
     Array(Vec<Setting<T>>, T, T),
 }
 
@@ -29,6 +38,7 @@ pub enum Setting<T> {
 pub enum Value<T> {
     /// `key`, located at the key, or `!key`, located from the `!` on.
     Flag(bool, T),
+    /// A key with a setting behind its `:`.
     Setting(Setting<T>),
 }
 

@@ -10,7 +10,9 @@ use std::alloc::AllocError;
 /// The entry of a key, which has a value or none.
 #[derive(Drop)]
 pub enum Entry<'a, K: Ord, V> {
+    /// The key has a value.
     Occupied(OccupiedEntry<'a, K, V>),
+    /// The key has no value; it may have marks.
     Vacant(VacantEntry<'a, K, V>),
 }
 

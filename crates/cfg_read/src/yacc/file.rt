@@ -33,6 +33,7 @@ use thiserror::Error;
 /// Why a text gives no grammar.
 #[derive(Debug, Drop, Error)]
 pub enum YaccGrammarFailure {
+    /// The request for memory that was refused.
     #[error("Memory")]
     Memory(AllocError),
     /// All that is wrong with the text.

@@ -19,6 +19,7 @@ use std::fmt::{Debug, Display, Formatter, Write};
 /// Why a value gives no kind.
 #[derive(Debug, Drop)]
 pub enum KindError<T> {
+    /// The request for memory that was refused.
     Memory(AllocError),
     /// The value stands for no kind. The one location is that of the first word from the left that
     /// doesn't fit, else that of the value.

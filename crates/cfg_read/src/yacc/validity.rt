@@ -26,6 +26,7 @@ pub(crate) mod unknown;
 /// What is wrong with a grammar text, and the spans that show it.
 #[derive(Debug, Drop)]
 pub struct YaccGrammarError {
+    /// What is wrong at the spans.
     pub kind: YaccGrammarErrorKind,
     /// The spans of all occurrences of what stands more than once, in order; else one span.
     pub spans: Vec<Span>,

@@ -37,6 +37,7 @@ use std::{fmt, mem};
 /// Why a syntax tree isn't changed.
 #[derive(Debug, Drop)]
 pub enum ASTModificationError {
+    /// The request for memory that was refused; the tree is as it was.
     Memory(AllocError),
     /// No rule has this name.
     UnknownRule,

@@ -13,8 +13,11 @@ use std::marker::Model;
 /// What a list is made of; the lists of a pair have tokens, and smaller numbers.
 #[derive(Clone, Copy)]
 pub enum Part<S> {
+    /// No token.
     Empty,
+    /// One token.
     Token(TIdx<S>),
+    /// The lists of these two numbers, the first before the second.
     Pair(usize, usize),
 }
 

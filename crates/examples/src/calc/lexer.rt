@@ -11,6 +11,7 @@ use thiserror::Error;
 #[derive(Clone, Copy, Debug, Error)]
 #[error("no word")]
 pub struct NoWord {
+    /// The byte's offset, and the one behind it.
     pub span: Span,
 }
 
@@ -36,6 +37,7 @@ impl LexerTypes for LineTypes {
 /// The words of a line, and its faults.
 #[derive(Drop)]
 pub struct Words {
+    /// In the order of the line, each a word or a byte that begins none.
     pub items: Vec<Result<Word, NoWord>>,
 }
 

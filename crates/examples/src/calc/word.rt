@@ -8,9 +8,13 @@ use std::fmt::{Display, Formatter, Write};
 /// A word of a line: its token, its bytes, and the number that it stands for.
 #[derive(Clone, Copy, Debug, PartialEq, Eq, Hash)]
 pub struct Word {
+    /// The number of the token in the grammar.
     pub token: u8,
+    /// Byte offsets in the line.
     pub span: Span,
+    /// The value of the digit; 0 for a minus sign.
     pub number: u64,
+    /// Whether a repair inserted the word.
     pub faulty: bool,
 }
 

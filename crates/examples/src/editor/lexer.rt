@@ -17,8 +17,11 @@ use thiserror::Error;
 /// A lexeme: its token and its bytes in the text.
 #[derive(Clone, Copy, Debug, PartialEq, Eq, Hash)]
 pub struct ByteLexeme<S> {
+    /// The number of the token whose name is the byte.
     pub token: S,
+    /// Byte offsets in the text; empty for a lexeme that a repair inserted.
     pub span: Span,
+    /// Whether a repair inserted the lexeme.
     pub faulty: bool,
 }
 
@@ -74,6 +77,7 @@ impl<S: IndexOrder> Lexeme<S> for ByteLexeme<S> {
 #[derive(Clone, Copy, Debug, Error)]
 #[error("no token")]
 pub struct ByteError {
+    /// The byte's offset, and the one behind it.
     pub span: Span,
 }
 

@@ -14,6 +14,7 @@ use std::alloc::{AllocError, Global};
 /// Offers, at each error, to insert any one token of so many.
 #[derive(Drop)]
 pub struct AnyToken {
+    /// The number of tokens; those below it are offered.
     pub count: u32,
 }
 

@@ -45,6 +45,7 @@ impl fmt::Display for YaccGrammarWarningKind {
 /// A warning, and the span that shows it.
 #[derive(Debug, Drop)]
 pub struct YaccGrammarWarning {
+    /// What isn't used.
     pub kind: YaccGrammarWarningKind,
     /// Where the rule's first heading or the token's first appearance stands.
     pub spans: Vec<Span>,

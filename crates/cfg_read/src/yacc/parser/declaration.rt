@@ -9,35 +9,50 @@ use crate::yacc::{AssocKind, YaccKind};
 /// A declaration, without what stands behind its word.
 #[derive(Clone, Copy, Debug, PartialEq, Eq)]
 pub enum Declaration {
+    /// `%token`, with tokens up to the next declaration.
     Token,
+    /// `%start`, with the name of a rule.
     Start,
+    /// `%epp`, with a token and its printed text as a string.
     Epp,
+    /// A declaration of names or tokens up to the line's end.
     Items(LineList),
+    /// A declaration of a number of conflicts.
     Number(Count),
+    /// A declaration whose text is the rest of its line.
     Rest(LineText),
 }
 
 /// A declaration of names or tokens up to the line's end.
 #[derive(Clone, Copy, Debug, PartialEq, Eq)]
 pub enum LineList {
+    /// `%left`, `%right` or `%nonassoc`, which make one level of precedence a line.
     Level(AssocKind),
+    /// `%avoid_insert`: tokens that repairs should not insert.
     AvoidInsert,
+    /// `%implicit_tokens`, in Eco grammars alone: tokens that may appear anywhere.
     ImplicitTokens,
+    /// `%expect-unused`: rules and tokens without a warning when they aren't used.
     ExpectUnused,
 }
 
 /// A declaration of a number of conflicts.
 #[derive(Clone, Copy, Debug, PartialEq, Eq)]
 pub enum Count {
+    /// `%expect`: the number of shift/reduce conflicts.
     Expect,
+    /// `%expect-rr`: the number of reduce/reduce conflicts.
     ExpectRR,
 }
 
 /// A declaration of the rest of the line.
 #[derive(Clone, Copy, Debug, PartialEq, Eq)]
 pub enum LineText {
+    /// `%actiontype`, in original Yacc grammars alone: the type of all actions' values.
     ActionType,
+    /// `%parse-param`: a name, a colon and a type, of what actions are given.
     ParseParam,
+    /// `%parse-generics`: the type parameters of the parser.
     ParseGenerics,
 }
 

@@ -16,39 +16,74 @@ use std::fmt::{Display, Formatter, Write};
 /// What is wrong with a grammar text. `MismatchedBrace`, `ProgramsNotSupported` and `ExpectedInput` are never told.
 #[derive(Debug, PartialEq, Eq, Drop)]
 pub enum YaccGrammarErrorKind {
+    /// `%expect` or `%expect-rr` is without a number, or with one past `usize::MAX`.
     IllegalInteger,
+    /// The name of a rule or a token is wanted, and none begins here.
     IllegalName,
+    /// The quote of a token isn't closed.
     IllegalString,
+    /// The text ends within an alternative.
     IncompleteRule,
+    /// A `/*` has no `*/`.
     IncompleteComment,
+    /// An action's `{` has no matching `}`.
     IncompleteAction,
+    /// No `:` follows a rule's name, a Grmtools type or the name of `%parse-param`.
     MissingColon,
+    /// No `->` follows a rule's name, in a Grmtools grammar.
     MissingRightArrow,
+    /// Never returned: braces within an action are counted, and one too few is an `IncompleteAction`.
     MismatchedBrace,
+    /// An alternative has both `%empty` and a symbol.
     NonEmptyProduction,
+    /// The text ends where a declaration or `%%` is wanted.
     PrematureEnd,
+    /// Something in an alternative is no part of one, or comes too late in it.
     ProductionNotTerminated,
+    /// Never returned: the text behind the second `%%` is read as the programs.
     ProgramsNotSupported,
+    /// A declaration is wanted, and this is none, or none that the kind of grammar has.
     UnknownDeclaration,
+    /// No token follows `%prec`.
     PrecNotFollowedByToken,
+    /// A token appears twice in `%left`, `%right` and `%nonassoc` lines.
     DuplicatePrecedence,
+    /// A token appears twice in `%avoid_insert` lines.
     DuplicateAvoidInsertDeclaration,
+    /// A token appears twice in `%implicit_tokens` lines.
     DuplicateImplicitTokensDeclaration,
+    /// There is a second `%expect`.
     DuplicateExpectDeclaration,
+    /// There is a second `%expect-rr`.
     DuplicateExpectRRDeclaration,
+    /// There is a second `%start`.
     DuplicateStartDeclaration,
+    /// There is a second `%actiontype`.
     DuplicateActiontypeDeclaration,
+    /// A token has a second `%epp`.
     DuplicateEPP,
+    /// The rest of the line is empty, where a declaration needs a text.
     ReachedEOL,
+    /// A string is wanted, and none begins here, or it has a line's end or a `\` before something other than a
+    /// quote.
     InvalidString,
+    /// There is neither a `%start` nor a rule.
     NoStartRule,
+    /// A name of `%expect-unused` is neither a rule nor a token.
     UnknownSymbol,
+    /// `%start` has this name, which is no rule's.
     InvalidStartRule(String),
+    /// An alternative has this name, which is neither a rule's nor a token's.
     UnknownRuleRef(String),
+    /// `%avoid_insert` has this name, which is no token's.
     UnknownToken(String),
+    /// `%prec` has this token, which has no precedence.
     NoPrecForToken(String),
+    /// `%epp` has this name, which is no token's.
     UnknownEPP(String),
+    /// Never returned: each fault has one of the other kinds.
     ExpectedInput,
+    /// The kind of grammar is asked of the section, and its `yacckind` is missing.
     InvalidYaccKind,
     /// An error of the section, or of a value in it, and what its spans show.
     Header(HeaderErrorKind, SpansKind),

@@ -14,7 +14,9 @@ use std::alloc::{AllocError, Global};
 /// A text, and where it stands.
 #[derive(Debug, Drop)]
 pub struct Word {
+    /// The text, of a token without its quotes.
     pub text: String,
+    /// The byte offsets of the text, quotes left out.
     pub span: Span,
 }
 
@@ -99,13 +101,16 @@ fn mark_of(name: &Name, start: usize, end: usize) -> Option<Span>
 /// One symbol, and nothing else.
 #[derive(Debug, Drop)]
 pub struct Single {
+    /// The symbol, as an array, so that it is read as a slice like those of others.
     pub symbols: [Symbol; 1],
+    /// The symbol's byte offsets, with quotes and `?`.
     pub span: Span,
 }
 
 /// Symbols, and nothing else.
 #[derive(Debug, Drop)]
 pub struct Plain {
+    /// At least two symbols, in order.
     pub symbols: Vec<Symbol>,
     /// From the first to the last.
     pub span: Span,
@@ -114,11 +119,13 @@ pub struct Plain {
 /// What may stand in an alternative.
 #[derive(Debug, Drop)]
 pub struct Body {
+    /// The symbols in order; none beside `%empty`.
     pub symbols: Vec<Symbol>,
     /// Whether `%empty` stands there.
     pub is_empty: bool,
     /// The token of `%prec`.
     pub precedence: Option<Box<Word>>,
+    /// The text between the action's braces, trimmed.
     pub action: Option<Word>,
     /// Symbols, `%empty` and `%prec` with its token; without these an empty one at the `|` or `;`.
     pub span: Span,
@@ -130,8 +137,11 @@ pub struct Body {
 pub enum Alternative {
     /// Nothing stands there, up to the `|` or `;` at this offset.
     Blank(usize),
+    /// One symbol, and nothing else.
     Single(Box<Single>),
+    /// Several symbols, and nothing else.
     Plain(Box<Plain>),
+    /// Anything more: `%empty`, `%prec` or an action.
     Body(Box<Body>),
 }
 
@@ -152,64 +162,87 @@ impl Alternative {
 /// One heading of a rule with its alternatives.
 #[derive(Debug, Drop)]
 pub struct Rule {
+    /// The rule's name, which several headings may share.
     pub name: Name,
+    /// The byte offsets of the name in this heading.
     pub span: Span,
     /// The type behind `->`, in Grmtools.
     pub action_type: Option<Box<Word>>,
+    /// At least one, in order.
     pub alternatives: Vec<Alternative>,
 }
 
 /// One precedence line.
 #[derive(Debug, Drop)]
 pub struct Level {
+    /// The declaration's word: `%left`, `%right` or `%nonassoc`.
     pub kind: AssocKind,
+    /// The tokens of the line, in order, quoted ones and bare names.
     pub tokens: Vec<Symbol>,
 }
 
 /// The names and tokens of one line of `%avoid_insert`, `%implicit_tokens` or `%expect-unused`.
 #[derive(Debug, Drop)]
 pub struct Line {
+    /// In order; a name without quotes is a rule or a token.
     pub items: Vec<Symbol>,
 }
 
 /// The number of `%expect` or `%expect-rr`.
 #[derive(Debug, Drop)]
 pub struct Number {
+    /// The number, up to `usize::MAX`.
     pub value: usize,
+    /// The byte offsets of its digits.
     pub span: Span,
 }
 
 /// The printed text of a token.
 #[derive(Debug, Drop)]
 pub struct Epp {
+    /// The token, quoted or not.
     pub token: Word,
+    /// The text between the quotes of the string, without the `\` before an escaped quote.
     pub text: Word,
 }
 
 /// The parameter of `%parse-param`.
 #[derive(Debug, Drop)]
 pub struct Param {
+    /// The trimmed text before the colon.
     pub name: Word,
+    /// The trimmed text behind the colon.
     pub param_type: Word,
 }
 
 /// What a text says, each kind of thing in the order of the text.
 #[derive(Debug, Drop)]
 pub struct Syntax {
+    /// The rule's name of each `%start`; a valid text has at most one.
     pub starts: Vec<Word>,
+    /// The tokens of all `%token` lines.
     pub tokens: Vec<Symbol>,
+    /// The precedence lines, the one that binds least first.
     pub levels: Vec<Level>,
+    /// The `%avoid_insert` lines.
     pub avoid_insert: Vec<Line>,
+    /// The `%implicit_tokens` lines; none unless the kind is Eco.
     pub implicit_tokens: Vec<Line>,
+    /// The `%expect-unused` lines.
     pub expect_unused: Vec<Line>,
+    /// The `%expect` numbers; a valid text has at most one.
     pub expect: Vec<Number>,
+    /// The `%expect-rr` numbers; a valid text has at most one.
     pub expect_rr: Vec<Number>,
+    /// The `%epp` declarations.
     pub epp: Vec<Epp>,
+    /// The texts of `%actiontype`; a valid text has at most one.
     pub action_types: Vec<Word>,
     /// The last one.
     pub parse_param: Option<Param>,
     /// The last one.
     pub parse_generics: Option<Word>,
+    /// The headings with their alternatives; a rule may have several headings.
     pub rules: Vec<Rule>,
     /// The text behind the second `%%`.
     pub programs: Option<Word>,

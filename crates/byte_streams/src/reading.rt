@@ -21,7 +21,8 @@ pub trait Source {
     /// The count of failed reads so far, which `failures` returns.
     ghost faults: { Self → ℕ };
 
-    /// As `std::io::Read::read`.
+    /// Reads up to `buf.len()` bytes into `buf` and returns how many, 0 at the end of the input, as
+    /// `std::io::Read::read`. An error raises `failures` by one.
     fn read(&mut self, buf: &mut [u8]) -> io::Result<usize>
         ensures { Reads (known self.old) (faults self.old) (known self.new) (faults self.new) result buf.new };
 
@@ -92,6 +93,13 @@ fn read_more<S: Source>(source: &mut S, bytes: &mut Vec<u8>) -> Result<usize, In
 }
 
 /// Reads an input to its end as a text.
+///
+/// # Errors
+///
+/// - `Read` where a read of the source failed.
+/// - `TooLong` where the input has more than `MOST_BYTES` bytes; one of these more is read, and no further one.
+/// - `NotUtf8` where an input that isn't too long is no UTF-8.
+/// - `Memory` where memory is refused.
 pub fn read_text<S: Source>(alloc: Global, source: &mut S) -> Result<String, InputFault>
     ensures whole { IfOk result (λ t. IsWhole (S.known source.old) (string_bytes t)) }
     ensures short { IfOk result (λ t. string_len t ≤ most_bytes) }

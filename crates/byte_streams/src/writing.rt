@@ -20,7 +20,8 @@ pub trait Sink {
     /// The count of failed writes so far, which `failures` returns.
     ghost faults: { Self → ℕ };
 
-    /// As `std::io::Write::write`.
+    /// Writes a beginning of `bytes` and returns its length, as `std::io::Write::write`. An error, and 0 where
+    /// `bytes` isn't empty, raises `failures` by one.
     fn write(&mut self, bytes: &[u8]) -> io::Result<usize>
         ensures { Writes (known self.old) (faults self.old) (known self.new) (faults self.new) result bytes.now };
 
@@ -33,7 +34,8 @@ pub trait Sink {
 #[derive(Clone, Copy, Debug)]
 pub struct WriteFault;
 
-/// Writes all of the bytes. Only what `write` tells as taken is out.
+/// Writes all of the bytes. Returns a `WriteFault` at the first write that fails or takes nothing; a beginning of the
+/// bytes, which the writes before took, is then written.
 pub fn write_all<W: Sink>(out: &mut W, bytes: &[u8]) -> Result<(), WriteFault>
     ensures ok { OnOk result (Appends (W.known out.old) (W.known out.new) bytes.now) }
     ensures kept { OnOk result (W.faults out.new ≡ W.faults out.old) }
@@ -51,7 +53,8 @@ pub fn write_all<W: Sink>(out: &mut W, bytes: &[u8]) -> Result<(), WriteFault>
     Ok(())
 }
 
-/// Writes the bytes that wait, and empties them, once they are `MOST_WAITING`; fewer wait on.
+/// Writes the waiting bytes and empties the buffer, once they are at least `MOST_WAITING`; fewer wait on. Returns a
+/// `WriteFault` as `write_all` does; the buffer is then as it was.
 pub fn write_long<W: Sink>(out: &mut W, waiting: &mut Vec<u8>) -> Result<(), WriteFault>
     ensures ok { OnOk result (IsOutBut (W.known out.old) (W.known out.new) waiting.old.items waiting.new.items) }
     ensures kept { OnOk result (W.faults out.new ≡ W.faults out.old) }

@@ -131,7 +131,8 @@ impl<'a, S: IndexStorage> SentenceGenerator<'a, S> {
         })
     }
 
-    /// The least cost of the token lists that the rule derives.
+    /// Returns the least cost of the token lists that the rule derives. Returns `NoSentence` where it derives
+    /// none, and `CostTooLarge` where the least cost is past 65,535.
     pub fn min_sentence_cost(&self, ridx: RIdx<S>) -> Result<u16, CostError>
         requires { S.number ridx.0 < self.now.grammar.rules }
         ensures ok { IfOk result (λ n. IsLeastCost self.now.grammar (cost_of self.now.costs) (S.number ridx.0) n) }

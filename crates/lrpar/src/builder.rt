@@ -81,9 +81,15 @@ impl<'a, T: LexerTypes, R> RTParserBuilder<'a, T, R> {
 }
 
 impl<'a, T: LexerTypes, R: Recoverer<T::StorageT, T::LexemeT>> RTParserBuilder<'a, T, R> {
-    /// Parses, with a value by the functions that are handed in: `fterm` for each lexeme that is shifted, `fnonterm` for each
-    /// reduction, by its production, rule, span and the values of its symbols. Answers the lexer's first fault, or the value, if
-    /// there is one, and the errors.
+    /// Parses, and makes the value by two functions: `fterm` for each lexeme that is shifted, `fnonterm` for each
+    /// reduction, by its production, rule, span and the values of its symbols. Returns the lexer's first error;
+    /// or the value, if there is one, and the parse errors.
+    ///
+    /// # Errors
+    ///
+    /// - `LexemeOutside` or `StartDecreases` where the lexer's list has no error and a lexeme that no run takes:
+    ///   the first such one. Neither function is called before.
+    /// - `Memory` where the parse, a function or the recoverer is refused memory.
     pub fn parse_fold<V: Drop, X: Lexer<T>, F, H>(
         &self,
         alloc: Global,
@@ -113,8 +119,8 @@ impl<'a, T: LexerTypes, R: Recoverer<T::StorageT, T::LexemeT>> RTParserBuilder<'
         )
     }
 
-    /// Parses, with the tree as one list of nodes for its value. Answers the lexer's first fault, or the tree, if there is one,
-    /// and the errors.
+    /// Parses, and makes the tree as one list of nodes. Returns the lexer's first error; or the tree, if there is
+    /// one, and the parse errors. Is refused as `parse_fold` is.
     pub fn parse_flat<X: Lexer<T>>(
         &self,
         alloc: Global,
@@ -146,9 +152,9 @@ impl<'a, T: LexerTypes, R: Recoverer<T::StorageT, T::LexemeT>> RTParserBuilder<'
         )
     }
 
-    /// Parses, with a value by the functions that are handed in: `fterm` for each lexeme that is shifted, `fnonterm` for each
-    /// reduction, by its rule and the values of its symbols. Answers the value, if there is one, and the errors; where the lexer
-    /// found a fault, the first one alone.
+    /// Parses, and makes the value by two functions: `fterm` for each lexeme that is shifted, `fnonterm` for each
+    /// reduction, by its rule and the values of its symbols. Returns the value, if there is one, and the errors:
+    /// the lexer's first one alone, or those of the parse. Is refused as `parse_fold` is.
     pub fn parse_map<N: Drop, X: Lexer<T>, F, H>(
         &self,
         alloc: Global,
@@ -182,8 +188,8 @@ impl<'a, T: LexerTypes, R: Recoverer<T::StorageT, T::LexemeT>> RTParserBuilder<'
         }
     }
 
-    /// Parses, with a tree by rules for its value. Answers the tree, if there is one, and the errors; where the lexer found a
-    /// fault, the first one alone.
+    /// Parses, and makes a tree by rules. Returns the tree, if there is one, and the errors: the lexer's first
+    /// one alone, or those of the parse. Is refused as `parse_fold` is.
     pub fn parse_generictree<X: Lexer<T>>(
         &self,
         alloc: Global,
@@ -208,8 +214,9 @@ impl<'a, T: LexerTypes, R: Recoverer<T::StorageT, T::LexemeT>> RTParserBuilder<'
         }
     }
 
-    /// Parses, with a value by actions. Answers what was answered at the root, if there is a tree, and the errors; where the
-    /// lexer found a fault, the first one alone.
+    /// Parses, and makes the value by actions. Returns what the action at the root returned, if there is a tree,
+    /// and the errors: the lexer's first one alone, or those of the parse. Is refused as `parse_fold` is;
+    /// `LexemeOutside` and `StartDecreases` come before any action.
     pub fn parse_actions<X: Lexer<T>, A: Actions<T, X>>(
         &self,
         alloc: Global,
@@ -237,7 +244,8 @@ impl<'a, T: LexerTypes, R: Recoverer<T::StorageT, T::LexemeT>> RTParserBuilder<'
         }
     }
 
-    /// Parses without making a value. Answers the errors; where the lexer found a fault, the first one alone.
+    /// Parses without making a value. Returns the errors: the lexer's first one alone, or those of the parse. Is
+    /// refused as `parse_fold` is.
     pub fn parse_noaction<X: Lexer<T>>(
         &self,
         alloc: Global,

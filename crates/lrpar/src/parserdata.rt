@@ -175,8 +175,16 @@ fn judge<S: IndexStorage>(
 }
 
 impl<S: IndexStorage> ParserData<S> {
-    /// Checks a graph and a table against a grammar and a cap on chains of reductions. What the builder made of the
-    /// grammar is never refused as unsafe.
+    /// Checks a graph and a table against a grammar, and their chains of reductions against a cap. A pair that
+    /// the builder made of the grammar is never `UnsafeTable`.
+    ///
+    /// # Errors
+    ///
+    /// - `UnsafeTable` where a run could be stuck, or accept what the grammar doesn't derive: the least cell that
+    ///   doesn't fit, and the parts.
+    /// - Else `TooManyReductions` where more than `cap` reductions follow each other on one token: the least such
+    ///   chain, and the parts.
+    /// - `Memory` where memory is refused; the parts are dropped.
     pub fn new(
         alloc: Global,
         grm: NumberedGrammar<S>,

@@ -127,9 +127,19 @@ fn by_pager<S: IndexStorage>(
     Ok((graph, table))
 }
 
-/// The graph and the table of a grammar. The graph holds the canonical LR(1) items of each string, and any two states of one
-/// core cross. Without precedences a conflict is listed exactly where canonical LR(1) has one, and what is listed is
-/// contested there.
+/// Builds the graph and the table of a grammar. The graph holds the canonical LR(1) items of each string, and any two
+/// states of one core cross. Without precedences a conflict is listed if and only if canonical LR(1) has one, and
+/// each listed one is a conflict there.
+///
+/// # Errors
+///
+/// The first of these that holds; `Memory` may come at any time.
+///
+/// - `TooManyStates` where, while the states are built, there are more of them at once than the index type's greatest
+///   number.
+/// - `StateTable` where a state both accepts and reduces at the end token: the least production that it reduces.
+/// - `TooLarge` where a cell for each state and token, and one for each state and rule, are more than `usize::MAX`.
+/// - `Memory` where memory is refused.
 pub fn from_yacc<S: IndexStorage>(
     alloc: Global,
     grm: &NumberedGrammar<S>,

@@ -74,7 +74,8 @@ pub(crate) fn misfit_of<S: IndexStorage, L: Lexeme<S>, E: Copy>(
     None
 }
 
-/// The lexemes of a lexer's list, which a run takes, or the first fault.
+/// Checks the list of a lexer and returns its lexemes, or the list's first error. Returns `LexemeOutside` or
+/// `StartDecreases` for the first lexeme that no run takes, where the list has no error.
 pub fn admit<'a, S: IndexStorage, L: Lexeme<S>, E: Copy>(
     grm: &NumberedGrammar<S>,
     items: &'a [Result<L, E>],

@@ -55,7 +55,21 @@ impl<S: IndexStorage> Model for GrammarKit<S> {
 }
 
 impl<S: IndexStorage> GrammarKit<S> {
-    /// The kit of a grammar. No chain of reductions on one token goes past `cap`.
+    /// Builds the kit of a grammar, in which at most `cap` reductions follow each other on one token.
+    ///
+    /// # Errors
+    ///
+    /// The first of these that holds; `Memory` may come at any time.
+    ///
+    /// - `TooManyStates` where, while the states are built, there are more of them at once than the index type's
+    ///   greatest number.
+    /// - `AcceptReduce` where a state both accepts and reduces at the end token: the least production that it
+    ///   reduces.
+    /// - `TooLarge` where a cell for each state and token, and one for each state and rule, are more than
+    ///   `usize::MAX`.
+    /// - `TooManyReductions` where more than `cap` reductions follow each other on one token: the least such
+    ///   chain.
+    /// - `Memory` where memory is refused.
     pub fn new(
         alloc: Global,
         grm: NumberedGrammar<S>,
@@ -136,13 +150,21 @@ impl<S: IndexStorage> GrammarKit<S> {
         self.tells_productive()
     }
 
-    /// Parses, with a value by the functions that are handed in: `fterm` for each lexeme that is shifted, `fnonterm` for each
-    /// reduction, by its production, rule, span and the values of its symbols. At each error the recoverer is asked for
-    /// sequences of repairs, and the first that can be taken is applied. Answers the lexer's first fault, or the value, if
-    /// there is one, and the errors.
+    /// Parses, and makes the value by two functions: `fterm` for each lexeme that is shifted, `fnonterm` for each
+    /// reduction, by its production, rule, span and the values of its symbols. At each error the recoverer
+    /// returns sequences of repairs, and the first that can be applied is. Returns the lexer's first error; or
+    /// the value, if there is one, and the parse errors.
     ///
-    /// Without precedences and listed conflicts lexemes come through without errors exactly where they are a sentence, and
-    /// then with the value of their only tree. Where each rule derives some text too, repairs leave no trace.
+    /// Without precedences and listed conflicts lexemes parse without errors if and only if they are a sentence,
+    /// and then with the value of their only tree. If each rule derives some text too, repairs leave no trace:
+    /// the value is that of the lexemes as repaired, and each error is at a token that continues no sentence
+    /// there.
+    ///
+    /// # Errors
+    ///
+    /// - `LexemeOutside` or `StartDecreases` where the lexer's list has no error and a lexeme that no run takes:
+    ///   the first such one. No function is called before.
+    /// - `Memory` where the parse, a function or the recoverer is refused memory.
     pub fn parse_fold<
         T: LexerTypes<StorageT = S>,
         V: Drop,
@@ -172,8 +194,8 @@ impl<S: IndexStorage> GrammarKit<S> {
         folded::<T, V, X, R, F, H>(alloc, self.parser_data(), lexer, recoverer, fterm, fnonterm)
     }
 
-    /// Parses, with the tree as one list of nodes for its value. Answers the lexer's first fault, or the tree, if there is one,
-    /// and the errors.
+    /// Parses, and makes the tree as one list of nodes. Returns the lexer's first error; or the tree, if there is
+    /// one, and the parse errors. Is refused as `parse_fold` is.
     pub fn parse_flat<T: LexerTypes<StorageT = S>, X: Lexer<T>, R: Recoverer<S, T::LexemeT>>(
         &self,
         alloc: Global,
@@ -199,9 +221,9 @@ impl<S: IndexStorage> GrammarKit<S> {
         flat::<T, X, R>(alloc, self.parser_data(), lexer, recoverer)
     }
 
-    /// Parses, with a value by the functions that are handed in: `fterm` for each lexeme that is shifted, `fnonterm` for each
-    /// reduction, by its rule and the values of its symbols. Answers the value, if there is one, and the errors; where the lexer
-    /// found a fault, the first one alone.
+    /// Parses, and makes the value by two functions: `fterm` for each lexeme that is shifted, `fnonterm` for each
+    /// reduction, by its rule and the values of its symbols. Returns the value, if there is one, and the errors:
+    /// the lexer's first one alone, or those of the parse. Is refused as `parse_fold` is.
     pub fn parse_map<
         T: LexerTypes<StorageT = S>,
         N: Drop,

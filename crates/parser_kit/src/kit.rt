@@ -58,8 +58,15 @@ impl<S: IndexStorage> Model for ParserKit<S> {
 }
 
 impl<S: IndexStorage> ParserKit<S> {
-    /// The kit of a text of a kind. A section is read, and its `yacckind` left aside. No chain of reductions on one token
-    /// goes past `cap`.
+    /// Builds the kit of a text of a kind, in which at most `cap` reductions follow each other on one token. A
+    /// section is read, and its `yacckind` ignored.
+    ///
+    /// # Errors
+    ///
+    /// - `Grammar` with all that is wrong with the text.
+    /// - Else `TooMany` where a count of the grammar is past the index type's greatest number.
+    /// - Else as `GrammarKit::new`: `TooManyStates`, `AcceptReduce`, `TooLarge` or `TooManyReductions`.
+    /// - `Memory` where memory is refused, at any time.
     pub fn new(
         alloc: Global,
         text: &str,
@@ -81,9 +88,9 @@ impl<S: IndexStorage> ParserKit<S> {
         }
     }
 
-    /// The kit of a text whose kind is its section's `yacckind`, or, where this key is missing,
-    /// `Original(GenericParseTree)`. A faulty section or value of the key is told by its errors. No chain of reductions on one
-    /// token goes past `cap`.
+    /// Builds the kit of a text whose kind is its section's `yacckind`, or, where this key is missing,
+    /// `Original(GenericParseTree)`. At most `cap` reductions follow each other on one token. Fails as `new`
+    /// does; `Grammar` also has the errors of the section, or of a `yacckind` that names no kind.
     pub fn of_text(alloc: Global, text: &str, cap: u16) -> Result<ParserKit<S>, KitError<S>>
         ensures kit { IfOk result (λ k. (kind : YaccKind) × IsKindOfText text.now kind × IsKitOf S.MAX kind text.now cap k) }
         ensures refused { IfErr result (IsToldRefusal text.now (λ kind. IsKitRefusal S.number S.MAX kind text.now cap)) }
@@ -168,13 +175,21 @@ impl<S: IndexStorage> ParserKit<S> {
         self.kit.all_productive()
     }
 
-    /// Parses, with a value by the functions that are handed in: `fterm` for each lexeme that is shifted, `fnonterm` for each
-    /// reduction, by its production, rule, span and the values of its symbols. At each error the recoverer is asked for
-    /// sequences of repairs, and the first that can be taken is applied. Answers the lexer's first fault, or the value, if
-    /// there is one, and the errors.
+    /// Parses, and makes the value by two functions: `fterm` for each lexeme that is shifted, `fnonterm` for each
+    /// reduction, by its production, rule, span and the values of its symbols. At each error the recoverer
+    /// returns sequences of repairs, and the first that can be applied is. Returns the lexer's first error; or
+    /// the value, if there is one, and the parse errors.
     ///
-    /// Without precedences and listed conflicts lexemes come through without errors exactly where they are a sentence, and
-    /// then with the value of their only tree. Where each rule derives some text too, repairs leave no trace.
+    /// Without precedences and listed conflicts lexemes parse without errors if and only if they are a sentence,
+    /// and then with the value of their only tree. If each rule derives some text too, repairs leave no trace:
+    /// the value is that of the lexemes as repaired, and each error is at a token that continues no sentence
+    /// there.
+    ///
+    /// # Errors
+    ///
+    /// - `LexemeOutside` or `StartDecreases` where the lexer's list has no error and a lexeme that no run takes:
+    ///   the first such one. No function is called before.
+    /// - `Memory` where the parse, a function or the recoverer is refused memory.
     pub fn parse_fold<
         T: LexerTypes<StorageT = S>,
         V: Drop,
@@ -204,8 +219,8 @@ impl<S: IndexStorage> ParserKit<S> {
             .parse_fold::<T, V, X, R, F, H>(alloc, lexer, recoverer, fterm, fnonterm)
     }
 
-    /// Parses, with the tree as one list of nodes for its value. Answers the lexer's first fault, or the tree, if there is one,
-    /// and the errors.
+    /// Parses, and makes the tree as one list of nodes. Returns the lexer's first error; or the tree, if there is
+    /// one, and the parse errors. Is refused as `parse_fold` is.
     pub fn parse_flat<T: LexerTypes<StorageT = S>, X: Lexer<T>, R: Recoverer<S, T::LexemeT>>(
         &self,
         alloc: Global,
@@ -230,9 +245,9 @@ impl<S: IndexStorage> ParserKit<S> {
         self.kit().parse_flat::<T, X, R>(alloc, lexer, recoverer)
     }
 
-    /// Parses, with a value by the functions that are handed in: `fterm` for each lexeme that is shifted, `fnonterm` for each
-    /// reduction, by its rule and the values of its symbols. Answers the value, if there is one, and the errors; where the lexer
-    /// found a fault, the first one alone.
+    /// Parses, and makes the value by two functions: `fterm` for each lexeme that is shifted, `fnonterm` for each
+    /// reduction, by its rule and the values of its symbols. Returns the value, if there is one, and the errors:
+    /// the lexer's first one alone, or those of the parse. Is refused as `parse_fold` is.
     pub fn parse<
         T: LexerTypes<StorageT = S>,
         N: Drop,

@@ -69,7 +69,15 @@ impl<S: IndexStorage> Model for StateTable<S> {
 }
 
 impl<S: IndexStorage> StateTable<S> {
-    /// The table of a grammar by its graph.
+    /// Builds the table of a grammar from its graph.
+    ///
+    /// # Errors
+    ///
+    /// - `StateTable` where a state both accepts and reduces at the end token: the least production that it
+    ///   reduces.
+    /// - Else `TooLarge` where a cell for each state and token, and one for each state and rule, are more than
+    ///   `usize::MAX`.
+    /// - `Memory` where memory is refused.
     pub fn new(
         alloc: Global,
         grm: &NumberedGrammar<S>,

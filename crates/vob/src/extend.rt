@@ -12,7 +12,8 @@ use crate::{Vob, shift};
 use std::alloc::{AllocError, Global};
 
 impl<T: Word> Vob<T> {
-    /// Adds the items of a slice at the end.
+    /// Adds the items of a slice at the end. Returns `TooLong` where the list would have more than `usize::MAX`
+    /// items, and `Memory` where memory for them is refused; the list then is as it was.
     #[tactic(auto, using(crate::proofs::Refused::all_refusals))]
     pub fn extend_from_slice(&mut self, other: &[bool]) -> Result<(), VobError>
         ensures ok { OnOk result (self.new.bits ≡ self.old.bits ++ other.now) }
@@ -38,7 +39,8 @@ impl<T: Word> Vob<T> {
         }
     }
 
-    /// Adds the items of another list at the end, block by block.
+    /// Adds the items of another list at the end, block by block. Returns `TooLong` where the list would have
+    /// more than `usize::MAX` items, and `Memory` where memory for them is refused; the list then is as it was.
     #[tactic(auto, using(crate::proofs::Refused::all_refusals))]
     pub fn extend_from_vob(&mut self, other: &Vob<T>) -> Result<(), VobError>
         ensures ok { OnOk result (self.new.bits ≡ self.old.bits ++ other.now.bits) }
@@ -75,8 +77,8 @@ impl<T: Word> Vob<T> {
         Ok(Vob { len, blocks })
     }
 
-    /// Adds the items in the order in which they come. Where one is refused, those that came before stay: it
-    /// is the item that would be number `usize::MAX + 1`, or one that finds no memory.
+    /// Adds the items in the order in which they come. Returns `TooLong` at the item that would be number
+    /// `usize::MAX + 1`, and `Memory` at one for which memory is refused; the items before it stay in the list.
     #[tactic(auto, using(crate::proofs::Refused::all_refusals))]
     pub fn extend<U: IntoIterator<Item = bool>>(&mut self, iter: U) -> Result<(), VobError>
         requires { (it : U.IntoIter) → U.into_iter_gives iter it → U.IntoIter.can_next it × IsFinite (U.IntoIter.remaining it) }
@@ -114,7 +116,8 @@ impl<T: Word> Vob<T> {
 }
 
 impl Vob<usize> {
-    /// Creates the list of the bytes' bits, each byte's most significant one first.
+    /// Creates the list of the bytes' bits, each byte's most significant one first. Returns `TooLong` where they
+    /// are more than `usize::MAX`, and `Memory` where memory for them is refused.
     #[tactic(auto, using(crate::proofs::Refused::all_refusals))]
     pub fn from_bytes(alloc: Global, slice: &[u8]) -> Result<Self, VobError>
         ensures bits { IfOk result (λ v. v.bits ≡ flat_map (λ byte. reverse (digits 8 byte)) slice.now) }
@@ -133,7 +136,8 @@ impl Vob<usize> {
         Ok(made)
     }
 
-    /// Creates the list of a slice's items.
+    /// Creates the list of a slice's items. Returns `Memory` where memory for them is refused, and no other
+    /// error.
     pub fn from_slice(alloc: Global, items: &[bool]) -> Result<Self, VobError>
         ensures bits { IfOk result (λ v. v.bits ≡ items.now) }
         ensures cause { IfErr result (λ e. e ≡ VobError.Memory alloc_error) }
@@ -144,8 +148,8 @@ impl Vob<usize> {
         Ok(made)
     }
 
-    /// Creates the list of an iterator's items, in the order in which they come. It is refused at the item that
-    /// would be number `usize::MAX + 1`, or at one that finds no memory.
+    /// Creates the list of an iterator's items, in the order in which they come. Returns `TooLong` at the item
+    /// that would be number `usize::MAX + 1`, and `Memory` at one for which memory is refused.
     #[tactic(auto, using(crate::proofs::Refused::all_refusals))]
     pub fn from_iter<U: IntoIterator<Item = bool>>(alloc: Global, iter: U) -> Result<Self, VobError>
         requires { (it : U.IntoIter) → U.into_iter_gives iter it → U.IntoIter.can_next it × IsFinite (U.IntoIter.remaining it) }

@@ -36,7 +36,8 @@ impl<T: Word> Vob<T> {
         self.set(index, value)
     }
 
-    /// Adds an item at the end.
+    /// Adds an item at the end. Returns `TooLong` where the list has `usize::MAX` items, and `Memory` where
+    /// memory for one more is refused; the list then is as it was.
     #[tactic(auto, using(crate::proofs::Refused::all_refusals))]
     pub fn push(&mut self, value: bool) -> Result<(), VobError>
         ensures ok { OnOk result (self.new.bits ≡ self.old.bits ++ value ∷ []) }
@@ -90,7 +91,8 @@ impl<T: Word> Vob<T> {
         self.truncate(0);
     }
 
-    /// Makes room for `additional` items more.
+    /// Makes room for `additional` items more. Returns `TooLong` where the list would have more than `usize::MAX`
+    /// items, and `Memory` where memory for them is refused.
     #[tactic(auto, using(crate::proofs::Refused::all_refusals))]
     pub fn reserve(&mut self, additional: usize) -> Result<(), VobError>
         ensures bits { self.new.bits ≡ self.old.bits }

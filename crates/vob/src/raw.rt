@@ -69,8 +69,8 @@ impl<T: Word> RawVob<T> {
         packed::mask(&mut self.blocks, self.len);
     }
 
-    /// Makes a list again where there are as many blocks as the length takes and no unused bit is set. Else
-    /// the parts are handed back.
+    /// Makes a list again. Returns the parts unchanged where there are more or fewer blocks than the length
+    /// takes, or an unused bit is set.
     pub fn into_vob(self) -> Result<Vob<T>, RawVob<T>>
         ensures ok { IfOk result (λ v. Spells T.BITS self.len (length self.blocks.items) (flat_map T.bits self.blocks.items) × (v.bits ≡ take self.len (flat_map T.bits self.blocks.items))) }
         ensures err { IfErr result (λ raw. (raw ≡ self) × (Spells T.BITS self.len (length self.blocks.items) (flat_map T.bits self.blocks.items) → ⊥)) }
@@ -94,8 +94,8 @@ impl Vob<usize> {
         Ok(VobRecord { len: self.len, vec })
     }
 
-    /// Makes the list of a record where it has as many blocks as its length takes and no unused bit is set. Else
-    /// the record is handed back.
+    /// Makes the list of a record. Returns the record unchanged where it has more or fewer blocks than its length
+    /// takes, or an unused bit is set.
     pub fn from_record(stored: VobRecord) -> Result<Self, VobRecord>
         ensures ok { IfOk result (λ v. Spells 64 stored.len (length stored.vec.items) (flat_map ⟦<usize as Block>⟧.bits stored.vec.items) × (v.bits ≡ take stored.len (flat_map ⟦<usize as Block>⟧.bits stored.vec.items))) }
         ensures err { IfErr result (λ r. (r ≡ stored) × (Spells 64 stored.len (length stored.vec.items) (flat_map ⟦<usize as Block>⟧.bits stored.vec.items) → ⊥)) }

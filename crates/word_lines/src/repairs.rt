@@ -95,8 +95,10 @@ fn push_copy<S: IndexStorage>(
     Ok(())
 }
 
-/// Reads a text in which each line is any number of `insert NAME`, `delete` and `shift`, where `NAME` is that of a token, in
-/// words with spaces between them. Lines end at LF, a CR before it is dropped, and none follows the last LF.
+/// Reads a text in which each line is any number of `insert NAME`, `delete` and `shift`, where `NAME` is that of a
+/// token, in words separated by spaces. Lines end at LF, a CR before it is dropped, and none follows the last LF.
+/// Returns `NotARepair` with the number, counted from 1, of the first line that is something else, and `Memory` where
+/// memory is refused.
 pub fn read_repairs<S: IndexStorage>(
     alloc: Global,
     grm: &NumberedGrammar<S>,

@@ -189,11 +189,16 @@ impl<'input> GrmtoolsSectionParser<'input> {
         }
     }
 
-    /// Reads the header of the section at the front, and the offset behind the section; an empty header
-    /// and 0 where there is none and none is required. A section stands behind white and closed comments.
-    /// Keys are in lower case. Errors are the one fault of reading, at one offset; or, where all reads,
-    /// one `DuplicateEntry` for each repeated key, at all its spans, the keys in order of their first
-    /// spans.
+    /// Reads the section at the front of the text and returns its header, with keys in lower case, and the byte
+    /// offset behind it. White and closed comments before the section are skipped. Where no section is found and
+    /// none is required, the header is empty and the offset 0.
+    ///
+    /// # Errors
+    ///
+    /// - `Invalid` with one error, at one offset: the section doesn't read from there on.
+    /// - `Invalid` with a `DuplicateEntry` for each key that appears more than once, at all its spans, in order
+    ///   of the keys' first spans: the section reads otherwise.
+    /// - `Memory` where memory is refused.
     pub fn parse(&self, alloc: Global) -> Result<(Header<Span>, usize), SectionError>
         ensures ok { IfOk result (λ r. ReadsHeader self.now r.0 r.1) }
         ensures within { IfOk result (λ r. r.1 ≤ length self.now.text) }
@@ -204,9 +209,9 @@ impl<'input> GrmtoolsSectionParser<'input> {
         Ok((header, end))
     }
 
-    /// Reads one pair of a section, whose key or `!` stands at `i`: the key in lower case, where it
-    /// stands, without the `!`, its value, and the offset behind the pair and the gap after it. An error
-    /// is the one fault of reading, at one offset.
+    /// Reads one pair of a section, whose key or `!` is at byte offset `i`. Returns the key in lower case, its
+    /// span without the `!`, its value, and the offset behind the pair and the gap after it. Returns `Invalid`
+    /// with one error at one offset where no pair reads from `i` on, and `Memory` where memory is refused.
     pub fn parse_key_value(
         &self,
         alloc: Global,

@@ -85,7 +85,8 @@ impl<'a> Scanner<'a> {
         }
     }
 
-    /// Reads a pair, and the gap behind it.
+    /// Reads a pair, and the gap behind it. Returns `At` with what is wrong and its byte offset where no pair
+    /// reads from `offset` on, and `Memory` where memory is refused.
     pub fn parse_pair(&self, alloc: Global, offset: usize) -> Result<(Pair, usize), Fault>
         ensures ok { IfOk result (λ r. ReadsPair self.now.text.now offset r.0 r.1) }
         ensures within { IfOk result (λ r. (offset < r.1) × (r.1 ≤ length self.now.text.now)) }
@@ -157,7 +158,9 @@ impl<'a> Scanner<'a> {
         }
     }
 
-    /// Reads the section at the front, if there is one, and answers its pairs and the offset behind it.
+    /// Reads the section at the front, if there is one, and returns its pairs and the offset behind it. Returns
+    /// `At` with what is wrong and its byte offset where a section begins and doesn't read, or where one is
+    /// `required` and none begins; and `Memory` where memory is refused.
     pub fn parse_section(&self, alloc: Global, required: bool) -> Result<(Vec<Pair>, usize), Fault>
         ensures ok { IfOk result (λ r. Reads required self.now.text.now (map pair_text r.0.items) r.1) }
         ensures within { IfOk result (λ r. r.1 ≤ length self.now.text.now) }

@@ -71,7 +71,7 @@ impl<'a> Scanner<'a> {
         end
     }
 
-    /// Copies the text between two offsets.
+    /// Copies the text between two byte offsets. Returns `Memory` where memory is refused, and no other error.
     pub fn word(&self, alloc: Global, start: usize, end: usize) -> Result<String, Fault>
         requires order { start ≤ end }
         requires start { IsCharBoundary self.now.text.now start }
@@ -267,7 +267,8 @@ impl<'a> Scanner<'a> {
         Ok((Setting::Array(items, open, close), self.parse_ws(end + 1)))
     }
 
-    /// Reads a setting within `depth` arrays, and the gap behind it.
+    /// Reads a setting within `depth` arrays, and the gap behind it. Returns `At` with what is wrong and its byte
+    /// offset where no setting reads from `offset` on, and `Memory` where memory is refused.
     #[cycle(parse_setting)]
     pub fn parse_setting(
         &self,

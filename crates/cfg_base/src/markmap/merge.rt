@@ -47,10 +47,17 @@ impl<K, V> From<AllocError> for MergeError<K, V> {
 }
 
 impl<K: Ord, V> MarkMap<K, V> {
-    /// Takes the values and the marks of another map in. A key with values on both sides goes by its merge
-    /// behaviour here, else by this map's default; a value on one side alone stands. A key is used and
-    /// required where it is on one of both sides, and keeps its own merge behaviour, else takes the
-    /// other's. Clones of keys equal them. A map that is refused leaves this one as it was.
+    /// Takes the values and the marks of another map in. A key with values on both sides follows its merge
+    /// behavior here, else this map's default; a value on one side alone stays. A key is used, and required, if
+    /// it is so on one of both sides. It has its own merge behavior, else the other's. Clones of keys equal them.
+    ///
+    /// # Errors
+    ///
+    /// In both cases this map is as it was.
+    ///
+    /// - `Exclusivity` with the first key, in order, that has values on both sides and may not, and the other
+    ///   map's value.
+    /// - `Memory` where memory is refused.
     pub fn merge_from(&mut self, mut other: MarkMap<K, V>) -> Result<(), MergeError<K, V>>
     where
         K: Clone + Drop,

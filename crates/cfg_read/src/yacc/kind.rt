@@ -184,12 +184,16 @@ fn misfit_error<T: Clone>(
 }
 
 impl YaccKind {
-    /// The kind that a value stands for: `Grmtools`, `Eco`, or `Original` with `UserAction`,
-    /// `GenericParseTree` or `NoAction`, in whatever case, the outer word alone or in the namespace
-    /// `YaccKind`, the inner one alone or in `YaccOriginalActionKind`. Else a `ConversionError` of
-    /// `YaccKind`: `Unknown namespace` or `Unknown variant` at the first word from the left that doesn't
-    /// fit, which is the outer member where an argument is missing or too many; at another setting
-    /// `Cannot convert to YaccKind`.
+    /// Returns the kind that a value means: `Grmtools`, `Eco`, or `Original` with `UserAction`,
+    /// `GenericParseTree` or `NoAction`, in any case. The outer word is alone or in the namespace `YaccKind`, the
+    /// inner one alone or in `YaccOriginalActionKind`.
+    ///
+    /// # Errors
+    ///
+    /// - `Invalid` with a `ConversionError` to `YaccKind`: `Unknown namespace` or `Unknown variant` at the first
+    ///   word from the left that doesn't fit, which is the outer one where an argument is missing or one too
+    ///   many; `Cannot convert to YaccKind` for a setting that is no path.
+    /// - `Memory` where memory is refused.
     pub fn try_from_value<T: Clone>(
         alloc: Global,
         value: &Value<T>,

@@ -294,9 +294,17 @@ impl ASTWithValidityInfo {
         }
     }
 
-    /// Makes the tree of a text whose section tells its kind by `yacckind`. Errors, which are no trees: those of
-    /// the section; else `InvalidYaccKind` at (0, 0) where the key is missing; else that of its value. A
-    /// text that doesn't read behind its section gives a tree, as by `new`.
+    /// Reads a text whose section names its kind by `yacckind`, and checks it. Where the text behind the section
+    /// doesn't read, the result has that as its error, as with `new`.
+    ///
+    /// # Errors
+    ///
+    /// The first of these, in this order; `Memory` may come at any time.
+    ///
+    /// - `Invalid` with the errors of the section.
+    /// - `Invalid` with `InvalidYaccKind` at (0, 0) where the key is missing.
+    /// - `Invalid` with the error of the key's value, where it names no kind.
+    /// - `Memory` where memory is refused.
     pub fn from_str(alloc: Global, text: &str) -> YaccGrammarResult<ASTWithValidityInfo>
         ensures kind { IfOk result (λ c. TellsKind text.now c.kind) }
         ensures ok { IfOk result (λ c. IsChecked c.kind text.now c) }
@@ -316,7 +324,8 @@ impl ASTWithValidityInfo {
         }
     }
 
-    /// Copies the tree with another rule as the start rule, at the rule's first heading. Kind and errors stay.
+    /// Copies the tree with another rule as the start rule, at the span of the rule's first heading. Kind and
+    /// errors stay. Returns `UnknownRule` where no rule has the name, and `Memory` where memory is refused.
     pub fn clone_and_change_start_rule(
         &self,
         alloc: Global,

@@ -28,8 +28,10 @@ use std::alloc::{AllocError, Global};
 use vob::Vob;
 
 impl<'a, S: IndexStorage> SentenceGenerator<'a, S> {
-    /// All cheapest token lists of the rule in the dictionary order of token numbers, each once. Where a token
-    /// costs nothing there may be no end of them, and then they don't fit into memory.
+    /// Returns all cheapest token lists of the rule in the dictionary order of token numbers, each once. Returns
+    /// `NoSentence` where the rule derives none, `CostTooLarge` where their cost is past 65,535, and `Memory`
+    /// where they don't fit into memory. Where a token costs nothing there may be infinitely many, which is
+    /// `Memory` too.
     pub fn min_sentences(
         &self,
         alloc: Global,

@@ -33,8 +33,10 @@ use std::alloc::{AllocError, Global};
 use vob::Vob;
 
 impl<'a, S: IndexStorage> SentenceGenerator<'a, S> {
-    /// The first of the cheapest token lists of the rule. Where one of the cheapest lists of a rule begins another one,
-    /// by tokens that cost nothing, all of them are put together to find it, and there may be no end of them.
+    /// Returns the first of the cheapest token lists of the rule. Returns `NoSentence` where the rule derives
+    /// none, `CostTooLarge` where their cost is past 65,535, and `Memory` where memory is refused. Where one of a
+    /// rule's cheapest lists is a prefix of another, by tokens that cost nothing, all of them are built to find
+    /// the first; they may be infinitely many, which is `Memory` too.
     pub fn min_sentence(&self, alloc: Global, ridx: RIdx<S>) -> Result<Vec<TIdx<S>>, SentenceError>
         requires { S.number ridx.0 < self.now.grammar.rules }
         ensures ok { IfOk result (λ w. IsFirstCheapest self.now.grammar (cost_of self.now.costs) (S.number ridx.0) (tokens_of S.number w.items)) }

@@ -24,8 +24,9 @@ use std::alloc::{AllocError, Global};
 use vob::Vob;
 
 impl<'a, S: IndexStorage> SentenceGenerator<'a, S> {
-    /// The greatest cost of the token lists that the rule derives, and none where for each number
-    /// some list costs more.
+    /// Returns the greatest cost of the token lists that the rule derives, and `None` where for each number some
+    /// list costs more. Returns `NoSentence` where the rule derives none, and `CostTooLarge` where the greatest
+    /// cost is past 65,535.
     pub fn max_sentence_cost(&self, ridx: RIdx<S>) -> Result<Option<u16>, CostError>
         requires { S.number ridx.0 < self.now.grammar.rules }
         ensures ok { IfOk result (λ o. MatchOption o (IsUnbounded self.now.grammar (cost_of self.now.costs) (S.number ridx.0)) (λ n. IsGreatestCost self.now.grammar (cost_of self.now.costs) (S.number ridx.0) n)) }

@@ -8,7 +8,8 @@ use crate::calc::lexer::{LineTypes, Words};
 use lrpar::{ParseRefusal, ParserData, RTParserBuilder};
 use std::alloc::Global;
 
-/// The value of a line's words, if they have one.
+/// Returns the value of a line's words, if they have one. Returns a `ParseRefusal` where the words' starts decrease,
+/// a token's number is past the grammar's, or memory is refused.
 pub fn eval(
     alloc: Global,
     checked: &ParserData<u8>,

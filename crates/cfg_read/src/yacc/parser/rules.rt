@@ -509,8 +509,8 @@ impl<'a> Scanner<'a> {
     }
 }
 
-/// Reads what a text of a kind says from an offset on, behind its section: answers its one reading, or
-/// its one fault, unless memory runs out.
+/// Reads a text of a kind from the byte offset `start` on, behind its section. Returns `Fault` with the text's one
+/// fault and its offset where it doesn't read, and `Memory` where memory is refused.
 pub fn read_syntax(
     alloc: Global,
     kind: YaccKind,

@@ -50,7 +50,7 @@ fn of_kept<S: IndexStorage>(
 }
 
 impl YaccGrammar<u32> {
-    /// The grammar of a text of a kind, by numbers of 32 bits.
+    /// Makes the grammar of a text of a kind, with numbers of 32 bits. Fails as `new_with_storaget` does.
     pub fn new(
         alloc: Global,
         kind: YaccKind,
@@ -63,7 +63,13 @@ impl YaccGrammar<u32> {
 }
 
 impl<S: IndexStorage> YaccGrammar<S> {
-    /// The grammar of a text of a kind. A section is read, and its `yacckind` left aside.
+    /// Makes the grammar of a text of a kind. A section is read, and its `yacckind` ignored.
+    ///
+    /// # Errors
+    ///
+    /// - `Invalid` with all that is wrong with the text.
+    /// - `TooMany` where the text is valid, and a count of the grammar past the index type's greatest number.
+    /// - `Memory` where memory is refused.
     pub fn new_with_storaget(
         alloc: Global,
         kind: YaccKind,
@@ -78,7 +84,9 @@ impl<S: IndexStorage> YaccGrammar<S> {
         }
     }
 
-    /// The grammar of the syntax tree that is kept of a text.
+    /// Makes the grammar of a checked syntax tree. Returns `Invalid` with the tree's errors where it has some,
+    /// `TooMany` where a count of the grammar is past the index type's greatest number, and `Memory` where memory
+    /// is refused.
     pub fn new_from_ast_with_validity_info(
         alloc: Global,
         info: &ASTWithValidityInfo,
@@ -92,7 +100,8 @@ impl<S: IndexStorage> YaccGrammar<S> {
         }
     }
 
-    /// The grammar of a text whose section tells its kind by `yacckind`.
+    /// Makes the grammar of a text whose section names its kind by `yacckind`. Fails as `new_with_storaget` does;
+    /// `Invalid` also has the errors of the section, or of a `yacckind` that is missing or names no kind.
     pub fn from_str(alloc: Global, text: &str) -> Result<YaccGrammar<S>, YaccGrammarMakeError>
         ensures { MakesFile S.MAX text.now result }
     {

@@ -106,7 +106,7 @@ pub trait Block: PrimInt + Word {
         self.low_part(count)
     }
 
-    /// Tells whether the bit at `index` is set.
+    /// Returns whether the bit at `index` is set.
     final fn bit(self, index: usize) -> bool
         requires { index < Self.BITS }
         ensures { result ≡ slice_index_or (Self.bits self) index false }
@@ -114,7 +114,7 @@ pub trait Block: PrimInt + Word {
         self.digit(index)
     }
 
-    /// Gives the block with the bit at `index` set to `value`.
+    /// Returns the block with the bit at `index` set to `value`.
     final fn with_bit(self, index: usize, value: bool) -> Self
         requires { index < Self.BITS }
         ensures { Self.bits result ≡ slice_set (Self.bits self) index value }
@@ -122,7 +122,7 @@ pub trait Block: PrimInt + Word {
         self.with_digit(index, value)
     }
 
-    /// Tells whether the bits are equal.
+    /// Returns whether the bits are equal.
     final fn same(self, other: Self) -> bool
         ensures { IsTrue result ↔ (Self.bits self ≡ Self.bits other) }
     {

@@ -1,4 +1,4 @@
-//! What a growth answers where it is refused.
+//! Why a list can't grow.
 
 ghost use Rattle.std.specs.Prelude.{◌≡◌, alloc_error};
 ghost use Rattle.vob.specs.declared.error.VobError.TheVariants.{Memory};
@@ -8,7 +8,7 @@ use std::error::Error;
 use std::fmt;
 use std::fmt::{Display, Formatter, Write};
 
-/// Why a growth is refused. The list is as it was then; `extend` keeps the items that came before.
+/// Why a list can't grow. The list is as it was before; `extend` leaves the items that came before.
 #[derive(Debug, Drop)]
 pub enum VobError {
     /// The length asked for is past `usize::MAX`.

@@ -1,4 +1,4 @@
-//! Lists joined and parted, and made of bytes, slices and iterators.
+//! Joins and splits lists, and makes them of bytes, slices and iterators.
 
 ghost use Rattle.std.specs.Prelude.{◌≡◌, ◌<◌, ◌≤◌, ◌+◌, ◌-◌, ◌*◌, ◌↔◌, Bool, true, false, List, [], ◌∷◌, ◌++◌, length, take, drop, reverse, Some, IsOk, IfOk, IfErr, OnOk, OnErr, IsErrOf, alloc_error};
 ghost use Rattle.std.specs.List.{flat_map};
@@ -61,7 +61,8 @@ impl<T: Word> Vob<T> {
         Ok(())
     }
 
-    /// Keeps the first `at` items and the capacity, and hands out the other items, moved block by block.
+    /// Truncates the list to its first `at` items, without changing the capacity, and returns the others, moved
+    /// block by block.
     pub fn split_off(&mut self, at: usize) -> Result<Vob<T>, AllocError>
         requires { at ≤ length self.old.bits }
         ensures kept { OnOk result (self.new.bits ≡ take at self.old.bits) }

@@ -7,7 +7,7 @@ ghost use Rattle.vob.specs.Walk.{indices_of};
 use crate::word::Word;
 use std::marker::Model;
 
-/// The indices from one up to before another whose bit has a value. Contracts see it as those that are left.
+/// An iterator over the indices in a range whose bit has a value. Contracts see it as those that are left.
 #[derive(Drop)]
 pub struct Indices<'a, T: Word> {
     blocks: &'a [T],
@@ -65,7 +65,7 @@ impl<'a, T: Word> Indices<'a, T> {
         count_indices(self.blocks, self.value, self.from, self.to)
     }
 
-    /// Answers that nothing is known of how many indices are left.
+    /// Returns the bounds of how many indices are left: at least 0, and no upper one.
     pub fn size_hint(&self) -> (usize, Option<usize>)
         ensures lower { result.0 ≡ 0 }
         ensures upper { result.1 ≡ None }

@@ -1,4 +1,4 @@
-//! Changes of items at an index or at the end, and of the room.
+//! Changes items at an index or at the end, and the capacity.
 
 ghost use Rattle.std.specs.Prelude.{◌≡◌, ◌<◌, ◌≤◌, ◌+◌, ◌-◌, ◌*◌, ◌^◌, ◌==◌, ◌↔◌, ℕ, Bool, true, false, not, List, [], ◌∷◌, ◌++◌, length, map, take, drop, replicate, slice_index_or, slice_set, slice_get, option_to_list, IsTrue, IsOk, IsSome, IfOk, IfErr, OnOk, OnErr, IsErrOf, alloc_error};
 ghost use Rattle.std.specs.List.{flat_map};
@@ -11,7 +11,7 @@ use crate::{Vob, packed};
 use std::alloc::AllocError;
 
 impl<T: Word> Vob<T> {
-    /// Sets the item at `index`, and tells whether that changed it.
+    /// Sets the item at `index`, and returns whether that changed it.
     pub fn set(&mut self, index: usize, value: bool) -> bool
         requires { index < length self.old.bits }
         ensures bits { self.new.bits ≡ slice_set self.old.bits index value }
@@ -26,7 +26,7 @@ impl<T: Word> Vob<T> {
         true
     }
 
-    /// Does what `set` does.
+    /// Sets the item at `index` as `set` does, and returns whether that changed it.
     pub fn set_unchecked(&mut self, index: usize, value: bool) -> bool
         requires { index < length self.old.bits }
         ensures bits { self.new.bits ≡ slice_set self.old.bits index value }
@@ -111,7 +111,7 @@ impl<T: Word> Vob<T> {
         Ok(())
     }
 
-    /// Gives back room that no item needs. Where the allocator refuses fewer blocks, the room stays.
+    /// Frees memory that no item needs. Where the allocator refuses fewer blocks, the capacity stays.
     pub fn shrink_to_fit(&mut self)
         ensures bits { self.new.bits ≡ self.old.bits }
         ensures capacity { self.new.capacity ≤ self.old.capacity }

@@ -133,7 +133,7 @@ impl<T: Word> Vob<T> {
     }
 }
 
-/// Gives the index at which a range begins.
+/// Returns the index at which a range begins.
 fn first_of(start: Bound<&usize>) -> usize
     ensures { result ≡ min (start_index (bound_map (λ x. x.now) start.entry)) usize.MAX }
 {
@@ -144,7 +144,7 @@ fn first_of(start: Bound<&usize>) -> usize
     }
 }
 
-/// Gives the index before which a range ends, cut at the length.
+/// Returns the index before which a range ends, cut at the length.
 fn end_of(end: Bound<&usize>, len: usize) -> usize
     ensures { result ≡ min (end_index (bound_map (λ x. x.now) end.entry) len) len }
 {
@@ -231,7 +231,7 @@ impl<'a, T: Word> Iterator for IterSetBits<'a, T> {
         self.set.first()
     }
 
-    /// Answers that nothing is known of how many indices are left.
+    /// Returns the bounds of how many indices are left: at least 0, and no upper one.
     fn size_hint(&self) -> (usize, Option<usize>)
         ensures lower { result.0 ≡ 0 }
         ensures upper { result.1 ≡ None }
@@ -272,7 +272,7 @@ impl<'a, T: Word> Iterator for IterUnsetBits<'a, T> {
         self.unset.first()
     }
 
-    /// Answers that nothing is known of how many indices are left.
+    /// Returns the bounds of how many indices are left: at least 0, and no upper one.
     fn size_hint(&self) -> (usize, Option<usize>)
         ensures lower { result.0 ≡ 0 }
         ensures upper { result.1 ≡ None }

@@ -16,13 +16,13 @@
 //! }
 //! ```
 //!
-//! It answers `(true, false)`: the first `or` brings 7 into the set, the second changes nothing. That both have one length
-//! is what `or` asks, and follows here from `from_elem`.
+//! It returns `(true, false)`: the first `or` brings 7 into the set, the second changes nothing. `or` requires that
+//! both have one length, which follows here from `from_elem`.
 //!
-//! Blocks don't show: contracts see the list `bits` of a `Vob`'s items and its `capacity`. The calls that callers stand on
-//! most are `or`, `and` and `xor`, which work item by item and answer true exactly if the list changed,
-//! `meets` and `holds`, which compare two sets, and `iter_set_bits` and `iter_unset_bits`, which give the
-//! indices of a range, cut at the length, whose item has one value.
+//! Contracts see the list `bits` of a `Vob`'s items and its `capacity`. The most used calls are `or`, `and` and
+//! `xor`, which work item by item and return true if and only if the list changed, `meets` and `holds`, which compare
+//! two sets, and `iter_set_bits` and `iter_unset_bits`, which yield the indices of a range, cut at the length, whose
+//! item has one value.
 #![tactic(auto)]
 
 ghost use Rattle.std.specs.Prelude.{◌≡◌, ◌<◌, ◌≤◌, ◌+◌, ◌-◌, ◌*◌, ◌^◌, ◌==◌, ◌↔◌, false, [], ◌++◌, length, take, replicate, slice_index_or, slice_get, IsTrue, IsOk, IfOk};
@@ -125,21 +125,21 @@ impl<T: Word> Vob<T> {
         Ok(Vob { len, blocks })
     }
 
-    /// Tells how many items there are.
+    /// Returns how many items there are.
     pub fn len(&self) -> usize
         ensures { result ≡ length self.now.bits }
     {
         self.len
     }
 
-    /// Tells whether there is no item.
+    /// Returns whether there is no item.
     pub fn is_empty(&self) -> bool
         ensures { IsTrue result ↔ (self.now.bits ≡ []) }
     {
         self.len == 0
     }
 
-    /// Tells how many items there is room for: the blocks that there is room for, times their width, and at
+    /// Returns how many items there is room for: the blocks that there is room for, times their width, and at
     /// most `usize::MAX`.
     pub fn capacity(&self) -> usize
         ensures { result ≡ self.now.capacity }
@@ -147,7 +147,7 @@ impl<T: Word> Vob<T> {
         self.blocks.capacity().saturating_mul(T::BITS)
     }
 
-    /// Gives the item at `index`, or None past the end.
+    /// Returns the item at `index`, or None past the end.
     pub fn get(&self, index: usize) -> Option<bool>
         ensures { result ≡ slice_get self.now.bits index }
     {
@@ -157,7 +157,7 @@ impl<T: Word> Vob<T> {
         Some(packed::bit_at(self.blocks.as_slice(), index))
     }
 
-    /// Gives the item at `index`, which is below the length.
+    /// Returns the item at `index`, which is below the length.
     pub fn get_unchecked(&self, index: usize) -> bool
         requires { index < length self.now.bits }
         ensures { result ≡ slice_index_or self.now.bits index false }

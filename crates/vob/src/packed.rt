@@ -8,7 +8,7 @@ ghost use Rattle.vob.specs.Packed.{Packs, Spells, blocks_for};
 use crate::word::Word;
 use std::alloc::{AllocError, Global};
 
-/// Tells how many blocks `len` items take.
+/// Returns how many blocks `len` items take.
 pub(crate) fn blocks_for<T: Word>(len: usize) -> usize
     ensures { result ≡ blocks_for T.BITS len }
 {
@@ -116,7 +116,7 @@ pub(crate) fn mask<T: Word>(blocks: &mut Vec<T>, len: usize)
     fill_above(blocks, len, false);
 }
 
-/// Tells whether the blocks spell `len` items, with no unused bit set.
+/// Returns whether the blocks spell `len` items, with no unused bit set.
 pub(crate) fn spells<T: Word>(blocks: &[T], len: usize) -> bool
     ensures { IsTrue result ↔ Spells T.BITS len (length blocks.now) (flat_map T.bits blocks.now) }
 {

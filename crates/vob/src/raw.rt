@@ -1,4 +1,4 @@
-//! Raw storage, which is tested before it is a list again.
+//! Raw storage, which is checked before it is a list again.
 
 ghost use Rattle.std.specs.Prelude.{◌≡◌, ◌<◌, ◌+◌, ◌-◌, ◌*◌, false, ◌++◌, length, take, replicate, IsOk, IfOk, IfErr};
 ghost use Rattle.std.specs.List.{flat_map};

@@ -19,7 +19,7 @@ enum Pointwise {
 }
 
 impl<T: Word> Vob<T> {
-    /// Keeps an item set where it is set in both lists, and tells whether that changed the list.
+    /// Keeps an item set where it is set in both lists, and returns whether that changed the list.
     pub fn and(&mut self, other: &Vob<T>) -> bool
         requires { length self.old.bits ≡ length other.now.bits }
         ensures bits { self.new.bits ≡ bitwise (λ x y. x && y) self.old.bits other.now.bits }
@@ -29,7 +29,7 @@ impl<T: Word> Vob<T> {
         self.combine(Pointwise::And, other)
     }
 
-    /// Sets an item where it is set in either list, and tells whether that changed the list.
+    /// Sets an item where it is set in either list, and returns whether that changed the list.
     pub fn or(&mut self, other: &Vob<T>) -> bool
         requires { length self.old.bits ≡ length other.now.bits }
         ensures bits { self.new.bits ≡ bitwise (λ x y. x || y) self.old.bits other.now.bits }
@@ -39,7 +39,7 @@ impl<T: Word> Vob<T> {
         self.combine(Pointwise::Or, other)
     }
 
-    /// Sets an item where the lists differ, and tells whether that changed the list.
+    /// Sets an item where the lists differ, and returns whether that changed the list.
     pub fn xor(&mut self, other: &Vob<T>) -> bool
         requires { length self.old.bits ≡ length other.now.bits }
         ensures bits { self.new.bits ≡ bitwise differs self.old.bits other.now.bits }
@@ -49,7 +49,7 @@ impl<T: Word> Vob<T> {
         self.combine(Pointwise::Xor, other)
     }
 
-    /// Combines each item with the other list's, and tells whether that changed the list.
+    /// Combines each item with the other list's, and returns whether that changed the list.
     fn combine(&mut self, how: Pointwise, other: &Vob<T>) -> bool
         requires { length self.old.bits ≡ length other.now.bits }
         ensures bits { self.new.bits ≡ bitwise (item_of how) self.old.bits other.now.bits }
@@ -59,7 +59,7 @@ impl<T: Word> Vob<T> {
         combine_blocks(how, &mut self.blocks, other.blocks.as_slice())
     }
 
-    /// Tells whether some item is set in both lists.
+    /// Returns whether some item is set in both lists.
     pub fn meets(&self, other: &Vob<T>) -> bool
         requires { length self.now.bits ≡ length other.now.bits }
         ensures meets { IsTrue result ↔ Meets self.now.bits other.now.bits }
@@ -68,7 +68,7 @@ impl<T: Word> Vob<T> {
         blocks_meet(self.get_storage(), other.get_storage(), true)
     }
 
-    /// Tells whether each item that is set in the other list is set in this one.
+    /// Returns whether each item that is set in the other list is set in this one.
     pub fn holds(&self, other: &Vob<T>) -> bool
         requires { length self.now.bits ≡ length other.now.bits }
         ensures holds { IsTrue result ↔ HoldsAll self.now.bits other.now.bits }
@@ -109,7 +109,7 @@ impl Pointwise {
     }
 }
 
-/// Combines each block with the other list's, and tells whether that changed a bit.
+/// Combines each block with the other list's, and returns whether that changed a bit.
 fn combine_blocks<T: Word>(how: Pointwise, to: &mut Vec<T>, from: &[T]) -> bool
     requires { length to.old.items ≡ length from.now }
     ensures bits { flat_map T.bits to.new.items ≡ bitwise (item_of how) (flat_map T.bits to.old.items) (flat_map T.bits from.now) }
@@ -146,7 +146,7 @@ fn fill_blocks<T: Word>(blocks: &mut Vec<T>, with: T)
     }
 }
 
-/// Tells whether as many blocks have the same bits.
+/// Returns whether as many blocks have the same bits.
 pub(crate) fn same_blocks<T: Word>(a: &[T], b: &[T]) -> bool
     requires { length a.now ≡ length b.now }
     ensures { IsTrue result ↔ (flat_map T.bits a.now ≡ flat_map T.bits b.now) }
@@ -159,8 +159,8 @@ pub(crate) fn same_blocks<T: Word>(a: &[T], b: &[T]) -> bool
     true
 }
 
-/// Tells whether at some index a bit is set in one list of blocks and has a value in another. It ends at the first such
-/// block.
+/// Returns whether at some index a bit is set in one list of blocks and has a value in another. It ends at the first
+/// such block.
 fn blocks_meet<T: Word>(blocks: &[T], others: &[T], value: bool) -> bool
     requires { length blocks.now ≡ length others.now }
     ensures { IsTrue result ↔ Meets (flat_map T.bits blocks.now) (if value then flat_map T.bits others.now else map not (flat_map T.bits others.now)) }

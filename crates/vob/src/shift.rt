@@ -1,4 +1,4 @@
-//! Blocks behind blocks, read from the index of any bit.
+//! Joins lists of blocks, and reads blocks from the index of any bit.
 
 ghost use Rattle.std.specs.Prelude.{◌≡◌, ◌<◌, ◌≤◌, ◌+◌, ◌-◌, ◌*◌, ◌/◌, ◌%◌, Bool, true, false, List, [], ◌++◌, length, take, drop, replicate, IfOk, IsOk, vec_len};
 ghost use Rattle.std.specs.List.{flat_map};

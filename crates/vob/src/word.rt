@@ -26,23 +26,23 @@ pub trait Word: Copy {
     fn number_fits(self)
         ensures { number self < 2 ^ BITS };
 
-    /// Gives the word of the number 1 or 0.
+    /// Returns the word of the number 1 or 0.
     fn lowest(value: bool) -> Self
         ensures { number result ≡ (if value then 1 else 0) };
 
-    /// Gives the bits that are set in both words.
+    /// Returns the bits that are set in both words.
     fn and_digits(self, other: Self) -> Self
         ensures { number result ≡ bit_and (number self) (number other) };
 
-    /// Gives the bits that are set in either word.
+    /// Returns the bits that are set in either word.
     fn or_digits(self, other: Self) -> Self
         ensures { number result ≡ bit_or (number self) (number other) };
 
-    /// Gives the bits in which the words differ.
+    /// Returns the bits in which the words differ.
     fn xor_digits(self, other: Self) -> Self
         ensures { number result ≡ bit_xor (number self) (number other) };
 
-    /// Gives the bits that aren't set.
+    /// Returns the bits that aren't set.
     fn not_digits(self) -> Self
         ensures { number result ≡ 2 ^ BITS - 1 - number self };
 
@@ -70,7 +70,7 @@ pub trait Word: Copy {
         ensures within { result ≤ BITS }
         ensures count { result ≡ count_leading_zeros BITS (number self) };
 
-    /// Tells whether the numbers are equal.
+    /// Returns whether the numbers are equal.
     fn has_digits_of(self, other: Self) -> bool
         ensures { IsTrue result ↔ (number self ≡ number other) };
 
@@ -176,7 +176,7 @@ pub trait Word: Copy {
         self.moved_up(by).moved_down(by)
     }
 
-    /// Tells whether the bit at `index` is set.
+    /// Returns whether the bit at `index` is set.
     final fn digit(self, index: usize) -> bool
         requires { index < BITS }
         ensures { result ≡ slice_index_or (bits self) index false }
@@ -184,7 +184,7 @@ pub trait Word: Copy {
         self.moved_down(index).clear_below() == 0
     }
 
-    /// Gives the word with the bit at `index` set to `value`.
+    /// Returns the word with the bit at `index` set to `value`.
     final fn with_digit(self, index: usize, value: bool) -> Self
         requires { index < BITS }
         ensures { bits result ≡ slice_set (bits self) index value }
@@ -195,7 +195,7 @@ pub trait Word: Copy {
         self.in_one(Self::lowest(true).moved_up(index))
     }
 
-    /// Tells whether the bits are equal.
+    /// Returns whether the bits are equal.
     final fn is_same(self, other: Self) -> bool
         ensures { IsTrue result ↔ (bits self ≡ bits other) }
     {

@@ -1,4 +1,4 @@
-//! The section `%grmtools{..}` at the front of a grammar text: keys with values, and where they stand.
+//! The section `%grmtools{..}` at the front of a grammar text: keys with values, and their spans.
 
 mod convert;
 mod error;

@@ -1,5 +1,4 @@
-//! What every part of a Yacc toolkit shares: index types and symbols, spans, lines and bytes of a text, and
-//! maps with marks.
+//! Shared parts of a Yacc toolkit: index types and symbols, spans, lines and bytes of a text, and maps with marks.
 //!
 //! A line of a text is found so:
 //!
@@ -14,17 +13,16 @@
 //! }
 //! ```
 //!
-//! For byte 20 of `"%start S\n%%\nS: 'é' T;\n"`, the `T`, it answers `Some((3, 8))`: columns count characters, and `é` is one
-//! of two bytes.
+//! For byte 20 of `"%start S\n%%\nS: 'é' T;\n"`, the `T`, it returns `Some((3, 8))`: columns count characters, and
+//! `é` is one of two bytes.
 //!
-//! An index is seen by contracts as its number and a symbol as its kind and number, so that a theory of
-//! grammars over numbers speaks of them whatever type they are stored in. A span is a pair of byte
-//! offsets; lines count LFs and columns count characters. What all readers of texts share, classes of bytes,
-//! runs and gaps, stands in `text`. The contracts that matter most are those of
-//! `index::IndexStorage` (`from_usize` answers exactly the numbers up to `MAX`) with the laws
-//! `index::each_number_is_of_one_value`, `symbol::symbol_is_its_kind_and_number` and
-//! `span::span_is_its_offsets`; of `newlinecache::NewlineCache`, whose answers are those of the fed text
-//! (`newlinecache::pieces_make_the_whole`); and of `markmap::MarkMap::merge_from`.
+//! Contracts see an index as its number, and a symbol as its kind and number, so a theory of grammars over numbers
+//! holds for every index type. A span is a pair of byte offsets; lines count LFs and columns count characters. Module
+//! `text` has what all readers of texts share: classes of bytes, runs and gaps. The contracts that matter most are
+//! those of `index::IndexStorage` (`from_usize` takes exactly the numbers up to `MAX`) with the laws
+//! `index::each_number_is_of_one_value`, `symbol::symbol_is_its_kind_and_number` and `span::span_is_its_offsets`; of
+//! `newlinecache::NewlineCache`, whose answers are those of the fed text (`newlinecache::pieces_make_the_whole`); and
+//! of `markmap::MarkMap::merge_from`.
 #![tactic(auto)]
 
 pub mod header;

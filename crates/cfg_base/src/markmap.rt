@@ -72,7 +72,7 @@ impl<K: Ord, V> Model for MarkMap<K, V> {
     ghost view = { λ m. record { entries = m.slots.entries; default = m.default } };
 }
 
-// Answers marks that say nothing.
+// Returns marks that say nothing.
 fn no_marks() -> Marks
     ensures { result ≡ unmarked }
 {
@@ -84,14 +84,14 @@ fn no_marks() -> Marks
 }
 
 impl<V> Slot<V> {
-    // Tells whether there is a value that isn't marked as used.
+    // Returns whether there is a value that isn't marked as used.
     fn is_unused(&self) -> bool
         ensures { result ≡ (is_some self.now.value && not self.now.marks.used) }
     {
         self.value.is_some() && !self.marks.used
     }
 
-    // Puts another value in, and answers the one that was there.
+    // Puts another value in, and returns the one that was there.
     fn replace_value(&mut self, value: V) -> V
         requires { is_some self.old.value ≡ true }
         ensures old { self.old.value ≡ Some result }
@@ -100,7 +100,7 @@ impl<V> Slot<V> {
         replace(&mut self.value, Some(value)).unwrap()
     }
 
-    // Tells whether a value is required and not there.
+    // Returns whether a value is required and not there.
     fn is_missing(&self) -> bool
         ensures { result ≡ (self.now.marks.required && is_none self.now.value) }
     {
@@ -118,7 +118,7 @@ fn blank_slot<V>() -> Slot<V>
     }
 }
 
-// Answers the value of a slot that was taken out.
+// Returns the value of a slot that was taken out.
 fn value_of<V>(slot: Option<Slot<V>>) -> Option<V>
     ensures { result ≡ (unwrap_or slot blank).value }
 {
@@ -142,7 +142,7 @@ impl<K: Ord, V> MarkMap<K, V> {
         }
     }
 
-    /// Gives a key a value, and answers the one that it had. A stored key stays, and so do its marks, and no
+    /// Gives a key a value, and returns the one that it had. A stored key stays, and so do its marks, and no
     /// memory is taken for it.
     pub fn insert(&mut self, key: K, value: V) -> Result<Option<V>, AllocError>
     where
@@ -165,7 +165,7 @@ impl<K: Ord, V> MarkMap<K, V> {
         Ok(value_of(old))
     }
 
-    /// Answers the value of a key, if it has one.
+    /// Returns the value of a key, if it has one.
     pub fn get(&self, key: &K) -> Option<&V>
         ensures { option_copied result ≡ value_at K.cmp self.now key.now }
     {
@@ -175,7 +175,7 @@ impl<K: Ord, V> MarkMap<K, V> {
         }
     }
 
-    /// Tells whether a key has a value.
+    /// Returns whether a key has a value.
     pub fn contains_key(&self, key: &K) -> bool
         ensures { result ≡ is_some (value_at K.cmp self.now key.now) }
     {
@@ -221,7 +221,7 @@ impl<K: Ord, V> MarkMap<K, V> {
         Ok(found)
     }
 
-    // Answers the marks of a key.
+    // Returns the marks of a key.
     fn marks_of(&self, key: &K) -> Marks
         ensures { result ≡ marks_at K.cmp self.now key.now }
     {
@@ -231,21 +231,21 @@ impl<K: Ord, V> MarkMap<K, V> {
         }
     }
 
-    // Answers what a merge does with a key.
+    // Returns the merge behavior of a key.
     fn behavior_of(&self, key: &K) -> MergeBehavior
         ensures { result ≡ behavior_at K.cmp self.now key.now }
     {
         self.marks_of(key).behavior.unwrap_or(self.default)
     }
 
-    /// Tells whether a key is marked as used.
+    /// Returns whether a key is marked as used.
     pub fn is_used(&self, key: &K) -> bool
         ensures { result ≡ (marks_at K.cmp self.now key.now).used }
     {
         self.marks_of(key).used
     }
 
-    /// Tells whether a key is marked as required.
+    /// Returns whether a key is marked as required.
     pub fn is_required(&self, key: &K) -> bool
         ensures { result ≡ (marks_at K.cmp self.now key.now).required }
     {
@@ -404,7 +404,7 @@ impl<K: Ord, V> MarkMap<K, V> {
         )
     }
 
-    /// Sets what a merge does with keys that have no behaviour of their own.
+    /// Sets what a merge does with keys that have no behavior of their own.
     pub fn set_default_merge_behavior(&mut self, behavior: MergeBehavior)
         ensures default { self.new.default ≡ behavior }
         ensures entries { self.new.entries ≡ self.old.entries }
@@ -413,7 +413,7 @@ impl<K: Ord, V> MarkMap<K, V> {
     }
 }
 
-/// A law: two behaviours are equal exactly where they are one value.
+/// Proves that two behaviors are equal if and only if they are one value.
 pub fn merge_behavior_is_its_value()
     ensures { (a b : MergeBehavior) → (⟦<MergeBehavior as PartialEq>⟧.eq a b ≡ true) ↔ (a ≡ b) }
 {}

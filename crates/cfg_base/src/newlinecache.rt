@@ -13,8 +13,8 @@ use crate::span::Span;
 use std::alloc::{AllocError, Global};
 use std::marker::Model;
 
-/// Where the lines of a text begin and end. The text is fed once, whole or in pieces, and isn't kept.
-/// Lines and columns count from one; offsets are byte offsets.
+/// The offsets at which the lines of a text begin and end. The text is fed once, whole or in pieces, and isn't
+/// stored. Lines and columns count from one; offsets are byte offsets.
 #[derive(Drop)]
 pub struct NewlineCache {
     newlines: Vec<usize>,
@@ -84,7 +84,7 @@ impl NewlineCache {
         Ok(())
     }
 
-    /// Answers the line of a byte; `None` past the end of the text.
+    /// Returns the line of a byte; `None` past the end of the text.
     pub fn byte_to_line_num(&self, byte: usize) -> Option<usize>
         ensures { (text : List ℕ) → self.now ≡ newlines_of text →
             result ≡ (if nat_le byte (length text) then Some (line_of text byte) else None) }
@@ -95,7 +95,7 @@ impl NewlineCache {
         Some(count_before(&self.newlines, byte) + 1)
     }
 
-    /// Answers the offset of the first byte of the line of a byte; `None` past the end of the text.
+    /// Returns the offset of the first byte of the line of a byte; `None` past the end of the text.
     pub fn byte_to_line_byte(&self, byte: usize) -> Option<usize>
         ensures { (text : List ℕ) → self.now ≡ newlines_of text →
             result ≡ (if nat_le byte (length text) then Some (line_start text byte) else None) }
@@ -106,8 +106,8 @@ impl NewlineCache {
         Some(start_after(&self.newlines, count_before(&self.newlines, byte)))
     }
 
-    /// Answers the line and the column of a byte of `src`, the text that was fed; `None` past its end, or
-    /// where `src` hasn't the fed length. A column counts characters.
+    /// Returns the line and the column of a byte of `src`, the text that was fed; `None` past its end, or where
+    /// `src` hasn't the fed length. A column counts characters.
     pub fn byte_to_line_num_and_col_num(&self, src: &str, byte: usize) -> Option<(usize, usize)>
         ensures { (text : List ℕ) → self.now ≡ newlines_of text →
             result ≡ (
@@ -124,8 +124,8 @@ impl NewlineCache {
         Some((count + 1, chars_between(src, start, byte) + 1))
     }
 
-    /// Answers the offset of the first byte of the line of the span's start, and that of the newline that
-    /// ends the line of its end, or of the text's end.
+    /// Returns the byte offsets of the lines that a span touches: that of the first byte of its first line, and
+    /// that of the newline, or of the text's end, behind its last line.
     pub fn span_line_bytes(&self, span: Span) -> (usize, usize)
         requires { span.end ≤ self.now.bytes }
         ensures start { (text : List ℕ) → self.now ≡ newlines_of text → result.0 ≡ line_start text span.start }
@@ -153,8 +153,8 @@ impl<'a> FromIterator<&'a str> for NewlineCache {
     }
 }
 
-/// A law: a text in two pieces, one fed after the other, leaves what the whole text does. So feeding a
-/// text in any pieces equals feeding it whole.
+/// Proves that a text in two pieces, one fed after the other, leaves what the whole text does. So feeding a text in
+/// any pieces equals feeding it whole.
 pub fn pieces_make_the_whole()
     ensures { (a b : List ℕ) → joined (newlines_of a) (newlines_of b) ≡ newlines_of (a ++ b) }
 {}
@@ -188,7 +188,7 @@ fn count_before(offsets: &[usize], byte: usize) -> usize
     offsets.partition_point(|offset| *offset < byte)
 }
 
-// Answers the offset of the first byte of the line that `count` newlines come before.
+// Returns the offset of the first byte of the line that `count` newlines come before.
 fn start_after(offsets: &[usize], count: usize) -> usize
     requires bound { count ≤ length offsets.now }
     requires fit { (k : ℕ) → k < count → slice_index offsets.now k < 2 ^ 64 - 1 }
@@ -201,7 +201,7 @@ fn start_after(offsets: &[usize], count: usize) -> usize
     }
 }
 
-// Answers the end of the line that `count` newlines come before, in a text of `bytes` bytes.
+// Returns the end of the line that `count` newlines come before, in a text of `bytes` bytes.
 fn end_after(offsets: &[usize], count: usize, bytes: usize) -> usize
     ensures { result ≡ (if nat_lt count (length offsets.now) then slice_index offsets.now count else bytes) }
 {

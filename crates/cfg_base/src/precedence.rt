@@ -27,7 +27,8 @@ pub enum AssocKind {
     Nonassoc,
 }
 
-/// A law: precedences are equal where level and kind are, and kinds where they are the same.
+/// Proves that precedences are equal if their level and kind are, and that two kinds are equal if and only if they
+/// are one value.
 pub fn precedence_is_level_and_kind()
     ensures precedence { (a b : Precedence) → IsTrue (⟦<Precedence as PartialEq>⟧.eq a b) ↔ (a ≡ b) }
     ensures assoc { (a b : AssocKind) → IsTrue (⟦<AssocKind as PartialEq>⟧.eq a b) ↔ (a ≡ b) }

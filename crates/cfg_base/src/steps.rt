@@ -5,8 +5,8 @@ ghost use Rattle.std.specs.Prelude.{◌≡◌, ℕ, ◌+◌, ◌<◌};
 use std::marker::Model;
 use std::sync::ledger::{Blank, Book, Ledger, Share};
 
-/// How many steps were taken. It takes no bytes, and nothing of it is left in a program that runs; only `tick`
-/// changes it. What a step stands for, a comparison or a taking from a work list, is told by the call that counts.
+/// A count of steps. It takes no bytes, and nothing of it is left in a program that runs; only `tick` changes it. The
+/// call that counts says what a step is, such as a comparison or a rule taken from a work list.
 #[derive(Drop)]
 pub struct Steps<L: Ledger> {
     book: Book<L>,
@@ -22,7 +22,7 @@ impl<L: Ledger> Model for Steps<L> {
 }
 
 impl<L: Ledger> Steps<L> {
-    /// Begins to count, at nought. A caller that counts nothing hands in `Blank::new(1)` for the ledger `Brand`.
+    /// Starts a count at zero. A caller that counts nothing passes `Blank::new(1)` for the ledger `Brand`.
     pub fn new(blank: Blank) -> Self
         requires name { blank.name ≡ L.name }
         requires parts { blank.parts ≡ L.parts }

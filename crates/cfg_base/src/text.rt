@@ -4,7 +4,7 @@ ghost use Rattle.std.specs.Prelude.{◌≡◌, ◌+◌, ◌≤◌, ◌<◌, leng
 ghost use Rattle.std.specs.List.{prefix_len};
 ghost use Rattle.cfg_base.specs.Text.{is_white, is_letter, is_digit, is_in_line, run_end, line_end, is_comment_end, comment_end, gap_at, FitsGap};
 
-/// What of a gap stands at an offset.
+/// The part of a gap at an offset.
 #[derive(Clone, Copy, Debug, PartialEq, Eq)]
 pub enum GapPart {
     /// One white byte or one comment, which ends before this offset.
@@ -15,21 +15,21 @@ pub enum GapPart {
     NoPart,
 }
 
-/// Tells a space, a tab, CR and LF.
+/// Returns whether a byte is a space, a tab, CR or LF.
 pub fn is_white(b: u8) -> bool
     ensures { result ≡ is_white b }
 {
     b == b' ' || b == b'\t' || b == b'\r' || b == b'\n'
 }
 
-/// Tells the letters of ASCII.
+/// Returns whether a byte is an ASCII letter.
 pub fn is_letter(b: u8) -> bool
     ensures { result ≡ is_letter b }
 {
     b.is_ascii_uppercase() || b.is_ascii_lowercase()
 }
 
-/// Tells the decimal digits.
+/// Returns whether a byte is a decimal digit.
 pub fn is_digit(b: u8) -> bool
     ensures { result ≡ is_digit b }
 {
@@ -60,7 +60,7 @@ pub fn line_len(bytes: &[u8]) -> usize
     bytes.iter().take_while(|b| **b != b'\n').count()
 }
 
-/// Answers the byte at an offset; `None` from the text's end on.
+/// Returns the byte at an offset; `None` from the text's end on.
 pub fn byte_at(text: &str, offset: usize) -> Option<u8>
     ensures value { result ≡ slice_get text.now offset }
     ensures within { IfSome result (λ _. offset < length text.now) }
@@ -68,7 +68,7 @@ pub fn byte_at(text: &str, offset: usize) -> Option<u8>
     text.as_bytes().get(offset).copied()
 }
 
-/// Answers where the white that begins here ends.
+/// Returns the offset behind the white bytes that begin at `offset`.
 #[tactic(auto, unfolding(crate::specs::Text::run_end))]
 pub fn white_end(text: &str, offset: usize) -> usize
     requires { offset ≤ length text.now }
@@ -79,7 +79,7 @@ pub fn white_end(text: &str, offset: usize) -> usize
     offset + white_len(&text.as_bytes()[offset..])
 }
 
-/// Answers where the digits that begin here end.
+/// Returns the offset behind the digits that begin at `offset`.
 #[tactic(auto, unfolding(crate::specs::Text::run_end))]
 pub fn digits_end(text: &str, offset: usize) -> usize
     requires { offset ≤ length text.now }
@@ -90,7 +90,7 @@ pub fn digits_end(text: &str, offset: usize) -> usize
     offset + digits_len(&text.as_bytes()[offset..])
 }
 
-/// Answers where the line ends: at its LF, or at the text's end.
+/// Returns the offset of the line's end: that of its LF, or the text's length.
 #[tactic(auto, unfolding(crate::specs::Text::run_end))]
 pub fn line_end(text: &str, offset: usize) -> usize
     requires { offset ≤ length text.now }
@@ -101,7 +101,7 @@ pub fn line_end(text: &str, offset: usize) -> usize
     offset + line_len(&text.as_bytes()[offset..])
 }
 
-/// Tells whether `*/` stands here.
+/// Returns whether `*/` is here.
 pub fn is_comment_end(text: &str, offset: usize) -> bool
     ensures value { result ≡ is_comment_end text.now offset }
     ensures within { IsTrue result → offset + 2 ≤ length text.now }
@@ -109,7 +109,7 @@ pub fn is_comment_end(text: &str, offset: usize) -> bool
     byte_at(text, offset) == Some(b'*') && byte_at(text, offset + 1) == Some(b'/')
 }
 
-/// Answers where the first `*/` from this offset on stands.
+/// Returns the offset of the first `*/` from `offset` on.
 pub fn comment_end(text: &str, offset: usize) -> Option<usize>
     requires { offset ≤ length text.now }
     ensures value { result ≡ comment_end text.now offset }
@@ -125,8 +125,8 @@ pub fn comment_end(text: &str, offset: usize) -> Option<usize>
     None
 }
 
-/// Answers what of a gap stands here: one white byte or one comment, with its end, a `/*` without `*/`,
-/// or neither.
+/// Returns the part of a gap at `offset`: one white byte or one comment, with its end; a `/*` without `*/`; or
+/// neither.
 #[tactic(auto, unfolding(crate::specs::Text::gap_at))]
 pub fn gap_at(text: &str, offset: usize) -> GapPart
     ensures value { result ≡ gap_at text.now offset }

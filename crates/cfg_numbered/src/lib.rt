@@ -1,4 +1,4 @@
-//! Grammars as values.
+//! Grammars as values, with rules, tokens and productions as numbers.
 //!
 //! ```rust
 //! use cfg_base::index::IndexStorage;
@@ -19,15 +19,15 @@
 //! }
 //! ```
 //!
-//! For the grammar of `%start S %% S: A 'b'; A: 'a' A | ;` it answers `^ S A `. That each index is one of this grammar is
-//! what `rule_name_str` asks, and follows from `rule_at`, which wants a number below the count.
+//! For the grammar of `%start S %% S: A 'b'; A: 'a' A | ;` it returns `^ S A `. `rule_name_str` requires that each
+//! index is one of this grammar, which follows from `rule_at`; that requires a number below the count.
 //!
 //! A `NumberedGrammar` numbers rules, tokens and productions in an index type; contracts see it as a grammar of
-//! numbers, well formed, with names, spans, precedences and kept texts beside them. How it came about is left open: who
-//! has its parts makes it by `of_parts`, whose `requires` is what is so of each grammar value; `cfgrammar` makes it of
-//! texts. The contracts that matter most are those of `of_parts`, and of `prod`, `prod_to_rule` and `start_prod`, with the
-//! law `yacc::grammar::laws::productions_stand_in_one_list` on the lists of `rule_to_prods`. What derivations show is in
-//! crates above: FIRST, FOLLOW and paths in `cfg_sets`, costs and shortest sentences in `cfg_sentences`.
+//! numbers, well formed, with names, spans, precedences and other texts of the file beside them. `of_parts` makes one
+//! of its parts, and requires what holds for each grammar value; `cfgrammar` makes one of a text. The contracts that
+//! matter most are those of `of_parts`, and of `prod`, `prod_to_rule` and `start_prod`, with the law
+//! `yacc::grammar::laws::productions_stand_in_one_list` on the lists of `rule_to_prods`. What depends on derivations
+//! is in the crates above: FIRST, FOLLOW and paths in `cfg_sets`, costs and shortest sentences in `cfg_sentences`.
 #![tactic(auto)]
 
 pub mod yacc;

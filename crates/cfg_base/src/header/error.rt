@@ -8,7 +8,7 @@ use std::error::Error;
 use std::fmt;
 use std::fmt::{Debug, Display, Formatter, Write};
 
-/// What is wrong.
+/// What is wrong with a section.
 #[derive(Clone, Copy, Debug, PartialEq, Eq)]
 pub enum HeaderErrorKind {
     /// A section is required, and the text doesn't begin with one.
@@ -48,7 +48,7 @@ impl Display for HeaderErrorKind {
 
 impl Error for HeaderErrorKind {}
 
-/// What is wrong, and where: for a repeated key all its spans, the first one first.
+/// An error of a section. For a repeated key it has all of the key's spans, the first one first.
 #[derive(Debug, PartialEq, Eq, Drop)]
 pub struct HeaderError<T> {
     /// What is wrong at the locations.
@@ -58,7 +58,7 @@ pub struct HeaderError<T> {
 }
 
 impl<T> HeaderError<T> {
-    /// Tells whether the locations are those of a repeated key, or the one location of another fault.
+    /// Returns whether the locations are those of a repeated key, or the one location of another fault.
     pub fn spanskind(&self) -> SpansKind
         ensures { result ≡ spanskind_of (kind_text self.now.kind) }
     {

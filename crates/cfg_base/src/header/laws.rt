@@ -5,12 +5,12 @@ ghost use Rattle.cfg_base.specs.HeaderErrors.{KindText};
 ghost use Rattle.cfg_base.specs.Sections.{PairText, Reads, Faults};
 ghost use Rattle.cfg_base.specs.SectionResults.{IsAnswered};
 
-/// Each text has a reading without repeated keys, a reading with such, or a fault.
+/// Proves that each text has a reading without repeated keys, a reading with some, or a fault.
 pub fn each_is_answered()
     ensures { (required : Bool) (bytes : List ℕ) → IsAnswered required bytes }
 {}
 
-/// A text has at most one reading or one fault, and not both. What is repeated is a function of the
+/// Proves that a text has at most one reading or one fault, and not both. The repeated keys are a function of the
 /// reading.
 pub fn one_reading()
     ensures readings { (required : Bool) (bytes : List ℕ) (x y : List PairText) (a b : ℕ) →

@@ -1,4 +1,4 @@
-//! Finds keys that stand more than once.
+//! Finds keys that appear more than once.
 
 ghost use Rattle.std.specs.Prelude.{◌≡◌, ◌++◌, [], ℕ, List, map, filter, if◌then◌else◌, IfOk, OnOk, string_bytes};
 ghost use Rattle.std.specs.Option.{option_map_or};
@@ -52,7 +52,7 @@ fn push_repeat(
     Ok(())
 }
 
-/// Makes an error for each key that stands more than once, in order of their first spans.
+/// Makes an error for each key that appears more than once, in order of their first spans.
 pub(crate) fn repeats(alloc: Global, pairs: &[Pair]) -> Result<Vec<HeaderError<Span>>, AllocError>
     ensures { IfOk result (λ errors. map error_text errors.items ≡ map repeat_text (repeats_of (map pair_text pairs.now))) }
 {

@@ -1,4 +1,4 @@
-//! Tells what stands at an offset of a section, and where it ends.
+//! Finds what is at an offset of a section, and where it ends.
 
 ghost use Rattle.std.specs.Prelude.{◌≡◌, ◌+◌, ◌≤◌, ◌<◌, length, slice_get, IfSome, IsTrue, slice_range};
 ghost use Rattle.std.specs.List.{prefix_len};
@@ -9,14 +9,14 @@ ghost use Rattle.cfg_base.specs.HeaderWords.{is_key_byte, is_word_byte, is_in_te
 use crate::text;
 use crate::text::{GapPart, is_digit, is_letter};
 
-/// Tells the bytes of a key behind its first letter.
+/// Returns whether a byte may be in a key behind its first letter.
 fn is_key_byte(b: u8) -> bool
     ensures { result ≡ is_key_byte b }
 {
     is_letter(b) || b == b'_'
 }
 
-/// Tells the bytes of a word behind its first.
+/// Returns whether a byte may be in a word behind its first.
 fn is_word_byte(b: u8) -> bool
     ensures { result ≡ is_word_byte b }
 {
@@ -81,7 +81,7 @@ pub enum TokenKind {
 }
 
 impl TokenKind {
-    /// Answers the kind of a first byte; `Other` at the text's end.
+    /// Returns the kind of a first byte; `Other` at the text's end.
     fn of(b: Option<u8>) -> TokenKind
         ensures { result ≡ token_of b }
     {
@@ -104,7 +104,7 @@ impl TokenKind {
         }
     }
 
-    /// Tells whether a word begins here.
+    /// Returns whether a word begins here.
     fn begins_word(self) -> bool
         ensures { result ≡ begins_word self }
     {
@@ -133,7 +133,7 @@ pub struct Scanner<'a> {
 }
 
 impl<'a> Scanner<'a> {
-    /// Answers the byte at an offset; `None` from the text's end on.
+    /// Returns the byte at an offset; `None` from the text's end on.
     fn byte(&self, offset: usize) -> Option<u8>
         ensures value { result ≡ slice_get self.now.text.now offset }
         ensures within { IfSome result (λ _. offset < length self.now.text.now) }
@@ -142,7 +142,7 @@ impl<'a> Scanner<'a> {
         text::byte_at(self.text, offset)
     }
 
-    /// Answers where the key that begins here ends.
+    /// Returns the offset behind the key that begins here.
     #[tactic(auto, unfolding(crate::specs::Text::run_end))]
     pub fn key_end(&self, offset: usize) -> usize
         requires { offset ≤ length self.now.text.now }
@@ -153,7 +153,7 @@ impl<'a> Scanner<'a> {
         offset + key_len(&self.text.as_bytes()[offset..])
     }
 
-    /// Answers where the word that begins here ends.
+    /// Returns the offset behind the word that begins here.
     #[tactic(auto, unfolding(crate::specs::Text::run_end))]
     fn word_end(&self, offset: usize) -> usize
         requires { offset ≤ length self.now.text.now }
@@ -163,7 +163,7 @@ impl<'a> Scanner<'a> {
         offset + word_len(&self.text.as_bytes()[offset..])
     }
 
-    /// Answers where the number that begins here ends.
+    /// Returns the offset behind the number that begins here.
     pub fn number_end(&self, offset: usize) -> usize
         requires { offset ≤ length self.now.text.now }
         ensures value { result ≡ run_end is_digit self.now.text.now offset }
@@ -173,7 +173,8 @@ impl<'a> Scanner<'a> {
         text::digits_end(self.text, offset)
     }
 
-    /// Answers where the text that begins here ends: at the next quote, or at the end.
+    /// Returns the offset of the next quote, which ends the text that begins here, or that of the whole text's
+    /// end.
     #[tactic(auto, unfolding(crate::specs::Text::run_end))]
     pub fn text_end(&self, offset: usize) -> usize
         requires { offset ≤ length self.now.text.now }
@@ -185,7 +186,7 @@ impl<'a> Scanner<'a> {
         offset + text_len(&self.text.as_bytes()[offset..])
     }
 
-    /// Answers where the white or the comment that begins here ends.
+    /// Returns the offset behind the white byte or the comment that begins here, or `None` where neither does.
     #[tactic(auto, unfolding(crate::specs::HeaderWords::gap_part))]
     pub fn gap_part(&self, offset: usize) -> Option<usize>
         ensures value { result ≡ gap_part self.now.text.now offset }
@@ -197,7 +198,7 @@ impl<'a> Scanner<'a> {
         }
     }
 
-    /// Answers what begins here.
+    /// Returns the kind of the token that begins here.
     #[tactic(auto, unfolding(crate::specs::HeaderWords::token_at))]
     pub fn token(&self, offset: usize) -> TokenKind
         ensures value { result ≡ token_at self.now.text.now offset }
@@ -207,7 +208,7 @@ impl<'a> Scanner<'a> {
         TokenKind::of(self.byte(offset))
     }
 
-    /// Tells whether `::` stands here.
+    /// Returns whether `::` is here.
     fn colons(&self, offset: usize) -> bool
         ensures value { result ≡ colons_at self.now.text.now offset }
         ensures within { IsTrue result → offset + 2 ≤ length self.now.text.now }
@@ -215,7 +216,7 @@ impl<'a> Scanner<'a> {
         self.byte(offset) == Some(b':') && self.byte(offset + 1) == Some(b':')
     }
 
-    /// Answers the shape of the path that begins here.
+    /// Returns the shape of the path that begins here.
     #[tactic(auto, unfolding(crate::specs::HeaderWords::path_at))]
     pub fn path_shape(&self, offset: usize) -> PathShape
         ensures value { result ≡ path_at self.now.text.now offset }

@@ -21,10 +21,10 @@ use std::fmt;
 use std::fmt::{Display, Formatter, Write};
 use std::marker::Model;
 
-/// The keys of a section, in lower case, with what it says of each.
+/// The keys of a section, in lower case, each with its value.
 pub type Header<T> = MarkMap<String, HeaderValue<T>>;
 
-/// Why there is no header.
+/// Why a section gives no header.
 #[derive(Debug, Drop)]
 pub enum SectionError {
     /// The request for memory that was refused.
@@ -50,7 +50,7 @@ impl Display for SectionError {
 
 impl Error for SectionError {}
 
-/// Why there is no pair.
+/// Why no pair was read.
 #[derive(Debug, Drop)]
 pub enum KeyValueError {
     /// The request for memory that was refused.
@@ -123,7 +123,7 @@ fn header_of(alloc: Global, pairs: Vec<Pair>) -> Result<Header<Span>, AllocError
     Ok(header)
 }
 
-/// Makes the error of a fault; a refused request for memory is handed on.
+/// Makes the error of a fault. A refused request for memory is passed on.
 fn section_error(alloc: Global, fault: Fault) -> SectionError
     ensures { TellsFault fault result }
 {
@@ -232,7 +232,7 @@ impl<'input> GrmtoolsSectionParser<'input> {
     }
 }
 
-/// Makes the error of a fault of a pair; a refused request for memory is handed on.
+/// Makes the error of a fault of a pair. A refused request for memory is passed on.
 fn key_value_error(alloc: Global, fault: Fault) -> KeyValueError
     ensures { TellsPairFault fault result }
 {

@@ -15,7 +15,7 @@ use crate::span::Span;
 use std::alloc::Global;
 
 impl<'a> Scanner<'a> {
-    /// Reads a key, and answers it in lower case.
+    /// Reads a key, and returns it in lower case with the offset behind it.
     #[tactic(auto, using(crate::proofs::HeaderRuns::letter_within))]
     fn parse_key(&self, alloc: Global, offset: usize) -> Result<(String, usize), Fault>
         requires token { token_at self.now.text.now offset ≡ tokens.Letter }
@@ -30,7 +30,7 @@ impl<'a> Scanner<'a> {
         Ok((key, end))
     }
 
-    /// Tells whether a key begins here.
+    /// Returns whether a key begins here.
     fn begins_key(&self, offset: usize) -> bool
         ensures value { result ≡ begins_key (token_at self.now.text.now offset) }
         ensures within { IsTrue result → offset < length self.now.text.now }
@@ -56,7 +56,7 @@ impl<'a> Scanner<'a> {
         Ok((Pair { key, span, value }, self.parse_ws(end)))
     }
 
-    /// Tells whether `:` stands here.
+    /// Returns whether `:` is here.
     fn colon(&self, offset: usize) -> bool
         ensures value { result ≡ is_colon (token_at self.now.text.now offset) }
         ensures within { IsTrue result → offset < length self.now.text.now }
@@ -99,7 +99,7 @@ impl<'a> Scanner<'a> {
         }
     }
 
-    /// Reads the `,` behind a pair and the gap behind it, where no `}` stands.
+    /// Reads the `,` behind a pair and the gap behind it, unless a `}` is here.
     fn parse_pair_end(&self, offset: usize) -> Result<usize, Fault>
         ensures ok { IfOk result (λ b. (p : PairText) (x : List PairText) → Steps self.now.text.now (At (PairEnd p) x offset) (At Pairs (x ++ p ∷ []) b)) }
         ensures within { IfOk result (λ b. (offset ≤ b) × (b ≤ length self.now.text.now)) }
@@ -112,7 +112,7 @@ impl<'a> Scanner<'a> {
         }
     }
 
-    /// Tells whether `}` stands here.
+    /// Returns whether `}` is here.
     fn closes_brace(&self, offset: usize) -> bool
         ensures value { result ≡ is_close_brace (token_at self.now.text.now offset) }
         ensures within { IsTrue result → offset < length self.now.text.now }
@@ -137,7 +137,7 @@ impl<'a> Scanner<'a> {
         Ok((pairs, end + 1))
     }
 
-    /// Tells whether `%grmtools` stands here.
+    /// Returns whether `%grmtools` is here.
     fn is_section(&self, offset: usize) -> bool
         requires { offset ≤ length self.now.text.now }
         ensures value { result ≡ is_section_at self.now.text.now offset }
@@ -158,9 +158,13 @@ impl<'a> Scanner<'a> {
         }
     }
 
-    /// Reads the section at the front, if there is one, and returns its pairs and the offset behind it. Returns
-    /// `At` with what is wrong and its byte offset where a section begins and doesn't read, or where one is
-    /// `required` and none begins; and `Memory` where memory is refused.
+    /// Reads the section at the front, if there is one, and returns its pairs and the byte offset behind it.
+    ///
+    /// # Errors
+    ///
+    /// - `At` with what is wrong and its byte offset where a section begins and doesn't read, or where one is
+    ///   `required` and none begins.
+    /// - `Memory` where memory is refused.
     pub fn parse_section(&self, alloc: Global, required: bool) -> Result<(Vec<Pair>, usize), Fault>
         ensures ok { IfOk result (λ r. Reads required self.now.text.now (map pair_text r.0.items) r.1) }
         ensures within { IfOk result (λ r. r.1 ≤ length self.now.text.now) }

@@ -20,7 +20,7 @@ use std::alloc::{AllocError, AllocFailed, Global};
 /// The number of arrays that may be open at once.
 const MOST_DEPTH: usize = 64;
 
-/// Tells why reading stops.
+/// Why reading stops.
 #[derive(Debug, Drop)]
 pub enum Fault {
     /// The request for memory that was refused.
@@ -45,7 +45,7 @@ impl<T: Drop> From<AllocFailed<T>> for Fault {
     }
 }
 
-/// A key in lower case, where it stands, and its value.
+/// A key in lower case, its span, and its value.
 #[derive(Debug, Drop)]
 pub struct Pair {
     /// The key's word in lower case; of `!key` without the `!`.
@@ -57,7 +57,7 @@ pub struct Pair {
 }
 
 impl<'a> Scanner<'a> {
-    /// Skips white and comments, and answers the offset behind them.
+    /// Skips white and comments, and returns the offset behind them.
     pub fn parse_ws(&self, offset: usize) -> usize
         requires { offset ≤ length self.now.text.now }
         ensures steps { (w : Wanted) (x : List PairText) → Steps self.now.text.now (Spaced w x offset) (At w x result) }
@@ -159,7 +159,7 @@ impl<'a> Scanner<'a> {
         Ok((Setting::String(text, span), self.parse_ws(end + 1)))
     }
 
-    /// Tells whether `(` stands here.
+    /// Returns whether `(` is here.
     fn opens_paren(&self, offset: usize) -> bool
         ensures value { result ≡ is_open_paren (token_at self.now.text.now offset) }
         ensures within { IsTrue result → offset < length self.now.text.now }
@@ -219,7 +219,7 @@ impl<'a> Scanner<'a> {
         }
     }
 
-    /// Tells whether `]` stands here.
+    /// Returns whether `]` is here.
     fn closes_bracket(&self, offset: usize) -> bool
         ensures value { result ≡ is_close_bracket (token_at self.now.text.now offset) }
         ensures within { IsTrue result → offset < length self.now.text.now }
@@ -227,7 +227,7 @@ impl<'a> Scanner<'a> {
         matches!(self.token(offset), TokenKind::CloseBracket)
     }
 
-    /// Reads the `,` behind an item and the gap behind it, where no `]` stands.
+    /// Reads the `,` behind an item and the gap behind it, unless a `]` is here.
     fn parse_item_end(&self, offset: usize) -> Result<usize, Fault>
         ensures ok { IfOk result (λ b. (k : Key) (o : Open) (items : ItemsText SpanModel) (start : SpanModel) (s : SettingText SpanModel) (x : List PairText) → Steps self.now.text.now (At (Behind k (inside o items start) s) x offset) (At (Items k o (more items s) start) x b)) }
         ensures within { IfOk result (λ b. (offset ≤ b) × (b ≤ length self.now.text.now)) }

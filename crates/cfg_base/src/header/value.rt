@@ -1,4 +1,4 @@
-//! What a section says of its keys.
+//! The values of a section's keys.
 
 ghost use Rattle.std.specs.Prelude.{◌≡◌};
 ghost use Rattle.cfg_base.specs.HeaderTexts.{value_text, primary_of, setting_text, setting_primary};
@@ -6,14 +6,14 @@ ghost use Rattle.cfg_base.specs.HeaderTexts.{value_text, primary_of, setting_tex
 /// A word, or one word within another, each with its location.
 #[derive(Debug, PartialEq, Eq, Drop)]
 pub struct Namespaced<T> {
-    /// The word before `::`, with its location; `None` where one word stands alone.
+    /// The word before `::`, with its location; `None` for one word alone.
     pub namespace: Option<(String, T)>,
     /// The word itself, or the one behind `::`, with its location.
     pub member: (String, T),
 }
 
-/// What stands behind the `:` of a key. The locations are those of words, numbers and texts, texts
-/// with their quotes; an array has those of its two brackets.
+/// The value behind the `:` of a key. Words, numbers and texts have their locations, texts with the quotes; an array
+/// has those of its two brackets.
 #[derive(Debug, PartialEq, Eq, Drop)]
 pub enum Setting<T> {
     /// A path: `word` or `word::word`.
@@ -47,8 +47,8 @@ pub enum Value<T> {
 pub struct HeaderValue<T>(pub T, pub Value<T>);
 
 impl<T> Setting<T> {
-    /// Answers where a message about this setting points: at its number, text or first bracket, or at the
-    /// outer member of a path.
+    /// Returns the location at which a message about this setting points: that of its number, text or first
+    /// bracket, or of a path's outer word.
     fn primary_location(&self) -> &T
         ensures { result.now ≡ setting_primary (setting_text self.now) }
     {
@@ -63,8 +63,8 @@ impl<T> Setting<T> {
 }
 
 impl<T> Value<T> {
-    /// Answers where a message about this value points: at the flag, number, text or first bracket, or at the
-    /// outer member of a path.
+    /// Returns the location at which a message about this value points: that of its flag, number, text or first
+    /// bracket, or of a path's outer word.
     pub fn primary_location(&self) -> &T
         ensures { result.now ≡ primary_of (value_text self.now) }
     {

@@ -35,7 +35,7 @@ pub struct VacantEntry<'a, K: Ord, V> {
 impl<K: Ord, V> MarkMap<K, V> {
     ghost use Rattle.cfg_base.specs.Entries.{entry_key, entry_map_ref, is_occupied};
 
-    /// Answers the entry of a key: `Occupied` exactly where it has a value.
+    /// Returns the entry of a key: `Occupied` if and only if it has a value.
     pub fn entry(&mut self, key: K) -> Entry<'_, K, V>
         ensures same_map { (entry_map_ref result).ghost_name ≡ self.entry.ghost_name }
         ensures unchanged { (entry_map_ref result).now ≡ self.old }
@@ -52,14 +52,14 @@ impl<K: Ord, V> MarkMap<K, V> {
 impl<'a, K: Ord, V> OccupiedEntry<'a, K, V> {
     ghost use Rattle.cfg_base.specs.Entries.{IsSameEntry, occupied_key, occupied_map};
 
-    /// Answers the value.
+    /// Returns the value.
     pub fn get(&self) -> &V
         ensures { value_at K.cmp (occupied_map self.now) (occupied_key self.now) ≡ Some result.now }
     {
         self.map.get(&self.key).unwrap()
     }
 
-    /// Gives the key another value, and answers the one that it had. Its marks stay.
+    /// Gives the key another value, and returns the one that it had. Its marks stay.
     pub fn insert(&mut self, value: V) -> V
         ensures entry { IsSameEntry self.old self.new }
         ensures old { value_at K.cmp (occupied_map self.old) (occupied_key self.old) ≡ Some result }
@@ -69,7 +69,7 @@ impl<'a, K: Ord, V> OccupiedEntry<'a, K, V> {
         self.map.replace_value(&self.key, value)
     }
 
-    /// Answers the marks of the key.
+    /// Returns the marks of the key.
     pub fn get_mark(&self) -> Marks
         ensures { result ≡ marks_at K.cmp (occupied_map self.now) (occupied_key self.now) }
     {
@@ -91,7 +91,7 @@ impl<'a, K: Ord, V> OccupiedEntry<'a, K, V> {
         self.map.replace_marks(&self.key, marks);
     }
 
-    /// Tells whether the key is marked as used.
+    /// Returns whether the key is marked as used.
     pub fn is_used(&self) -> bool
         ensures { result ≡ (marks_at K.cmp (occupied_map self.now) (occupied_key self.now)).used }
     {
@@ -113,7 +113,7 @@ impl<'a, K: Ord, V> OccupiedEntry<'a, K, V> {
         self.map.replace_marks(&self.key, marks);
     }
 
-    /// Tells whether the key is marked as required.
+    /// Returns whether the key is marked as required.
     pub fn is_required(&self) -> bool
         ensures { result ≡ (marks_at K.cmp (occupied_map self.now) (occupied_key self.now)).required }
     {
@@ -139,15 +139,15 @@ impl<'a, K: Ord, V> OccupiedEntry<'a, K, V> {
 impl<'a, K: Ord, V> VacantEntry<'a, K, V> {
     ghost use Rattle.cfg_base.specs.Entries.{Fills, IsSameVacant, lends_filled, rests_if_refused, vacant_key, vacant_map};
 
-    /// Answers the key, as it was asked for.
+    /// Returns the key, as it was asked for.
     pub fn key(&self) -> &K
         ensures { result.now ≡ vacant_key self.now }
     {
         &self.key
     }
 
-    /// Gives the key a value, and lends it. A stored key stays, and so do its marks, and no memory is
-    /// taken for it. Clones of keys equal them.
+    /// Gives the key a value, and lends it. A stored key stays, and so do its marks, and no memory is taken for
+    /// it. Clones of keys equal them.
     pub fn insert(self, value: V) -> Result<&'a mut V, AllocError>
     where
         K: Clone + Drop,
@@ -165,7 +165,7 @@ impl<'a, K: Ord, V> VacantEntry<'a, K, V> {
         }
     }
 
-    /// Gives the key a value, and answers its entry. A stored key stays, and so do its marks, and no memory is
+    /// Gives the key a value, and returns its entry. A stored key stays, and so do its marks, and no memory is
     /// taken for it. Clones of keys equal them.
     pub fn insert_entry(self, value: V) -> Result<OccupiedEntry<'a, K, V>, AllocError>
     where

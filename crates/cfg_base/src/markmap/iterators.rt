@@ -77,7 +77,7 @@ impl<'a, K, V> Iterator for MarkMapIterRef<'a, K, V> {
 }
 
 impl<K: Ord, V> MarkMap<K, V> {
-    /// Answers an iterator over the keys that have a value, in order.
+    /// Returns an iterator over the keys that have a value, in order.
     pub fn keys(&self) -> Keys<'_, K, V>
         ensures rest { result ≡ keys_of self.now }
         ensures ordered { IsStrictlySortedBy K.cmp (keys_of self.now) }

@@ -1,4 +1,4 @@
-//! Takes one map with marks into another.
+//! Merges one map with marks into another.
 
 ghost use Rattle.std.specs.Prelude.{◌≡◌, [], true, is_some, IfErr, IfNone, IfSome, OnErr, OnOk, Some, map, if◌then◌else◌};
 ghost use Rattle.std.specs.BTreeMap.{ContainsKey, get, is_at};
@@ -13,7 +13,7 @@ use std::error::Error;
 use std::fmt;
 use std::fmt::{Debug, Display, Formatter, Write};
 
-/// Tells why a map was not merged.
+/// Why a map wasn't merged.
 #[derive(Debug, Drop)]
 pub enum MergeError<K, V> {
     /// This key has values on both sides, and may not. The value is the other map's.
@@ -76,21 +76,21 @@ impl<K: Ord, V> MarkMap<K, V> {
         Ok(())
     }
 
-    // Tells whether a key with values on both sides refuses a merge.
+    // Returns whether a key with values on both sides refuses a merge.
     fn is_exclusive(&self, key: &K) -> bool
         ensures { result ≡ is_exclusive K.cmp self.now key.now }
     {
         matches!(self.behavior_of(key), MergeBehavior::MutuallyExclusive)
     }
 
-    // Tells whether a key with a value here has one there too, and may not.
+    // Returns whether a key with a value here has one there too, and may not.
     fn conflicts_at(&self, other: &MarkMap<K, V>, key: &K) -> bool
         ensures { result ≡ conflicts_at K.cmp self.now other.now key.now }
     {
         other.contains_key(key) && self.is_exclusive(key)
     }
 
-    // Answers the least key that refuses a merge.
+    // Returns the least key that refuses a merge.
     fn conflict(&self, other: &MarkMap<K, V>) -> Option<&K>
         ensures none { IfNone result (conflicts_of K.cmp self.now other.now ≡ []) }
         ensures least { IfSome result (IsFirstOf (conflicts_of K.cmp self.now other.now)) }

@@ -28,11 +28,17 @@ pub use walks::{PIdxs, RIdxs, TIdxs};
 /// A grammar whose rules, tokens and productions have numbers of `S`.
 #[derive(Drop)]
 pub struct NumberedGrammar<S: IndexStorage> {
+    /// The rules by name; a rule's number is its index.
     rules: IndexMap<String, RuleInfo>,
+    /// For each rule the numbers of its productions, ascending.
     rule_prods: Vec<Vec<PIdx<S>>>,
+    /// The tokens by name, without the end token, which is the last number.
     tokens: IndexMap<String, TokenInfo>,
+    /// The productions; one's number is its index.
     prods: Vec<ProductionInfo<S>>,
+    /// The production of the start rule.
     start: PIdx<S>,
+    /// Data of the whole text that derivations don't depend on.
     kept: KeptInfo<S>,
 }
 
@@ -51,7 +57,7 @@ impl<S: IndexStorage> Model for NumberedGrammar<S> {
         ListsProductions (value_of S.number g.rules.entries g.tokens.entries g.prods.items (S.number g.start.0) g.kept).grammar (map (λ l. numbers_of S.number l.items) g.rule_prods.items) };
 }
 
-/// The index of a number that fits.
+/// Returns the index of a number that fits.
 pub fn index_of<S: IndexStorage>(n: usize) -> S
     requires { n ≤ S.MAX }
     ensures { S.number result ≡ n }
@@ -59,7 +65,7 @@ pub fn index_of<S: IndexStorage>(n: usize) -> S
     S::from_usize(n).unwrap()
 }
 
-/// The productions of each rule.
+/// Returns the productions of each rule.
 fn list_productions<S: IndexStorage>(
     alloc: Global,
     rules: usize,
@@ -92,7 +98,7 @@ fn empty_lists<S: IndexStorage>(
 }
 
 impl<S: IndexStorage> NumberedGrammar<S> {
-    /// Of parts that make a well-formed grammar, whose counts fit.
+    /// Makes a grammar of parts that make a well-formed one, whose counts fit the index type.
     pub fn of_parts(
         alloc: Global,
         rules: IndexMap<String, RuleInfo>,
@@ -115,7 +121,7 @@ impl<S: IndexStorage> NumberedGrammar<S> {
         })
     }
 
-    /// A rule: its name and what stands beside it.
+    /// Returns a rule's name and the data beside it.
     fn rule_info(&self, ridx: RIdx<S>) -> (&str, &RuleInfo)
         requires { S.number ridx.0 < self.now.grammar.rules }
         ensures { slice_get self.now.rules (S.number ridx.0) ≡ Some (rule_seen result) }
@@ -124,7 +130,7 @@ impl<S: IndexStorage> NumberedGrammar<S> {
         (name.as_str(), rule)
     }
 
-    /// A token: its name and what stands beside it; None of the end token.
+    /// Returns a token's name and the data beside it; `None` for the end token.
     fn token_info(&self, tidx: TIdx<S>) -> Option<(&str, &TokenInfo)>
         requires { S.number tidx.0 < self.now.grammar.tokens }
         ensures value { slice_get self.now.tokens (S.number tidx.0) ≡ Some (token_seen result) }
@@ -137,35 +143,35 @@ impl<S: IndexStorage> NumberedGrammar<S> {
         }
     }
 
-    /// A law: what is called with this grammar may rely on its being well formed.
+    /// Proves that the grammar is well formed, for calls that require it.
     pub fn stays_well_formed(&self)
         ensures { WellFormed self.now.grammar }
     {
         self.start_prod();
     }
 
-    /// How many productions there are.
+    /// Returns how many productions there are.
     pub fn prods_len(&self) -> PIdx<S>
         ensures { S.number result.0 ≡ length self.now.grammar.productions }
     {
         PIdx(index_of(self.prods.len()))
     }
 
-    /// How many rules there are.
+    /// Returns how many rules there are.
     pub fn rules_len(&self) -> RIdx<S>
         ensures { S.number result.0 ≡ self.now.grammar.rules }
     {
         RIdx(index_of(self.rules.len()))
     }
 
-    /// How many tokens there are, the end token among them.
+    /// Returns how many tokens there are, the end token among them.
     pub fn tokens_len(&self) -> TIdx<S>
         ensures { S.number result.0 ≡ self.now.grammar.tokens }
     {
         TIdx(index_of(self.tokens.len() + 1))
     }
 
-    /// The symbols of a production.
+    /// Returns the symbols of a production.
     pub fn prod(&self, pidx: PIdx<S>) -> &[Symbol<S>]
         requires { S.number pidx.0 < length self.now.grammar.productions }
         ensures { syms_of S.number result.now ≡ body_of self.now.grammar (S.number pidx.0) }
@@ -173,7 +179,7 @@ impl<S: IndexStorage> NumberedGrammar<S> {
         self.prods[pidx.0.to_usize()].symbols.as_slice()
     }
 
-    /// How many symbols a production has.
+    /// Returns how many symbols a production has.
     pub fn prod_len(&self, pidx: PIdx<S>) -> SIdx<S>
         requires { S.number pidx.0 < length self.now.grammar.productions }
         ensures { S.number result.0 ≡ length (body_of self.now.grammar (S.number pidx.0)) }
@@ -182,7 +188,7 @@ impl<S: IndexStorage> NumberedGrammar<S> {
         SIdx(index_of(symbols.len()))
     }
 
-    /// The rule of a production.
+    /// Returns the rule of a production.
     pub fn prod_to_rule(&self, pidx: PIdx<S>) -> RIdx<S>
         requires { S.number pidx.0 < length self.now.grammar.productions }
         ensures { S.number result.0 ≡ head_of self.now.grammar (S.number pidx.0) }
@@ -190,7 +196,7 @@ impl<S: IndexStorage> NumberedGrammar<S> {
         self.prods[pidx.0.to_usize()].rule
     }
 
-    /// The productions of a rule, in order.
+    /// Returns the productions of a rule, in order.
     pub fn rule_to_prods(&self, ridx: RIdx<S>) -> &[PIdx<S>]
         requires { S.number ridx.0 < self.now.grammar.rules }
         ensures { numbers_of S.number result.now ≡ productions_of self.now.grammar (S.number ridx.0) }
@@ -198,7 +204,7 @@ impl<S: IndexStorage> NumberedGrammar<S> {
         self.rule_prods[ridx.0.to_usize()].as_slice()
     }
 
-    /// The production of the start rule, whose one symbol is the rule that a text begins with.
+    /// Returns the production of the start rule, whose one symbol is the rule that a text begins with.
     pub fn start_prod(&self) -> PIdx<S>
         ensures value { S.number result.0 ≡ self.now.grammar.start }
         ensures well_formed { WellFormed self.now.grammar }
@@ -206,17 +212,17 @@ impl<S: IndexStorage> NumberedGrammar<S> {
         self.start
     }
 
-    /// The start rule, which no production names.
+    /// Returns the start rule, which no production names.
     pub fn start_rule_idx(&self) -> RIdx<S>
         ensures value { S.number result.0 ≡ 0 }
         ensures within { 0 < self.now.grammar.rules }
     {
-        // Read, so that the proof may use what is so of each grammar.
+        // For the proof alone: this read gives it the invariant of each grammar.
         let _rules = &self.rules;
         RIdx(index_of(0))
     }
 
-    /// The end token, which is the last one and stands in no production.
+    /// Returns the end token, which is the last one and is in no production.
     pub fn eof_token_idx(&self) -> TIdx<S>
         ensures value { S.number result.0 ≡ end_token self.now.grammar }
         ensures within { S.number result.0 < self.now.grammar.tokens }

@@ -1,22 +1,22 @@
-//! What a grammar value keeps beside each number.
+//! What a grammar value has beside each number.
 
 use cfg_base::precedence::Precedence;
 use cfg_base::span::Span;
 use cfg_base::symbol::{RIdx, Symbol};
 
-/// What stands beside the name of a rule.
+/// The data beside the name of a rule.
 #[derive(Drop)]
 pub struct RuleInfo {
-    /// Where its name stands in the text.
+    /// The byte span of the rule's name in its first heading.
     pub span: Span,
     /// The type of its actions.
     pub action_type: Option<String>,
 }
 
-/// What stands beside the name of a token. The end token has no name, and none of these.
+/// The data beside the name of a token. The end token has no name, and none of these.
 #[derive(Drop)]
 pub struct TokenInfo {
-    /// Where its name stands in the text.
+    /// The byte span of the token's first appearance, without quotes.
     pub span: Span,
     /// The text by which messages show it, where it isn't the name.
     pub epp: Option<String>,
@@ -26,27 +26,27 @@ pub struct TokenInfo {
     pub is_avoided: bool,
 }
 
-/// A production with what stands beside its number.
+/// A production with the data beside its number.
 #[derive(Drop)]
 pub struct ProductionInfo<S> {
     /// The rule that it is of.
     pub rule: RIdx<S>,
     /// Its symbols, in order.
     pub symbols: Vec<Symbol<S>>,
-    /// Where it stands in the text.
+    /// The byte span of the production in the text.
     pub span: Span,
     /// Its precedence, where it has one.
     pub precedence: Option<Precedence>,
     /// The text of its action, without the braces.
     pub action: Option<String>,
-    /// Where the action stands in the text.
+    /// The byte span of the action's text, without the braces.
     pub action_span: Option<Span>,
 }
 
-/// What is kept of the whole text.
+/// Data of the whole text that derivations don't depend on.
 #[derive(Drop)]
 pub struct KeptInfo<S> {
-    /// The rule `~` of the tokens that may stand anywhere, where there are such.
+    /// The rule `~` of the tokens that may appear anywhere, where there are such.
     pub implicit_rule: Option<RIdx<S>>,
     /// The name and the type of the parameter that actions share.
     pub parse_param: Option<(String, String)>,

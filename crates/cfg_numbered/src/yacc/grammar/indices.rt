@@ -7,17 +7,18 @@ use cfg_base::index::IndexStorage;
 use cfg_base::symbol::{PIdx, RIdx, TIdx};
 
 impl<S: IndexStorage> NumberedGrammar<S> {
-    /// The rule of a number. A loop over all rules is `for number in 0..grm.rules_len().0.to_usize()`.
+    /// Returns the rule of a number. A loop over all rules is `for number in 0..grm.rules_len().0.to_usize()`.
     pub fn rule_at(&self, number: usize) -> RIdx<S>
         requires { number < self.now.grammar.rules }
         ensures { S.number result.0 ≡ number }
     {
-        // Read, so that the proof may use what is so of each grammar.
+        // For the proof alone: this read gives it the invariant of each grammar.
         let _rules = &self.rules;
         RIdx(index_of(number))
     }
 
-    /// The production of a number. A loop over all productions is `for number in 0..grm.prods_len().0.to_usize()`.
+    /// Returns the production of a number. A loop over all productions is `for number in
+    /// 0..grm.prods_len().0.to_usize()`.
     pub fn prod_at(&self, number: usize) -> PIdx<S>
         requires { number < length self.now.grammar.productions }
         ensures { S.number result.0 ≡ number }
@@ -26,7 +27,7 @@ impl<S: IndexStorage> NumberedGrammar<S> {
         PIdx(index_of(number))
     }
 
-    /// The token of a number. A loop over all tokens is `for number in 0..grm.tokens_len().0.to_usize()`.
+    /// Returns the token of a number. A loop over all tokens is `for number in 0..grm.tokens_len().0.to_usize()`.
     pub fn token_at(&self, number: usize) -> TIdx<S>
         requires { number < self.now.grammar.tokens }
         ensures { S.number result.0 ≡ number }
@@ -35,21 +36,21 @@ impl<S: IndexStorage> NumberedGrammar<S> {
         TIdx(index_of(number))
     }
 
-    /// Whether this is a rule of the grammar.
+    /// Returns whether this is a rule of the grammar.
     pub fn has_rule(&self, ridx: RIdx<S>) -> bool
         ensures { IsTrue result ↔ S.number ridx.0 < self.now.grammar.rules }
     {
         ridx.0.to_usize() < self.rules.len()
     }
 
-    /// Whether this is a production of the grammar.
+    /// Returns whether this is a production of the grammar.
     pub fn has_prod(&self, pidx: PIdx<S>) -> bool
         ensures { IsTrue result ↔ S.number pidx.0 < length self.now.grammar.productions }
     {
         pidx.0.to_usize() < self.prods.len()
     }
 
-    /// Whether this is a token of the grammar.
+    /// Returns whether this is a token of the grammar.
     pub fn has_token(&self, tidx: TIdx<S>) -> bool
         ensures { IsTrue result ↔ S.number tidx.0 < self.now.grammar.tokens }
     {

@@ -1,4 +1,4 @@
-//! Texts and numbers of the file that are kept and mean nothing to the grammar.
+//! Texts and numbers of the file that mean nothing to the grammar.
 
 ghost use Rattle.std.specs.Prelude.{◌≡◌, ◌<◌, ◌∷◌, [], ℕ, length, slice_get, option_map, Some, IfSome, MatchOption};
 ghost use Rattle.std.specs.String.{string_bytes};
@@ -13,7 +13,7 @@ use cfg_base::span::Span;
 use cfg_base::symbol::{PIdx, RIdx, TIdx};
 
 impl<S: IndexStorage> NumberedGrammar<S> {
-    /// The text by which messages show a token: that of `%epp`, else its name; None of the end token.
+    /// Returns the text by which messages show a token: that of `%epp`, else its name; None of the end token.
     pub fn token_epp(&self, tidx: TIdx<S>) -> Option<&str>
         requires { S.number tidx.0 < self.now.grammar.tokens }
         ensures text { option_map shown_text (slice_get self.now.tokens (S.number tidx.0)) ≡ Some (option_map (λ s. s.now) result) }
@@ -25,7 +25,7 @@ impl<S: IndexStorage> NumberedGrammar<S> {
         }
     }
 
-    /// Whether `%avoid_insert` names a token.
+    /// Returns whether `%avoid_insert` names a token.
     pub fn avoid_insert(&self, tidx: TIdx<S>) -> bool
         requires { S.number tidx.0 < self.now.grammar.tokens }
         ensures { option_map (λ t. t.is_avoided) (slice_get self.now.tokens (S.number tidx.0)) ≡ Some result }
@@ -36,7 +36,7 @@ impl<S: IndexStorage> NumberedGrammar<S> {
         }
     }
 
-    /// The action of a production, without its braces.
+    /// Returns the action of a production, without its braces.
     pub fn action(&self, pidx: PIdx<S>) -> &Option<String>
         requires { S.number pidx.0 < length self.now.grammar.productions }
         ensures { option_map (λ p. p.action) (slice_get self.now.productions (S.number pidx.0)) ≡ Some (option_map string_bytes result.now) }
@@ -44,7 +44,7 @@ impl<S: IndexStorage> NumberedGrammar<S> {
         &self.prods[pidx.0.to_usize()].action
     }
 
-    /// Where the action of a production stands in the text.
+    /// Returns the byte span of a production's action.
     pub fn action_span(&self, pidx: PIdx<S>) -> Option<Span>
         requires { S.number pidx.0 < length self.now.grammar.productions }
         ensures { option_map (λ p. p.action_span) (slice_get self.now.productions (S.number pidx.0)) ≡ Some result }
@@ -52,7 +52,7 @@ impl<S: IndexStorage> NumberedGrammar<S> {
         self.prods[pidx.0.to_usize()].action_span
     }
 
-    /// The type of the actions of a rule.
+    /// Returns the type of the actions of a rule.
     pub fn actiontype(&self, ridx: RIdx<S>) -> &Option<String>
         requires { S.number ridx.0 < self.now.grammar.rules }
         ensures { option_map (λ r. r.action_type) (slice_get self.now.rules (S.number ridx.0)) ≡ Some (option_map string_bytes result.now) }
@@ -60,42 +60,42 @@ impl<S: IndexStorage> NumberedGrammar<S> {
         &self.rule_info(ridx).1.action_type
     }
 
-    /// The name and the type of `%parse-param`.
+    /// Returns the name and the type of `%parse-param`.
     pub fn parse_param(&self) -> &Option<(String, String)>
         ensures { option_map param_facts result.now ≡ self.now.kept.parse_param }
     {
         &self.kept.parse_param
     }
 
-    /// The text of `%parse-generics`.
+    /// Returns the text of `%parse-generics`.
     pub fn parse_generics(&self) -> &Option<String>
         ensures { option_map string_bytes result.now ≡ self.now.kept.parse_generics }
     {
         &self.kept.parse_generics
     }
 
-    /// The text behind the second `%%`.
+    /// Returns the text behind the second `%%`.
     pub fn programs(&self) -> &Option<String>
         ensures { option_map string_bytes result.now ≡ self.now.kept.programs }
     {
         &self.kept.programs
     }
 
-    /// How many conflicts between shifts and reductions are expected.
+    /// Returns how many conflicts between shifts and reductions are expected.
     pub fn expect(&self) -> Option<usize>
         ensures { result ≡ self.now.kept.expect }
     {
         self.kept.expect
     }
 
-    /// How many conflicts among reductions are expected.
+    /// Returns how many conflicts among reductions are expected.
     pub fn expectrr(&self) -> Option<usize>
         ensures { result ≡ self.now.kept.expect_rr }
     {
         self.kept.expect_rr
     }
 
-    /// The rule `~` of the tokens that may stand anywhere, where the text declares such.
+    /// Returns the rule `~` of the tokens that may appear anywhere, where the text declares such.
     pub fn implicit_rule(&self) -> Option<RIdx<S>>
         ensures value { option_map (λ r. S.number r.0) result ≡ self.now.kept.implicit_rule }
         ensures named { IfSome result (λ r. IsRuleNamed self.now (S.number r.0) (126 ∷ [])) }

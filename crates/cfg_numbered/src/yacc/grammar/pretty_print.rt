@@ -34,12 +34,12 @@ impl<S: IndexStorage> NumberedGrammar<S> {
         Ok(())
     }
 
-    /// A production as text: `E: "E" "+" "E"`.
+    /// Returns a production as text: `E: "E" "+" "E"`.
     pub fn pp_prod(&self, alloc: Global, pidx: PIdx<S>) -> Result<String, AllocError>
         requires { S.number pidx.0 < length self.now.grammar.productions }
         ensures { IfOk result (λ text. string_bytes text ≡ production_text self.now (S.number pidx.0)) }
     {
-        // Read, so that the proof may use what is so of each grammar.
+        // For the proof alone: this read gives it the invariant of each grammar.
         let _rules = &self.rules;
         let mut text = String::new(alloc);
         text.push_str(self.rule_name_str(self.prod_to_rule(pidx)))?;

@@ -10,7 +10,7 @@ use indexmap::IndexMap;
 use std::alloc::{AllocError, Global};
 
 impl<S: IndexStorage> NumberedGrammar<S> {
-    /// The tokens that have a name by their names, in the order of their numbers.
+    /// Returns the tokens that have a name by their names, in the order of their numbers.
     pub fn tokens_map(&self, alloc: Global) -> Result<IndexMap<&str, TIdx<S>>, AllocError>
         ensures { IfOk result (λ m. map (λ e. (S.number e.1.0, e.0.now)) m.entries ≡ enumerate_from 0 (filter_map (λ k. k.name) self.now.tokens)) }
     {

@@ -1,5 +1,5 @@
-//! Tables over the rules of a grammar that productions fill: each is taken in once, in an order, and again where it
-//! names a rule of which the table came to tell something else.
+//! Tables over the rules of a grammar that productions fill: each production is taken in once, in an order, and again
+//! where it names a rule whose entry changed.
 
 ghost use Rattle.std.specs.Prelude.{◌≡◌, ℕ, ◌+◌, ◌<◌, ◌≤◌, ◌⊎◌, List, length, Option, IfOk, OnOk};
 ghost use Rattle.cfg_theory.specs.Grammar.{Grammar};
@@ -37,7 +37,7 @@ pub trait ProdTable {
     /// Tables with the same data as a third one have the same data.
     ghost same_trans: { (s t u : Self) → is_of_same s t → is_of_same t u → is_of_same s u };
 
-    /// Takes in a production, and gives its rule where that changed what the table tells of the rule.
+    /// Takes in a production, and returns its rule where that changed the rule's entry.
     fn take_prod(&mut self, number: usize) -> Result<Option<usize>, AllocError>
         requires production { number < length (grammar self.old).productions }
         requires sound { is_sound self.old }
@@ -56,7 +56,7 @@ pub struct ByProds<'n, T> {
     pub naming: &'n Naming,
 }
 
-/// Takes in a production. The rule of which the table tells something else by that enters the list.
+/// Takes in a production. Where that changed the entry of its rule, the rule enters the list.
 fn take_in<T: ProdTable>(
     table: &mut T,
     number: usize,
@@ -148,7 +148,7 @@ pub fn fill_by_prods<T: ProdTable + Drop, L: Ledger>(
     Ok(())
 }
 
-/// The same, where nobody counts.
+/// Fills a table until it is closed under all productions, without a step counter.
 pub fn close_by_prods<T: ProdTable + Drop>(
     alloc: Global,
     order: &Order,

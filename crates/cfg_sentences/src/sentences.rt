@@ -89,8 +89,8 @@ impl<'a, S: IndexStorage> Model for SentenceGenerator<'a, S> {
 }
 
 impl<'a, S: IndexStorage> SentenceGenerator<'a, S> {
-    /// Costs of the rules' sentences, by costs of the tokens: `f` is called once for each token in order,
-    /// the end token too.
+    /// Computes the costs of the rules' sentences from costs of the tokens: `f` is called once for each token in
+    /// order, the end token too.
     pub fn new<F: Fn(TIdx<S>) -> u8 + Drop>(
         alloc: Global,
         grm: &'a NumberedGrammar<S>,

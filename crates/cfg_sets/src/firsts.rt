@@ -43,7 +43,7 @@ impl<S: IndexStorage> Model for YaccFirsts<S> {
 }
 
 impl<S: IndexStorage> YaccFirsts<S> {
-    /// Whether the symbol is a nullable rule; a token isn't nullable.
+    /// Returns whether the symbol is a nullable rule; a token isn't nullable.
     pub fn is_nullable(&self, symbol: Symbol<S>) -> bool
         requires { IsWithin self.now (sym_of S.number symbol) }
         ensures { IsTrue result ↔ IsNullableIn self.now (sym_of S.number symbol) }
@@ -66,7 +66,7 @@ impl<S: IndexStorage> YaccFirsts<S> {
         tail.or(self.firsts.row(number));
     }
 
-    /// Of a list that begins with a token that token alone.
+    /// Makes of `tail`, the FIRST set of a list, that of the list behind a token: the token alone.
     fn put_token_before(&self, tidx: TIdx<S>, tail: &mut Vob)
         requires within { S.number tidx.0 < self.now.tokens }
         requires width { length tail.old.bits ≡ self.now.tokens }
@@ -90,8 +90,8 @@ impl<S: IndexStorage> YaccFirsts<S> {
         }
     }
 
-    /// Sets `begins` to the tokens that the symbols begin with, by these sets, and says whether all the symbols are
-    /// nullable.
+    /// Sets `begins` to the tokens that the symbols begin with, by these sets, and returns whether all the
+    /// symbols are nullable.
     pub fn first_of(&self, symbols: &[Symbol<S>], begins: &mut Vob) -> bool
         requires within { AllWithin self.now (syms_of S.number symbols.now) }
         requires width { length begins.old.bits ≡ self.now.tokens }
@@ -109,7 +109,7 @@ impl<S: IndexStorage> YaccFirsts<S> {
         nullable
     }
 
-    /// Adds the tokens to the set of a rule, and says whether that changed it.
+    /// Adds the tokens to the set of a rule, and returns whether that changed it.
     fn add_tokens(&mut self, rule: RIdx<S>, tokens: &Vob) -> bool
         requires within { S.number rule.0 < length self.old.rows }
         requires width { length tokens.now.bits ≡ self.old.tokens }
@@ -122,7 +122,7 @@ impl<S: IndexStorage> YaccFirsts<S> {
         self.firsts.join(rule.0.to_usize(), tokens)
     }
 
-    /// Puts a rule among the nullable ones, and says whether it wasn't one of them.
+    /// Puts a rule among the nullable ones, and returns whether it wasn't one of them.
     fn add_epsilon(&mut self, rule: RIdx<S>) -> bool
         requires { S.number rule.0 < length self.old.rows }
         ensures tokens { self.new.tokens ≡ self.old.tokens }
@@ -136,7 +136,7 @@ impl<S: IndexStorage> YaccFirsts<S> {
 }
 
 impl<S: IndexStorage> YaccFirsts<S> {
-    /// The sets of a grammar's rules.
+    /// Computes the FIRST sets of a grammar's rules (Aho, Sethi and Ullman 1986, section 4.4).
     pub fn new(alloc: Global, grm: &NumberedGrammar<S>) -> Result<Self, AllocError>
         ensures { IfOk result (λ f. AreFirsts grm.now.grammar f) }
     {
@@ -157,7 +157,7 @@ impl<S: IndexStorage> YaccFirsts<S> {
         })
     }
 
-    /// The set of a rule: a bit for each token.
+    /// Returns the set of a rule: a bit for each token.
     pub fn firsts(&self, ridx: RIdx<S>) -> &Vob
         requires { S.number ridx.0 < length self.now.rows }
         ensures bits { result.now.bits ≡ get_or self.now.rows (S.number ridx.0) [] }
@@ -166,7 +166,7 @@ impl<S: IndexStorage> YaccFirsts<S> {
         self.firsts.row(ridx.0.to_usize())
     }
 
-    /// Whether the token is in the set of the rule.
+    /// Returns whether the token is in the set of the rule.
     pub fn is_set(&self, ridx: RIdx<S>, tidx: TIdx<S>) -> bool
         requires rule { S.number ridx.0 < length self.now.rows }
         requires token { S.number tidx.0 < self.now.tokens }
@@ -175,7 +175,7 @@ impl<S: IndexStorage> YaccFirsts<S> {
         self.firsts(ridx).get_unchecked(tidx.0.to_usize())
     }
 
-    /// Whether the rule is among the nullable ones.
+    /// Returns whether the rule is among the nullable ones.
     pub fn is_epsilon_set(&self, ridx: RIdx<S>) -> bool
         requires { S.number ridx.0 < length self.now.rows }
         ensures { IsTrue result ↔ HasEpsilon self.now (S.number ridx.0) }
@@ -183,7 +183,7 @@ impl<S: IndexStorage> YaccFirsts<S> {
         self.epsilons.get_unchecked(ridx.0.to_usize())
     }
 
-    /// Puts the token into the set of the rule, and says whether it was there.
+    /// Puts the token into the set of the rule, and returns whether it was there.
     pub fn set(&mut self, ridx: RIdx<S>, tidx: TIdx<S>) -> bool
         requires rule { S.number ridx.0 < length self.old.rows }
         requires token { S.number tidx.0 < self.old.tokens }
@@ -197,7 +197,7 @@ impl<S: IndexStorage> YaccFirsts<S> {
 }
 
 impl<S: IndexStorage> YaccFirsts<S> {
-    /// Adds the set of one rule to that of another, by way of `row`, and says whether that changed it.
+    /// Adds the set of one rule to that of another, by way of `row`, and returns whether that changed it.
     fn add_row(&mut self, head: RIdx<S>, rule: RIdx<S>, row: &mut Vob) -> bool
         requires head { S.number head.0 < length self.old.rows }
         requires rule { S.number rule.0 < length self.old.rows }
@@ -211,19 +211,19 @@ impl<S: IndexStorage> YaccFirsts<S> {
         self.add_tokens(head, row)
     }
 
-    /// Adds a token to the set of a rule, and says whether that changed it.
+    /// Adds a token to the set of a rule, and returns whether that changed it.
     fn add_token(&mut self, head: RIdx<S>, token: TIdx<S>) -> bool
         requires head { S.number head.0 < length self.old.rows }
         requires token { S.number token.0 < self.old.tokens }
         ensures added { Adds (S.number head.0) (λ t. S.number token.0 ≡ t) ⊥ self.old self.new }
         ensures steps { PassStep first_room Anything self.old self.new result }
     {
-        // Read, so that the proof may use how wide the set is.
+        // For the proof alone: this read gives it how wide the set is.
         let _set = self.firsts(head);
         !self.set(head, token)
     }
 
-    /// Adds the tokens that a symbol begins with to the set of a rule, and says whether that changed it.
+    /// Adds the tokens that a symbol begins with to the set of a rule, and returns whether that changed it.
     fn add_symbol(&mut self, head: RIdx<S>, symbol: Symbol<S>, row: &mut Vob) -> bool
         requires head { S.number head.0 < length self.old.rows }
         requires within { IsWithin self.old (sym_of S.number symbol) }
@@ -238,8 +238,8 @@ impl<S: IndexStorage> YaccFirsts<S> {
         }
     }
 
-    /// Adds to a rule what the symbols begin with, up to the first that isn't nullable, and the rule to the nullable
-    /// ones where there is none. Says whether that changed the sets.
+    /// Adds to a rule's set the tokens with which the symbols begin, up to the first symbol that isn't nullable.
+    /// Makes the rule nullable where all are. Returns whether that changed the sets.
     fn add_body(&mut self, head: RIdx<S>, symbols: &[Symbol<S>], row: &mut Vob) -> bool
         requires head { S.number head.0 < length self.old.rows }
         requires within { AllWithin self.old (syms_of S.number symbols.now) }
@@ -369,8 +369,9 @@ impl<'a, S: IndexStorage> Filling<'a, S> {
     }
 }
 
-/// The FIRST sets of a grammar's rules, as `YaccFirsts::new` makes them. A step is counted for each rule that is taken
-/// from the work list: each is once, and again when its set grew or it was found to be nullable.
+/// Computes the FIRST sets of a grammar's rules, as `YaccFirsts::new` does (Aho, Sethi and Ullman 1986, section 4.4).
+/// A step is counted for each rule that is taken from the work list: once, and again when its set grew or it was
+/// found to be nullable.
 pub fn fill_firsts<S: IndexStorage, L: Ledger>(
     alloc: Global,
     grm: &NumberedGrammar<S>,
@@ -389,7 +390,7 @@ pub fn fill_firsts<S: IndexStorage, L: Ledger>(
     Ok(filling.firsts)
 }
 
-/// The same, where nobody counts.
+/// Computes the FIRST sets without a step counter.
 fn fill_with_blank<S: IndexStorage, L: Ledger>(
     alloc: Global,
     grm: &NumberedGrammar<S>,

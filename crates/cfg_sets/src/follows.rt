@@ -39,15 +39,15 @@ impl<S: IndexStorage> Model for YaccFollows<S> {
 }
 
 impl<S: IndexStorage> YaccFollows<S> {
-    /// The sets of a grammar's rules, whether a text's derivations reach them or not. The end token
-    /// follows the start rule, and what it derives last.
+    /// Computes the FOLLOW sets of a grammar's rules (Aho, Sethi and Ullman 1986, section 4.4), whether a text's
+    /// derivations reach them or not. The end token follows the start rule, and the rules that it derives last.
     pub fn new(alloc: Global, grm: &NumberedGrammar<S>) -> Result<Self, AllocError>
         ensures { IfOk result (λ f. AreFollows grm.now.grammar f) }
     {
         fill_with_blank::<S, Brand>(alloc, grm, Blank::new(1))
     }
 
-    /// The set of a rule: a bit for each token.
+    /// Returns the set of a rule: a bit for each token.
     pub fn follows(&self, ridx: RIdx<S>) -> &Vob
         requires { S.number ridx.0 < length self.now.rows }
         ensures bits { result.now.bits ≡ get_or self.now.rows (S.number ridx.0) [] }
@@ -56,7 +56,7 @@ impl<S: IndexStorage> YaccFollows<S> {
         self.follows.row(ridx.0.to_usize())
     }
 
-    /// Whether the token is in the set of the rule.
+    /// Returns whether the token is in the set of the rule.
     pub fn is_set(&self, ridx: RIdx<S>, tidx: TIdx<S>) -> bool
         requires rule { S.number ridx.0 < length self.now.rows }
         requires token { S.number tidx.0 < self.now.tokens }
@@ -85,7 +85,7 @@ impl<S: IndexStorage> YaccFollows<S> {
         to.or(self.follows.row(rule.0.to_usize()));
     }
 
-    /// Adds the tokens to the set of a rule, and says whether that changed it.
+    /// Adds the tokens to the set of a rule, and returns whether that changed it.
     fn add_tokens(&mut self, rule: RIdx<S>, tokens: &Vob) -> bool
         requires within { S.number rule.0 < length self.old.rows }
         requires width { length tokens.now.bits ≡ self.old.tokens }
@@ -97,7 +97,7 @@ impl<S: IndexStorage> YaccFollows<S> {
         self.follows.join(rule.0.to_usize(), tokens)
     }
 
-    /// The same of a symbol, where it is a rule.
+    /// Adds the tokens to the set of a symbol, if it is a rule, and returns whether that changed it.
     fn add_behind(&mut self, symbol: Symbol<S>, tokens: &Vob) -> bool
         requires within { HasSet self.old (sym_of S.number symbol) }
         requires width { length tokens.now.bits ≡ self.old.tokens }
@@ -111,8 +111,8 @@ impl<S: IndexStorage> YaccFollows<S> {
         }
     }
 
-    /// Adds what begins behind each rule of a production to that rule's set, and what follows the production's rule
-    /// where all behind the other is nullable.
+    /// Adds to the set of each rule of a production what begins behind the rule there, and what follows the
+    /// production's rule where all behind is nullable.
     fn take_prod(
         &mut self,
         grm: &NumberedGrammar<S>,
@@ -137,7 +137,7 @@ impl<S: IndexStorage> YaccFollows<S> {
         }
     }
 
-    /// Adds the set of one rule to that of another, by way of `row`, and says whether that changed it.
+    /// Adds the set of one rule to that of another, by way of `row`, and returns whether that changed it.
     fn add_row(&mut self, to: RIdx<S>, from: RIdx<S>, row: &mut Vob) -> bool
         requires to { S.number to.0 < length self.old.rows }
         requires from { S.number from.0 < length self.old.rows }
@@ -172,7 +172,7 @@ impl<S: IndexStorage> YaccFollows<S> {
         Ok(())
     }
 
-    /// The same with a symbol, where that is a rule.
+    /// Adds what follows one rule to what follows a symbol, if that is a rule.
     fn hand_to_symbol(
         &mut self,
         from: RIdx<S>,
@@ -314,7 +314,7 @@ impl<'a, S: IndexStorage> Filling<'a, S> {
     }
 }
 
-/// The FOLLOW sets of a grammar's rules, with a step for each rule that is taken from the work list.
+/// Computes the FOLLOW sets of a grammar's rules, with a step for each rule that is taken from the work list.
 fn fill_follows<S: IndexStorage, L: Ledger>(
     alloc: Global,
     grm: &NumberedGrammar<S>,
@@ -334,7 +334,7 @@ fn fill_follows<S: IndexStorage, L: Ledger>(
     Ok(filling.follows)
 }
 
-/// The same, where nobody counts.
+/// Computes the FOLLOW sets without a step counter.
 fn fill_with_blank<S: IndexStorage, L: Ledger>(
     alloc: Global,
     grm: &NumberedGrammar<S>,

@@ -1,4 +1,4 @@
-//! FIRST and FOLLOW sets and paths: what the derivations of a grammar value show.
+//! FIRST and FOLLOW sets of a grammar value (Aho, Sethi and Ullman 1986, section 4.4), and paths between its rules.
 //!
 //! ```rust
 //! use cfg_base::index::IndexStorage;
@@ -24,16 +24,15 @@
 //! }
 //! ```
 //!
-//! For the grammar of `%start S %% S: A 'b'; A: 'a' A | ;` it answers `A `. That each index is one of this grammar is what
-//! `is_epsilon_set` asks, and follows from `rule_at`, which wants a number below the count.
+//! For the grammar of `%start S %% S: A 'b'; A: 'a' A | ;` it returns `A `. `is_epsilon_set` requires that the index
+//! is one of this grammar, which follows from `rule_at`; that requires a number below the count.
 //!
-//! The contracts that matter most are those of `YaccFirsts::new` and `YaccFollows::new`, whose sets hold exactly what
-//! derivations show, and of `has_path`.
+//! The contracts that matter most are those of `YaccFirsts::new` and `YaccFollows::new`, whose sets have exactly the
+//! tokens that derivations have, and of `has_path`.
 //!
-//! The sets and paths are found by takings from a list of rules that wait (`work_list`): what rests on a rule that is
-//! taken is brought up to date, and a rule of which that tells more waits again. What takings keep is true of
-//! derivations, what they end with is closed under the productions, and sets that are both are exact by the laws of
-//! `cfg_theory`.
+//! Sets and paths are found with a work list of rules (`work_list`): a rule is taken from it, what depends on the
+//! rule is updated, and a rule whose set grows enters the list. All that is in a set is true of derivations, at the
+//! end the sets are closed under the productions, and such sets are exact by the laws of `cfg_theory`.
 #![tactic(auto)]
 
 pub mod firsts;

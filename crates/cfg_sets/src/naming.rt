@@ -1,4 +1,4 @@
-//! For each rule the productions in whose bodies it stands.
+//! For each rule the productions in whose bodies it occurs.
 
 ghost use Rattle.std.specs.Prelude.{◌≡◌, ℕ, ◌<◌, List, [], length, get_or, slice_get, Some, replicate, IsTrue, IfOk, OnOk};
 ghost use Rattle.std.specs.List.{Contains};
@@ -27,7 +27,7 @@ impl Model for Naming {
 }
 
 impl Naming {
-    /// The lists of a grammar.
+    /// Lists, for each rule of a grammar, the productions that name it.
     pub fn new<S: IndexStorage>(
         alloc: Global,
         grm: &NumberedGrammar<S>,
@@ -52,14 +52,14 @@ impl Naming {
         Ok(Naming { lists })
     }
 
-    /// How many rules there are.
+    /// Returns how many rules there are.
     pub fn len(&self) -> usize
         ensures { result ≡ length self.now }
     {
         self.lists.len()
     }
 
-    /// The productions that name a rule.
+    /// Returns the productions that name a rule.
     pub fn of(&self, rule: usize) -> &[usize]
         requires { rule < length self.now }
         ensures { result.now ≡ get_or self.now rule [] }
@@ -97,7 +97,7 @@ impl Naming {
         }
     }
 
-    /// Lists a production beside a rule, where it isn't the last that stands there.
+    /// Lists a production beside a rule, unless it is the last one there.
     fn add(&mut self, number: usize, rule: usize) -> Result<(), AllocError>
         requires { rule < length self.old }
         ensures { OnOk result (AddsNamed number (λ A. A ≡ rule) self.old self.new) }
@@ -111,7 +111,7 @@ impl Naming {
     }
 }
 
-/// Whether the number is the last one of the list.
+/// Returns whether the number is the last one of the list.
 fn ends_with(list: &[usize], number: usize) -> bool
     ensures { IsTrue result → Contains list.now number }
 {

@@ -1,4 +1,4 @@
-//! An order of a grammar's productions by which a work list has little left to do: those of a rule stand behind those
+//! An order of a grammar's productions in which a work list has little left to do: those of a rule come after those
 //! of the rules that they name, unless names lead around in a cycle.
 
 ghost use Rattle.std.specs.Prelude.{◌≡◌, ◌<◌, [], ◌∷◌, ◌++◌, IfOk, OnOk, MatchOption, length, get_or};
@@ -162,7 +162,8 @@ impl Model for Order {
 }
 
 impl Order {
-    /// All productions, where it goes those of a rule behind those of the rules that they name.
+    /// Returns an order of all productions in which those of a rule come after those of the rules that they name,
+    /// unless names lead around in a cycle.
     pub fn named_first<S: IndexStorage>(
         alloc: Global,
         grm: &NumberedGrammar<S>,
@@ -175,7 +176,7 @@ impl Order {
         Order::begun_with(prods, order)
     }
 
-    /// The productions of a list, and behind them the others.
+    /// Returns the productions of a list, and behind them the others.
     pub fn begun_with(prods: usize, list: WorkList) -> Result<Order, AllocError>
         requires { list.rules ≡ prods }
         ensures { IfOk result (λ o. IsOrder prods o) }
@@ -187,14 +188,14 @@ impl Order {
         })
     }
 
-    /// How many productions there are.
+    /// Returns how many productions there are.
     pub fn len(&self) -> usize
         ensures { result ≡ length self.now }
     {
         self.list.len()
     }
 
-    /// The production of an index.
+    /// Returns the production at an index of the order.
     pub fn at(&self, index: usize) -> usize
         requires { index < length self.now }
         ensures { result ≡ get_or self.now index 0 }

@@ -19,7 +19,7 @@ use std::marker::Brand;
 use std::sync::ledger::{Blank, Ledger};
 use vob::Vob;
 
-/// Whether a rule reaches another, or itself, by one or more references in productions.
+/// Returns whether a rule reaches another, or itself, by one or more references in productions.
 pub fn has_path<S: IndexStorage>(
     alloc: Global,
     grm: &NumberedGrammar<S>,
@@ -33,7 +33,7 @@ pub fn has_path<S: IndexStorage>(
     find_with_blank::<S, Brand>(alloc, grm, from, to, Blank::new(1))
 }
 
-/// Puts a symbol into the set, where it is a rule, and says whether that changed the set.
+/// Puts a symbol into the set, where it is a rule, and returns whether that changed the set.
 fn add_symbol<S: IndexStorage>(symbol: Symbol<S>, reached: &mut Vob) -> bool
     requires { HasPlace reached.old.bits (sym_of S.number symbol) }
     ensures bits { reached.new.bits ≡ with_rule reached.old.bits (sym_of S.number symbol) }
@@ -130,7 +130,7 @@ impl<'a, S: IndexStorage> WorkTable for Reaching<'a, S> {
     }
 }
 
-/// Whether a rule reaches another, with a step for each rule that is taken from the work list.
+/// Returns whether a rule reaches another, with a step for each rule that is taken from the work list.
 fn find_path<S: IndexStorage, L: Ledger>(
     alloc: Global,
     grm: &NumberedGrammar<S>,
@@ -152,7 +152,7 @@ fn find_path<S: IndexStorage, L: Ledger>(
     Ok(reaching.reached.get_unchecked(to.0.to_usize()))
 }
 
-/// The same, where nobody counts.
+/// Finds whether there is a path, without a step counter.
 fn find_with_blank<S: IndexStorage, L: Ledger>(
     alloc: Global,
     grm: &NumberedGrammar<S>,

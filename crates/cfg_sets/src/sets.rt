@@ -1,4 +1,4 @@
-//! Sets of tokens, one for each rule: FIRST and FOLLOW sets are kept so, and lookaheads of a closure may be.
+//! Sets of tokens, one for each rule: FIRST and FOLLOW sets are stored so, and lookaheads of a closure may be.
 
 ghost use Rattle.std.specs.Prelude.{◌≡◌, ℕ, ◌<◌, ◌↔◌, ◌||◌, Bool, true, false, not, IsTrue, IfOk, List, [], length, map, get_or, replicate, slice_set, if◌then◌else◌};
 ghost use Rattle.vob.specs.Sets.{SetRows, is_set, is_set_in, missing_in, joined_to, HasAllOf, AreRows};
@@ -38,7 +38,7 @@ impl TokenSets {
         Ok(TokenSets { width, rows })
     }
 
-    /// The set of a rule.
+    /// Returns the set of a rule.
     pub fn row(&self, rule: usize) -> &Vob
         requires { rule < length self.now.rows }
         ensures bits { result.now.bits ≡ get_or self.now.rows rule [] }
@@ -47,7 +47,7 @@ impl TokenSets {
         &self.rows[rule]
     }
 
-    /// Adds the tokens to the set of a rule, and says whether that changed it.
+    /// Adds the tokens to the set of a rule, and returns whether that changed it.
     pub fn join(&mut self, rule: usize, tokens: &Vob) -> bool
         requires within { rule < length self.old.rows }
         requires width { length tokens.now.bits ≡ self.old.width }
@@ -59,7 +59,7 @@ impl TokenSets {
         row.or(tokens)
     }
 
-    /// Puts a token into the set of a rule, and says whether it was there.
+    /// Puts a token into the set of a rule, and returns whether it was there.
     pub fn put(&mut self, rule: usize, token: usize) -> bool
         requires rule { rule < length self.old.rows }
         requires token { token < self.old.width }
@@ -71,7 +71,7 @@ impl TokenSets {
     }
 }
 
-/// Empties a set unless it is to be kept.
+/// Empties a set unless `keep`.
 pub fn clear_unless(set: &mut Vob, keep: bool)
     ensures { set.new.bits ≡ if keep then set.old.bits else replicate (length set.old.bits) false }
 {

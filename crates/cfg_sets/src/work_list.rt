@@ -1,5 +1,5 @@
-//! Tables over the rules of a grammar that takings from a work list fill: a rule is taken from the list, and what
-//! rests on the rule is brought up to date; a rule of which the table tells more by that enters the list.
+//! Tables over the rules of a grammar that a work list fills: a rule is taken from the list, and what depends on the
+//! rule is updated; a rule whose entry grows enters the list.
 
 ghost use Rattle.std.specs.Prelude.{◌≡◌, ℕ, ◌+◌, ◌<◌, ◌≤◌, ◌⊎◌, List, [], ◌∷◌, ◌++◌, length, OnOk, IfOk, IfSome, MatchOption};
 ghost use Rattle.std.specs.List.{All, Contains};
@@ -78,7 +78,7 @@ impl WorkList {
         }
     }
 
-    /// The rules of the list.
+    /// Returns the rules of the list.
     pub fn into_list(self) -> Vec<usize>
         ensures list { result.items ≡ self.list }
         ensures within { All (λ A. A < self.rules) self.list }
@@ -86,11 +86,11 @@ impl WorkList {
         self.list
     }
 
-    /// A law: the rules of the list are below their number.
+    /// Proves that the rules of the list are below their number.
     pub fn stays_within(&self)
         ensures { All (λ A. A < self.now.rules) self.now.list }
     {
-        // Read, so that the proof may use what is so of each such list.
+        // For the proof alone: this read gives it the invariant of each such list.
         let _list = &self.list;
     }
 
@@ -131,8 +131,7 @@ pub trait WorkTable {
     /// Tables with the same data as a third one have the same data.
     ghost same_trans: { (s t u : Self) → is_of_same s t → is_of_same t u → is_of_same s u };
 
-    /// Brings up to date what rests on a rule that was taken off the list. Each rule of which the table tells more
-    /// by that enters the list.
+    /// Updates what depends on a rule that was taken off the list. Each rule whose entry grows enters the list.
     fn take(&mut self, rule: usize, work: &mut WorkList) -> Result<(), AllocError>
         requires rule { rule < rules self.old }
         requires work { work.old.rules ≡ rules self.old }

@@ -1,5 +1,6 @@
-//! Groups of rules whose productions name no rule of a set, but for those of the group where nothing else costs
-//! anything: they are bounded where all rules outside of the set are, so they leave it at once, without a round.
+//! Groups of rules whose productions name no rule of a set, except rules of the group where nothing else costs
+//! anything. Such a group is bounded if all rules outside of the set are, so it leaves the set at once, without a
+//! round.
 
 ghost use Rattle.std.specs.Prelude.{◌≡◌, ℕ, ◌<◌, ◌≤◌, false, IsTrue, OnOk, length, slice_set};
 ghost use Rattle.cfg_theory.specs.Grammar.{IsOf};
@@ -18,8 +19,8 @@ use cfg_theory::cost::unbounded_rules_gain;
 use std::alloc::{AllocError, Global};
 use vob::Vob;
 
-/// Whether a production can't be used, or names no rule of the set; of the rest, where no two of its symbols cost
-/// something.
+/// Returns whether a production can't be used, or names no rule of the set; of the rest, where no two of its symbols
+/// cost something.
 fn settles<S: IndexStorage>(costly: &KeptCosts<S>, pidx: PIdx<S>, set: &Vob, rest: &Vob) -> bool
     requires production { S.number pidx.0 < length costly.now.grammar.productions }
     requires width { length set.now.bits ≡ costly.now.grammar.rules }
@@ -32,7 +33,7 @@ fn settles<S: IndexStorage>(costly: &KeptCosts<S>, pidx: PIdx<S>, set: &Vob, res
     !names_kept(costly, pidx, cost, set, rest)
 }
 
-/// Whether all productions of a rule do so.
+/// Returns whether all productions of a rule do so.
 fn is_settled<S: IndexStorage>(costly: &KeptCosts<S>, ridx: RIdx<S>, set: &Vob, rest: &Vob) -> bool
     requires rule { S.number ridx.0 < costly.now.grammar.rules }
     requires width { length set.now.bits ≡ costly.now.grammar.rules }
@@ -48,7 +49,7 @@ fn is_settled<S: IndexStorage>(costly: &KeptCosts<S>, ridx: RIdx<S>, set: &Vob, 
     true
 }
 
-/// Whether all rules of a group do so.
+/// Returns whether all rules of a group do so.
 fn are_settled<S: IndexStorage>(
     costly: &KeptCosts<S>,
     group: &[usize],

@@ -1,8 +1,8 @@
 //! All cheapest token lists of a rule.
 //!
-//! Productions that give their rules the least cost put together lists of the rules that they name, each once in an
-//! order, and again where it names a rule that got a new list, as where names lead around in a cycle. Only rules that the
-//! asked one needs take part, so each list is a part of one that is answered.
+//! Each production that gives its rule the least cost joins lists of the rules that it names. Productions are taken
+//! in once, in an order, and again where they name a rule that got a new list, as in a cycle of names. Only rules
+//! that the asked one needs take part, so each list is a part of a returned one.
 
 ghost use Rattle.std.specs.Prelude.{◌≡◌, ℕ, ◌<◌, ◌↔◌, ◌∷◌, IsTrue, IfOk, IfErr, List, [], length, get_or, replicate, Contains, Some};
 ghost use Rattle.cfg_theory.specs.Grammar.{Grammar, body_of};
@@ -29,9 +29,8 @@ use vob::Vob;
 
 impl<'a, S: IndexStorage> SentenceGenerator<'a, S> {
     /// Returns all cheapest token lists of the rule in the dictionary order of token numbers, each once. Returns
-    /// `NoSentence` where the rule derives none, `CostTooLarge` where their cost is past 65,535, and `Memory`
-    /// where they don't fit into memory. Where a token costs nothing there may be infinitely many, which is
-    /// `Memory` too.
+    /// `NoSentence` where the rule derives none, and `CostTooLarge` where they cost more than 65,535. Returns
+    /// `Memory` where they don't fit into memory; where a token costs nothing there may be infinitely many.
     pub fn min_sentences(
         &self,
         alloc: Global,
@@ -56,7 +55,7 @@ impl<'a, S: IndexStorage> SentenceGenerator<'a, S> {
     }
 }
 
-/// The cheapest lists of a rule whose least cost is below the bound.
+/// Returns the cheapest lists of a rule whose least cost is below the bound.
 pub(super) fn lists_of_rule<S: IndexStorage>(
     alloc: Global,
     least: &LeastCosts<S>,
@@ -75,7 +74,7 @@ pub(super) fn lists_of_rule<S: IndexStorage>(
     Ok(lists.into_vec())
 }
 
-/// What a symbol and lists behind it give.
+/// Returns the lists of a symbol, each joined with each of the lists behind it.
 fn put_symbol<S: IndexStorage>(
     alloc: Global,
     symbol: Symbol<S>,
@@ -97,7 +96,7 @@ fn put_symbol<S: IndexStorage>(
     }
 }
 
-/// The lists that symbols put together, of lists of the rules.
+/// Returns the lists that symbols put together, of lists of the rules.
 fn put_together<S: IndexStorage>(
     alloc: Global,
     symbols: &[Symbol<S>],
@@ -192,7 +191,7 @@ fn no_lists<S: IndexStorage>(alloc: Global, rules: usize) -> Result<Vec<TokenLis
     Ok(table)
 }
 
-/// The lists of the wanted rules.
+/// Returns the lists of the wanted rules.
 fn cheapest_lists<S: IndexStorage>(
     alloc: Global,
     least: &LeastCosts<S>,

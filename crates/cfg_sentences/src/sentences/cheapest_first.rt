@@ -1,6 +1,7 @@
-//! An order of a grammar's productions by which least costs are found at once: a production by which its rule costs
-//! least stands behind those by which the rules that it names do, and a cheaper one before a dearer one. So Knuth
-//! (1977) finds the costs; here his way gives no more than an order, and what doesn't follow it is found later.
+//! An order of a grammar's productions in which least costs are found at once: a production by which its rule costs
+//! least comes after those by which the rules that it names do, and a cheaper one before a dearer one. Knuth's
+//! generalization of Dijkstra's algorithm (1977) finds costs so; here it only gives the order, and costs that it
+//! doesn't find are found later.
 
 ghost use Rattle.std.specs.Prelude.{◌≡◌, ℕ, ◌<◌, ◌≤◌, IfOk, OnOk, length};
 ghost use Rattle.cfg_sentences.specs.CostTable.{AreCapped};
@@ -37,7 +38,7 @@ fn count_named(named: &[usize], lacking: &mut Vec<usize>)
     }
 }
 
-/// How many rules each production names.
+/// Returns how many rules each production names.
 fn count_open(alloc: Global, prods: usize, naming: &Naming) -> Result<Vec<usize>, AllocError>
     ensures { IfOk result (λ v. length v.items ≡ prods) }
 {
@@ -48,7 +49,7 @@ fn count_open(alloc: Global, prods: usize, naming: &Naming) -> Result<Vec<usize>
     Ok(lacking)
 }
 
-/// Lowers the count of a production by one, and says whether that was the last.
+/// Lowers the count of a production by one, and returns whether that was the last.
 fn close_one(number: usize, lacking: &mut Vec<usize>) -> bool
     ensures { length lacking.new.items ≡ length lacking.old.items }
 {
@@ -118,7 +119,7 @@ fn hand_on<S: IndexStorage>(
     Ok(())
 }
 
-/// Gives a rule its cost, where it has none, and says whether it had none.
+/// Gives a rule its cost, where it has none, and returns whether it had none.
 fn put_cost(rule: usize, cost: u32, costs: &mut Vec<Option<u32>>) -> bool
     requires rule { rule < length costs.old.items }
     requires capped { AreCapped costs.old.items }
@@ -132,7 +133,7 @@ fn put_cost(rule: usize, cost: u32, costs: &mut Vec<Option<u32>>) -> bool
     true
 }
 
-/// Takes a production that waited: where its rule has no cost, this one gives it, and stands next in the order.
+/// Takes a production that waited: where its rule has no cost, this one gives it, and is the next of the order.
 fn settle<S: IndexStorage>(
     tokens: &TokenCosts<S>,
     naming: &Naming,
@@ -198,7 +199,7 @@ fn settle_all<S: IndexStorage>(
     Ok(())
 }
 
-/// All productions; in front, one for each rule that derives a token list, by which it costs least.
+/// Returns all productions; in front, one for each rule that derives a token list, by which it costs least.
 pub(super) fn cheapest_first<S: IndexStorage>(
     alloc: Global,
     tokens: &TokenCosts<S>,

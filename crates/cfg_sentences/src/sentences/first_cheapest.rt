@@ -1,10 +1,10 @@
 //! The first of a rule's cheapest token lists.
 //!
-//! Each rule keeps one list, where all cheapest ones could be too many to be listed, and lists share their parts, so
-//! that they take no more room than the productions. Which list comes first is told by the first place where two
-//! differ. So what is put together of lists that come first does too, unless one of two lists begins the other: then
-//! it rests on what stands behind them which one is to be kept. As each of a rule's cheapest lists costs the same, that
-//! can be only where the tokens that the longer one has more cost nothing. Then all cheapest lists are put together.
+//! Each rule has one list, since all of its cheapest ones could be too many, and lists share their parts, so that
+//! they take no more room than the productions. Of two lists the first offset where they differ decides which comes
+//! first. So a list that is joined of first lists is first too, unless one of two lists is a prefix of the other:
+//! then what follows decides. All of a rule's cheapest lists cost the same, so this happens only where the further
+//! tokens of the longer one cost nothing. In that case all cheapest lists are made.
 
 ghost use Rattle.std.specs.Prelude.{◌≡◌, ℕ, ◌<◌, ◌≤◌, IfOk, IfErr, IfSome, MatchOption, [], length, get_or, set, replicate, true, false, Some, None};
 ghost use Rattle.cfg_theory.specs.Productive.{RulesIn};
@@ -33,10 +33,14 @@ use std::alloc::{AllocError, Global};
 use vob::Vob;
 
 impl<'a, S: IndexStorage> SentenceGenerator<'a, S> {
-    /// Returns the first of the cheapest token lists of the rule. Returns `NoSentence` where the rule derives
-    /// none, `CostTooLarge` where their cost is past 65,535, and `Memory` where memory is refused. Where one of a
-    /// rule's cheapest lists is a prefix of another, by tokens that cost nothing, all of them are built to find
-    /// the first; they may be infinitely many, which is `Memory` too.
+    /// Returns the first of the cheapest token lists of the rule. Where one of a rule's cheapest lists is a
+    /// prefix of another, by tokens that cost nothing, all of them are made to find the first.
+    ///
+    /// # Errors
+    ///
+    /// - `NoSentence` where the rule derives no list.
+    /// - `CostTooLarge` where its cheapest lists cost more than 65,535.
+    /// - `Memory` where memory is refused, also where infinitely many lists would be made.
     pub fn min_sentence(&self, alloc: Global, ridx: RIdx<S>) -> Result<Vec<TIdx<S>>, SentenceError>
         requires { S.number ridx.0 < self.now.grammar.rules }
         ensures ok { IfOk result (λ w. IsFirstCheapest self.now.grammar (cost_of self.now.costs) (S.number ridx.0) (tokens_of S.number w.items)) }
@@ -58,7 +62,7 @@ impl<'a, S: IndexStorage> SentenceGenerator<'a, S> {
     }
 }
 
-/// The first of the cheapest lists of a rule whose least cost is below the bound.
+/// Returns the first of the cheapest lists of a rule whose least cost is below the bound.
 fn list_of_rule<S: IndexStorage>(
     alloc: Global,
     least: &LeastCosts<S>,
@@ -74,7 +78,7 @@ fn list_of_rule<S: IndexStorage>(
     }
 }
 
-/// The same, by all of the rule's cheapest lists.
+/// Returns the first of the rule's cheapest lists, from all of them.
 fn first_of_all<S: IndexStorage>(
     alloc: Global,
     least: &LeastCosts<S>,
@@ -88,7 +92,8 @@ fn first_of_all<S: IndexStorage>(
     Ok(lists.swap_remove(0))
 }
 
-/// The same, by one list of each rule; none where it isn't told which ones come first.
+/// Returns the first of the rule's cheapest lists, from one list for each rule; `None` where it isn't known which
+/// ones come first.
 fn find_list<S: IndexStorage>(
     alloc: Global,
     least: &LeastCosts<S>,
@@ -138,7 +143,8 @@ fn body_list<S: IndexStorage>(
     Ok(Some(list))
 }
 
-/// Whether a list forks before the one that the rule has, or that one leads it; none where one begins the other.
+/// Returns whether a list forks before the one that the rule has, or that one leads it; none where one begins the
+/// other.
 fn comes_first<S: IndexStorage>(
     alloc: Global,
     shared: &SharedLists<S>,
@@ -159,14 +165,14 @@ fn comes_first<S: IndexStorage>(
 #[derive(Drop)]
 struct FirstLists<S: IndexStorage> {
     shared: SharedLists<S>,
-    /// Whether of each two lists of a rule that were compared it is told which one comes first.
+    /// Whether it is known, of each two lists of a rule that were compared, which one comes first.
     is_told: bool,
-    /// How many more lists may take the place of others. So many are never found.
+    /// The number of lists that may still replace others. It never reaches 0.
     left: usize,
 }
 
 impl<S: IndexStorage> FirstLists<S> {
-    /// No rule has a list.
+    /// Makes the table in which no rule has a list.
     fn new(alloc: Global, rules: usize) -> Result<Self, AllocError>
         ensures table { IfOk result (λ s. s.shared.table ≡ replicate rules None) }
     {
@@ -178,7 +184,7 @@ impl<S: IndexStorage> FirstLists<S> {
         })
     }
 
-    /// Gives the rule a list, and answers the rule; where no more lists are counted, nothing is told any more.
+    /// Gives the rule a list, and returns the rule. Where `left` is 0 it clears `is_told`, and returns `None`.
     fn put(&mut self, rule: usize, list: usize) -> Option<usize>
         requires rule { rule < length self.old.shared.table }
         requires list { list < length self.old.shared.lists }
@@ -274,7 +280,7 @@ impl<'t, 'a, S: IndexStorage> ProdTable for Finding<'t, 'a, S> {
     }
 }
 
-/// The first lists of the wanted rules.
+/// Returns the first lists of the wanted rules.
 fn first_lists<S: IndexStorage>(
     alloc: Global,
     least: &LeastCosts<S>,

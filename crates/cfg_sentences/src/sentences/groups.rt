@@ -1,6 +1,6 @@
-//! Groups of rules that lead on to each other by productions that can be used, each behind the groups that it leads on
-//! to. A walk in depth against the way that names lead gives an order of the rules; in the groups they are gathered
-//! from its end. Nothing rests on this but how soon rules leave a set.
+//! Groups of rules that lead on to each other by usable productions: strongly connected components, each after those
+//! that it leads on to. A depth-first walk against the references gives an order of the rules, from whose end the
+//! groups are gathered. Only how soon rules leave a set depends on this.
 
 ghost use Rattle.std.specs.Prelude.{◌≡◌, ◌<◌, OnOk, IfOk, length};
 
@@ -69,7 +69,7 @@ fn go_on<S: IndexStorage>(
     push_heads(costly, naming.of(rule), stack)
 }
 
-/// The rules as a walk in depth, from each rule to those of the productions that name it, leaves them behind.
+/// Returns the rules as a walk in depth, from each rule to those of the productions that name it, leaves them behind.
 pub(super) fn left_behind<S: IndexStorage>(
     alloc: Global,
     costly: &KeptCosts<S>,
@@ -135,7 +135,7 @@ fn enter<S: IndexStorage>(
     Ok(())
 }
 
-/// The rules that one leads on to and that were not seen yet, itself among them. They are seen from then on.
+/// Returns the rules that one leads on to and that were not seen yet, itself among them. They are seen from then on.
 pub(super) fn gather<S: IndexStorage>(
     alloc: Global,
     costly: &KeptCosts<S>,

@@ -17,7 +17,7 @@ use cfg_base::symbol::{PIdx, RIdx, Symbol};
 use std::marker::Model;
 use vob::Vob;
 
-/// The greatest costs of a grammar's rules, kept at one.
+/// The greatest costs of a grammar's rules, capped at 1.
 #[derive(Drop)]
 pub(super) struct KeptCosts<'t, 'a, S: IndexStorage> {
     tokens: &'t TokenCosts<'a, S>,
@@ -50,37 +50,37 @@ impl<'t, 'a, S: IndexStorage> KeptCosts<'t, 'a, S> {
         KeptCosts { tokens, costly }
     }
 
-    /// A law: the table holds the greatest costs, kept at one.
+    /// Proves that the table has the greatest costs, capped at 1.
     pub fn stays_kept(&self)
         ensures count { length self.now.table ≡ self.now.grammar.rules }
         ensures table { IsKeptTable self.now.grammar (cost_of self.now.costs) 1 (λ _. false) (cost_in self.now.table) }
     {
-        // Read, so that the proof may use what is so of each such table.
+        // For the proof alone: this read gives it the invariant of each such table.
         let _costly = &self.costly;
     }
 
-    /// As of the tokens' costs, and so the next ones.
+    /// Proves that the grammar is well formed. This and the next calls are those of the tokens' costs.
     pub fn stays_well_formed(&self)
         ensures { WellFormed self.now.grammar }
     {
         self.tokens.stays_well_formed();
     }
 
-    /// How many rules the grammar has.
+    /// Returns how many rules the grammar has.
     pub fn rules_len(&self) -> RIdx<S>
         ensures { S.number result.0 ≡ self.now.grammar.rules }
     {
         self.tokens.rules_len()
     }
 
-    /// How many productions the grammar has.
+    /// Returns how many productions the grammar has.
     pub fn prods_len(&self) -> PIdx<S>
         ensures { S.number result.0 ≡ length self.now.grammar.productions }
     {
         self.tokens.prods_len()
     }
 
-    /// The rule of a number.
+    /// Returns the rule of a number.
     pub fn rule_at(&self, number: usize) -> RIdx<S>
         requires { number < self.now.grammar.rules }
         ensures { S.number result.0 ≡ number }
@@ -88,7 +88,7 @@ impl<'t, 'a, S: IndexStorage> KeptCosts<'t, 'a, S> {
         self.tokens.rule_at(number)
     }
 
-    /// The production of a number.
+    /// Returns the production of a number.
     pub fn prod_at(&self, number: usize) -> PIdx<S>
         requires { number < length self.now.grammar.productions }
         ensures { S.number result.0 ≡ number }
@@ -96,7 +96,7 @@ impl<'t, 'a, S: IndexStorage> KeptCosts<'t, 'a, S> {
         self.tokens.prod_at(number)
     }
 
-    /// The symbols of a production.
+    /// Returns the symbols of a production.
     pub fn prod(&self, pidx: PIdx<S>) -> &[Symbol<S>]
         requires { S.number pidx.0 < length self.now.grammar.productions }
         ensures { syms_of S.number result.now ≡ body_of self.now.grammar (S.number pidx.0) }
@@ -104,7 +104,7 @@ impl<'t, 'a, S: IndexStorage> KeptCosts<'t, 'a, S> {
         self.tokens.prod(pidx)
     }
 
-    /// The rule of a production.
+    /// Returns the rule of a production.
     pub fn prod_to_rule(&self, pidx: PIdx<S>) -> RIdx<S>
         requires { S.number pidx.0 < length self.now.grammar.productions }
         ensures { S.number result.0 ≡ head_of self.now.grammar (S.number pidx.0) }
@@ -112,7 +112,7 @@ impl<'t, 'a, S: IndexStorage> KeptCosts<'t, 'a, S> {
         self.tokens.prod_to_rule(pidx)
     }
 
-    /// The productions of a rule.
+    /// Returns the productions of a rule.
     pub fn rule_to_prods(&self, ridx: RIdx<S>) -> &[PIdx<S>]
         requires { S.number ridx.0 < self.now.grammar.rules }
         ensures { numbers_of S.number result.now ≡ productions_of self.now.grammar (S.number ridx.0) }
@@ -120,7 +120,7 @@ impl<'t, 'a, S: IndexStorage> KeptCosts<'t, 'a, S> {
         self.tokens.rule_to_prods(ridx)
     }
 
-    /// The cost of a production's symbols, where each rule among them has one.
+    /// Returns the cost of a production's symbols, where each rule among them has one.
     pub fn body_cost(&self, pidx: PIdx<S>) -> Option<u32>
         requires { S.number pidx.0 < length self.now.grammar.productions }
         ensures { MatchOption result (HasNoCost self.now.costs self.now.table (body_of self.now.grammar (S.number pidx.0))) (λ k. IsCost self.now.costs self.now.table (body_of self.now.grammar (S.number pidx.0)) k) }
@@ -129,7 +129,7 @@ impl<'t, 'a, S: IndexStorage> KeptCosts<'t, 'a, S> {
         self.tokens.body_cost(pidx, self.costly.as_slice())
     }
 
-    /// Whether a production names a rule of the set.
+    /// Returns whether a production names a rule of the set.
     pub fn names_any(&self, pidx: PIdx<S>, set: &Vob) -> bool
         requires production { S.number pidx.0 < length self.now.grammar.productions }
         requires width { length set.now.bits ≡ self.now.grammar.rules }

@@ -19,7 +19,7 @@ use cfg_sets::orders::Order;
 use std::alloc::{AllocError, Global};
 use std::marker::Model;
 
-/// The least costs of a grammar's rules, kept at the bound, with the costs of the tokens.
+/// The least costs of a grammar's rules, capped at the bound, with the costs of the tokens.
 #[derive(Drop)]
 pub(super) struct LeastCosts<'a, S: IndexStorage> {
     tokens: TokenCosts<'a, S>,
@@ -57,23 +57,23 @@ impl<'a, S: IndexStorage> LeastCosts<'a, S> {
         Ok(LeastCosts { tokens, least })
     }
 
-    /// A law: the table holds costs of token lists, and no production makes its rule cheaper.
+    /// Proves that the table holds costs of token lists, and no production makes its rule cheaper.
     pub fn stays_least(&self)
         ensures costs { AreCosts self.now.grammar (cost_of self.now.costs) self.now.table }
         ensures closed { (p : ℕ) → p < length self.now.grammar.productions → IsClosedBy self.now.grammar (cost_of self.now.costs) p self.now.table }
     {
-        // Read, so that the proof may use what is so of each such table.
+        // For the proof alone: this read gives it the invariant of each such table.
         let _least = &self.least;
     }
 
-    /// As of the tokens' costs, and so the next ones.
+    /// Proves that the grammar is well formed. This and the next calls are those of the tokens' costs.
     pub fn stays_well_formed(&self)
         ensures { WellFormed self.now.grammar }
     {
         self.tokens.stays_well_formed();
     }
 
-    /// The costs, one for each token.
+    /// Returns the costs, one for each token.
     pub fn token_costs(&self) -> &[u8]
         ensures value { result.now ≡ self.now.costs }
         ensures count { length self.now.costs ≡ self.now.grammar.tokens }
@@ -81,21 +81,21 @@ impl<'a, S: IndexStorage> LeastCosts<'a, S> {
         self.tokens.costs()
     }
 
-    /// How many productions the grammar has.
+    /// Returns how many productions the grammar has.
     pub fn prods_len(&self) -> PIdx<S>
         ensures { S.number result.0 ≡ length self.now.grammar.productions }
     {
         self.tokens.prods_len()
     }
 
-    /// How many rules the grammar has.
+    /// Returns how many rules the grammar has.
     pub fn rules_len(&self) -> RIdx<S>
         ensures { S.number result.0 ≡ self.now.grammar.rules }
     {
         self.tokens.rules_len()
     }
 
-    /// The rule of a number.
+    /// Returns the rule of a number.
     pub fn rule_at(&self, number: usize) -> RIdx<S>
         requires { number < self.now.grammar.rules }
         ensures { S.number result.0 ≡ number }
@@ -103,7 +103,7 @@ impl<'a, S: IndexStorage> LeastCosts<'a, S> {
         self.tokens.rule_at(number)
     }
 
-    /// The production of a number.
+    /// Returns the production of a number.
     pub fn prod_at(&self, number: usize) -> PIdx<S>
         requires { number < length self.now.grammar.productions }
         ensures { S.number result.0 ≡ number }
@@ -125,7 +125,7 @@ impl<'a, S: IndexStorage> LeastCosts<'a, S> {
         self.tokens.order(alloc)
     }
 
-    /// The productions of a rule.
+    /// Returns the productions of a rule.
     pub fn rule_to_prods(&self, ridx: RIdx<S>) -> &[PIdx<S>]
         requires { S.number ridx.0 < self.now.grammar.rules }
         ensures { numbers_of S.number result.now ≡ productions_of self.now.grammar (S.number ridx.0) }
@@ -133,7 +133,7 @@ impl<'a, S: IndexStorage> LeastCosts<'a, S> {
         self.tokens.rule_to_prods(ridx)
     }
 
-    /// The symbols of a production.
+    /// Returns the symbols of a production.
     pub fn prod(&self, pidx: PIdx<S>) -> &[Symbol<S>]
         requires { S.number pidx.0 < length self.now.grammar.productions }
         ensures { syms_of S.number result.now ≡ body_of self.now.grammar (S.number pidx.0) }
@@ -141,7 +141,7 @@ impl<'a, S: IndexStorage> LeastCosts<'a, S> {
         self.tokens.prod(pidx)
     }
 
-    /// The rule of a production.
+    /// Returns the rule of a production.
     pub fn prod_to_rule(&self, pidx: PIdx<S>) -> RIdx<S>
         requires { S.number pidx.0 < length self.now.grammar.productions }
         ensures { S.number result.0 ≡ head_of self.now.grammar (S.number pidx.0) }
@@ -149,7 +149,7 @@ impl<'a, S: IndexStorage> LeastCosts<'a, S> {
         self.tokens.prod_to_rule(pidx)
     }
 
-    /// The cost of a rule that derives some token list.
+    /// Returns the cost of a rule that derives some token list.
     pub fn of_rule(&self, ridx: RIdx<S>) -> Option<u32>
         requires { S.number ridx.0 < self.now.grammar.rules }
         ensures { result ≡ cost_in self.now.table (S.number ridx.0) }
@@ -164,7 +164,7 @@ impl<'a, S: IndexStorage> LeastCosts<'a, S> {
         self.tokens.body_cost(pidx, self.least.as_slice())
     }
 
-    /// Whether a production gives its rule the least cost, and that is below the bound.
+    /// Returns whether a production gives its rule the least cost, and that is below the bound.
     pub fn gives_least(&self, pidx: PIdx<S>) -> bool
         requires { S.number pidx.0 < length self.now.grammar.productions }
         ensures { IsTrue result ↔ GivesLeast self.now.grammar (cost_of self.now.costs) self.now.table (S.number pidx.0) }
@@ -257,7 +257,7 @@ pub(super) fn no_costs(alloc: Global, rules: usize) -> Result<Vec<Option<u32>>, 
     Ok(least)
 }
 
-/// The least costs of the rules, kept at the bound.
+/// Returns the least costs of the rules, capped at the bound.
 fn least_costs<S: IndexStorage>(
     alloc: Global,
     tokens: &TokenCosts<S>,

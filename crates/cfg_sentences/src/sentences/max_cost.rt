@@ -47,7 +47,7 @@ impl<'a, S: IndexStorage> SentenceGenerator<'a, S> {
     }
 }
 
-/// The unbounded rules, and the greatest costs of the others, kept at the bound.
+/// Returns the unbounded rules, and the greatest costs of the others, capped at the bound.
 pub(super) fn greatest_tables<S: IndexStorage>(
     alloc: Global,
     tokens: &TokenCosts<S>,
@@ -116,7 +116,7 @@ fn take_prod<S: IndexStorage>(
     Some(rule)
 }
 
-/// Greatest costs of rules that aren't skipped, kept at `top`, as they are raised.
+/// Greatest costs of rules that aren't skipped, capped at `top`, as they are raised.
 #[derive(Drop)]
 struct Raising<'t, 'a, S: IndexStorage> {
     tokens: &'t TokenCosts<'a, S>,
@@ -151,7 +151,7 @@ impl<'t, 'a, S: IndexStorage> ProdTable for Raising<'t, 'a, S> {
     }
 }
 
-/// The greatest costs of the rules that aren't skipped, kept at `top`.
+/// Returns the greatest costs of the rules that aren't skipped, capped at `top`.
 fn greatest_costs<S: IndexStorage>(
     alloc: Global,
     tokens: &TokenCosts<S>,

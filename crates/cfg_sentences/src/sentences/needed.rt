@@ -38,7 +38,7 @@ fn want_named<S: IndexStorage>(
     Ok(())
 }
 
-/// The same, if the production gives its rule the least cost.
+/// Marks the rules that a production names as needed, if it gives its rule the least cost.
 fn want_by<S: IndexStorage>(
     least: &LeastCosts<S>,
     pidx: PIdx<S>,
@@ -96,7 +96,7 @@ impl<'t, 'a, S: IndexStorage> WorkTable for Wanting<'t, 'a, S> {
     }
 }
 
-/// The rule, and each rule that productions of the set's rules name, where they give these the least cost.
+/// Returns the rule, and each rule that productions of the set's rules name, where they give these the least cost.
 pub(crate) fn wanted_rules<S: IndexStorage>(
     alloc: Global,
     least: &LeastCosts<S>,
@@ -110,7 +110,7 @@ pub(crate) fn wanted_rules<S: IndexStorage>(
     find_with_blank::<S, Brand>(alloc, least, ridx, Blank::new(1))
 }
 
-/// The same, with a step for each rule that is taken from the work list.
+/// Finds the needed rules, with a step for each rule that is taken from the work list.
 fn find_wanted<S: IndexStorage, L: Ledger>(
     alloc: Global,
     least: &LeastCosts<S>,
@@ -133,7 +133,7 @@ fn find_wanted<S: IndexStorage, L: Ledger>(
     Ok(wanting.wanted)
 }
 
-/// The same, where nobody counts.
+/// Finds the needed rules without a step counter.
 fn find_with_blank<S: IndexStorage, L: Ledger>(
     alloc: Global,
     least: &LeastCosts<S>,

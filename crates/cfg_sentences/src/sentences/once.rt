@@ -1,8 +1,8 @@
 //! Productions that are taken in again only where that may change something.
 //!
-//! A rule that waits has each production that names it taken in again, and so one that names many rules once for each.
-//! Where that is dear, as where all lists of a production are put together, productions that were taken in since are
-//! left out.
+//! For a rule that waits each production that names it is taken in again, so a production that names many rules is
+//! taken in once for each. Where that is dear, as where all lists of a production are joined, productions that were
+//! taken in since are left out.
 
 use super::bounded::take_out;
 use crate::by_prods::ProdTable;
@@ -15,7 +15,7 @@ use vob::Vob;
 pub(super) struct Once<'n, T> {
     pub table: T,
     pub naming: &'n Naming,
-    /// Productions that were taken in, and name no rule of which the table came to tell something else since.
+    /// The productions that were taken in, and name no rule whose entry changed since.
     pub taken: Vob,
 }
 

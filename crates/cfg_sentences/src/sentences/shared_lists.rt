@@ -40,7 +40,7 @@ impl<S: IndexStorage> Model for SharedLists<S> {
 }
 
 impl<S: IndexStorage> SharedLists<S> {
-    /// No rule has a list.
+    /// Makes the table in which no rule has a list.
     pub fn new(alloc: Global, rules: usize) -> Result<Self, AllocError>
         ensures { IfOk result (λ s. s.table ≡ replicate rules None) }
     {
@@ -50,17 +50,17 @@ impl<S: IndexStorage> SharedLists<S> {
         Ok(SharedLists { parts, of_rules })
     }
 
-    /// The number of the empty list.
+    /// Returns the number of the empty list.
     pub fn empty(&self) -> usize
         ensures within { result < length self.now.lists }
         ensures list { get_or self.now.lists result [] ≡ [] }
     {
-        // Read, so that the proof may use what is so of each such table.
+        // For the proof alone: this read gives it the invariant of each such table.
         let _parts = &self.parts;
         0
     }
 
-    /// The number of the rule's list.
+    /// Returns the number of the rule's list.
     pub fn of_rule(&self, rule: usize) -> Option<usize>
         requires { rule < length self.now.table }
         ensures { MatchOption result (get_or self.now.table rule None ≡ None) (λ k. (k < length self.now.lists) × (get_or self.now.table rule None ≡ Some (get_or self.now.lists k []))) }
@@ -108,7 +108,7 @@ impl<S: IndexStorage> SharedLists<S> {
         self.join(left, right)
     }
 
-    /// Whether a list has no token.
+    /// Returns whether a list has no token.
     pub fn is_empty(&self, list: usize) -> bool
         requires { list < length self.now.lists }
         ensures empty { result ≡ true → get_or self.now.lists list [] ≡ [] }

@@ -1,6 +1,6 @@
-//! Which of two lists that share their parts comes first, whatever stands behind both. Both are taken apart from their
-//! fronts, the part with the larger number first; a part that both have at one place is passed over, so that lists with
-//! much in common are compared by what differs.
+//! Which of two lists that share their parts comes first, whatever follows both. Both are split from their fronts,
+//! the part with the larger number first; a part that both have at one offset is skipped, so that lists with much in
+//! common are compared by what differs.
 
 ghost use Rattle.std.specs.Prelude.{◌≡◌, ◌+◌, ◌<◌, ◌∷◌, ◌++◌, IfOk, MatchOption, [], length, get_or, not};
 ghost use Rattle.std.specs.List.{All};
@@ -12,7 +12,7 @@ use cfg_base::index::IndexStorage;
 use cfg_base::symbol::TIdx;
 use std::alloc::{AllocError, Global};
 
-/// Whether the first of two tokens comes before the second; none where they are one.
+/// Returns whether the first of two tokens comes before the second; none where they are one.
 fn told_by<S: IndexStorage>(left: TIdx<S>, right: TIdx<S>) -> Option<bool>
     ensures { MatchOption result (S.number left.0 ≡ S.number right.0) (λ b. IsTold (S.number left.0 ∷ []) (S.number right.0 ∷ []) b) }
 {
@@ -27,8 +27,8 @@ fn told_by<S: IndexStorage>(left: TIdx<S>, right: TIdx<S>) -> Option<bool>
     None
 }
 
-/// Takes the first of two lists apart, or where that is a token the second, or where both are tells by the tokens
-/// which one comes first. Behind them are the lists of the stacks.
+/// Splits the first of two lists; where that is a token the second; and where both are tokens returns which list
+/// comes first. Behind them are the lists of the stacks.
 fn turn_left<S: IndexStorage>(
     shared: &SharedLists<S>,
     left: usize,
@@ -65,7 +65,7 @@ fn turned(told: Option<bool>) -> Option<bool>
     }
 }
 
-/// The same, where the list with the larger number is taken apart, and lists with one number are passed over.
+/// Splits the list with the larger number, and skips lists with one number.
 fn turn<S: IndexStorage>(
     shared: &SharedLists<S>,
     left: usize,
@@ -92,7 +92,7 @@ fn turn<S: IndexStorage>(
     Ok(turned(told))
 }
 
-/// Whether a list forks before another one, or the other one leads it; none where one begins the other.
+/// Returns whether a list forks before another one, or the other one leads it; none where one begins the other.
 fn goes_ahead<S: IndexStorage>(
     alloc: Global,
     shared: &SharedLists<S>,
@@ -123,7 +123,7 @@ fn goes_ahead<S: IndexStorage>(
     }
 }
 
-/// Whether a list forks before another one, or the other one leads it; none where one begins the other.
+/// Returns whether a list forks before another one, or the other one leads it; none where one begins the other.
 pub(super) fn is_list_ahead<S: IndexStorage>(
     alloc: Global,
     shared: &SharedLists<S>,

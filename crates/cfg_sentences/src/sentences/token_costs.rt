@@ -45,7 +45,7 @@ impl<'a, S: IndexStorage> TokenCosts<'a, S> {
         TokenCosts { grm, costs }
     }
 
-    /// The costs, by the tokens' numbers.
+    /// Returns the costs, by the tokens' numbers.
     pub fn costs(&self) -> &[u8]
         ensures value { result.now ≡ self.now.costs }
         ensures count { length self.now.costs ≡ self.now.grammar.tokens }
@@ -53,42 +53,43 @@ impl<'a, S: IndexStorage> TokenCosts<'a, S> {
         self.costs.as_slice()
     }
 
-    /// A law: what is called with these costs may rely on the grammar's being well formed.
+    /// Proves that the grammar is well formed, for calls that require it.
     pub fn stays_well_formed(&self)
         ensures { WellFormed self.now.grammar }
     {
         self.grm.stays_well_formed();
     }
 
-    /// For each rule the productions that name it.
+    /// Returns, for each rule, the productions that name it.
     pub fn naming(&self, alloc: Global) -> Result<Naming, AllocError>
         ensures { IfOk result (λ n. ListsNaming self.now.grammar (length self.now.grammar.productions) n) }
     {
         Naming::new(alloc, self.grm)
     }
 
-    /// The productions, where it goes those of a rule behind those of the rules that they name.
+    /// Returns an order of the productions in which those of a rule come after those of the rules that they name,
+    /// unless names lead around in a cycle.
     pub fn order(&self, alloc: Global) -> Result<Order, AllocError>
         ensures { IfOk result (λ o. IsOrder (length self.now.grammar.productions) o) }
     {
         Order::named_first(alloc, self.grm)
     }
 
-    /// As of the grammar, and so the next ones.
+    /// Returns how many productions the grammar has. This and the next calls are those of the grammar.
     pub fn prods_len(&self) -> PIdx<S>
         ensures { S.number result.0 ≡ length self.now.grammar.productions }
     {
         self.grm.prods_len()
     }
 
-    /// How many rules the grammar has.
+    /// Returns how many rules the grammar has.
     pub fn rules_len(&self) -> RIdx<S>
         ensures { S.number result.0 ≡ self.now.grammar.rules }
     {
         self.grm.rules_len()
     }
 
-    /// The rule of a number.
+    /// Returns the rule of a number.
     pub fn rule_at(&self, number: usize) -> RIdx<S>
         requires { number < self.now.grammar.rules }
         ensures { S.number result.0 ≡ number }
@@ -96,7 +97,7 @@ impl<'a, S: IndexStorage> TokenCosts<'a, S> {
         self.grm.rule_at(number)
     }
 
-    /// The production of a number.
+    /// Returns the production of a number.
     pub fn prod_at(&self, number: usize) -> PIdx<S>
         requires { number < length self.now.grammar.productions }
         ensures { S.number result.0 ≡ number }
@@ -104,7 +105,7 @@ impl<'a, S: IndexStorage> TokenCosts<'a, S> {
         self.grm.prod_at(number)
     }
 
-    /// The symbols of a production.
+    /// Returns the symbols of a production.
     pub fn prod(&self, pidx: PIdx<S>) -> &[Symbol<S>]
         requires { S.number pidx.0 < length self.now.grammar.productions }
         ensures { syms_of S.number result.now ≡ body_of self.now.grammar (S.number pidx.0) }
@@ -112,7 +113,7 @@ impl<'a, S: IndexStorage> TokenCosts<'a, S> {
         self.grm.prod(pidx)
     }
 
-    /// The rule of a production.
+    /// Returns the rule of a production.
     pub fn prod_to_rule(&self, pidx: PIdx<S>) -> RIdx<S>
         requires { S.number pidx.0 < length self.now.grammar.productions }
         ensures { S.number result.0 ≡ head_of self.now.grammar (S.number pidx.0) }
@@ -120,7 +121,7 @@ impl<'a, S: IndexStorage> TokenCosts<'a, S> {
         self.grm.prod_to_rule(pidx)
     }
 
-    /// The productions of a rule.
+    /// Returns the productions of a rule.
     pub fn rule_to_prods(&self, ridx: RIdx<S>) -> &[PIdx<S>]
         requires { S.number ridx.0 < self.now.grammar.rules }
         ensures { numbers_of S.number result.now ≡ productions_of self.now.grammar (S.number ridx.0) }
@@ -128,7 +129,7 @@ impl<'a, S: IndexStorage> TokenCosts<'a, S> {
         self.grm.rule_to_prods(ridx)
     }
 
-    /// The cost of a production's symbols by the costs of the rules, where each rule among them has one.
+    /// Returns the cost of a production's symbols by the costs of the rules, where each rule among them has one.
     pub fn body_cost(&self, pidx: PIdx<S>, table: &[Option<u32>]) -> Option<u32>
         requires production { S.number pidx.0 < length self.now.grammar.productions }
         requires rules { length table.now ≡ self.now.grammar.rules }
@@ -140,7 +141,8 @@ impl<'a, S: IndexStorage> TokenCosts<'a, S> {
     }
 }
 
-/// One more than an answer holds. A cost past it is kept as it, and no sum with it is below it again.
+/// One more than the greatest cost that is returned. A cost past it is stored as it, and no sum with it is below it
+/// again.
 pub(super) const BOUND: u32 = 65_536;
 
 fn plus(a: u32, b: u32) -> u32
@@ -171,7 +173,7 @@ fn symbol_cost<S: IndexStorage>(
     }
 }
 
-/// The cost of a list of symbols, where each rule in it has one.
+/// Returns the cost of a list of symbols, where each rule in it has one.
 fn symbols_cost<S: IndexStorage>(
     symbols: &[Symbol<S>],
     costs: &[u8],

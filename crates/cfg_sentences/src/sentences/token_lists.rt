@@ -28,7 +28,7 @@ impl<S: IndexStorage> Model for TokenLists<S> {
 }
 
 impl<S: IndexStorage> TokenLists<S> {
-    /// No list.
+    /// Makes the table entry without a list.
     pub fn none(alloc: Global) -> Self
         ensures { result ≡ [] }
     {
@@ -52,7 +52,7 @@ impl<S: IndexStorage> TokenLists<S> {
         self.lists
     }
 
-    /// Puts a copy of the list in, and says whether it wasn't there.
+    /// Puts a copy of the list in, and returns whether it wasn't there.
     pub fn insert(&mut self, alloc: Global, list: &[TIdx<S>]) -> Result<bool, AllocError>
         ensures { IfOk result (λ b. AddsLists (λ v. v ≡ tokens_of S.number list.now) self.old self.new b) }
     {
@@ -66,7 +66,7 @@ impl<S: IndexStorage> TokenLists<S> {
     }
 }
 
-/// Puts copies of all the lists in, and says whether one wasn't there.
+/// Puts copies of all the lists in, and returns whether one wasn't there.
 pub(crate) fn insert_all<S: IndexStorage>(
     alloc: Global,
     lists: &[Vec<TIdx<S>>],
@@ -81,7 +81,7 @@ pub(crate) fn insert_all<S: IndexStorage>(
     Ok(changed)
 }
 
-/// How many of the lists are before this one.
+/// Returns how many of the lists are before this one.
 fn count_before<S: IndexStorage>(lists: &[Vec<TIdx<S>>], list: &[TIdx<S>]) -> usize
     requires { AllPairs IsBefore (lists_of S.number lists.now) }
     ensures within { result ≤ length lists.now }
@@ -101,7 +101,7 @@ fn count_before<S: IndexStorage>(lists: &[Vec<TIdx<S>>], list: &[TIdx<S>]) -> us
     low
 }
 
-/// Where a list belongs; none where it is there.
+/// Returns the index at which a list belongs; `None` where it is there.
 fn free_place<S: IndexStorage>(lists: &[Vec<TIdx<S>>], list: &[TIdx<S>]) -> Option<usize>
     requires { AllPairs IsBefore (lists_of S.number lists.now) }
     ensures { MatchOption result (Contains (lists_of S.number lists.now) (tokens_of S.number list.now)) (λ n. BelongsAt (lists_of S.number lists.now) (tokens_of S.number list.now) n) }
@@ -116,7 +116,7 @@ fn free_place<S: IndexStorage>(lists: &[Vec<TIdx<S>>], list: &[TIdx<S>]) -> Opti
     None
 }
 
-/// Whether a list is before another in the dictionary order of token numbers.
+/// Returns whether a list is before another in the dictionary order of token numbers.
 fn is_before<S: IndexStorage>(a: &[TIdx<S>], b: &[TIdx<S>]) -> bool
     ensures { IsTrue result ↔ IsBefore (tokens_of S.number a.now) (tokens_of S.number b.now) }
 {
@@ -149,7 +149,7 @@ pub(crate) fn append<S: IndexStorage>(
     Ok(())
 }
 
-/// The tokens of both, one behind the other.
+/// Returns the tokens of both, one behind the other.
 fn join<S: IndexStorage>(
     alloc: Global,
     u: &[TIdx<S>],
@@ -178,7 +178,7 @@ pub(crate) fn put_before<S: IndexStorage>(
     Ok(())
 }
 
-/// Each of the first lists before each of the second ones.
+/// Returns each of the first lists before each of the second ones.
 pub(crate) fn join_all<S: IndexStorage>(
     alloc: Global,
     firsts: &[Vec<TIdx<S>>],

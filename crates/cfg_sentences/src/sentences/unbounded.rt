@@ -1,5 +1,5 @@
-//! Which rules are unbounded: those are left of all rules when each round keeps the ones that lead on to a
-//! rule kept so far with tokens beside it that cost something.
+//! The unbounded rules: those left of all rules when each round retains the ones from which a rule of the last round
+//! is reached, with tokens beside it that cost something.
 
 ghost use Rattle.std.specs.Prelude.{◌≡◌, ℕ, ◌<◌, ◌≤◌, ◌↔◌, true, false, IsTrue, IfOk, MatchOption, length, slice_set};
 ghost use Rattle.cfg_theory.specs.Grammar.{rule, IsNext};
@@ -21,7 +21,7 @@ use cfg_theory::cost::unbounded_rules_gain;
 use std::alloc::{AllocError, Global};
 use vob::Vob;
 
-/// Whether a production whose symbols cost so much names a rule that its own rule is kept for.
+/// Returns whether a production whose symbols cost so much names a rule that its own rule is stored for.
 pub(super) fn names_kept<S: IndexStorage>(
     costly: &KeptCosts<S>,
     pidx: PIdx<S>,
@@ -117,7 +117,7 @@ impl<'t, 'u, 'a, S: IndexStorage> ProdTable for Narrowing<'t, 'u, 'a, S> {
     }
 }
 
-/// The rules that lead on to one of the set with a gain.
+/// Returns the rules that lead on to one of the set with a gain.
 fn narrowed<S: IndexStorage>(
     alloc: Global,
     costly: &KeptCosts<S>,
@@ -139,7 +139,7 @@ fn narrowed<S: IndexStorage>(
     Ok(filling.table.new)
 }
 
-/// The unbounded rules, where `costly` says which rules derive a token list, and one that costs something.
+/// Returns the unbounded rules, where `costly` says which rules derive a token list, and one that costs something.
 pub(super) fn unbounded_rules<S: IndexStorage>(
     alloc: Global,
     costly: &KeptCosts<S>,

@@ -1,4 +1,5 @@
-//! What a table does at a state and a token, by the rules of Yacc.
+//! The action of a table at a state and a token. Precedences settle a shift against a reduction as POSIX specifies
+//! for yacc.
 
 ghost use Rattle.std.specs.Prelude.{Bool, IsTrue, ◌↔◌, List, ◌∷◌, [], cond, Option, ◌≡◌, ◌<◌, ◌++◌, ℕ, length, Some, None, IfSome, MatchOption, OnOk, option_map};
 ghost use Rattle.lr_theory.specs.Automaton.{reduce};
@@ -28,7 +29,7 @@ pub enum Action<S> {
     Error,
 }
 
-/// A shift against a reduction, by the token's precedence and the production's.
+/// Returns a shift against a reduction, by the token's precedence and the production's.
 fn settle<S: IndexStorage>(
     target: StIdx<S>,
     pidx: PIdx<S>,
@@ -58,7 +59,7 @@ fn settle<S: IndexStorage>(
     }
 }
 
-/// Tells whether a shift against a reduction is listed.
+/// Returns whether a shift against a reduction is listed.
 fn is_unsettled(token: Option<Precedence>, by: Option<Precedence>) -> bool
     ensures { (entry : ShiftReduce) → unsettled_entry entry (option_map precedence_of token) (option_map precedence_of by) ≡ cond result (entry ∷ []) [] }
 {
@@ -71,7 +72,7 @@ fn is_unsettled(token: Option<Precedence>, by: Option<Precedence>) -> bool
     }
 }
 
-/// The precedence of a token.
+/// Returns the precedence of a token.
 #[tactic(auto, using(crate::proofs::Precedences::token_level))]
 fn of_token<S: IndexStorage>(grm: &NumberedGrammar<S>, tidx: TIdx<S>) -> Option<Precedence>
     requires { S.number tidx.0 < grm.now.grammar.tokens }
@@ -80,7 +81,7 @@ fn of_token<S: IndexStorage>(grm: &NumberedGrammar<S>, tidx: TIdx<S>) -> Option<
     grm.token_precedence(tidx)
 }
 
-/// The precedence of a production.
+/// Returns the precedence of a production.
 #[tactic(auto, using(crate::proofs::Precedences::production_level))]
 fn of_production<S: IndexStorage>(grm: &NumberedGrammar<S>, pidx: PIdx<S>) -> Option<Precedence>
     requires { S.number pidx.0 < length grm.now.grammar.productions }
@@ -89,7 +90,7 @@ fn of_production<S: IndexStorage>(grm: &NumberedGrammar<S>, pidx: PIdx<S>) -> Op
     grm.prod_precedence(pidx)
 }
 
-/// The cell of a token, by its first reduction and the target of its edge.
+/// Returns the cell of a token, by its first reduction and the target of its edge.
 pub(crate) fn cell_on<S: IndexStorage>(
     grm: &NumberedGrammar<S>,
     tidx: TIdx<S>,
@@ -156,7 +157,7 @@ pub(crate) fn list_shift<S: IndexStorage>(
     }
 }
 
-/// The cell that a full row holds, an error where it holds none.
+/// Returns the cell that a full row holds, an error where it holds none.
 pub(crate) fn cell_or_error<S: IndexStorage>(cell: Option<Action<S>>) -> Action<S>
     ensures { action_of S.number result ≡ or_error (option_map (action_of S.number) cell) }
 {
@@ -181,7 +182,7 @@ pub(crate) fn put_cell<S: IndexStorage>(
     Ok(())
 }
 
-/// The production by which a cell reduces, if it does.
+/// Returns the production by which a cell reduces, if it does.
 pub(crate) fn reduced_by<S: IndexStorage>(cell: Action<S>) -> Option<PIdx<S>>
     ensures { MatchOption result ((p : ℕ) → action_of S.number cell ≡ reduce p → ⊥) (λ q. action_of S.number cell ≡ reduce (S.number q.0)) }
 {
@@ -191,7 +192,7 @@ pub(crate) fn reduced_by<S: IndexStorage>(cell: Action<S>) -> Option<PIdx<S>>
     }
 }
 
-/// Tells whether a cell reduces by a production.
+/// Returns whether a cell reduces by a production.
 pub(crate) fn reduces_by<S: IndexStorage>(cell: Action<S>, pidx: PIdx<S>) -> bool
     ensures { IsTrue result ↔ (action_of S.number cell ≡ reduce (S.number pidx.0)) }
 {
@@ -201,7 +202,7 @@ pub(crate) fn reduces_by<S: IndexStorage>(cell: Action<S>, pidx: PIdx<S>) -> boo
     }
 }
 
-/// A law: a cell goes by the first reduction alone, and so does a listed shift/reduce.
+/// Proves that a cell follows the first reduction alone, and so does a listed shift/reduce.
 pub fn cells_go_by_firsts()
     ensures cell { (accepts : Bool) (reductions : List ℕ) (edge : Option ℕ) (a : OfToken) (b : OfProduction) → cell_by accepts reductions edge a b ≡ cell_from accepts (first_of reductions) edge a b }
     ensures listed { (s t : ℕ) (reductions : List ℕ) (edge : Option ℕ) (a : OfToken) (b : OfProduction) → shifts_at s t reductions edge a b ≡ shifts_from s t (first_of reductions) edge a b }

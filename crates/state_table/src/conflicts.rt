@@ -32,7 +32,7 @@ impl<S: IndexStorage> Model for Conflicts<S> {
     ghost view = { λ c. record { reduce_reduce = pairs_of S.number c.reduce_reduce.items; shift_reduce = shifts_of S.number c.shift_reduce.items } };
 }
 
-/// The conflicts of two lists.
+/// Returns the conflicts of two lists.
 pub(crate) fn of_lists<S: IndexStorage>(
     reduce_reduce: Vec<ReduceReduce<S>>,
     shift_reduce: Vec<ShiftReduce<S>>,
@@ -74,7 +74,8 @@ impl<S: IndexStorage> Conflicts<S> {
         self.shift_reduce.len()
     }
 
-    /// The shifts against reductions as text: a heading, and a line for each. Nothing where there is none.
+    /// Returns the shifts against reductions as text: a heading, and a line for each. Nothing where there is
+    /// none.
     pub fn pp_sr(&self, alloc: Global, grm: &NumberedGrammar<S>) -> Result<String, AllocError>
         requires { ShiftsInRange grm.now self.now.shift_reduce }
         ensures { IfOk result (λ text. string_bytes text ≡ shifts_text grm.now self.now.shift_reduce) }
@@ -88,7 +89,7 @@ impl<S: IndexStorage> Conflicts<S> {
         Ok(text)
     }
 
-    /// The pairs of reductions as text: a heading, and a line for each. Nothing where there is none.
+    /// Returns the pairs of reductions as text: a heading, and a line for each. Nothing where there is none.
     pub fn pp_rr(&self, alloc: Global, grm: &NumberedGrammar<S>) -> Result<String, AllocError>
         requires { PairsInRange grm.now self.now.reduce_reduce }
         ensures { IfOk result (λ text. string_bytes text ≡ pairs_text grm.now self.now.reduce_reduce) }
@@ -102,7 +103,7 @@ impl<S: IndexStorage> Conflicts<S> {
         Ok(text)
     }
 
-    /// Both as text, the shifts against reductions first.
+    /// Returns both as text, the shifts against reductions first.
     pub fn pp(&self, alloc: Global, grm: &NumberedGrammar<S>) -> Result<String, AllocError>
         requires shifts { ShiftsInRange grm.now self.now.shift_reduce }
         requires pairs { PairsInRange grm.now self.now.reduce_reduce }
@@ -115,7 +116,7 @@ impl<S: IndexStorage> Conflicts<S> {
     }
 }
 
-/// The name of a token; `$` for the end token.
+/// Returns the name of a token; `$` for the end token.
 pub(crate) fn shown<S: IndexStorage>(grm: &NumberedGrammar<S>, tidx: TIdx<S>) -> &str
     requires { S.number tidx.0 < grm.now.grammar.tokens }
     ensures { result.now ≡ shown_token grm.now (S.number tidx.0) }

@@ -31,7 +31,7 @@ pub struct CoreSet<S> {
     pub looks: Vec<Vob>,
 }
 
-/// Tells whether two lists have the same items.
+/// Returns whether two lists have the same items.
 pub fn same_items<S: IndexStorage>(a: &[CoreItem<S>], b: &[CoreItem<S>]) -> bool
     ensures { IsTrue result ↔ (items_of S.number a.now ≡ items_of S.number b.now) }
 {
@@ -46,7 +46,7 @@ pub fn same_items<S: IndexStorage>(a: &[CoreItem<S>], b: &[CoreItem<S>]) -> bool
     true
 }
 
-/// Tells whether two items are one.
+/// Returns whether two items are one.
 pub fn same_item<S: IndexStorage>(a: &CoreItem<S>, b: &CoreItem<S>) -> bool
     ensures { IsTrue result ↔ (item_of S.number a.now ≡ item_of S.number b.now) }
 {
@@ -56,7 +56,7 @@ pub fn same_item<S: IndexStorage>(a: &CoreItem<S>, b: &CoreItem<S>) -> bool
     a.dot.0.to_usize() == b.dot.0.to_usize()
 }
 
-/// Tells whether the first item comes before the second: by production, then by dot.
+/// Returns whether the first item comes before the second: by production, then by dot.
 pub fn comes_before<S: IndexStorage>(a: &CoreItem<S>, b: &CoreItem<S>) -> bool
     ensures { IsTrue result ↔ ItemBefore (item_of S.number a.now) (item_of S.number b.now) }
 {
@@ -82,7 +82,7 @@ pub fn put_in<T: Drop>(list: &mut Vec<T>, index: usize, value: T) -> Result<(), 
 }
 
 impl<S: IndexStorage> CoreSet<S> {
-    /// A set without items.
+    /// Returns a set without items.
     pub fn empty(alloc: Global) -> CoreSet<S>
         ensures { core_of_set S.number result ≡ no_core }
     {

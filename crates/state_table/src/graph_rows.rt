@@ -29,7 +29,7 @@ use cfg_base::symbol::Symbol;
 use cfg_numbered::yacc::NumberedGrammar;
 use std::alloc::{AllocError, Global};
 
-/// Tells whether an item is complete.
+/// Returns whether an item is complete.
 fn is_whole<S: IndexStorage>(grm: &NumberedGrammar<S>, entry: SharedItem<S>) -> bool
     requires { S.number entry.item.pidx.0 < length grm.now.grammar.productions }
     ensures { result ≡ nat_eq (S.number entry.item.dot.0) (length (body_of grm.now.grammar (S.number entry.item.pidx.0))) }
@@ -38,7 +38,7 @@ fn is_whole<S: IndexStorage>(grm: &NumberedGrammar<S>, entry: SharedItem<S>) -> 
     dot.0.to_usize() == grm.prod_len(pidx).0.to_usize()
 }
 
-/// Tells whether an item is of the start production.
+/// Returns whether an item is of the start production.
 fn is_of_start<S: IndexStorage>(grm: &NumberedGrammar<S>, entry: SharedItem<S>) -> bool
     ensures { result ≡ nat_eq (S.number entry.item.pidx.0) grm.now.grammar.start }
 {
@@ -70,8 +70,8 @@ fn keep_complete<S: IndexStorage>(
     Ok(())
 }
 
-/// Takes the reductions of a closed state's items, in order, in place of those that are there, and notes whether the items
-/// have the complete start production.
+/// Replaces the reductions by those of a closed state's items, in order. Notes whether the items have the complete
+/// start production.
 fn fill_complete<S: IndexStorage>(
     grm: &NumberedGrammar<S>,
     entries: &[SharedItem<S>],
@@ -138,7 +138,7 @@ fn keep_goto<S: IndexStorage>(
     }
 }
 
-/// The edges on rules, in order; so many others are on tokens.
+/// Returns the edges on rules, in order; the first `shifts` edges are on tokens.
 fn goto_row<S: IndexStorage>(
     alloc: Global,
     edges: &[(Symbol<S>, StIdx<S>)],
@@ -205,7 +205,7 @@ fn add_row<S: IndexStorage>(
     }
 }
 
-/// The rows of all states, unless one accepts where a production reduces.
+/// Returns the rows of all states, unless one accepts where a production reduces.
 pub(crate) fn rows_of_graph<S: IndexStorage>(
     alloc: Global,
     grm: &NumberedGrammar<S>,
@@ -225,7 +225,7 @@ pub(crate) fn rows_of_graph<S: IndexStorage>(
     Ok(rows)
 }
 
-/// Tells whether the cells and the gotos of all states can be counted.
+/// Returns whether the cells and the gotos of all states can be counted.
 pub(crate) fn has_room<S: IndexStorage>(grm: &NumberedGrammar<S>, sg: &StateGraph<S>) -> bool
     ensures { IsTrue result ↔ (cell_count grm.now.grammar (graph_of sg.now) < 2 ^ 64) }
 {

@@ -93,7 +93,7 @@ fn push_dotted<S: IndexStorage>(
     requires dot { S.number dot.0 ≤ length (body_of grm.now.grammar (S.number pidx.0)) }
     ensures { OnOk result (string_bytes text.new ≡ string_bytes text.old ++ dotted grm.now (body_of grm.now.grammar (S.number pidx.0)) (S.number dot.0)) }
 {
-    // Read, so that the proof may use what is so of each grammar.
+    // For the proof alone: this read gives it the invariant of each grammar.
     let _start = grm.start_prod();
     let (passed, left) = grm.prod(pidx).split_at(dot.0.to_usize());
     push_symbols(text, grm, passed)?;
@@ -102,14 +102,14 @@ fn push_dotted<S: IndexStorage>(
     Ok(())
 }
 
-/// What stands before a token: nothing before the first.
+/// Returns the separator before a token: nothing before the first.
 fn comma(follows: bool) -> &'static str
     ensures { result.now ≡ cond follows (codes ", ") [] }
 {
     if follows { ", " } else { "" }
 }
 
-/// Puts what stands before a token, and the token.
+/// Puts the separator before a token, and the token.
 fn push_look<S: IndexStorage>(
     text: &mut String,
     grm: &NumberedGrammar<S>,
@@ -159,7 +159,7 @@ fn push_head<S: IndexStorage>(
     Ok(())
 }
 
-/// The item at an index as text.
+/// Returns the item at an index as text.
 fn item_line<S: IndexStorage>(
     alloc: Global,
     grm: &NumberedGrammar<S>,
@@ -180,7 +180,7 @@ fn item_line<S: IndexStorage>(
     Ok(text)
 }
 
-/// An edge as text.
+/// Returns an edge as text.
 fn edge_line<S: IndexStorage>(
     alloc: Global,
     grm: &NumberedGrammar<S>,
@@ -253,7 +253,7 @@ fn push_edges_to<S: IndexStorage>(
     Ok(())
 }
 
-/// The lesser of a target and another number, or that other where the target lies before a third.
+/// Returns the lesser of a target and another number, or that other where the target lies before a third.
 fn lesser(target: usize, from: usize, least: usize) -> usize
     ensures least { result ≤ least }
     ensures range { from ≤ least → from ≤ result }
@@ -265,7 +265,7 @@ fn lesser(target: usize, from: usize, least: usize) -> usize
     target.min(least)
 }
 
-/// The least target from a number on, or the last number where no lesser one is a target.
+/// Returns the least target from a number on, or the last number where no lesser one is a target.
 fn next_target<S: IndexStorage>(edges: &[(Symbol<S>, StIdx<S>)], from: usize, last: usize) -> usize
     requires { from ≤ last }
     ensures range { (from ≤ result) × (result ≤ last) }
@@ -299,7 +299,7 @@ fn push_edges<S: IndexStorage>(
     Ok(())
 }
 
-/// The lines of a state.
+/// Returns the lines of a state.
 fn lines_of<S: IndexStorage>(
     alloc: Global,
     grm: &NumberedGrammar<S>,
@@ -351,7 +351,8 @@ fn push_lines(text: &mut String, front: &str, gap: &str, lines: &[String]) -> Re
     }
 }
 
-/// The spaces in front of lines, where so many states are shown.
+/// Returns the spaces in front of a state's lines: as many characters as the greatest number below `count` takes with
+/// its `: `.
 fn gap_of(alloc: Global, count: usize) -> Result<String, AllocError>
     ensures { IfOk result (λ gap. string_bytes gap ≡ replicate (front_width count) 32) }
 {
@@ -361,7 +362,7 @@ fn gap_of(alloc: Global, count: usize) -> Result<String, AllocError>
     Ok(gap)
 }
 
-/// The front of a state's first line.
+/// Returns the front of a state's first line.
 fn front_of(alloc: Global, width: usize, number: usize) -> Result<String, AllocError>
     ensures { IfOk result (λ front. string_bytes front ≡ number_front width number) }
 {
@@ -371,7 +372,7 @@ fn front_of(alloc: Global, width: usize, number: usize) -> Result<String, AllocE
     Ok(front)
 }
 
-/// The core of a state, or its closure.
+/// Returns the core of a state, or its closure.
 fn shown_set<S: IndexStorage>(
     graph: &StateGraph<S>,
     stidx: StIdx<S>,
@@ -436,8 +437,8 @@ fn push_states<S: IndexStorage>(
 }
 
 impl<S: IndexStorage> StateGraph<S> {
-    /// The graph as text, by the cores of its states or by their closures: for each state its items in order, then its
-    /// edges by target, each on a line. The grammar is the graph's own.
+    /// Returns the graph as text, by the cores of its states or by their closures. Each state has its items in
+    /// order, then its edges by target, each on a line. `grm` is the graph's own grammar.
     pub fn pp(
         &self,
         alloc: Global,
@@ -455,7 +456,7 @@ impl<S: IndexStorage> StateGraph<S> {
         Ok(text)
     }
 
-    /// As `pp`, by the cores.
+    /// Returns the graph as text by the cores of its states, as `pp` does.
     pub fn pp_core_states(
         &self,
         alloc: Global,
@@ -467,7 +468,7 @@ impl<S: IndexStorage> StateGraph<S> {
         self.pp(alloc, grm, true)
     }
 
-    /// As `pp`, by the closures.
+    /// Returns the graph as text by the closures of its states, as `pp` does.
     pub fn pp_closed_states(
         &self,
         alloc: Global,

@@ -17,8 +17,8 @@ use std::alloc::{AllocError, Global};
 use std::marker::Model;
 use vob::Vob;
 
-/// A set of items with lookaheads. Contracts see a finite map from items, a production with a dot, to a flag for each
-/// token, as the list of its entries in ascending order. Items that a closure opens share their sets of tokens.
+/// A set of items with lookaheads. Items that a closure opens share their sets of tokens. Contracts see a finite map,
+/// as the list of its entries in ascending order: from items, a production with a dot, to a flag for each token.
 #[derive(Drop)]
 pub struct Itemset<S: IndexStorage> {
     set: SharedSets<S>,
@@ -35,7 +35,7 @@ impl<S: IndexStorage> Model for Itemset<S> {
     ghost invariant = { λ s. IsShared S.number s.set };
 }
 
-/// The item set of items that share their sets, for crates that build states.
+/// Returns the item set of items that share their sets, for crates that build states.
 pub fn of_shared<S: IndexStorage>(set: SharedSets<S>) -> Itemset<S>
     requires { IsShared S.number set }
     ensures { result ≡ shared_map S.number set }
@@ -54,8 +54,9 @@ impl<S: IndexStorage> Itemset<S> {
         }
     }
 
-    /// Adds lookaheads to those of an item, which is added where it isn't there, and tells whether something was new:
-    /// the item, or one of the lookaheads. There is a flag for each token in `ctx`, as in the sets that are there.
+    /// Adds lookaheads to those of an item, which is added where it isn't there, and returns whether something
+    /// was new: the item, or one of the lookaheads. There is a flag for each token in `ctx`, as in the sets that
+    /// are there.
     pub fn add(&mut self, pidx: PIdx<S>, dot: SIdx<S>, ctx: &Vob) -> Result<bool, AllocError>
         requires { HasWidth (length ctx.now.bits) self.old }
         ensures items { OnOk result (SameItems (With (HasItem self.old) (S.number pidx.0) (S.number dot.0)) (HasItem self.new)) }
@@ -69,14 +70,14 @@ impl<S: IndexStorage> Itemset<S> {
         Ok(grew)
     }
 
-    /// How many items there are.
+    /// Returns how many items there are.
     pub fn len(&self) -> usize
         ensures { result ≡ length self.now }
     {
         self.set.entries.len()
     }
 
-    /// The item at an index: its production and its dot. Items ascend by production, then by dot.
+    /// Returns the item at an index: its production and its dot. Items ascend by production, then by dot.
     pub fn item_at(&self, index: usize) -> (PIdx<S>, SIdx<S>)
         requires { index < length self.now }
         ensures production { (e : Entry) → S.number result.0.0 ≡ (get_or self.now index e).production }
@@ -86,7 +87,7 @@ impl<S: IndexStorage> Itemset<S> {
         (entry.item.pidx, entry.item.dot)
     }
 
-    /// The lookaheads of the item at an index.
+    /// Returns the lookaheads of the item at an index.
     pub fn looks_at(&self, index: usize) -> &Vob
         requires { index < length self.now }
         ensures { (e : Entry) → result.now.bits ≡ (get_or self.now index e).lookaheads }
@@ -105,7 +106,7 @@ impl<S: IndexStorage> Itemset<S> {
         }
     }
 
-    /// The items with the sets that they share, for crates that build states.
+    /// Returns the items with the sets that they share, for crates that build states.
     pub fn shared(&self) -> &SharedSets<S>
         ensures value { shared_map S.number result.now ≡ self.now }
         ensures kept { IsShared S.number result.now }
@@ -113,7 +114,7 @@ impl<S: IndexStorage> Itemset<S> {
         &self.set
     }
 
-    /// The lookaheads of an item, if it is there.
+    /// Returns the lookaheads of an item, if it is there.
     pub fn get(&self, pidx: PIdx<S>, dot: SIdx<S>) -> Option<&Vob>
         ensures { option_map (λ v. v.now.bits) result ≡ entry_at self.now (S.number pidx.0) (S.number dot.0) }
     {

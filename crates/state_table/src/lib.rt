@@ -22,7 +22,7 @@
 //! }
 //! ```
 //!
-//! The graph of `%start S %% S: 'if' S 'else' S | 'if' S | 'x';`, as `lrtable` makes it, answers
+//! The graph that `lrtable` makes of `%start S %% S: 'if' S 'else' S | 'if' S | 'x';` gives
 //!
 //! ```text
 //! Shift/Reduce conflicts:

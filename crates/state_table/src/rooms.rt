@@ -1,10 +1,10 @@
-//! How much room rows are to have, here and in crates that build states. Nothing rests on it but how often room is asked
-//! for.
+//! How much room rows are to have, here and in crates that build states. Only the number of requests for memory
+//! depends on it.
 
 use vob::Vob;
 use vob::block::Block;
 
-/// How many bits of a set are set, block by block.
+/// Returns how many bits of a set are set, block by block.
 pub fn bits_set(set: &Vob) -> usize {
     let blocks = set.get_storage();
     let mut count: usize = 0;

@@ -19,15 +19,15 @@ fn compare<L: Ledger>(at: usize, number: usize, steps: &mut Steps<L>) -> Orderin
     at.cmp(&number)
 }
 
-/// An index as rows keep it: each index type's numbers fit.
+/// Returns an index as rows keep it: each index type's numbers fit.
 pub(crate) fn row_number<S: IndexStorage>(index: S) -> u32
     ensures { result ≡ S.number index }
 {
     index.to_usize() as u32
 }
 
-/// The value beside a number in a row whose numbers rise, if it is there, by halving. A step is a comparison; there are
-/// at most as many as the row's length has binary digits, and none in an empty row.
+/// Returns the value beside a number in a row whose numbers rise, if it is there, by halving. A step is a comparison;
+/// there are at most as many as the row's length has binary digits, and none in an empty row.
 pub fn row_search<V: Copy, L: Ledger>(
     row: &[(u32, V)],
     number: usize,
@@ -63,7 +63,7 @@ fn search_with<V: Copy, L: Ledger>(row: &[(u32, V)], number: usize, blank: Blank
     row_search(row, number, &mut steps)
 }
 
-/// As `row_search`, of which no step is counted.
+/// Finds the value beside a number as `row_search` does, without a step counter.
 pub(crate) fn look_up<V: Copy>(row: &[(u32, V)], number: usize) -> Option<V>
     requires { Rises row.now }
     ensures { result ≡ at_of row.now number }

@@ -1,11 +1,11 @@
-//! Indices of sets as items keep them, for crates that build states.
+//! Indices of sets as items store them, for crates that build states.
 
 ghost use Rattle.std.specs.Prelude.{◌≡◌};
 
 use std::marker::Model;
 
-/// The index of a set, in two halves: a `usize` would have an item that holds it begin at a multiple of eight bytes, and take
-/// sixteen of them where twelve serve. Contracts see the index.
+/// The index of a set, in two halves, so that an item that has it takes twelve bytes: with a `usize` it would be
+/// aligned to eight and take sixteen. Contracts see the index.
 #[derive(Clone, Copy)]
 pub struct SetIndex {
     low: u32,
@@ -31,7 +31,7 @@ impl Model for SetIndex {
 }
 
 impl SetIndex {
-    /// An index.
+    /// Makes the index of a number.
     pub fn of(number: usize) -> SetIndex
         ensures { result ≡ number }
     {
@@ -41,7 +41,7 @@ impl SetIndex {
         }
     }
 
-    /// The index as a number.
+    /// Returns the index as a number.
     pub fn get(&self) -> usize
         ensures { result ≡ self.now }
     {

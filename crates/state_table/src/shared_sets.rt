@@ -1,5 +1,5 @@
-//! Item sets that keep each set of lookaheads once: the items that a closure opens share those of their rule, and none
-//! has a set of its own. These are for crates that build states; others see an `Itemset`.
+//! Item sets that store each set of lookaheads once: the items that a closure opens share those of their rule, and
+//! none has a set of its own. These are for crates that build states; others see an `Itemset`.
 
 ghost use Rattle.std.specs.Prelude.{◌≡◌, ◌<◌, ◌≤◌, ◌-◌, ◌↔◌, ℕ, [], true, false, length, get_or, option_map, IsTrue, IfOk, IfSome, OnOk, OnErr};
 ghost use Rattle.lr_theory.specs.Itemset.{entry_at};
@@ -34,7 +34,7 @@ pub struct SharedSets<S> {
     pub sets: Vec<Vob>,
 }
 
-/// The index at which an item stands, or belongs.
+/// Returns the index at which an item is, or belongs.
 fn index_in<S: IndexStorage>(entries: &[SharedItem<S>], item: &CoreItem<S>) -> usize
     requires { Ascends (keys_of S.number entries.now) }
     ensures within { result ≤ length entries.now }
@@ -50,7 +50,7 @@ fn index_in<S: IndexStorage>(entries: &[SharedItem<S>], item: &CoreItem<S>) -> u
     0
 }
 
-/// Tells whether an item stands at an index.
+/// Returns whether an item is at an index.
 fn is_at<S: IndexStorage>(entries: &[SharedItem<S>], index: usize, item: &CoreItem<S>) -> bool
     ensures here { result ≡ true → IsAt (keys_of S.number entries.now) index (S.number item.now.pidx.0) (S.number item.now.dot.0) }
     ensures other { result ≡ false → (d : Item) → index < length entries.now → get_or (keys_of S.number entries.now) index d ≡ item_of S.number item.now → ⊥ }
@@ -61,7 +61,7 @@ fn is_at<S: IndexStorage>(entries: &[SharedItem<S>], index: usize, item: &CoreIt
     same_item(&entries[index].item, item)
 }
 
-/// The index of a set like this one, if one of the last four is.
+/// Returns the index of a set like this one, if one of the last four is.
 fn like_among(sets: &[Vob], looks: &Vob) -> Option<usize>
     ensures { IfSome result (λ k. (k < length sets.now) × (row (rows_in sets.now) k ≡ looks.now.bits)) }
 {
@@ -74,7 +74,7 @@ fn like_among(sets: &[Vob], looks: &Vob) -> Option<usize>
     None
 }
 
-/// Tells whether the last set is like this one.
+/// Returns whether the last set is like this one.
 fn is_last(sets: &[Vob], looks: &Vob) -> bool
     ensures { result ≡ true → (0 < length sets.now) × (row (rows_in sets.now) (length sets.now - 1) ≡ looks.now.bits) }
 {
@@ -113,7 +113,7 @@ fn give_back(sets: &mut Vec<Vob>)
 }
 
 impl<S: IndexStorage> SharedSets<S> {
-    /// Without items.
+    /// Makes a set without items.
     pub fn empty(alloc: Global) -> SharedSets<S>
         ensures core { shared_core S.number result ≡ no_core }
         ensures within { PointIn (rows_in result.sets.items) result.entries.items }
@@ -166,8 +166,8 @@ impl<S: IndexStorage> SharedSets<S> {
         Ok(true)
     }
 
-    /// Adds an item with its lookaheads, or lookaheads to those of the item that is there, and tells whether something
-    /// was new.
+    /// Adds an item with its lookaheads, or lookaheads to those of the item that is there, and returns whether
+    /// something was new.
     pub fn add(&mut self, item: CoreItem<S>, looks: &Vob) -> Result<bool, AllocError>
         requires core { IsCoreOf (length looks.now.bits) (shared_core S.number self.old) }
         requires within { PointIn (rows_in self.old.sets.items) self.old.entries.items }
@@ -182,7 +182,7 @@ impl<S: IndexStorage> SharedSets<S> {
         self.put(index, item, looks)
     }
 
-    /// The lookaheads of an item, if it is there.
+    /// Returns the lookaheads of an item, if it is there.
     pub fn get(&self, item: &CoreItem<S>) -> Option<&Vob>
         requires { IsShared S.number self.now }
         ensures { option_map (λ v. v.now.bits) result ≡ entry_at (shared_map S.number self.now) (S.number item.now.pidx.0) (S.number item.now.dot.0) }
@@ -219,7 +219,7 @@ impl<S: IndexStorage> SharedSets<S> {
         Ok(())
     }
 
-    /// The index of a set like this one, which is put behind the others unless the last is like it.
+    /// Returns the index of a set like this one, which is put behind the others unless the last is like it.
     fn own_set(&mut self, looks: &Vob) -> Result<usize, AllocError>
         ensures entries { OnOk result (self.new.entries.items ≡ self.old.entries.items) }
         ensures within { IfOk result (λ k. k < length (rows_in self.new.sets.items)) }
@@ -234,7 +234,8 @@ impl<S: IndexStorage> SharedSets<S> {
         Ok(set)
     }
 
-    /// The index of a set like this one, which is put behind the others unless one of the last is like it.
+    /// Returns the index of a set like this one, which is put behind the others unless one of the last is like
+    /// it.
     pub fn set_like(&mut self, looks: &Vob) -> Result<usize, AllocError>
         ensures entries { OnOk result (self.new.entries.items ≡ self.old.entries.items) }
         ensures within { IfOk result (λ k. k < length (rows_in self.new.sets.items)) }
@@ -249,7 +250,7 @@ impl<S: IndexStorage> SharedSets<S> {
         Ok(set)
     }
 
-    /// Gives back the room that no item and no set takes.
+    /// Frees memory that no item and no set needs.
     pub fn fit(&mut self)
         ensures core { shared_core S.number self.new ≡ shared_core S.number self.old }
         ensures within { PointIn (rows_in self.old.sets.items) self.old.entries.items → PointIn (rows_in self.new.sets.items) self.new.entries.items }
@@ -258,8 +259,8 @@ impl<S: IndexStorage> SharedSets<S> {
         give_back(&mut self.sets);
     }
 
-    /// The items of a core with copies of their sets, one for items that follow one another with like sets, and room for so
-    /// many more sets and items.
+    /// Copies the items of a core and their sets, one set for neighboring items with equal sets. There is room
+    /// for `more_sets` and `more_items` more.
     pub fn of_core(
         alloc: Global,
         core: &CoreSet<S>,
@@ -286,7 +287,7 @@ impl<S: IndexStorage> SharedSets<S> {
         Ok(shared)
     }
 
-    /// The items of a core, each with its own set.
+    /// Returns the items of a core, each with its own set.
     pub fn from_core(alloc: Global, core: CoreSet<S>) -> Result<SharedSets<S>, AllocError>
         requires { length core.looks.items ≡ length core.items.items }
         ensures core { IfOk result (λ s. shared_core S.number s ≡ core_of_set S.number core) }
@@ -300,7 +301,7 @@ impl<S: IndexStorage> SharedSets<S> {
         })
     }
 
-    /// The items, each with a copy of its lookaheads.
+    /// Returns the items, each with a copy of its lookaheads.
     pub fn to_core(&self, alloc: Global) -> Result<CoreSet<S>, AllocError>
         requires { PointIn (rows_in self.now.sets.items) self.now.entries.items }
         ensures { IfOk result (λ c. core_of_set S.number c ≡ shared_core S.number self.now) }

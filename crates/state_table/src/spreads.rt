@@ -1,4 +1,4 @@
-//! Full rows beside those that a table keeps, in which cells and gotos are read at once.
+//! Full rows beside those that a table stores, in which cells and gotos are read at once.
 
 ghost use Rattle.std.specs.Prelude.{◌≡◌, ◌<◌, ℕ, List, Some, length, slice_get, slice_set, IfOk, IfSome};
 ghost use Rattle.std.specs.declared.alloc.Global.{Global};
@@ -16,7 +16,7 @@ fn put<V: Copy>(spread: &mut Vec<Option<V>>, number: usize, value: V)
     spread[number] = Some(value);
 }
 
-/// A place for each number below the count, with what the row has beside it.
+/// Returns a place for each number below the count, with what the row has beside it.
 fn spread_row<V: Copy>(
     alloc: Global,
     row: &[(u32, V)],
@@ -34,7 +34,7 @@ fn spread_row<V: Copy>(
     Ok(spread)
 }
 
-/// The full row of a row of several entries; of fewer none, since halving finds them as fast.
+/// Returns the full row of a row of several entries; of fewer none, since halving finds them as fast.
 fn spread_if_long<V: Copy>(
     alloc: Global,
     row: &[(u32, V)],
@@ -50,7 +50,7 @@ fn spread_if_long<V: Copy>(
     spread_row(alloc, row, count)
 }
 
-/// The row of a state.
+/// Returns the row of a state.
 fn row_of<E>(rows: &[Vec<E>], s: usize) -> &Vec<E>
     requires { s < length rows.now }
     ensures { slice_get rows.now s ≡ Some result.now }
@@ -58,14 +58,14 @@ fn row_of<E>(rows: &[Vec<E>], s: usize) -> &Vec<E>
     &rows[s]
 }
 
-/// What stands at a place of a full row, if it reaches so far.
+/// Returns the entry of a full row at a number, if the row reaches that far.
 fn place_in<V: Copy>(spread: &[Option<V>], number: usize) -> Option<Option<V>>
     ensures { result ≡ slice_get spread.now number }
 {
     spread.get(number).copied()
 }
 
-/// The full rows of a table's rows.
+/// Returns the full rows of a table's rows.
 pub(crate) fn spread_rows<V: Copy>(
     alloc: Global,
     rows: &[Vec<(u32, V)>],
@@ -82,7 +82,7 @@ pub(crate) fn spread_rows<V: Copy>(
     Ok(spreads)
 }
 
-/// What a row has beside a number, where its full row reaches so far.
+/// Returns the entry of a state's full row at a number, if there is a full row and it reaches that far.
 pub(crate) fn spread_at<V: Copy>(
     spreads: &[Vec<Option<V>>],
     s: usize,

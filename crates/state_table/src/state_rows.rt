@@ -35,17 +35,19 @@ pub(crate) struct Reduction<S> {
     pub set: usize,
 }
 
-/// What a state has for its row: the complete items of other productions than the start's, by production, its edges on
-/// tokens, and whether it has the complete start production.
+/// The parts of a state from which its row is made.
 #[derive(Drop)]
 pub(crate) struct StateParts<S> {
+    /// The complete items of other productions than the start's, by production.
     pub reductions: Vec<Reduction<S>>,
+    /// The edges on tokens, by token.
     pub shifts: Vec<(u32, StIdx<S>)>,
+    /// Whether the state has the complete start production.
     pub accepts: bool,
 }
 
 impl<S: IndexStorage> StateParts<S> {
-    /// Of no state yet.
+    /// Makes the parts of no state.
     pub(crate) fn new(alloc: Global) -> StateParts<S> {
         StateParts {
             reductions: Vec::new(alloc),
@@ -55,7 +57,7 @@ impl<S: IndexStorage> StateParts<S> {
     }
 }
 
-/// Tells whether a token is in a set.
+/// Returns whether a token is in a set.
 #[tactic(auto, using(crate::proofs::TokenReductions::flag_at))]
 fn is_in(tokens: &Vob, number: usize) -> bool
     ensures { result ≡ is_set tokens.now.bits number }
@@ -63,7 +65,7 @@ fn is_in(tokens: &Vob, number: usize) -> bool
     tokens.get(number).unwrap_or(false)
 }
 
-/// Tells whether a token is in the set of an index; past the last set none is.
+/// Returns whether a token is in the set of an index; past the last set none is.
 fn has_token(sets: &[Vob], set: usize, number: usize) -> bool
     ensures { result ≡ is_set (get_or (rows_in sets.now) set []) number }
 {
@@ -73,7 +75,7 @@ fn has_token(sets: &[Vob], set: usize, number: usize) -> bool
     is_in(&sets[set], number)
 }
 
-/// The first production that reduces on a token.
+/// Returns the first production that reduces on a token.
 fn first_reduction<S: IndexStorage>(
     reductions: &[Reduction<S>],
     sets: &[Vob],
@@ -90,7 +92,7 @@ fn first_reduction<S: IndexStorage>(
     None
 }
 
-/// Notes a production that reduces: the first one is kept, and each other one listed with it.
+/// Notes a production that reduces: the first one is stored, and each other one listed with it.
 fn note_reduction<S: IndexStorage>(
     tidx: TIdx<S>,
     stidx: StIdx<S>,
@@ -113,7 +115,7 @@ fn note_reduction<S: IndexStorage>(
     }
 }
 
-/// The first production that reduces on a token; each other one is listed with it.
+/// Returns the first production that reduces on a token; each other one is listed with it.
 fn list_reductions<S: IndexStorage>(
     reductions: &[Reduction<S>],
     sets: &[Vob],
@@ -135,7 +137,7 @@ fn list_reductions<S: IndexStorage>(
     Ok(first)
 }
 
-/// Tells whether a state accepts on a token: on the end token, if it has the complete start production.
+/// Returns whether a state accepts on a token: on the end token, if it has the complete start production.
 fn accepts_on<S: IndexStorage>(grm: &NumberedGrammar<S>, has_complete: bool, tidx: TIdx<S>) -> bool
     ensures { result ≡ (nat_eq (S.number tidx.0) (end_token grm.now.grammar) && has_complete) }
 {
@@ -145,7 +147,7 @@ fn accepts_on<S: IndexStorage>(grm: &NumberedGrammar<S>, has_complete: bool, tid
     false
 }
 
-/// Puts the cell of a token and its listed conflicts behind those of the tokens before, whatever may stand in the cell.
+/// Puts the cell of a token and its listed conflicts behind those of the tokens before, whatever the cell is.
 fn settle_token<S: IndexStorage>(
     grm: &NumberedGrammar<S>,
     stidx: StIdx<S>,
@@ -172,7 +174,7 @@ fn settle_token<S: IndexStorage>(
     Ok(())
 }
 
-/// The cell of a token on which no production reduces, if it has an edge.
+/// Returns the cell of a token on which no production reduces, if it has an edge.
 fn shift_cell<S: IndexStorage>(edge: Option<StIdx<S>>) -> Option<Action<S>>
     ensures { IfSome result (λ a. IsPlain [] (state_of S.number edge) (action_of S.number a)) }
 {
@@ -182,7 +184,7 @@ fn shift_cell<S: IndexStorage>(edge: Option<StIdx<S>>) -> Option<Action<S>>
     }
 }
 
-/// The cell of a token by the one reduction of a state, unless there is an edge as well, or neither.
+/// Returns the cell of a token by the one reduction of a state, unless there is an edge as well, or neither.
 fn lone_cell<S: IndexStorage>(
     reduction: Reduction<S>,
     sets: &[Vob],
@@ -200,7 +202,7 @@ fn lone_cell<S: IndexStorage>(
     }
 }
 
-/// The cell of a token for which nothing contends, of a state with one reduction at most that doesn't accept.
+/// Returns the cell of a token for which nothing contends, of a state with one reduction at most that doesn't accept.
 fn plain_cell<S: IndexStorage>(
     parts: &StateParts<S>,
     sets: &[Vob],
@@ -252,7 +254,7 @@ fn put_token<S: IndexStorage>(
     }
 }
 
-/// The target of the edge on a token, of a row of which all edges on tokens before were taken.
+/// Returns the target of the edge on a token, of a row of which all edges on tokens before were taken.
 fn take_edge<S: IndexStorage>(
     shifts: &[(u32, StIdx<S>)],
     next: &mut usize,
@@ -304,7 +306,7 @@ fn mark_reductions<S: IndexStorage>(marks: &mut Vob, sets: &[Vob], reductions: &
     }
 }
 
-/// Marks a token, if there are so many.
+/// Marks a token, if the set has its number.
 fn mark_token(marks: &mut Vob, number: usize)
     ensures { LeavesOut (λ t. t ≡ number → ⊥) marks.old.bits marks.new.bits }
 {
@@ -322,7 +324,7 @@ fn mark_shifts<S: IndexStorage>(marks: &mut Vob, shifts: &[(u32, StIdx<S>)])
     }
 }
 
-/// The tokens in whose cells something may stand, beside others.
+/// Returns the tokens whose cells may be filled, and perhaps others.
 fn filled_tokens<S: IndexStorage>(
     alloc: Global,
     grm: &NumberedGrammar<S>,
@@ -339,8 +341,8 @@ fn filled_tokens<S: IndexStorage>(
     Ok(marks)
 }
 
-/// Puts the cells of the marked tokens and their listed conflicts behind those of the states before. Nothing stands in the
-/// cells of the others.
+/// Puts the cells of the marked tokens and their listed conflicts behind those of the states before. The cells of the
+/// others are errors.
 fn put_tokens<S: IndexStorage>(
     grm: &NumberedGrammar<S>,
     stidx: StIdx<S>,
@@ -368,7 +370,8 @@ fn put_tokens<S: IndexStorage>(
     Ok(())
 }
 
-/// The row of a state in whose cells several things may stand; its conflicts are listed behind those of the states before.
+/// Returns the row of a state whose cells may have several actions; its conflicts are listed behind those of the
+/// states before.
 fn settled_row<S: IndexStorage>(
     alloc: Global,
     grm: &NumberedGrammar<S>,
@@ -411,7 +414,7 @@ fn put_shifts<S: IndexStorage>(
     Ok(())
 }
 
-/// The row of a state that shifts alone.
+/// Returns the row of a state that shifts alone.
 fn shift_row<S: IndexStorage>(
     alloc: Global,
     shifts: &[(u32, StIdx<S>)],
@@ -426,7 +429,7 @@ fn shift_row<S: IndexStorage>(
     Ok(row)
 }
 
-/// Tells whether an edge stands on a token of a set.
+/// Returns whether a token of a set has an edge.
 fn crosses<S: IndexStorage>(shifts: &[(u32, StIdx<S>)], tokens: &Vob) -> bool
     ensures { result ≡ false → AreApart tokens.now.bits (targets_of S.number shifts.now) }
 {
@@ -438,8 +441,7 @@ fn crosses<S: IndexStorage>(shifts: &[(u32, StIdx<S>)], tokens: &Vob) -> bool
     false
 }
 
-/// Puts the cells of a state that reduces by one production on the tokens of a set, on which no edge stands, and shifts on
-/// others.
+/// Puts shifts, and the reductions by one production on the tokens of a set, none of which has an edge.
 fn put_lone<S: IndexStorage>(
     shifts: &[(u32, StIdx<S>)],
     tokens: &Vob,
@@ -462,7 +464,8 @@ fn put_lone<S: IndexStorage>(
     Ok(())
 }
 
-/// The row of a state that reduces by one production on the tokens of a set, on which no edge stands, and shifts on others.
+/// Returns a row of shifts, and of the reductions by one production on the tokens of a set, none of which has an
+/// edge.
 fn lone_row<S: IndexStorage>(
     alloc: Global,
     shifts: &[(u32, StIdx<S>)],
@@ -480,7 +483,8 @@ fn lone_row<S: IndexStorage>(
     Ok(row)
 }
 
-/// The row of a state that has one reduction and doesn't accept; its conflicts are listed behind those of the states before.
+/// Returns the row of a state that has one reduction and doesn't accept; its conflicts are listed behind those of the
+/// states before.
 fn reducing_row<S: IndexStorage>(
     alloc: Global,
     grm: &NumberedGrammar<S>,
@@ -513,7 +517,7 @@ fn reducing_row<S: IndexStorage>(
     Ok(row)
 }
 
-/// The row of a state; its conflicts are listed behind those of the states before.
+/// Returns the row of a state; its conflicts are listed behind those of the states before.
 pub(crate) fn state_row<S: IndexStorage>(
     alloc: Global,
     grm: &NumberedGrammar<S>,
@@ -547,7 +551,7 @@ pub(crate) fn state_row<S: IndexStorage>(
     settled_row(alloc, grm, stidx, parts, sets, pairs, shifts)
 }
 
-/// The production that contests accept, if the state accepts and reduces on the end token.
+/// Returns the production that contests accept, if the state accepts and reduces on the end token.
 pub(crate) fn contesting<S: IndexStorage>(
     grm: &NumberedGrammar<S>,
     parts: &StateParts<S>,

@@ -18,15 +18,15 @@ use std::hash::Hash;
 use std::marker::{Model, PhantomData};
 use std::slice::Iter;
 
-/// A law: equality, order and hash of a state's index are those of its number.
+/// Proves that equality, order and hash of a state's index are those of its number.
 pub fn state_index_is_its_number<S: IndexOrder>()
     ensures equal { (a b : StIdx S) → ⟦<StIdx<S> as PartialEq>⟧.eq a b ≡ S.eq a.0 b.0 }
     ensures order { (a b : StIdx S) → ⟦<StIdx<S> as Ord>⟧.cmp a b ≡ nat_cmp (S.number a.0) (S.number b.0) }
     ensures hash { (a : StIdx S) → ⟦<StIdx<S> as Hash>⟧.hash_input a ≡ S.hash_input a.0 }
 {}
 
-/// The graph of a grammar's states. Contracts see the cores and the closures as lists of item sets, and for each state
-/// the symbols and the targets of its edges, ascending by symbol.
+/// The graph of a grammar's states. Contracts see the cores and the closures as lists of item sets. For each state
+/// they see the symbols and the targets of its edges, ascending by symbol.
 #[derive(Drop)]
 pub struct StateGraph<S: IndexStorage> {
     cores: Vec<Itemset<S>>,
@@ -45,7 +45,8 @@ impl<S: IndexStorage> Model for StateGraph<S> {
     ghost invariant = { λ g. IsGraphValue S.MAX (graph_seen S.number g.cores.items g.closed.items g.edges.items) };
 }
 
-/// The graph of these cores, closures and edges, whose first state is the start state, for crates that build states.
+/// Returns the graph of these cores, closures and edges, whose first state is the start state, for crates that build
+/// states.
 pub fn of_lists<S: IndexStorage>(
     cores: Vec<Itemset<S>>,
     closed: Vec<Itemset<S>>,
@@ -62,17 +63,17 @@ pub fn of_lists<S: IndexStorage>(
 }
 
 impl<S: IndexStorage> StateGraph<S> {
-    /// The state in which a run starts.
+    /// Returns the state in which a run starts.
     pub fn start_state(&self) -> StIdx<S>
         ensures value { S.number result.0 ≡ self.now.start }
         ensures within { self.now.start < length self.now.cores }
     {
-        // Read, so that the proof may use what is so of each graph.
+        // For the proof alone: this read gives it the invariant of each graph.
         let _cores = &self.cores;
         StIdx(S::from_usize(0).unwrap())
     }
 
-    /// How many states there are.
+    /// Returns how many states there are.
     pub fn all_states_len(&self) -> StIdx<S>
         ensures value { S.number result.0 ≡ length self.now.cores }
         ensures graph { IsGraphValue S.MAX self.now }
@@ -80,7 +81,7 @@ impl<S: IndexStorage> StateGraph<S> {
         StIdx(S::from_usize(self.cores.len()).unwrap())
     }
 
-    /// How many edges there are, at most `usize::MAX`.
+    /// Returns how many edges there are, at most `usize::MAX`.
     pub fn all_edges_len(&self) -> usize
         ensures { result ≡ min (edge_count self.now) usize.MAX }
     {
@@ -91,7 +92,8 @@ impl<S: IndexStorage> StateGraph<S> {
         count
     }
 
-    /// The state of a number. A loop over all states is `for number in 0..graph.all_states_len().0.to_usize()`.
+    /// Returns the state of a number. A loop over all states is `for number in
+    /// 0..graph.all_states_len().0.to_usize()`.
     pub fn state_at(&self, number: usize) -> StIdx<S>
         requires { number < length self.now.cores }
         ensures { S.number result.0 ≡ number }
@@ -100,14 +102,14 @@ impl<S: IndexStorage> StateGraph<S> {
         StIdx(S::from_usize(number).unwrap())
     }
 
-    /// Whether this is a state of the graph.
+    /// Returns whether this is a state of the graph.
     pub fn has_state(&self, stidx: StIdx<S>) -> bool
         ensures { IsTrue result ↔ S.number stidx.0 < length self.now.cores }
     {
         stidx.0.to_usize() < self.cores.len()
     }
 
-    /// The core of a state.
+    /// Returns the core of a state.
     pub fn core_state(&self, stidx: StIdx<S>) -> &Itemset<S>
         requires { S.number stidx.0 < length self.now.cores }
         ensures { result.now ≡ get_or self.now.cores (S.number stidx.0) [] }
@@ -115,7 +117,7 @@ impl<S: IndexStorage> StateGraph<S> {
         &self.cores[stidx.0.to_usize()]
     }
 
-    /// The closure of a state.
+    /// Returns the closure of a state.
     pub fn closed_state(&self, stidx: StIdx<S>) -> &Itemset<S>
         requires { S.number stidx.0 < length self.now.cores }
         ensures { result.now ≡ get_or self.now.closed (S.number stidx.0) [] }
@@ -123,7 +125,7 @@ impl<S: IndexStorage> StateGraph<S> {
         &self.closed[stidx.0.to_usize()]
     }
 
-    /// The edges of a state: symbols with the states that they lead to, ascending by symbol.
+    /// Returns the edges of a state: symbols with the states that they lead to, ascending by symbol.
     pub fn edges(&self, stidx: StIdx<S>) -> &[(Symbol<S>, StIdx<S>)]
         requires { S.number stidx.0 < length self.now.cores }
         ensures { edges_seen S.number result.now ≡ get_or self.now.edges (S.number stidx.0) [] }
@@ -131,7 +133,7 @@ impl<S: IndexStorage> StateGraph<S> {
         self.edges[stidx.0.to_usize()].as_slice()
     }
 
-    /// The state that the edge on a symbol leads to, if there is one.
+    /// Returns the state that the edge on a symbol leads to, if there is one.
     pub fn edge(&self, stidx: StIdx<S>, sym: Symbol<S>) -> Option<StIdx<S>>
         ensures { option_map (λ s. S.number s.0) result ≡ (graph_of self.now).edge (S.number stidx.0) (sym_of S.number sym) }
     {
@@ -168,7 +170,7 @@ impl<S: IndexStorage> StateGraph<S> {
     }
 }
 
-/// Tells whether two symbols are one.
+/// Returns whether two symbols are one.
 pub fn same_symbols<S: IndexStorage>(a: Symbol<S>, b: Symbol<S>) -> bool
     ensures { result ≡ same_symbol (sym_of S.number a) (sym_of S.number b) }
 {
@@ -179,7 +181,7 @@ pub fn same_symbols<S: IndexStorage>(a: Symbol<S>, b: Symbol<S>) -> bool
     }
 }
 
-/// The state that the edge on a symbol leads to, if there is one.
+/// Returns the state that the edge on a symbol leads to, if there is one.
 fn find_edge<S: IndexStorage>(
     edges: &[(Symbol<S>, StIdx<S>)],
     symbol: Symbol<S>,

@@ -38,19 +38,28 @@ use std::fmt;
 use std::fmt::{Debug, Display, Formatter, Write};
 use std::marker::Model;
 
-/// A table of a grammar. It keeps of each state the filled cells and the gotos that there are, in rows that ascend, and
-/// full rows beside them where it was asked to; contracts see full rows.
+/// A table of a grammar. For each state it stores the filled cells and gotos in ascending rows, and beside them full
+/// rows if `with_full_rows` made these. Contracts see full rows.
 #[derive(Drop)]
 pub struct StateTable<S: IndexStorage> {
+    /// For each state the cells that aren't errors, ascending by token.
     actions: Vec<Vec<(u32, Action<S>)>>,
+    /// For each state its gotos, ascending by rule.
     gotos: Vec<Vec<(u32, StIdx<S>)>>,
     start: StIdx<S>,
+    /// The number of states.
     states: S,
+    /// The number of tokens, the end token among them.
     tokens: S,
+    /// The number of rules.
     rules: S,
+    /// The number of productions.
     prods: S,
+    /// `None` where no conflict is listed.
     conflicts: Option<Conflicts<S>>,
+    /// For each state a cell for each token, where `with_full_rows` made these; else empty.
     full_actions: Vec<Vec<Option<Action<S>>>>,
+    /// For each state a goto for each rule, where `with_full_rows` made these; else empty.
     full_gotos: Vec<Vec<Option<StIdx<S>>>>,
 }
 
@@ -96,7 +105,7 @@ impl<S: IndexStorage> StateTable<S> {
         Ok(of_rows(alloc, grm, rows, sg.all_states_len(), sg.start_state()))
     }
 
-    /// The same table, which from here on reads most cells and gotos at once: beside its rows it keeps full ones.
+    /// Adds full rows to the table, by which most cells and gotos are read at once.
     pub fn with_full_rows(mut self, alloc: Global) -> Result<StateTable<S>, AllocError>
         ensures { IfOk result (λ t. t ≡ self) }
     {
@@ -107,7 +116,7 @@ impl<S: IndexStorage> StateTable<S> {
         Ok(self)
     }
 
-    /// What the state does on the token.
+    /// Returns the action of the state on the token.
     pub fn action(&self, stidx: StIdx<S>, tidx: TIdx<S>) -> Action<S>
         requires state { S.number stidx.0 < self.now.states }
         requires token { S.number tidx.0 < self.now.tokens }
@@ -120,7 +129,7 @@ impl<S: IndexStorage> StateTable<S> {
         }
     }
 
-    /// What the state does on the token, by halving.
+    /// Returns the action of the state on the token, by binary search.
     fn search_action(&self, stidx: StIdx<S>, tidx: TIdx<S>) -> Action<S>
         requires state { S.number stidx.0 < self.now.states }
         requires token { S.number tidx.0 < self.now.tokens }
@@ -133,7 +142,7 @@ impl<S: IndexStorage> StateTable<S> {
         }
     }
 
-    /// The state after the rule.
+    /// Returns the state that the goto on the rule leads to, if there is one.
     pub fn goto(&self, stidx: StIdx<S>, ridx: RIdx<S>) -> Option<StIdx<S>>
         requires state { S.number stidx.0 < self.now.states }
         requires rule { S.number ridx.0 < self.now.rules }
@@ -146,7 +155,7 @@ impl<S: IndexStorage> StateTable<S> {
         }
     }
 
-    /// The state after the rule, by halving.
+    /// Returns the state after the rule, by halving.
     fn search_goto(&self, stidx: StIdx<S>, ridx: RIdx<S>) -> Option<StIdx<S>>
         requires state { S.number stidx.0 < self.now.states }
         requires rule { S.number ridx.0 < self.now.rules }
@@ -156,7 +165,7 @@ impl<S: IndexStorage> StateTable<S> {
         look_up(row, ridx.0.to_usize())
     }
 
-    /// The cells of a state that are kept.
+    /// Returns the cells of a state that are stored.
     fn row(&self, stidx: StIdx<S>) -> &[(u32, Action<S>)]
         requires { S.number stidx.0 < self.now.states }
         ensures cells { IsCellRow self.now.tokens (cells_of S.number result.now) }
@@ -209,7 +218,8 @@ impl<S: IndexStorage> StateTable<S> {
         productions_of_row(self.row(stidx), self.prods_len().0.to_usize())
     }
 
-    /// Tells whether a state only reduces, by one production: some cell is filled, and each filled one reduces by it.
+    /// Returns whether a state only reduces, by one production: some cell is filled, and each filled one reduces
+    /// by it.
     pub fn reduce_only_state(&self, stidx: StIdx<S>) -> bool
         requires { S.number stidx.0 < self.now.states }
         ensures { IsTrue result ↔ ((p : ℕ) × ReducesOnly self.now (S.number stidx.0) p) }
@@ -217,7 +227,7 @@ impl<S: IndexStorage> StateTable<S> {
         reduces_only(self.row(stidx))
     }
 
-    /// The state that a run begins in.
+    /// Returns the state that a run begins in.
     pub fn start_state(&self) -> StIdx<S>
         ensures value { S.number result.0 ≡ self.now.start }
         ensures within { self.now.start < self.now.states }
@@ -233,17 +243,18 @@ impl<S: IndexStorage> StateTable<S> {
         StIdx(self.states)
     }
 
-    /// The state of a number. A loop over all states is `for number in 0..table.states_len().0.to_usize()`.
+    /// Returns the state of a number. A loop over all states is `for number in
+    /// 0..table.states_len().0.to_usize()`.
     pub fn state_at(&self, number: usize) -> StIdx<S>
         requires { number < self.now.states }
         ensures { S.number result.0 ≡ number }
     {
-        // Read, so that the proof may use that the count of states fits.
+        // For the proof alone: this read shows that the count of states fits.
         self.states.to_usize();
         StIdx(S::from_usize(number).unwrap())
     }
 
-    /// Whether this is a state of the table.
+    /// Returns whether this is a state of the table.
     pub fn has_state(&self, stidx: StIdx<S>) -> bool
         ensures { IsTrue result ↔ S.number stidx.0 < self.now.states }
     {
@@ -280,8 +291,8 @@ impl<S: IndexStorage> StateTable<S> {
         cells + gotos
     }
 
-    /// The conflicts that no precedence settles, if there are any: without precedences there are some exactly where
-    /// canonical LR(1) is contested.
+    /// Returns the conflicts that no precedence settles, if there are any: without precedences there are some if
+    /// and only if canonical LR(1) is contested.
     #[tactic(auto, using(crate::proofs::CanonicalTables::exact))]
     pub fn conflicts(&self) -> Option<&Conflicts<S>>
         ensures value { option_map (λ c. c.now) result ≡ self.now.conflicts }
@@ -302,7 +313,7 @@ fn count_entries<V>(rows: &[Vec<(u32, V)>]) -> usize
     rows.iter().map(|row| row.len()).sum()
 }
 
-/// Tells whether each cell of a row reduces by a production.
+/// Returns whether each cell of a row reduces by a production.
 fn all_reduce<S: IndexStorage>(row: &[(u32, Action<S>)], pidx: PIdx<S>) -> bool
     ensures { IsTrue result ↔ AllReduce (cells_of S.number row.now) (S.number pidx.0) }
 {
@@ -315,7 +326,7 @@ fn all_reduce<S: IndexStorage>(row: &[(u32, Action<S>)], pidx: PIdx<S>) -> bool
     true
 }
 
-/// Tells whether a row has a cell, and each reduces by one production.
+/// Returns whether a row has a cell, and each reduces by one production.
 fn reduces_only<S: IndexStorage>(row: &[(u32, Action<S>)]) -> bool
     ensures { IsTrue result ↔ ((p : ℕ) × RowReduces (cells_of S.number row.now) p) }
 {
@@ -329,7 +340,7 @@ fn reduces_only<S: IndexStorage>(row: &[(u32, Action<S>)]) -> bool
     }
 }
 
-/// The conflicts of the lists, if one of them has an entry.
+/// Returns the conflicts of the lists, if one of them has an entry.
 fn listed<S: IndexStorage>(
     pairs: Vec<ReduceReduce<S>>,
     shifts: Vec<ShiftReduce<S>>,
@@ -342,7 +353,7 @@ fn listed<S: IndexStorage>(
     Some(of_lists(pairs, shifts))
 }
 
-/// The table of the rows of all states.
+/// Returns the table of the rows of all states.
 pub(crate) fn of_rows<S: IndexStorage>(
     alloc: Global,
     grm: &NumberedGrammar<S>,

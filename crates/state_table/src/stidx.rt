@@ -10,7 +10,7 @@ use std::hash::Hash;
 pub struct StIdx<S>(pub S);
 
 impl<S: IndexStorage> StIdx<S> {
-    /// Answers the stored number.
+    /// Returns the stored number.
     pub fn as_storaget(&self) -> S
         ensures { result ≡ self.now.0 }
     {

@@ -35,7 +35,7 @@ impl<'a, S: IndexStorage> Model for StateActionsIterator<'a, S> {
     ghost invariant = { λ w. (w.index ≤ length w.row.now) × Below (S.MAX + 1) w.row.now };
 }
 
-/// Tells whether a cell is one that is given: a shift, or any that is filled.
+/// Returns whether a cell is one that is given: a shift, or any that is filled.
 fn is_kept<S: IndexStorage>(shifts: bool, cell: Action<S>) -> bool
     ensures { result ≡ keeps shifts (action_of S.number cell) }
 {
@@ -45,7 +45,7 @@ fn is_kept<S: IndexStorage>(shifts: bool, cell: Action<S>) -> bool
     !matches!(cell, Action::Error)
 }
 
-/// The index of the next cell that is given.
+/// Returns the index of the next cell that is given.
 fn next_kept<S: IndexStorage>(row: &[(u32, Action<S>)], from: usize, shifts: bool) -> Option<usize>
     requires { from ≤ length row.now }
     ensures { MatchOption result (kept_tokens shifts (cells_of S.number (drop from row.now)) ≡ []) (λ i. (i < length row.now) × ((d : ℕ × TableAction S) → kept_tokens shifts (cells_of S.number (drop from row.now)) ≡ (slice_index_or row.now i d).0 ∷ kept_tokens shifts (cells_of S.number (drop (i + 1) row.now)))) }
@@ -59,7 +59,7 @@ fn next_kept<S: IndexStorage>(row: &[(u32, Action<S>)], from: usize, shifts: boo
     None
 }
 
-/// The tokens of a row's cells, or of its shifts alone.
+/// Returns the tokens of a row's cells, or of its shifts alone.
 pub(crate) fn tokens_of_row<S: IndexStorage>(
     row: &[(u32, Action<S>)],
     shifts: bool,
@@ -117,7 +117,7 @@ impl<'a, S: IndexStorage> Model for CoreReducesIterator<'a, S> {
     ghost invariant = { λ w. (w.next ≤ w.end) × (w.end ≤ S.MAX) };
 }
 
-/// The production by which a cell reduces, if it lies from one number up to before another, else that other.
+/// Returns the production by which a cell reduces, if it lies from one number up to before another, else that other.
 fn lesser<S: IndexStorage>(cell: Action<S>, from: usize, below: usize) -> usize
     ensures { IsLesser (action_of S.number cell) from below result }
 {
@@ -136,7 +136,7 @@ fn lesser<S: IndexStorage>(cell: Action<S>, from: usize, below: usize) -> usize
     }
 }
 
-/// The least production from one number up to before another by which a row reduces, else that other.
+/// Returns the least production from one number up to before another by which a row reduces, else that other.
 fn least_reduced<S: IndexStorage>(row: &[(u32, Action<S>)], from: usize, end: usize) -> usize
     requires { from ≤ end }
     ensures { IsLeastReduced (cells_of S.number row.now) from end result }
@@ -149,7 +149,7 @@ fn least_reduced<S: IndexStorage>(row: &[(u32, Action<S>)], from: usize, end: us
     below
 }
 
-/// The next production by which a row reduces.
+/// Returns the next production by which a row reduces.
 fn next_reduced<S: IndexStorage>(row: &[(u32, Action<S>)], from: usize, end: usize) -> Option<usize>
     requires { from ≤ end }
     ensures { MatchOption result (reduced_from (cells_of S.number row.now) from (end - from) ≡ []) (λ p. (p < end) × (reduced_from (cells_of S.number row.now) from (end - from) ≡ p ∷ reduced_from (cells_of S.number row.now) (p + 1) (end - (p + 1)))) }
@@ -161,7 +161,7 @@ fn next_reduced<S: IndexStorage>(row: &[(u32, Action<S>)], from: usize, end: usi
     Some(number)
 }
 
-/// The productions by which a row reduces, before a number.
+/// Returns the productions by which a row reduces, before a number.
 pub(crate) fn productions_of_row<S: IndexStorage>(
     row: &[(u32, Action<S>)],
     end: usize,

@@ -26,7 +26,7 @@ pub(crate) struct TableRows<S> {
 }
 
 impl<S: IndexStorage> TableRows<S> {
-    /// Without a state.
+    /// Makes the rows of no state.
     pub(crate) fn new(alloc: Global) -> TableRows<S>
         ensures actions { result.actions.items ≡ [] }
         ensures gotos { result.gotos.items ≡ [] }

@@ -29,8 +29,8 @@ use state_table::stategraph::same_symbols;
 use std::alloc::{AllocError, Global};
 use vob::Vob;
 
-/// The closure of a core: its items, each with a set of its own, and the productions of the rules that it opens, with one
-/// set for each rule.
+/// Returns the closure of a core: its items, each with a set of its own, and the productions of the rules that it
+/// opens, with one set for each rule.
 pub(crate) fn closed_set<S: IndexStorage>(
     alloc: Global,
     grm: &NumberedGrammar<S>,
@@ -50,7 +50,7 @@ pub(crate) fn closed_set<S: IndexStorage>(
     Ok(set)
 }
 
-/// The same, with what the closings of one core after another are made with.
+/// Returns the closure of a core as `closed_set` does, with buffers that successive closures reuse.
 pub(crate) fn closed_by<S: IndexStorage>(
     alloc: Global,
     grm: &NumberedGrammar<S>,
@@ -77,7 +77,7 @@ pub(crate) fn closed_by<S: IndexStorage>(
     Ok(set)
 }
 
-/// Adds the productions of a rule at dot nought with one set.
+/// Adds the productions of a rule at dot zero with one set.
 fn open_rule<S: IndexStorage>(
     set: &mut SharedSets<S>,
     grm: &NumberedGrammar<S>,
@@ -103,7 +103,7 @@ fn open_rule<S: IndexStorage>(
     Ok(())
 }
 
-/// Adds the productions of the open rules at dot nought, those of a rule with one set.
+/// Adds the productions of the open rules at dot zero, those of a rule with one set.
 fn open_rules<S: IndexStorage>(
     set: &mut SharedSets<S>,
     grm: &NumberedGrammar<S>,
@@ -120,7 +120,7 @@ fn open_rules<S: IndexStorage>(
     Ok(())
 }
 
-/// Moves an item into a set, if the symbol stands behind its dot.
+/// Moves an item into a set, if the symbol is behind its dot.
 fn move_one<S: IndexStorage>(
     grm: &NumberedGrammar<S>,
     moved: &mut SharedSets<S>,
@@ -150,7 +150,7 @@ fn move_one<S: IndexStorage>(
     }
 }
 
-/// The goto set of a symbol.
+/// Returns the goto set of a symbol.
 pub(crate) fn moved_set<S: IndexStorage>(
     alloc: Global,
     grm: &NumberedGrammar<S>,

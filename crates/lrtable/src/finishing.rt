@@ -35,7 +35,7 @@ use state_table::stidx::StIdx;
 use std::alloc::{AllocError, Global};
 use std::mem;
 
-/// The edges of a state with the indices of their targets.
+/// Returns the edges of a state with the indices of their targets.
 fn edge_list<S: IndexStorage>(
     alloc: Global,
     edges: &[EdgeTo<S>],
@@ -51,7 +51,7 @@ fn edge_list<S: IndexStorage>(
     Ok(list)
 }
 
-/// The edges of each state.
+/// Returns the edges of each state.
 fn edge_lists<S: IndexStorage>(
     alloc: Global,
     states: &[State<S>],
@@ -86,7 +86,7 @@ fn take_core<S: IndexStorage>(
     core
 }
 
-/// The cores of the states, taken out, as item sets.
+/// Returns the cores of the states, taken out, as item sets.
 fn core_sets<S: IndexStorage>(
     alloc: Global,
     states: &mut Vec<State<S>>,
@@ -103,7 +103,7 @@ fn core_sets<S: IndexStorage>(
     Ok(sets)
 }
 
-/// The closures of the states.
+/// Returns the closures of the states.
 fn closed_sets<S: IndexStorage>(
     alloc: Global,
     grm: &NumberedGrammar<S>,
@@ -127,7 +127,7 @@ fn closed_sets<S: IndexStorage>(
     Ok(sets)
 }
 
-/// The graph of the states of a finished building, whose cores are taken out.
+/// Returns the graph of the states of a finished building, whose cores are taken out.
 fn from_states<S: IndexStorage>(
     alloc: Global,
     grm: &NumberedGrammar<S>,
@@ -152,7 +152,7 @@ fn from_states<S: IndexStorage>(
     Ok(of_lists(cores, closed, edges))
 }
 
-/// The graph of a grammar.
+/// Returns the graph of a grammar.
 pub(crate) fn graph_of_grammar<S: IndexStorage>(
     alloc: Global,
     grm: &NumberedGrammar<S>,

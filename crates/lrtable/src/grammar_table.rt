@@ -26,21 +26,21 @@ use std::error::Error;
 use std::fmt;
 use std::fmt::{Debug, Display, Formatter, Write};
 
-/// How states are kept few.
+/// How LR(1) states are merged.
 #[derive(Clone, Copy, Debug, PartialEq, Eq)]
 pub enum Minimiser {
     /// Item sets of one core are one state where they are weakly compatible (Pager 1977).
     Pager,
 }
 
-/// Why a grammar has no graph and table: memory aside, the first of these that is so. It prints the text of the error
-/// within, or else its variant's name.
+/// Why a grammar has no graph and table: refused memory aside, the first of these that holds. It prints the text of
+/// the error within, or else its variant's name.
 #[derive(Clone, Copy, Debug, PartialEq, Eq)]
 pub enum FromYaccError<S> {
-    /// While the states are built, more of them stand than the index type has numbers for but nought: the count is one
-    /// more than the greatest number.
+    /// While the states are built, more of them are there at once than the index type's greatest number; the
+    /// count is one more than that number.
     TooManyStates(usize),
-    /// Where a text has ended, a production reduces too.
+    /// A state both accepts and reduces at the end token.
     StateTable(StateTableError<S>),
     /// For each state a cell for each token and one for each rule are more than `usize::MAX`.
     TooLarge,
@@ -74,7 +74,7 @@ impl<S> From<AllocError> for FromYaccError<S> {
     }
 }
 
-/// The graph of a grammar.
+/// Returns the graph of a grammar.
 fn make_graph<S: IndexStorage>(
     alloc: Global,
     grm: &NumberedGrammar<S>,
@@ -91,7 +91,7 @@ fn make_graph<S: IndexStorage>(
     }
 }
 
-/// The table of a grammar's graph.
+/// Returns the table of a grammar's graph.
 fn make_table<S: IndexStorage>(
     alloc: Global,
     grm: &NumberedGrammar<S>,
@@ -111,7 +111,7 @@ fn make_table<S: IndexStorage>(
     }
 }
 
-/// The graph of a grammar by Pager's merging, and its table.
+/// Returns the graph of a grammar by Pager's merging, and its table.
 fn by_pager<S: IndexStorage>(
     alloc: Global,
     grm: &NumberedGrammar<S>,

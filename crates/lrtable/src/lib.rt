@@ -18,19 +18,21 @@
 //! }
 //! ```
 //!
-//! For `%start S %% S: 'if' S 'else' S | 'if' S | 'x';`, where an `else` may go with either of two `if`s, it answers
+//! For `%start S %% S: 'if' S 'else' S | 'if' S | 'x';`, where an `else` may belong to either of two `if`s, it
+//! returns
 //!
 //! ```text
 //! Shift/Reduce conflicts:
 //!    State 4: Shift("else") / Reduce(S: "if" "S")
 //! ```
 //!
-//! A `YaccGrammar` of `cfgrammar` can be handed over as it is.
+//! A `YaccGrammar` of `cfgrammar` can be passed as it is.
 //!
-//! `from_yacc` gives the graph and the table of a grammar. Below it stand closure and goto of item sets (`itemset`) and the
-//! states of a grammar by the building of Pager 1977. Item sets, graphs and tables themselves are those of `state_table`,
-//! whose names stand here too. Contracts speak of the item sets and the building of `lr_theory` and of the cells of
-//! `table_theory`. The contracts that matter most are those of `from_yacc` and of `itemset::Closing`.
+//! `from_yacc` builds the graph and the table of a grammar. The other modules have closure and goto of item sets
+//! (`itemset`), and build the states of a grammar by the method of Pager (1977). Item sets, graphs and tables
+//! themselves are those of `state_table`, whose names are here too. Contracts speak of the item sets and the building
+//! of `lr_theory` and of the cells of `table_theory`. The contracts that matter most are those of `from_yacc` and of
+//! `itemset::Closing`.
 #![tactic(auto)]
 
 mod closures;

@@ -10,7 +10,7 @@ use crate::moved_items::{MovedItem, Rows};
 use cfg_base::index::IndexStorage;
 use vob::Vob;
 
-/// Tells whether one of two pairs of sets shares a token.
+/// Returns whether one of two pairs of sets shares a token.
 fn either_meet(a: &Vob, b: &Vob, c: &Vob, d: &Vob) -> bool
     requires one { length a.now.bits ≡ length b.now.bits }
     requires other { length c.now.bits ≡ length d.now.bits }
@@ -22,8 +22,8 @@ fn either_meet(a: &Vob, b: &Vob, c: &Vob, d: &Vob) -> bool
     c.meets(d)
 }
 
-/// Tells whether the lookaheads of two core items, `ai` and `aj` in one set and `bi` and `bj` in another, let the sets be
-/// joined.
+/// Returns whether the lookaheads of two core items, `ai` and `aj` in one set and `bi` and `bj` in another, let the
+/// sets be joined.
 fn pair_fits(ai: &Vob, aj: &Vob, bi: &Vob, bj: &Vob) -> bool
     requires one { length ai.now.bits ≡ length bj.now.bits }
     requires other { length bi.now.bits ≡ length aj.now.bits }
@@ -54,8 +54,9 @@ fn fits_below<S: IndexStorage>(a: &[Vob], b: &[MovedItem<S>], rows: &Rows<'_>, j
     true
 }
 
-/// Pager's test of two sets of one core, by their items' lookaheads: for each two items, those of one in one set
-/// don't meet those of the other in the other set, or the two meet in one of the sets.
+/// Returns whether two sets of one core are weakly compatible (Pager 1977), by their items' lookaheads. For each two
+/// items `i` and `j`, those of `i` in one set and of `j` in the other share no token, both ways around; or those of
+/// `i` and `j` share one within one of the sets.
 pub(crate) fn weakly_compatible<S: IndexStorage>(
     a: &[Vob],
     b: &[MovedItem<S>],
@@ -74,7 +75,7 @@ pub(crate) fn weakly_compatible<S: IndexStorage>(
     true
 }
 
-/// Tells whether each set of the first list holds that of the second beside it.
+/// Returns whether each set of the first list holds that of the second beside it.
 pub(crate) fn hold_all<S: IndexStorage>(a: &[Vob], b: &[MovedItem<S>], rows: &Rows<'_>) -> bool
     requires alike { AreAlike (rows_in a.now) (rows_from rows.now b.now) }
     requires wide { AreWide (rows_from rows.now b.now) }

@@ -1,4 +1,4 @@
-//! Items that move over a symbol. None takes its lookaheads along: it names the place where they stand.
+//! Items that move over a symbol. An item has the source of its lookaheads in place of a copy.
 
 ghost use Rattle.std.specs.Prelude.{◌≡◌, ◌<◌, ℕ, length, get_or, IfOk, IsTrue, OnOk, ◌↔◌};
 ghost use Rattle.std.specs.List.{insert};
@@ -14,14 +14,14 @@ use std::alloc::{AllocError, Global};
 use std::marker::Model;
 use vob::Vob;
 
-/// Where lookaheads stand: with an item of the core that is moved, or with a rule that the core opens.
+/// Where lookaheads are stored: with an item of the core that is moved, or with a rule that the core opens.
 #[derive(Clone, Copy)]
 pub(crate) enum Source {
     Own(usize),
     Rule(usize),
 }
 
-/// An item that moved, and where its lookaheads stand.
+/// An item that moved, and the source of its lookaheads.
 #[derive(Clone, Copy)]
 pub(crate) struct MovedItem<S> {
     pub item: CoreItem<S>,
@@ -45,14 +45,14 @@ impl<'a> Model for Rows<'a> {
 }
 
 impl<'a> Rows<'a> {
-    /// Those of items, and those of the rules of a closure.
+    /// Returns the rows of a core's items, and of the rules that its closure opens.
     pub(crate) fn new(own: &'a [Vob], opening: &'a Opening) -> Rows<'a>
         ensures { result ≡ record { own = rows_in own.now; rules = opening.now.rows } }
     {
         Rows { own, opening }
     }
 
-    /// The lookaheads that stand at a place, where there are some.
+    /// Returns the lookaheads of a source, where there are some.
     pub(crate) fn row(&self, source: Source) -> &Vob
         requires { 0 < length (row_from self.now source) }
         ensures { result.now.bits ≡ row_from self.now source }
@@ -64,7 +64,7 @@ impl<'a> Rows<'a> {
     }
 }
 
-/// The index at which an item belongs.
+/// Returns the index at which an item belongs.
 fn index_of<S: IndexStorage>(items: &[MovedItem<S>], item: &CoreItem<S>) -> usize
     requires { Ascends (moved_items S.number items.now) }
     ensures { BelongsAt (moved_items S.number items.now) (item_of S.number item.now) result }
@@ -91,7 +91,8 @@ pub(crate) fn put_moved<S: IndexStorage>(
     Ok(())
 }
 
-/// The same, for the items of a core, of which there are few: what puts the many that a rule opens stands in their loop.
+/// Inserts a moved item of a core, unless it is there. A core has few items; the many of the rules that it opens are
+/// inserted by a loop of their own.
 pub(crate) fn insert_moved<S: IndexStorage>(
     items: &mut Vec<MovedItem<S>>,
     moved: MovedItem<S>,
@@ -104,7 +105,7 @@ pub(crate) fn insert_moved<S: IndexStorage>(
     Ok(())
 }
 
-/// Tells whether moved items are those of a core.
+/// Returns whether moved items are those of a core.
 pub(crate) fn same_items<S: IndexStorage>(core: &[CoreItem<S>], moved: &[MovedItem<S>]) -> bool
     ensures { IsTrue result ↔ (items_of S.number core.now ≡ moved_items S.number moved.now) }
 {
@@ -119,7 +120,7 @@ pub(crate) fn same_items<S: IndexStorage>(core: &[CoreItem<S>], moved: &[MovedIt
     true
 }
 
-/// Moved items as a core, with copies of their lookaheads.
+/// Copies moved items and their lookaheads into a core.
 pub(crate) fn to_core<S: IndexStorage>(
     alloc: Global,
     moved: &[MovedItem<S>],

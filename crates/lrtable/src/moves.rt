@@ -26,7 +26,7 @@ use state_table::cores::{CoreItem, CoreSet};
 use std::alloc::{AllocError, Global};
 use vob::Vob;
 
-/// The rank of a symbol among all: rules before tokens.
+/// Returns the rank of a symbol among all: rules before tokens.
 pub(crate) fn rank_of<S: IndexStorage>(grm: &NumberedGrammar<S>, symbol: Symbol<S>) -> usize
     ensures { result ≡ rank grm.now.grammar (sym_of S.number symbol) }
 {
@@ -36,7 +36,7 @@ pub(crate) fn rank_of<S: IndexStorage>(grm: &NumberedGrammar<S>, symbol: Symbol<
     }
 }
 
-/// The symbol of a rank.
+/// Returns the symbol of a rank.
 pub(crate) fn symbol_at<S: IndexStorage>(grm: &NumberedGrammar<S>, number: usize) -> Symbol<S>
     requires { number < grm.now.grammar.rules + grm.now.grammar.tokens }
     ensures rank { rank grm.now.grammar (sym_of S.number result) ≡ number }
@@ -49,7 +49,7 @@ pub(crate) fn symbol_at<S: IndexStorage>(grm: &NumberedGrammar<S>, number: usize
     Symbol::Token(grm.token_at(number - rules))
 }
 
-/// The dot behind a symbol of a production.
+/// Returns the dot behind a symbol of a production.
 pub(crate) fn dot_behind<S: IndexStorage>(
     grm: &NumberedGrammar<S>,
     pidx: PIdx<S>,
@@ -63,8 +63,8 @@ pub(crate) fn dot_behind<S: IndexStorage>(
     SIdx(S::from_usize(dot + 1).unwrap())
 }
 
-/// Moves an item over the symbol behind its dot, if there is one, into the set of that symbol. Its lookaheads stand at the
-/// source among the rows, of which nothing is read here.
+/// Moves an item over the symbol behind its dot, if there is one, into the set of that symbol. Its lookaheads are at
+/// the source among the rows, of which nothing is read here.
 fn move_over<S: IndexStorage>(
     grm: &NumberedGrammar<S>,
     sets: &mut Vec<Vec<MovedItem<S>>>,
@@ -100,7 +100,7 @@ fn move_over<S: IndexStorage>(
     }
 }
 
-/// The same of a production at dot nought.
+/// Moves a production at dot zero over its first symbol, if it has one, into the set of that symbol.
 fn move_first<S: IndexStorage>(
     grm: &NumberedGrammar<S>,
     sets: &mut Vec<Vec<MovedItem<S>>>,
@@ -168,7 +168,7 @@ fn move_core<S: IndexStorage>(
     Ok(())
 }
 
-/// Moves the productions of a rule from dot nought.
+/// Moves the productions of a rule from dot zero.
 fn move_rule<S: IndexStorage>(
     grm: &NumberedGrammar<S>,
     sets: &mut Vec<Vec<MovedItem<S>>>,
@@ -193,7 +193,7 @@ fn move_rule<S: IndexStorage>(
     Ok(())
 }
 
-/// Moves the productions of a rule from dot nought, if the rule is open.
+/// Moves the productions of a rule from dot zero, if the rule is open.
 fn move_if_open<S: IndexStorage>(
     grm: &NumberedGrammar<S>,
     sets: &mut Vec<Vec<MovedItem<S>>>,
@@ -227,7 +227,7 @@ fn move_if_open<S: IndexStorage>(
     Ok(())
 }
 
-/// Moves the productions of the open rules from dot nought.
+/// Moves the productions of the open rules from dot zero.
 fn move_open<S: IndexStorage>(
     grm: &NumberedGrammar<S>,
     sets: &mut Vec<Vec<MovedItem<S>>>,
@@ -250,7 +250,7 @@ fn move_open<S: IndexStorage>(
     Ok(())
 }
 
-/// So many sets without items.
+/// Makes `count` sets without items.
 pub(crate) fn empty_sets<S: IndexStorage>(
     alloc: Global,
     count: usize,

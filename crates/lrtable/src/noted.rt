@@ -6,7 +6,7 @@ ghost use Rattle.lrtable.specs.Opening.{AreNoted};
 
 use std::alloc::{AllocError, Global};
 
-/// The first `count` of `order` are the numbers. Where these are all of `order`, there may be others.
+/// The first `count` of `order` are the numbers. Where these are all of `order`, further numbers may be missing.
 #[derive(Drop)]
 pub(crate) struct Noted {
     pub order: Vec<usize>,
@@ -14,7 +14,7 @@ pub(crate) struct Noted {
 }
 
 impl Noted {
-    /// None, with room for so many and one more.
+    /// Makes an empty list, with room for `room` numbers and one more.
     pub(crate) fn empty(alloc: Global, room: usize) -> Result<Noted, AllocError>
         ensures { IfOk result (λ n. n.count ≡ 0) }
     {
@@ -34,14 +34,14 @@ impl Noted {
         self.count = count + 1;
     }
 
-    /// Whether there may be others.
+    /// Returns whether there may be others.
     pub(crate) fn is_full(&self) -> bool
         ensures { result ≡ false → self.now.count < length self.now.order.items }
     {
         self.count >= self.order.len()
     }
 
-    /// The numbers, as far as there was room.
+    /// Returns the numbers, as far as there was room.
     pub(crate) fn numbers(&self) -> &[usize]
         ensures { result.now ≡ take self.now.count self.now.order.items }
     {

@@ -1,4 +1,4 @@
-//! The rules that stand first in productions, with what may follow them there.
+//! The left corners of rules: the rules that come first in productions, with what may follow them there.
 
 ghost use Rattle.std.specs.Prelude.{◌≡◌, ◌<◌, [], length, map, get_or, IfOk, IfSome, OnOk};
 ghost use Rattle.std.specs.List.{Contains};
@@ -17,15 +17,15 @@ use cfg_sets::YaccFirsts;
 use std::alloc::{AllocError, Global};
 use std::marker::Model;
 
-/// A rule that stands first in a production, and what follows it there.
+/// A rule that comes first in a production, and what follows it there.
 #[derive(Drop)]
 pub(crate) struct Opener {
     pub rule: usize,
     pub rest: Rest,
 }
 
-/// For each rule, the rules that stand first in its productions; and for those of which it was asked for, all rules that the
-/// rule leads to in that way, with what comes to each of them.
+/// For each rule, the rules that come first in its productions. For the rules of which it was asked, also all rules
+/// that the rule reaches in this way, with what is brought to each of them.
 #[derive(Drop)]
 pub(crate) struct Openers {
     rules: Vec<Vec<Opener>>,
@@ -46,7 +46,7 @@ impl Model for Openers {
     ghost invariant = { λ o. AreReachedBy (map (λ l. map front_of l.items) o.rules.items) o.tokens (map (λ l. map front_of l.items) o.reached.items) };
 }
 
-/// The index of the opener of a rule, if it is there.
+/// Returns the index of the opener of a rule, if it is there.
 fn opener_of(openers: &[Opener], rule: usize) -> Option<usize>
     ensures { IfSome result (λ k. (k < length openers.now) × ((d : Front) → (get_or (map front_of openers.now) k d).rule ≡ rule)) }
 {
@@ -89,7 +89,7 @@ fn put_opener<S: IndexStorage>(
     }
 }
 
-/// Puts a rule that stands first in a production with the others, and what follows it there.
+/// Puts a rule that comes first in a production with the others, and what follows it there.
 fn put_rest(openers: &mut Vec<Opener>, rule: usize, rest: Rest) -> Result<(), AllocError>
     requires { (e : Front) → Contains (map front_of openers.old.items) e → length e.first ≡ length rest.first.bits }
     ensures { OnOk result (PutsAt (front_with rule rest) (map front_of openers.old.items) (map front_of openers.new.items)) }
@@ -106,7 +106,7 @@ fn put_rest(openers: &mut Vec<Opener>, rule: usize, rest: Rest) -> Result<(), Al
     }
 }
 
-/// The rules that stand first in the productions of a rule.
+/// Returns the rules that come first in the productions of a rule.
 fn openers_of<S: IndexStorage>(
     alloc: Global,
     grm: &NumberedGrammar<S>,
@@ -126,7 +126,7 @@ fn openers_of<S: IndexStorage>(
 }
 
 impl Openers {
-    /// Those of a grammar.
+    /// Computes the left corners of each rule.
     pub(crate) fn new<S: IndexStorage>(
         alloc: Global,
         grm: &NumberedGrammar<S>,
@@ -147,7 +147,7 @@ impl Openers {
         })
     }
 
-    /// With these lists of what each rule leads to beside.
+    /// Adds, for each rule, the list of what it reaches, made for this number of tokens.
     pub(crate) fn with_reached(self, lists: Vec<Vec<Opener>>, tokens: usize) -> Openers
         requires { AreReachedBy self tokens (map (λ l. map front_of l.items) lists.items) }
         ensures { result ≡ self }
@@ -164,14 +164,14 @@ impl Openers {
         }
     }
 
-    /// How many rules there are.
+    /// Returns how many rules there are.
     pub(crate) fn len(&self) -> usize
         ensures { result ≡ length self.now }
     {
         self.rules.len()
     }
 
-    /// What a rule leads to, if that was asked for with so many tokens.
+    /// Returns what a rule reaches, if that was computed for this number of tokens.
     pub(crate) fn reached_from(&self, rule: usize, tokens: usize) -> Option<&[Opener]>
         ensures { IfSome result (λ l. IsReachedBy self.now tokens rule (map front_of l.now)) }
     {
@@ -188,7 +188,7 @@ impl Openers {
         Some(list.as_slice())
     }
 
-    /// Those of a rule.
+    /// Returns the left corners of a rule.
     pub(crate) fn of_rule(&self, rule: usize) -> &[Opener]
         requires { rule < length self.now }
         ensures { map front_of result.now ≡ get_or self.now rule [] }

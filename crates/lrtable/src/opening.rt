@@ -1,5 +1,5 @@
-//! The rules that a closure opens. All productions of a rule that it opens come in at dot nought with the same
-//! lookaheads, so these are kept once for each rule.
+//! The rules that a closure opens. All productions of an opened rule come in at dot zero with the same lookaheads, so
+//! these are stored once for each rule.
 
 ghost use Rattle.std.specs.Prelude.{◌≡◌, ℕ, Bool, List, ◌<◌, ◌≤◌, ◌+◌, ◌++◌, true, false, [], ◌∷◌, length, map, get_or, replicate, slice_set, IfOk, OnOk, IsTrue, ◌↔◌, if◌then◌else◌};
 ghost use Rattle.std.specs.List.{Contains};
@@ -34,7 +34,7 @@ use std::marker::Model;
 use vob::Vob;
 use vob::iter::IterSetBits;
 
-/// Tells whether a rule is one of those that wait.
+/// Returns whether a rule is one of those that wait.
 fn waits(waiting: &[usize], rule: usize) -> bool
     ensures { result ≡ true → Contains waiting.now rule }
 {
@@ -84,11 +84,14 @@ fn note_if(noted: &mut Noted, rule: usize, new: bool)
     noted.put(rule);
 }
 
-/// The open rules, and a set of tokens for each rule; and the open rules once more, as they were opened.
+/// The open rules with their lookaheads.
 #[derive(Drop)]
 pub(crate) struct Opening {
+    /// A set of tokens for each rule.
     looks: RuleRows,
+    /// A flag for each rule: whether it is open.
     opened: Vob,
+    /// The open rules in the order in which they were opened, as far as there is room.
     noted: Noted,
 }
 
@@ -104,7 +107,7 @@ impl Model for Opening {
 }
 
 impl Opening {
-    /// With no open rule.
+    /// Makes an opening without an open rule.
     pub(crate) fn empty(alloc: Global, rules: usize, tokens: usize) -> Result<Opening, AllocError>
         ensures { IfOk result (λ s. s ≡ record { tokens = tokens; rows = replicate rules (replicate tokens false); opened = replicate rules false }) }
     {
@@ -143,7 +146,7 @@ impl Opening {
         new
     }
 
-    /// Tells whether a rule is open.
+    /// Returns whether a rule is open.
     pub(crate) fn is_open(&self, rule: usize) -> bool
         requires { rule < length self.now.opened }
         ensures { IsTrue result ↔ IsOpen self.now rule }
@@ -158,19 +161,19 @@ impl Opening {
         self.opened.iter_set_bits(..)
     }
 
-    /// The open rules as they were opened, or most of them.
+    /// Returns the open rules as they were opened, or most of them.
     pub(crate) fn noted(&self) -> &[usize] {
         self.noted.numbers()
     }
 
-    /// A flag for each rule, which tells whether it is open.
+    /// Returns a flag for each rule: whether it is open.
     pub(crate) fn opened(&self) -> &Vob
         ensures { result.now.bits ≡ self.now.opened }
     {
         &self.opened
     }
 
-    /// The lookaheads of a rule.
+    /// Returns the lookaheads of a rule.
     pub(crate) fn row(&self, rule: usize) -> &Vob
         requires { rule < length self.now.rows }
         ensures bits { result.now.bits ≡ get_or self.now.rows rule [] }
@@ -192,7 +195,8 @@ impl Opening {
         self.looks.join(rule, looks)
     }
 
-    /// The same where they are to be passed on.
+    /// Adds lookaheads of a rule, if what follows it in a production is `nullable`, and returns whether that
+    /// changed something.
     fn pass(&mut self, rule: usize, nullable: bool, looks: &Vob) -> bool
         requires within { rule < length self.old.rows }
         requires width { length looks.now.bits ≡ self.old.tokens }
@@ -208,8 +212,8 @@ impl Opening {
         self.join(rule, looks)
     }
 
-    /// Opens a rule with what follows it, where the production in which it stands has these lookaheads, and says whether
-    /// that changed something.
+    /// Opens a rule with what follows it in a production that has these lookaheads, and returns whether that
+    /// changed something.
     fn bring(&mut self, rule: usize, rest: &Rest, looks: &Vob) -> bool
         requires rules { rule < length self.old.opened }
         requires within { rule < length self.old.rows }
@@ -223,7 +227,7 @@ impl Opening {
         opened | grew | passed
     }
 
-    /// The same, and puts the rule with those that wait if something changed.
+    /// Opens a rule as `bring` does, and puts it with those that wait if something changed.
     pub(crate) fn follow(
         &mut self,
         rule: usize,
@@ -243,7 +247,7 @@ impl Opening {
         Ok(())
     }
 
-    /// Follows what stands first in the productions of a rule, which has these lookaheads.
+    /// Brings to the left corners of a rule, which has these lookaheads, what follows them.
     fn follow_all(
         &mut self,
         openers: &[Opener],
@@ -261,7 +265,7 @@ impl Opening {
         Ok(())
     }
 
-    /// Adds to the lookaheads of a rule what follows the rule where it stands first by an opener.
+    /// Adds to the lookaheads of a rule what follows the rule where it comes first by an opener.
     fn keep_one(&mut self, rule: usize, opener: &Opener)
         requires within { rule < length self.old.rows }
         requires first { length opener.now.rest.first.bits ≡ self.old.tokens }
@@ -273,7 +277,8 @@ impl Opening {
         self.join(rule, &opener.rest.first);
     }
 
-    /// The same by each of its own openers, so that the rule needn't wait for what it brings to itself.
+    /// Adds to the lookaheads of a rule what follows the rule by each of its own openers. So the rule needn't
+    /// wait for what it brings to itself.
     fn keep_own(&mut self, rule: usize, openers: &[Opener])
         requires within { rule < length self.old.rows }
         requires first { (e : Front) → Contains (map front_of openers.now) e → length e.first ≡ self.old.tokens }
@@ -295,7 +300,7 @@ impl Opening {
         looks.or(self.looks.row(rule));
     }
 
-    /// As `bring`, of which nobody asks whether it changed something.
+    /// Opens a rule as `bring` does, without returning whether that changed something.
     fn bring_on(&mut self, opener: &Opener, looks: &Vob)
         requires rules { opener.now.rule < length self.old.opened }
         requires within { opener.now.rule < length self.old.rows }
@@ -321,8 +326,8 @@ impl Opening {
         }
     }
 
-    /// Brings to all rules that a rule leads to what comes to them, if that is kept; else takes the rule, and puts the
-    /// rules to which something came with those that wait.
+    /// Brings to all rules that a rule reaches what follows them, if that was computed before. Else takes the
+    /// rule itself, and puts the rules to which something was brought with those that wait.
     fn take_rule(
         &mut self,
         openers: &Openers,
@@ -386,7 +391,7 @@ impl Opening {
         Ok(())
     }
 
-    /// An open rule with its lookaheads, and whether it is a marked one.
+    /// Returns an open rule with its lookaheads, and whether it is a marked one.
     fn opener_at(&self, passed: &Vob, rule: usize) -> Result<Opener, AllocError>
         requires rule { rule < length self.now.rows }
         requires width { rule < length passed.now.bits }
@@ -403,7 +408,7 @@ impl Opening {
         Ok(Opener { rule, rest })
     }
 
-    /// The open rules with their lookaheads, and which of them are marked.
+    /// Returns the open rules with their lookaheads, and which of them are marked.
     pub(crate) fn listed(&self, alloc: Global, passed: &Vob) -> Result<Vec<Opener>, AllocError>
         requires rows { length self.now.rows ≡ length self.now.opened }
         requires width { length passed.now.bits ≡ length self.now.opened }
@@ -416,8 +421,8 @@ impl Opening {
         Ok(list)
     }
 
-    /// Opens what the open rules lead to: the least sets that hold these and are closed. Each rule that waits is taken,
-    /// and again when something came to it.
+    /// Opens what the open rules reach: the least sets that have these and are closed. Each rule that waits is
+    /// taken, and again when something was brought to it.
     pub(crate) fn close(
         &mut self,
         openers: &Openers,
@@ -497,18 +502,23 @@ impl Opening {
     }
 }
 
-/// What the closings of one core after another are made with.
+/// Buffers that successive closures reuse.
 #[derive(Drop)]
 pub(crate) struct Closer {
+    /// The open rules.
     pub opening: Opening,
+    /// The lookaheads of the rule that is taken.
     pub looks: Vob,
+    /// The tail behind the symbol that is looked at.
     pub rest: Rest,
+    /// The rules that wait to be taken.
     pub waiting: Vec<usize>,
+    /// The number of productions of each rule.
     pub counts: Vec<usize>,
 }
 
 impl Closer {
-    /// With no open rule.
+    /// Makes the buffers, with no open rule.
     pub(crate) fn new<S: IndexStorage>(
         alloc: Global,
         grm: &NumberedGrammar<S>,

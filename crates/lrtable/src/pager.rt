@@ -1,4 +1,4 @@
-//! The building of the states, by Pager's merging.
+//! Builds the states by Pager's merging (1977).
 
 ghost use Rattle.std.specs.Prelude.{◌↔◌, IsTrue, ◌≡◌, ◌<◌, ◌≤◌, ◌+◌, ℕ, true, false, [], ◌∷◌, ◌++◌, length, map, take, replicate, slice_set, IfOk, OnOk, IsErrOf, MatchOption};
 ghost use Rattle.cfg_sets.specs.Firsts.{AreFirsts};
@@ -37,8 +37,8 @@ use state_table::rooms::bits_set;
 use std::alloc::{AllocError, Global};
 use vob::Vob;
 
-/// Places the goto set of the symbol of a rank, if the set has items, and leaves an empty one behind. The state's edge on
-/// the symbol may stand at `near`, and that on the next symbol behind it.
+/// Places the goto set of the symbol of a rank, if the set has items, and leaves an empty one. The state's edge on
+/// the symbol may be at `near`, and that on the next symbol behind it.
 fn place_rank<S: IndexStorage>(
     alloc: Global,
     grm: &NumberedGrammar<S>,
@@ -158,7 +158,7 @@ fn gotos<S: IndexStorage>(
     Ok(())
 }
 
-/// How many edges a state is to have room for: one for each mark, if it has none yet.
+/// Returns how many edges a state is to have room for: one for each mark, if it has none yet.
 fn edges_wanted<S: IndexStorage>(edges: &[EdgeTo<S>], marks: &Vob) -> usize {
     if edges.is_empty() {
         return bits_set(marks);
@@ -222,7 +222,7 @@ fn copy_looks(own: &mut Vec<Vob>, looks: &[Vob]) -> Result<(), AllocError>
     Ok(())
 }
 
-/// A step that takes a state without edges: its goto sets are put together and placed.
+/// Takes a state without edges: makes its goto sets and places them.
 fn step_anew<S: IndexStorage>(
     alloc: Global,
     grm: &NumberedGrammar<S>,
@@ -281,8 +281,8 @@ fn step_anew<S: IndexStorage>(
     Ok(cursor)
 }
 
-/// A step that takes a state with edges, as it has them since it was taken before: these lead to the states of its goto
-/// sets, or to such with their items.
+/// Takes a state again that has edges since it was taken before: these lead to the states of its goto sets, or to
+/// states that have the sets' items.
 fn step_again<S: IndexStorage>(
     alloc: Global,
     grm: &NumberedGrammar<S>,
@@ -341,7 +341,7 @@ fn step_again<S: IndexStorage>(
     Ok(cursor)
 }
 
-/// A step: takes the first state that is to be taken, and gives a number below which none is then.
+/// Takes the first state that is to be taken, and returns a number below which no state then is.
 fn step<S: IndexStorage>(
     alloc: Global,
     grm: &NumberedGrammar<S>,
@@ -391,7 +391,7 @@ fn step<S: IndexStorage>(
     )
 }
 
-/// The first state that is to be taken, if there is one; below the cursor there is none.
+/// Returns the first state that is to be taken, if there is one; below the cursor there is none.
 fn lowest<S: IndexStorage>(states: &[State<S>], cursor: usize) -> Option<usize>
     requires { AreQuiet (map (value_of S.number) states.now) cursor }
     ensures { MatchOption result ((s : ℕ) → s < length states.now → (state_at (map (value_of S.number) states.now) s).todo ≡ false) (λ n. (n < length states.now) × ((state_at (map (value_of S.number) states.now) n).todo ≡ true) × ((r : ℕ) → r < n → (state_at (map (value_of S.number) states.now) r).todo ≡ false)) }
@@ -404,7 +404,7 @@ fn lowest<S: IndexStorage>(states: &[State<S>], cursor: usize) -> Option<usize>
     None
 }
 
-/// The lookaheads of the start item: the end token.
+/// Returns the lookaheads of the start item: the end token.
 fn end_looks<S: IndexStorage>(alloc: Global, grm: &NumberedGrammar<S>) -> Result<Vob, AllocError>
     ensures width { IfOk result (λ v. length v.bits ≡ grm.now.grammar.tokens) }
     ensures bits { IfOk result (λ v. (t : ℕ) → IsTrue (is_set v.bits t) ↔ IsEnd grm.now.grammar t) }
@@ -414,7 +414,7 @@ fn end_looks<S: IndexStorage>(alloc: Global, grm: &NumberedGrammar<S>) -> Result
     Ok(end)
 }
 
-/// The start state: the start production at dot nought with the end token.
+/// Returns the start state: the start production at dot zero with the end token.
 pub(crate) fn start_states<S: IndexStorage>(
     alloc: Global,
     grm: &NumberedGrammar<S>,
@@ -439,7 +439,7 @@ pub(crate) fn start_states<S: IndexStorage>(
     Ok(states)
 }
 
-/// So many empty lists.
+/// Makes `count` empty lists.
 pub(crate) fn empty_lists(alloc: Global, count: usize) -> Result<Vec<Vec<usize>>, AllocError>
     ensures lists { IfOk result (λ v. map (λ l. l.items) v.items ≡ replicate count []) }
     ensures count { IfOk result (λ v. length v.items ≡ count) }
@@ -451,7 +451,7 @@ pub(crate) fn empty_lists(alloc: Global, count: usize) -> Result<Vec<Vec<usize>>
     Ok(lists)
 }
 
-/// Lists of states by first production, so many, where the first state alone stands, in one of them.
+/// Makes `count` lists of states by first production, with the first state alone, in one of them.
 fn start_lists(alloc: Global, count: usize, first: usize) -> Result<Vec<Vec<usize>>, AllocError>
     requires { first < count }
     ensures lists { IfOk result (λ v. map (λ l. l.items) v.items ≡ slice_set (replicate count []) first (0 ∷ [])) }
@@ -506,7 +506,7 @@ pub(crate) fn finish<S: IndexStorage>(
     }
 }
 
-/// An empty set for each symbol.
+/// Returns an empty set for each symbol.
 fn symbol_sets<S: IndexStorage>(
     alloc: Global,
     grm: &NumberedGrammar<S>,
@@ -520,7 +520,7 @@ fn symbol_sets<S: IndexStorage>(
     Ok(sets)
 }
 
-/// The states of the building at its end.
+/// Returns the states of the building at its end.
 fn build<S: IndexStorage>(
     alloc: Global,
     grm: &NumberedGrammar<S>,
@@ -560,7 +560,7 @@ fn build<S: IndexStorage>(
     Ok(states)
 }
 
-/// The states of a grammar's graph, in order: those of the building at its end that edges lead to.
+/// Returns the states of a grammar's graph, in order: those of the building at its end that edges lead to.
 pub(crate) fn states<S: IndexStorage>(
     alloc: Global,
     grm: &NumberedGrammar<S>,

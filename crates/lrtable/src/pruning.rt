@@ -1,4 +1,4 @@
-//! The states that edges lead to from the first, in order and with new numbers.
+//! Selects the states that edges reach from the first, in order and with new numbers.
 
 ghost use Rattle.std.specs.Prelude.{◌≡◌, ℕ, ◌+◌, ◌<◌, ◌↔◌, true, IsTrue, length, map, slice_set, IfOk, OnOk};
 ghost use Rattle.std.specs.List.{Contains, AllPairs};
@@ -61,7 +61,7 @@ fn flag_targets<S: IndexStorage>(edges: &[EdgeTo<S>], flags: &mut Vec<bool>)
     }
 }
 
-/// Tells whether a flag is set.
+/// Returns whether a flag is set.
 fn has_flag(flags: &[bool], number: usize) -> bool
     requires { number < length flags.now }
     ensures { result ≡ is_set flags.now number }
@@ -69,7 +69,8 @@ fn has_flag(flags: &[bool], number: usize) -> bool
     flags[number]
 }
 
-/// Tells whether an edge leads to each state but the first from a lower one. Then edges lead to all states from the first.
+/// Returns whether an edge leads to each state but the first from a lower one. Then edges lead to all states from the
+/// first.
 fn are_led<S: IndexStorage>(alloc: Global, states: &[State<S>]) -> Result<bool, AllocError>
     requires some { 0 < length states.now }
     requires linked { AreLinked (map (value_of S.number) states.now) }
@@ -102,7 +103,7 @@ fn marks<S: IndexStorage>(alloc: Global, states: &[State<S>]) -> Result<Vob, All
     Ok(marked)
 }
 
-/// Puts down how many kept states stand before a state, and the state with these if it is marked.
+/// Writes down how many selected states come before a state, and the state with these if it is marked.
 fn number_one(
     marked: &Vob,
     number: usize,
@@ -120,7 +121,7 @@ fn number_one(
     Ok(())
 }
 
-/// The marked states in order, and for each state how many of these stand before it.
+/// Returns the marked states in order, and for each state how many of these come before it.
 fn number_all(alloc: Global, marked: &Vob) -> Result<(Vec<usize>, Vec<usize>), AllocError>
     ensures { IfOk result (λ r. AreNumbered marked.now.bits (length marked.now.bits) r.0.items r.1.items) }
 {
@@ -161,7 +162,7 @@ fn take_out<S: IndexStorage>(
     state
 }
 
-/// The states of these numbers, taken out in order.
+/// Returns the states of these numbers, taken out in order.
 fn take_all<S: IndexStorage>(
     alloc: Global,
     states: &mut Vec<State<S>>,
@@ -182,7 +183,7 @@ fn take_all<S: IndexStorage>(
     Ok(new)
 }
 
-/// The states that edges lead to from the first, in order and with new numbers, where there may be others.
+/// Returns the states that edges lead to from the first, in order and with new numbers, where there may be others.
 fn cut<S: IndexStorage>(
     alloc: Global,
     states: &mut Vec<State<S>>,
@@ -197,14 +198,14 @@ fn cut<S: IndexStorage>(
     Ok(new)
 }
 
-/// The states, taken out as they are.
+/// Returns the states, taken out as they are.
 fn whole<S: IndexStorage>(alloc: Global, states: &mut Vec<State<S>>) -> Vec<State<S>>
     ensures { result.items ≡ states.old.items }
 {
     mem::replace(states, Vec::new(alloc))
 }
 
-/// The states that edges lead to from the first, in order and with new numbers.
+/// Returns the states that edges lead to from the first, in order and with new numbers.
 pub(crate) fn prune<S: IndexStorage>(
     alloc: Global,
     states: &mut Vec<State<S>>,

@@ -1,5 +1,5 @@
-//! What each rule leads to by the rules that stand first in productions: closed once, so that the closing of a core takes
-//! each rule behind a dot alone.
+//! What each rule reaches by left corners, closed once, so that the closing of a core takes each rule behind a dot
+//! alone.
 
 ghost use Rattle.std.specs.Prelude.{◌≡◌, ◌<◌, ◌↔◌, ◌∷◌, ℕ, length, map, get_or, [], IfOk, IsTrue, OnOk};
 ghost use Rattle.std.specs.List.{Contains};
@@ -30,7 +30,7 @@ fn mark_passed(
     Ok(())
 }
 
-/// The same of all openers of a rule.
+/// Marks all left corners of a rule as passed.
 fn mark_all_passed(
     openers: &[Opener],
     passed: &mut Vob,
@@ -68,7 +68,7 @@ fn mark_reached(
     Ok(())
 }
 
-/// What a rule leads to.
+/// Returns what a rule reaches.
 fn reached_by(
     alloc: Global,
     openers: &Openers,
@@ -99,7 +99,7 @@ fn reached_by(
     Ok(list)
 }
 
-/// The same if the rule is marked, and else no list.
+/// Returns what a rule reaches if it is marked, and else no list.
 fn reached_if_marked(
     alloc: Global,
     openers: &Openers,

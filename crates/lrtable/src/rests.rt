@@ -1,4 +1,4 @@
-//! What follows a symbol in a production.
+//! Tails: what follows a symbol in a production.
 
 ghost use Rattle.std.specs.Prelude.{◌≡◌, ◌<◌, ℕ, length, IfOk, MatchOption};
 ghost use Rattle.cfg_theory.specs.Grammar.{Sym, rule, body_of, IsNext};
@@ -21,7 +21,7 @@ pub(crate) struct Rest {
 }
 
 impl Rest {
-    /// What nothing follows.
+    /// Makes the tail of a last symbol: it has no token, and is nullable.
     pub(crate) fn empty(alloc: Global, tokens: usize) -> Result<Rest, AllocError>
         ensures { IfOk result (λ r. length r.first.bits ≡ tokens) }
     {
@@ -33,7 +33,7 @@ impl Rest {
     }
 }
 
-/// The symbol behind a dot, if there is one.
+/// Returns the symbol behind a dot, if there is one.
 pub(crate) fn symbol_after<S: IndexStorage>(
     grm: &NumberedGrammar<S>,
     pidx: PIdx<S>,
@@ -49,7 +49,7 @@ pub(crate) fn symbol_after<S: IndexStorage>(
     Some(symbols[dot])
 }
 
-/// The rule behind a dot, if there is one.
+/// Returns the rule behind a dot, if there is one.
 pub(crate) fn rule_after<S: IndexStorage>(
     grm: &NumberedGrammar<S>,
     pidx: PIdx<S>,
@@ -87,7 +87,7 @@ pub(crate) fn fill_rest<S: IndexStorage>(
     rest.nullable = nullable;
 }
 
-/// What follows the symbol behind a dot.
+/// Returns the tail behind the symbol behind a dot.
 pub(crate) fn rest_after<S: IndexStorage>(
     alloc: Global,
     grm: &NumberedGrammar<S>,

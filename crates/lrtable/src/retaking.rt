@@ -1,5 +1,5 @@
-//! The goto sets of a state that was taken before. Each has the items of the state that its edge leads to, and the rows of
-//! its lookaheads are read where they stand in the closed state: a set that is held there leaves the edge as it is.
+//! The goto sets of a state that was taken before. Each has the items of the state that its edge leads to, and its
+//! lookaheads are read from the rows of the closed state: a set that is held there leaves the edge as it is.
 
 ghost use Rattle.std.specs.Prelude.{◌≡◌, ◌≢◌, ℕ, ◌<◌, ◌≤◌, ◌+◌, true, false, length, map, get_or, IfOk, OnOk, IsErrOf, None};
 ghost use Rattle.cfg_theory.specs.Grammar.{Sym, IsNext};
@@ -28,16 +28,17 @@ use cfg_numbered::yacc::NumberedGrammar;
 use state_table::cores::{CoreItem, CoreSet, same_item, same_items};
 use std::alloc::{AllocError, Global};
 
-/// A state as it stood when it was taken: the items of its core, its edges, and for each production an index at which an item
-/// of it may stand in the core.
+/// A state as it was when it was taken.
 #[derive(Drop)]
 pub(crate) struct Retaken<S> {
+    /// The items of its core.
     pub items: Vec<CoreItem<S>>,
     pub edges: Vec<EdgeTo<S>>,
+    /// For each production an index at which an item of it may be in the core.
     pub hints: Vec<usize>,
 }
 
-/// Tells whether an item stands at an index.
+/// Returns whether an item is at an index.
 fn stands_at<S: IndexStorage>(items: &[CoreItem<S>], index: usize, item: &CoreItem<S>) -> bool
     ensures { result ≡ true → IsAt (items_of S.number items.now) index (S.number item.now.pidx.0) (S.number item.now.dot.0) }
 {
@@ -47,7 +48,7 @@ fn stands_at<S: IndexStorage>(items: &[CoreItem<S>], index: usize, item: &CoreIt
     same_item(&items[index], item)
 }
 
-/// The index at which an item stands.
+/// Returns the index of an item.
 fn index_among<S: IndexStorage>(items: &[CoreItem<S>], item: &CoreItem<S>) -> usize
     requires { Stands (items_of S.number items.now) (S.number item.now.pidx.0) (S.number item.now.dot.0) }
     ensures { IsAt (items_of S.number items.now) result (S.number item.now.pidx.0) (S.number item.now.dot.0) }
@@ -60,7 +61,7 @@ fn index_among<S: IndexStorage>(items: &[CoreItem<S>], item: &CoreItem<S>) -> us
     0
 }
 
-/// The index at which an item stands, which may be the hint.
+/// Returns the index of an item, which may be the hint.
 fn index_by_hint<S: IndexStorage>(items: &[CoreItem<S>], hint: usize, item: &CoreItem<S>) -> usize
     requires { Stands (items_of S.number items.now) (S.number item.now.pidx.0) (S.number item.now.dot.0) }
     ensures { IsAt (items_of S.number items.now) result (S.number item.now.pidx.0) (S.number item.now.dot.0) }
@@ -71,7 +72,7 @@ fn index_by_hint<S: IndexStorage>(items: &[CoreItem<S>], hint: usize, item: &Cor
     index_among(items, item)
 }
 
-/// Tells whether an item stands behind the first symbol of a production that isn't the start production.
+/// Returns whether an item is behind the first symbol of a production that isn't the start production.
 fn was_opened<S: IndexStorage>(grm: &NumberedGrammar<S>, item: &CoreItem<S>) -> bool
     ensures opened { result ≡ true → (S.number item.now.dot.0 ≡ 1) × (S.number item.now.pidx.0 ≢ grm.now.grammar.start) }
     ensures own { result ≡ false → S.number item.now.dot.0 ≡ 1 → S.number item.now.pidx.0 ≡ grm.now.grammar.start }
@@ -83,8 +84,8 @@ fn was_opened<S: IndexStorage>(grm: &NumberedGrammar<S>, item: &CoreItem<S>) -> 
     item.pidx.0.to_usize() != start
 }
 
-/// Where the lookaheads stand of an item of a closed core that moved over the symbol before its dot: with the item before it
-/// in the core, or with its rule, if that was opened.
+/// Returns the source of the lookaheads of an item of a closed core. The item moved over the symbol before its dot,
+/// so this is the item before it in the core, or its rule, if that was opened.
 fn source_behind<S: IndexStorage>(
     grm: &NumberedGrammar<S>,
     was: &Retaken<S>,
@@ -112,7 +113,7 @@ fn source_behind<S: IndexStorage>(
     Source::Own(index_by_hint(was.items.as_slice(), hint, &before))
 }
 
-/// Tells whether the lookaheads of a core hold those that its items have in the goto set.
+/// Returns whether the lookaheads of a core hold those that its items have in the goto set.
 fn are_held<S: IndexStorage>(
     grm: &NumberedGrammar<S>,
     was: &Retaken<S>,
@@ -137,7 +138,7 @@ fn are_held<S: IndexStorage>(
     true
 }
 
-/// The goto set of these items.
+/// Returns the goto set of these items.
 fn gathered<S: IndexStorage>(
     alloc: Global,
     grm: &NumberedGrammar<S>,
@@ -160,7 +161,7 @@ fn gathered<S: IndexStorage>(
     Ok(set)
 }
 
-/// Tells whether a state is the first of its core; `bucket` lists, ascending, those that may have it.
+/// Returns whether a state is the first of its core; `bucket` lists, ascending, those that may have it.
 fn is_first<S: IndexStorage>(states: &[State<S>], bucket: &[usize], number: usize) -> bool
     requires number { number < length states.now }
     requires bucket { ListsCore (map (value_of S.number) states.now) (state_at (map (value_of S.number) states.now) number).core.items bucket.now }
@@ -180,7 +181,7 @@ fn is_first<S: IndexStorage>(states: &[State<S>], bucket: &[usize], number: usiz
     true
 }
 
-/// Tells whether the goto set of a state's items joins this state, which holds all its lookaheads.
+/// Returns whether the goto set of a state's items joins this state, which holds all its lookaheads.
 fn stays<S: IndexStorage>(
     grm: &NumberedGrammar<S>,
     states: &[State<S>],
@@ -331,7 +332,7 @@ fn copy_all<T: Copy>(from: &[T], to: &mut Vec<T>) -> Result<(), AllocError>
 }
 
 impl<S: IndexStorage> Retaken<S> {
-    /// Without items and edges.
+    /// Makes a state without items and edges.
     pub(crate) fn empty(alloc: Global, grm: &NumberedGrammar<S>) -> Result<Retaken<S>, AllocError>
         ensures { IfOk result (λ w. length w.hints.items ≡ length grm.now.grammar.productions) }
     {
@@ -342,7 +343,7 @@ impl<S: IndexStorage> Retaken<S> {
         })
     }
 
-    /// Notes a state as it stands.
+    /// Copies a state as it is.
     pub(crate) fn note(&mut self, state: &State<S>) -> Result<(), AllocError>
         requires { (k : ℕ) (d : Item) → k < length (items_of S.number state.now.core.items.items) → (get_or (items_of S.number state.now.core.items.items) k d).production < length self.old.hints.items }
         ensures items { OnOk result (items_of S.number self.new.items.items ≡ items_of S.number state.now.core.items.items) }

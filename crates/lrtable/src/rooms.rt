@@ -1,5 +1,5 @@
-//! How much room lists are to have, and which lists are worth being kept. Nothing rests on these but how often room is asked
-//! for, and what closings cost.
+//! Capacities of lists, and which lists are worth storing. Only the number of requests for memory and the cost of
+//! closings depend on these.
 
 use crate::opening::Opening;
 use cfg_base::index::IndexStorage;
@@ -8,7 +8,7 @@ use cfg_numbered::yacc::NumberedGrammar;
 use std::alloc::{AllocError, Global};
 use vob::Vob;
 
-/// How many productions each rule has.
+/// Returns how many productions each rule has.
 pub(crate) fn production_counts<S: IndexStorage>(
     alloc: Global,
     grm: &NumberedGrammar<S>,
@@ -21,7 +21,7 @@ pub(crate) fn production_counts<S: IndexStorage>(
     Ok(counts)
 }
 
-/// The count of a rule.
+/// Returns the count of a rule.
 fn count_of(counts: &[usize], rule: usize) -> usize {
     match counts.get(rule) {
         Some(count) => *count,
@@ -29,7 +29,7 @@ fn count_of(counts: &[usize], rule: usize) -> usize {
     }
 }
 
-/// How many rules are open, and how many productions these have.
+/// Returns how many rules are open, and how many productions these have.
 pub(crate) fn opened_room(counts: &[usize], opening: &Opening) -> (usize, usize) {
     let noted = opening.noted();
     let mut productions: usize = 0;
@@ -49,14 +49,15 @@ fn mark_rule<S: IndexStorage>(symbol: Symbol<S>, behind: &mut Vob) {
     }
 }
 
-/// Marks the rules that stand behind the first symbol.
+/// Marks the rules behind the first symbol.
 fn mark_rules<S: IndexStorage>(symbols: &[Symbol<S>], behind: &mut Vob) {
     'symbols: for k in 1..symbols.len() {
         mark_rule(symbols[k], behind);
     }
 }
 
-/// Marks the rules that stand in a production elsewhere than first: only these stand behind the dot of an item that moved.
+/// Marks the rules that occur in a production elsewhere than first: only these are behind the dot of an item that
+/// moved.
 pub(crate) fn rules_behind<S: IndexStorage>(
     alloc: Global,
     grm: &NumberedGrammar<S>,

@@ -39,7 +39,7 @@ impl RuleRows {
         Ok(RuleRows { width, rows })
     }
 
-    /// The set of a rule.
+    /// Returns the set of a rule.
     pub(crate) fn row(&self, rule: usize) -> &Vob
         requires { rule < length self.now.rows }
         ensures bits { result.now.bits ≡ get_or self.now.rows rule [] }
@@ -48,7 +48,7 @@ impl RuleRows {
         &self.rows[rule]
     }
 
-    /// Adds the tokens to the set of a rule, and says whether that changed it.
+    /// Adds the tokens to the set of a rule, and returns whether that changed it.
     pub(crate) fn join(&mut self, rule: usize, tokens: &Vob) -> bool
         requires within { rule < length self.old.rows }
         requires width { length tokens.now.bits ≡ self.old.width }

@@ -30,16 +30,17 @@ pub(crate) struct EdgeTo<S> {
     pub target: usize,
 }
 
-/// A state of a building, and whether it is new or has grown since it was taken last.
+/// A state of a building.
 #[derive(Drop)]
 pub(crate) struct State<S> {
     pub core: CoreSet<S>,
     pub edges: Vec<EdgeTo<S>>,
+    /// Whether it is new, or has grown since it was taken last.
     pub todo: bool,
 }
 
 impl<S: IndexStorage> State<S> {
-    /// A state without items and edges.
+    /// Returns a state without items and edges.
     pub(crate) fn empty(alloc: Global) -> State<S> {
         State {
             core: CoreSet::empty(alloc),
@@ -72,7 +73,7 @@ impl<T: Drop> From<AllocFailed<T>> for BuildError {
     }
 }
 
-/// Adds lookaheads to those of the same items, and says whether some weren't there.
+/// Adds lookaheads to those of the same items, and returns whether some weren't there.
 fn join_looks<S: IndexStorage>(looks: &mut Vec<Vob>, new: &[MovedItem<S>], rows: &Rows<'_>) -> bool
     requires alike { AreAlike (rows_in looks.old.items) (rows_from rows.now new.now) }
     requires wide { AreWide (rows_from rows.now new.now) }
@@ -89,7 +90,7 @@ fn join_looks<S: IndexStorage>(looks: &mut Vec<Vob>, new: &[MovedItem<S>], rows:
     grew
 }
 
-/// Tells whether a symbol comes before another: rules before tokens, each by their indices.
+/// Returns whether a symbol comes before another: rules before tokens, each by their indices.
 fn comes_before<S: IndexStorage>(a: Symbol<S>, b: Symbol<S>) -> bool
     ensures { IsTrue result ↔ SymBefore (sym_of S.number a) (sym_of S.number b) }
 {
@@ -101,7 +102,7 @@ fn comes_before<S: IndexStorage>(a: Symbol<S>, b: Symbol<S>) -> bool
     }
 }
 
-/// The index of the first edge whose symbol doesn't come before this one.
+/// Returns the index of the first edge whose symbol doesn't come before this one.
 fn edge_index<S: IndexStorage>(edges: &[EdgeTo<S>], symbol: Symbol<S>) -> usize
     ensures within { result ≤ length edges.now }
     ensures before { (k : ℕ) → k < result → (d : Edge) → SymBefore (get_or (edges_of S.number edges.now) k d).symbol (sym_of S.number symbol) }
@@ -115,7 +116,7 @@ fn edge_index<S: IndexStorage>(edges: &[EdgeTo<S>], symbol: Symbol<S>) -> usize
     edges.len()
 }
 
-/// Tells whether the edge at an index is on a symbol.
+/// Returns whether the edge at an index is on a symbol.
 fn is_on<S: IndexStorage>(edges: &[EdgeTo<S>], index: usize, symbol: Symbol<S>) -> bool
     ensures here { result ≡ true → (index < length edges.now) × ((d : Edge) → same_symbol (get_or (edges_of S.number edges.now) index d).symbol (sym_of S.number symbol) ≡ true) }
     ensures other { result ≡ false → (d : Edge) → index < length edges.now → same_symbol (get_or (edges_of S.number edges.now) index d).symbol (sym_of S.number symbol) ≡ false }
@@ -126,7 +127,7 @@ fn is_on<S: IndexStorage>(edges: &[EdgeTo<S>], index: usize, symbol: Symbol<S>) 
     same_symbols(edges[index].symbol, symbol)
 }
 
-/// Tells whether all edges come before a symbol, as they do where the last does.
+/// Returns whether all edges come before a symbol, as they do where the last does.
 fn all_before<S: IndexStorage>(edges: &[EdgeTo<S>], symbol: Symbol<S>) -> bool
     requires { AscendEdges (edges_of S.number edges.now) }
     ensures { result ≡ true → (k : ℕ) → k < length edges.now → (d : Edge) → SymBefore (get_or (edges_of S.number edges.now) k d).symbol (sym_of S.number symbol) }
@@ -138,8 +139,8 @@ fn all_before<S: IndexStorage>(edges: &[EdgeTo<S>], symbol: Symbol<S>) -> bool
     comes_before(edges[count - 1].symbol, symbol)
 }
 
-/// The index of the first edge whose symbol doesn't come before this one, which is looked for at the end, and then among
-/// all.
+/// Returns the index of the first edge whose symbol doesn't come before this one, which is looked for at the end, and
+/// then among all.
 fn edge_place<S: IndexStorage>(edges: &[EdgeTo<S>], symbol: Symbol<S>) -> usize
     requires { AscendEdges (edges_of S.number edges.now) }
     ensures within { result ≤ length edges.now }
@@ -166,7 +167,7 @@ fn put_among<S: IndexStorage>(edges: &mut Vec<EdgeTo<S>>, edge: EdgeTo<S>) -> Re
     Ok(())
 }
 
-/// Puts an edge in the place of that on its symbol, which may stand at `near`, or before those on later symbols.
+/// Puts an edge in the place of that on its symbol, which may be at `near`, or before those on later symbols.
 fn put_edge<S: IndexStorage>(
     edges: &mut Vec<EdgeTo<S>>,
     near: usize,
@@ -183,8 +184,8 @@ fn put_edge<S: IndexStorage>(
     Ok(())
 }
 
-/// Tells whether a set joins a state, and if so, whether the state holds all its lookaheads: then no pair of items is
-/// compared.
+/// Returns whether a set joins a state, and if so, whether the state holds all its lookaheads: then no pair of items
+/// is compared.
 fn joins<S: IndexStorage>(state: &State<S>, set: &[MovedItem<S>], rows: &Rows<'_>) -> Option<bool>
     requires state { (tokens : ℕ) × IsCoreOf tokens (core_of_set S.number state.now.core) × IsCoreOf tokens (core_of_moved S.number rows.now set.now) × (0 < tokens) }
     ensures fits { IfSome result (λ held. (items_of S.number state.now.core.items.items ≡ moved_items S.number set.now) × RowsFit (rows_in state.now.core.looks.items) (rows_from rows.now set.now)) }
@@ -204,8 +205,8 @@ fn joins<S: IndexStorage>(state: &State<S>, set: &[MovedItem<S>], rows: &Rows<'_
     None
 }
 
-/// The first of the states that a set joins, and whether it holds all the set's lookaheads; `bucket` lists, ascending,
-/// those that may have its core.
+/// Returns the first of the states that a set joins, and whether it holds all the set's lookaheads; `bucket` lists,
+/// ascending, those that may have its core.
 fn first_joined<S: IndexStorage>(
     states: &[State<S>],
     bucket: &[usize],
@@ -225,8 +226,8 @@ fn first_joined<S: IndexStorage>(
     None
 }
 
-/// Adds the lookaheads of a set to those of a state of its core, which is to be taken again if some weren't there, and
-/// says whether that was so.
+/// Adds the lookaheads of a set to those of a state of its core. The state is to be taken again if some weren't
+/// there, which is what it returns.
 fn grow<S: IndexStorage>(
     states: &mut Vec<State<S>>,
     number: usize,
@@ -249,7 +250,7 @@ fn grow<S: IndexStorage>(
     false
 }
 
-/// The same, where it is known of a state that holds them all.
+/// Lets a state grow as `grow` does, unless it is known to hold the set.
 fn grow_unless<S: IndexStorage>(
     states: &mut Vec<State<S>>,
     number: usize,
@@ -272,7 +273,7 @@ fn grow_unless<S: IndexStorage>(
     grow(states, number, set, rows)
 }
 
-/// Puts an edge to the state `target` with those of the state `number`; one on its symbol may stand at `near`.
+/// Puts an edge to the state `target` with those of the state `number`; one on its symbol may be at `near`.
 fn link<S: IndexStorage>(
     states: &mut Vec<State<S>>,
     number: usize,
@@ -393,8 +394,9 @@ fn add_listed<S: IndexStorage>(
     Ok(())
 }
 
-/// Puts a set, made from the state `from` by a symbol, among the states: it joins the first that it may, or becomes one.
-/// No state below the cursor is to be taken. The state's edge on the symbol may stand at `near`.
+/// Places a set, made from the state `from` by a symbol, among the states: it joins the first with which it is
+/// compatible, or becomes a new state. No state below the cursor is to be taken. The state's edge on the symbol may
+/// be at `near`.
 pub(crate) fn place<S: IndexStorage>(
     alloc: Global,
     states: &mut Vec<State<S>>,

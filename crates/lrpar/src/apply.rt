@@ -1,4 +1,4 @@
-//! Applying a sequence of repairs to the stacks of a run.
+//! Applies a sequence of repairs to the stacks of a run.
 
 ghost use Rattle.std.specs.Prelude.{◌≡◌, ◌≢◌, ◌<◌, ◌≤◌, ◌∷◌, ℕ, true, List, length, drop, slice_get, Some, IfOk, OnOk};
 ghost use Rattle.cfg_theory.specs.Grammar.{end_token};
@@ -28,7 +28,7 @@ use parse_trees::parse_repair::RepairStep;
 use parse_trees::values::ValueStack;
 use std::alloc::{AllocError, Global};
 
-/// Where a lexeme begins that is made up before the one at the index, `end` being the end of all.
+/// Returns the byte offset of a lexeme that is inserted before the one at the index; `end` is the end of all lexemes.
 fn start_before<S: IndexStorage, L: Lexeme<S>, E: Copy>(
     lexemes: &LexemeList<'_, L, E>,
     index: usize,
@@ -42,7 +42,7 @@ fn start_before<S: IndexStorage, L: Lexeme<S>, E: Copy>(
     }
 }
 
-/// The lexeme of a token that is made up before the one at the index.
+/// Returns the lexeme of a token that is inserted before the one at the index.
 fn made_before<S: IndexStorage, L: Lexeme<S>, E: Copy>(
     lexemes: &LexemeList<'_, L, E>,
     index: usize,
@@ -52,7 +52,7 @@ fn made_before<S: IndexStorage, L: Lexeme<S>, E: Copy>(
     ensures made { result ≡ made_by L.faulty_of L.lex end (S.number tidx.0) (drop index lexemes.now) }
     ensures is { L.lex result ≡ lex_at (S.number tidx.0) (next_start L.lex end (drop index lexemes.now)) 0 true }
 {
-    // Read, so that the proof may use that the number is one.
+    // For the proof alone: this read shows that the number is one.
     let _token = tidx.0.to_usize();
     let start = start_before(lexemes, index, end);
     L::new_faulty(tidx.0, start, 0)
@@ -87,7 +87,7 @@ fn put_on<S: IndexStorage, L: Lexeme<S>, V: ValueStack<S, L>>(
     }
 }
 
-/// Applies one step before the lexeme at the index, and answers the index of the next one that is left.
+/// Applies one step before the lexeme at the index, and returns the index of the next one that is left.
 fn apply_step<S: IndexStorage, L: Lexeme<S>, E: Copy, V: ValueStack<S, L>>(
     alloc: Global,
     grm: &NumberedGrammar<S>,
@@ -115,7 +115,7 @@ fn apply_step<S: IndexStorage, L: Lexeme<S>, E: Copy, V: ValueStack<S, L>>(
     ensures index { IfOk result (λ p. p ≤ length lexemes.now) }
     ensures keeps { OnOk result (V.keeps stacks.old.values stacks.new.values) }
 {
-    // Read, so that the proof may use that the number of lexemes fits.
+    // For the proof alone: this read shows that the number of lexemes fits.
     let _count = lexemes.len();
     match step {
         RepairStep::Insert(tidx) => {
@@ -131,7 +131,7 @@ fn apply_step<S: IndexStorage, L: Lexeme<S>, E: Copy, V: ValueStack<S, L>>(
     }
 }
 
-/// The step of a number.
+/// Returns the step of a number.
 fn step_at<S: IndexStorage>(steps: &[RepairStep<S>], number: usize) -> RepairStep<S>
     requires { number < length steps.now }
     ensures { slice_get steps.now number ≡ Some result }
@@ -139,7 +139,7 @@ fn step_at<S: IndexStorage>(steps: &[RepairStep<S>], number: usize) -> RepairSte
     steps[number]
 }
 
-/// Applies a sequence that can be taken before the lexeme at the index, and answers the index of the next one that is
+/// Applies a sequence that can be taken before the lexeme at the index, and returns the index of the next one that is
 /// left. `end` is the end of all lexemes: there lexemes begin that are made up behind the last one.
 pub(crate) fn apply_steps<S: IndexStorage, L: Lexeme<S>, E: Copy, V: ValueStack<S, L>>(
     alloc: Global,

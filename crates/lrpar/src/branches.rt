@@ -1,4 +1,4 @@
-//! A test without tokens that no chain is long: it follows each production by which a state reduces.
+//! A test that no chain is long, without looking at tokens: it follows each production by which a state reduces.
 
 ghost use Rattle.std.specs.Prelude.{◌≡◌, ◌<◌, ◌≤◌, ◌+◌, [], ℕ, List, true, Some, drop, length, option_map, IfOk, IfSome, OnOk};
 ghost use Rattle.cfg_theory.specs.Grammar.{body_of};
@@ -16,7 +16,7 @@ use cfg_numbered::yacc::grammar::NumberedGrammar;
 use state_table::{StIdx, StateTable};
 use std::alloc::{AllocError, Global};
 
-/// A stack without states: one of the spare ones, whose room it keeps, where there is one.
+/// Returns a stack without states: one of the spare ones, whose room it keeps, where there is one.
 fn empty_stack<S: IndexStorage>(alloc: Global, spare: &mut Vec<Vec<StIdx<S>>>) -> Vec<StIdx<S>>
     ensures { result.items ≡ [] }
 {
@@ -29,7 +29,8 @@ fn empty_stack<S: IndexStorage>(alloc: Global, spare: &mut Vec<Vec<StIdx<S>>>) -
     }
 }
 
-/// The stack after a reduction by a production, where that leaves a state and there is a goto. The stack's top is last.
+/// Returns the stack after a reduction by a production, where that leaves a state and there is a goto. The stack's
+/// top is last.
 fn reduced<S: IndexStorage>(
     alloc: Global,
     grm: &NumberedGrammar<S>,
@@ -111,7 +112,7 @@ fn take_stack<S: IndexStorage>(
     Ok(())
 }
 
-/// The stack that a chain begins with.
+/// Returns the stack that a chain begins with.
 fn first_stack<S: IndexStorage>(
     alloc: Global,
     spare: &mut Vec<Vec<StIdx<S>>>,
@@ -131,7 +132,8 @@ fn first_stack<S: IndexStorage>(
     }
 }
 
-/// How many stacks are followed: as many as a chain may have, and no more than 256, so that little memory is asked for.
+/// Returns how many stacks are followed: as many as a chain may have, and no more than 256, so that little memory is
+/// asked for.
 fn most_stacks(limit: u16) -> usize
     ensures { result ≤ limit + 1 }
 {
@@ -141,9 +143,9 @@ fn most_stacks(limit: u16) -> usize
     256
 }
 
-/// Whether it is seen, without looking at tokens, that no chain of the state passes the limit: alone, or with `above` on
-/// it. All that may be reduced on some token is followed, for at most so many stacks as a chain may have. The stacks that
-/// are handed in serve as room, and the spare ones are written over.
+/// Returns whether it is known, without looking at tokens, that no chain of the state passes the limit: alone, or
+/// with `above` on it. All reductions on some token are followed, for at most as many stacks as a chain may have. The
+/// stacks that are passed are used as buffers, and the spare ones are overwritten.
 pub(crate) fn ends_soon<S: IndexStorage>(
     alloc: Global,
     grm: &NumberedGrammar<S>,

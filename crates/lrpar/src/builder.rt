@@ -1,4 +1,4 @@
-//! Parsers: checked data, with who is asked for repairs at errors.
+//! Parsers: checked data, with a recoverer for errors.
 
 ghost use Rattle.std.specs.Prelude.{◌≡◌, Option, IfOk, IfErr, IfSome};
 ghost use Rattle.lrpar.specs.Acting.{HasAction};
@@ -44,7 +44,7 @@ pub struct RTParserBuilder<'a, T: LexerTypes, R> {
 }
 
 impl<'a, T: LexerTypes> RTParserBuilder<'a, T, NoRecovery> {
-    /// A parser that stops at its first error.
+    /// Returns a parser that stops at its first error.
     pub fn new(checked: &'a ParserData<T::StorageT>) -> RTParserBuilder<'a, T, NoRecovery>
         ensures { result.checked.now ≡ checked.now }
     {
@@ -57,7 +57,7 @@ impl<'a, T: LexerTypes> RTParserBuilder<'a, T, NoRecovery> {
 }
 
 impl<'a, T: LexerTypes, R> RTParserBuilder<'a, T, R> {
-    /// The same parser, with this recoverer.
+    /// Sets the recoverer that parses ask at errors, in place of the one before.
     pub fn recoverer<Q: Recoverer<T::StorageT, T::LexemeT>>(
         self,
         recoverer: &'a Q,
@@ -120,7 +120,7 @@ impl<'a, T: LexerTypes, R: Recoverer<T::StorageT, T::LexemeT>> RTParserBuilder<'
     }
 
     /// Parses, and makes the tree as one list of nodes. Returns the lexer's first error; or the tree, if there is
-    /// one, and the parse errors. Is refused as `parse_fold` is.
+    /// one, and the parse errors. Fails as `parse_fold` does.
     pub fn parse_flat<X: Lexer<T>>(
         &self,
         alloc: Global,
@@ -154,7 +154,7 @@ impl<'a, T: LexerTypes, R: Recoverer<T::StorageT, T::LexemeT>> RTParserBuilder<'
 
     /// Parses, and makes the value by two functions: `fterm` for each lexeme that is shifted, `fnonterm` for each
     /// reduction, by its rule and the values of its symbols. Returns the value, if there is one, and the errors:
-    /// the lexer's first one alone, or those of the parse. Is refused as `parse_fold` is.
+    /// the lexer's first one alone, or those of the parse. Fails as `parse_fold` does.
     pub fn parse_map<N: Drop, X: Lexer<T>, F, H>(
         &self,
         alloc: Global,
@@ -189,7 +189,7 @@ impl<'a, T: LexerTypes, R: Recoverer<T::StorageT, T::LexemeT>> RTParserBuilder<'
     }
 
     /// Parses, and makes a tree by rules. Returns the tree, if there is one, and the errors: the lexer's first
-    /// one alone, or those of the parse. Is refused as `parse_fold` is.
+    /// one alone, or those of the parse. Fails as `parse_fold` does.
     pub fn parse_generictree<X: Lexer<T>>(
         &self,
         alloc: Global,
@@ -215,8 +215,13 @@ impl<'a, T: LexerTypes, R: Recoverer<T::StorageT, T::LexemeT>> RTParserBuilder<'
     }
 
     /// Parses, and makes the value by actions. Returns what the action at the root returned, if there is a tree,
-    /// and the errors: the lexer's first one alone, or those of the parse. Is refused as `parse_fold` is;
-    /// `LexemeOutside` and `StartDecreases` come before any action.
+    /// and the errors: the lexer's first one alone, or those of the parse.
+    ///
+    /// # Errors
+    ///
+    /// - `LexemeOutside` or `StartDecreases` where the lexer's list has no error and a lexeme that no run takes:
+    ///   the first such one. No action is called before.
+    /// - `Memory` where the parse, an action or the recoverer is refused memory.
     pub fn parse_actions<X: Lexer<T>, A: Actions<T, X>>(
         &self,
         alloc: Global,
@@ -244,8 +249,8 @@ impl<'a, T: LexerTypes, R: Recoverer<T::StorageT, T::LexemeT>> RTParserBuilder<'
         }
     }
 
-    /// Parses without making a value. Returns the errors: the lexer's first one alone, or those of the parse. Is
-    /// refused as `parse_fold` is.
+    /// Parses without making a value. Returns the errors: the lexer's first one alone, or those of the parse.
+    /// Fails as `parse_fold` does.
     pub fn parse_noaction<X: Lexer<T>>(
         &self,
         alloc: Global,

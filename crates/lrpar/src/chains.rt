@@ -30,15 +30,19 @@ pub struct LongChain<S> {
     pub tidx: TIdx<S>,
 }
 
-/// Room that the search for a long chain writes over: a stack that is run on one token, and stacks that are followed.
+/// Buffers of the search for a long chain.
 #[derive(Drop)]
 struct Rooms<S: IndexStorage> {
+    /// A stack that is run on one token.
     stack: Vec<StIdx<S>>,
+    /// Stacks that are followed on all tokens.
     stacks: Vec<Vec<StIdx<S>>>,
+    /// Stacks whose memory is used again.
     spare: Vec<Vec<StIdx<S>>>,
 }
 
-/// One reduction on the token, where one can be made that leaves a state on the stack. The stack's top is last.
+/// Makes one reduction on the token, where one is made that leaves a state on the stack, and returns whether it did.
+/// The stack's top is last.
 pub(crate) fn reduce_once<S: IndexStorage>(
     grm: &NumberedGrammar<S>,
     stable: &StateTable<S>,
@@ -90,8 +94,8 @@ fn refill<S: IndexStorage>(
     }
 }
 
-/// Whether more than `limit` reductions come on the token that leave the state at the bottom: `state` alone, or with
-/// `above` on it. The stack serves as room.
+/// Returns whether more than `limit` reductions come on the token that leave the state at the bottom: `state` alone,
+/// or with `above` on it. The stack serves as room.
 pub(crate) fn is_long<S: IndexStorage>(
     grm: &NumberedGrammar<S>,
     stable: &StateTable<S>,
@@ -117,7 +121,7 @@ pub(crate) fn is_long<S: IndexStorage>(
     Ok(true)
 }
 
-/// The state on top of a chain's first stack.
+/// Returns the state on top of a chain's first stack.
 fn top_of<S: IndexStorage>(state: StIdx<S>, above: Option<StIdx<S>>) -> StIdx<S>
     ensures { S.number result.0 ≡ chain_top (S.number state.0) (state_of S.number above) }
 {
@@ -127,7 +131,7 @@ fn top_of<S: IndexStorage>(state: StIdx<S>, above: Option<StIdx<S>>) -> StIdx<S>
     }
 }
 
-/// How many states that stack has.
+/// Returns how many states that stack has.
 fn depth_of<S: IndexStorage>(above: Option<StIdx<S>>) -> usize
     ensures { result ≡ chain_depth (state_of S.number above) }
 {
@@ -137,7 +141,8 @@ fn depth_of<S: IndexStorage>(above: Option<StIdx<S>>) -> usize
     }
 }
 
-/// Whether the first reduction of a chain may be by this action: it takes fewer symbols than there are states.
+/// Returns whether the first reduction of a chain may be by this action: it takes fewer symbols than there are
+/// states.
 fn may_begin<S: IndexStorage>(grm: &NumberedGrammar<S>, depth: usize, action: Action<S>) -> bool
     requires { (p : ℕ) → action_of S.number action ≡ reduce p → p < length grm.now.grammar.productions }
     ensures { result ≡ false → BeginsNone grm.now.grammar depth (action_of S.number action) }
@@ -148,7 +153,7 @@ fn may_begin<S: IndexStorage>(grm: &NumberedGrammar<S>, depth: usize, action: Ac
     }
 }
 
-/// The least token on which more than `limit` reductions come.
+/// Returns the least token on which more than `limit` reductions come.
 pub(crate) fn long_token<S: IndexStorage>(
     grm: &NumberedGrammar<S>,
     stable: &StateTable<S>,
@@ -178,7 +183,8 @@ pub(crate) fn long_token<S: IndexStorage>(
     Ok(None)
 }
 
-/// The same. Tokens are tried only where following all reductions, whatever the token, doesn't show that none is long.
+/// Returns the least token on which more than `limit` reductions come. Tokens are tried only where following all
+/// reductions, on whatever token, doesn't show that no chain is long.
 fn least_long<S: IndexStorage>(
     alloc: Global,
     grm: &NumberedGrammar<S>,
@@ -206,7 +212,8 @@ fn least_long<S: IndexStorage>(
     Ok(found)
 }
 
-/// The least token on which a chain of the state alone passes the limit. Such a chain begins with an empty reduction.
+/// Returns the least token on which a chain of the state alone passes the limit. Such a chain begins with an empty
+/// reduction.
 fn long_alone<S: IndexStorage>(
     alloc: Global,
     grm: &NumberedGrammar<S>,
@@ -233,7 +240,7 @@ fn long_alone<S: IndexStorage>(
     }
 }
 
-/// The least chain of the state with a goto above it that passes the limit.
+/// Returns the least chain of the state with a goto above it that passes the limit.
 fn long_above<S: IndexStorage>(
     alloc: Global,
     grm: &NumberedGrammar<S>,
@@ -270,7 +277,7 @@ fn long_above<S: IndexStorage>(
     Ok(None)
 }
 
-/// The least chain of the state that passes the limit.
+/// Returns the least chain of the state that passes the limit.
 fn long_of<S: IndexStorage>(
     alloc: Global,
     grm: &NumberedGrammar<S>,
@@ -298,7 +305,7 @@ fn long_of<S: IndexStorage>(
     Ok(found)
 }
 
-/// The least chain of reductions that passes the limit; none where all chains are within it.
+/// Returns the least chain of reductions that passes the limit; none where all chains are within it.
 pub(crate) fn long_chain<S: IndexStorage>(
     alloc: Global,
     grm: &NumberedGrammar<S>,

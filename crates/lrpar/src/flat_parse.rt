@@ -29,7 +29,7 @@ use parse_trees::lex_api::Lexeme;
 use parse_trees::lexemes::ParseRefusal;
 use std::alloc::Global;
 
-/// The flat tree that a parse leaves, where it accepts.
+/// Returns the flat tree that a parse leaves, where it accepts.
 fn tree_left<S: IndexStorage, L: Lexeme<S>>(
     values: FlatValues<S, L>,
     accepted: bool,
@@ -44,7 +44,7 @@ fn tree_left<S: IndexStorage, L: Lexeme<S>>(
     }
 }
 
-/// The first fault of a lexer's list; else the flat tree of its parse, if it has one, and the errors.
+/// Returns the first fault of a lexer's list; else the flat tree of its parse, if it has one, and the errors.
 pub(crate) fn parse_flat<S: IndexStorage, L: Lexeme<S>, E: Copy, R: Recoverer<S, L>>(
     alloc: Global,
     grm: &NumberedGrammar<S>,

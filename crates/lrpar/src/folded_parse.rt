@@ -1,4 +1,4 @@
-//! Parses whose value is a fold by functions that are handed in.
+//! Parses whose value is a fold by functions that are passed.
 
 ghost use Rattle.std.specs.Prelude.{◌≡◌, ℕ, List, Option, map, IfOk, IfErr};
 ghost use Rattle.cfg_theory.specs.Grammar.{Grammar};
@@ -31,16 +31,16 @@ use parse_trees::lexemes::ParseRefusal;
 use parse_trees::parse_repair::show_sequences;
 use std::alloc::{AllocError, Global};
 
-/// What the list of a lexer comes to: its first fault, or the value of its parse, if it has one, and the errors.
+/// The result of parsing a lexer's list: its first error, or the value, if there is one, and the parse errors.
 #[derive(Drop)]
 pub enum FoldedOutcome<S: IndexStorage, L, E, V> {
-    /// The first fault of the lexer.
+    /// The first error of the lexer.
     Fault(E),
     /// The value, if there is one, and the errors.
     Parsed(Option<V>, Vec<ParseError<L, S>>),
 }
 
-/// The errors of a parse of these lexemes, with the lexemes that their sequences delete or keep.
+/// Returns the errors of a parse of these lexemes, with the lexemes that their sequences delete or keep.
 pub(crate) fn tell_errors<S: IndexStorage, L: Lexeme<S>, E: Copy>(
     alloc: Global,
     lexemes: &LexemeList<'_, L, E>,
@@ -60,7 +60,7 @@ pub(crate) fn tell_errors<S: IndexStorage, L: Lexeme<S>, E: Copy>(
     Ok(told)
 }
 
-/// The value that a parse leaves, where it accepts.
+/// Returns the value that a parse leaves, where it accepts.
 fn value_left<'a, S: IndexStorage, L: Lexeme<S>, V: Drop, F, H>(
     folded: FoldedValues<'a, V, F, H>,
     accepted: bool,
@@ -78,7 +78,7 @@ where
     }
 }
 
-/// What the list of a lexer comes to, with the value that the functions give.
+/// Parses the list of a lexer, with the value that the functions make.
 pub(crate) fn parse_folded<
     S: IndexStorage,
     L: Lexeme<S>,

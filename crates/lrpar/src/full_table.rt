@@ -31,7 +31,7 @@ impl<S: IndexStorage> Model for FullTable<S> {
     ghost invariant = { λ f. AreRows f.stable.states (AreCells S.number f.stable) f.cells.items × AreRows f.stable.states (AreTargets S.number f.stable) f.targets.items };
 }
 
-/// Puts a value at a place.
+/// Sets the entry at an index.
 fn put<V: Copy>(full: &mut Vec<V>, number: usize, value: V)
     requires { number < length full.old.items }
     ensures { full.new.items ≡ slice_set full.old.items number value }
@@ -39,7 +39,7 @@ fn put<V: Copy>(full: &mut Vec<V>, number: usize, value: V)
     full[number] = value;
 }
 
-/// So many places with one value.
+/// Makes `count` entries with one value.
 fn repeated<V: Copy>(alloc: Global, value: V, count: usize) -> Result<Vec<V>, AllocError>
     ensures { IfOk result (λ v. v.items ≡ replicate count value) }
 {
@@ -48,7 +48,7 @@ fn repeated<V: Copy>(alloc: Global, value: V, count: usize) -> Result<Vec<V>, Al
     Ok(values)
 }
 
-/// A place for each number below the count, with what the row has beside it, or else with `empty`.
+/// Returns an entry for each number below the count: what the row has beside it, or else `empty`.
 fn full_row<V: Copy>(
     alloc: Global,
     row: &[(u32, V)],
@@ -67,7 +67,7 @@ fn full_row<V: Copy>(
     Ok(full)
 }
 
-/// The row of a state.
+/// Returns the row of a state.
 #[inline(always)]
 fn row_at<E>(rows: &[Vec<E>], s: usize) -> &Vec<E>
     requires { s < length rows.now }
@@ -76,7 +76,7 @@ fn row_at<E>(rows: &[Vec<E>], s: usize) -> &Vec<E>
     &rows[s]
 }
 
-/// What stands at a place of a row.
+/// Returns the entry of a row at a number.
 #[inline(always)]
 fn place_at<V: Copy>(row: &[V], number: usize) -> V
     requires { number < length row.now }
@@ -85,7 +85,7 @@ fn place_at<V: Copy>(row: &[V], number: usize) -> V
     row[number]
 }
 
-/// A state's full row of cells.
+/// Returns a state's full row of cells.
 fn cell_row<S: IndexStorage>(
     alloc: Global,
     stable: &StateTable<S>,
@@ -99,7 +99,7 @@ fn cell_row<S: IndexStorage>(
     Ok(row)
 }
 
-/// How many places a row is given: none where it is empty.
+/// Returns the number of entries of a full row: none where the row is empty.
 fn places_for<E>(row: &[E], count: usize) -> usize
     ensures { (row.now ≡ []) ⊎ (result ≡ count) }
 {
@@ -109,7 +109,7 @@ fn places_for<E>(row: &[E], count: usize) -> usize
     count
 }
 
-/// A state's row of gotos, empty where it has none.
+/// Returns a state's row of gotos, empty where it has none.
 fn target_row<S: IndexStorage>(
     alloc: Global,
     stable: &StateTable<S>,
@@ -124,7 +124,7 @@ fn target_row<S: IndexStorage>(
     Ok(row)
 }
 
-/// The rows of cells of all states.
+/// Returns the rows of cells of all states.
 fn cell_rows<S: IndexStorage>(
     alloc: Global,
     stable: &StateTable<S>,
@@ -140,7 +140,7 @@ fn cell_rows<S: IndexStorage>(
     Ok(rows)
 }
 
-/// The rows of gotos of all states.
+/// Returns the rows of gotos of all states.
 fn target_rows<S: IndexStorage>(
     alloc: Global,
     stable: &StateTable<S>,
@@ -157,7 +157,7 @@ fn target_rows<S: IndexStorage>(
 }
 
 impl<S: IndexStorage> FullTable<S> {
-    /// The same table with its full rows.
+    /// Makes the full rows of a table.
     pub(crate) fn new(alloc: Global, stable: StateTable<S>) -> Result<FullTable<S>, AllocError>
         ensures { IfOk result (λ f. f ≡ stable) }
     {
@@ -177,14 +177,14 @@ impl<S: IndexStorage> FullTable<S> {
         &self.stable
     }
 
-    /// The table alone.
+    /// Returns the table alone.
     pub(crate) fn into_stable(self) -> StateTable<S>
         ensures { result ≡ self }
     {
         self.stable
     }
 
-    /// The state that a run begins in.
+    /// Returns the state that a run begins in.
     pub(crate) fn start_state(&self) -> StIdx<S>
         ensures value { S.number result.0 ≡ self.now.start }
         ensures within { self.now.start < self.now.states }
@@ -199,7 +199,7 @@ impl<S: IndexStorage> FullTable<S> {
         self.stable.tokens_len()
     }
 
-    /// What the state does on the token.
+    /// Returns the action of the state on the token.
     #[inline(always)]
     pub(crate) fn action(&self, stidx: StIdx<S>, tidx: TIdx<S>) -> Action<S>
         requires state { S.number stidx.0 < self.now.states }
@@ -210,7 +210,7 @@ impl<S: IndexStorage> FullTable<S> {
         place_at(row.as_slice(), tidx.0.to_usize())
     }
 
-    /// The state after the rule, where there is one.
+    /// Returns the state after the rule, where there is one.
     #[inline(always)]
     pub(crate) fn target(&self, stidx: StIdx<S>, ridx: RIdx<S>) -> StIdx<S>
         requires there { (q : ℕ) × (goto_at self.now (S.number stidx.0) (S.number ridx.0) ≡ Some q) }
@@ -221,7 +221,7 @@ impl<S: IndexStorage> FullTable<S> {
         place_at(row.as_slice(), ridx.0.to_usize())
     }
 
-    /// The state after the rule.
+    /// Returns the state after the rule.
     pub(crate) fn goto(&self, stidx: StIdx<S>, ridx: RIdx<S>) -> Option<StIdx<S>>
         requires state { S.number stidx.0 < self.now.states }
         requires rule { S.number ridx.0 < self.now.rules }

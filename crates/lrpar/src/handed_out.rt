@@ -1,4 +1,4 @@
-//! What a parse hands out: a value or none, and errors of lexing or of parsing.
+//! What a parse returns: a value or none, and errors of lexing or of parsing.
 
 ghost use Rattle.std.specs.Prelude.{◌≡◌, map, IfOk};
 ghost use Rattle.lrpar.specs.Told.{HandsOut};
@@ -9,7 +9,7 @@ use crate::parse_error::{LexParseError, ParseError};
 use parse_trees::lex_api::LexerTypes;
 use std::alloc::{AllocError, Global};
 
-/// The errors of a parse, as errors of lexing or of parsing.
+/// Returns the errors of a parse, as errors of lexing or of parsing.
 fn parse_errors<T: LexerTypes>(
     alloc: Global,
     found: Vec<ParseError<T::LexemeT, T::StorageT>>,
@@ -23,7 +23,7 @@ fn parse_errors<T: LexerTypes>(
     Ok(told)
 }
 
-/// The value and the errors of an outcome.
+/// Returns the value and the errors of an outcome.
 pub(crate) fn hand_out<T: LexerTypes, V: Drop>(
     alloc: Global,
     outcome: FoldedOutcome<T::StorageT, T::LexemeT, T::LexErrorT, V>,

@@ -1,10 +1,11 @@
-//! LR parsing over checked tables: what checks them, the run with any repairs, the parses that make values and trees.
+//! LR parsing over checked tables: the check of tables, the run with repairs, and the parses that make values and
+//! trees.
 //!
 //! ```rust
 //! use lrpar::{Lexer, LexerTypes, ParseRefusal, ParserData, RTParserBuilder};
 //! use std::alloc::Global;
 //!
-//! /// How many errors a parse of a lexer's lexemes tells.
+//! /// How many errors a parse of a lexer's lexemes has.
 //! fn errors_in<T: LexerTypes<StorageT = u32>, X: Lexer<T>>(
 //!     alloc: Global,
 //!     data: &ParserData<u32>,
@@ -16,20 +17,21 @@
 //! }
 //! ```
 //!
-//! Without repairs it answers 0 or 1: a parse stops at its first error. `parser.recoverer(&offers)` is the same parser with
-//! repairs, and in place of `parse_noaction` stand `parse_generictree`, `parse_map`, `parse_actions`, `parse_fold` and
-//! `parse_flat`, which make values. `crates/example_editor` shows a lexer and a recoverer.
+//! Without repairs it returns 0 or 1: a parse stops at its first error. `parser.recoverer(&offers)` has a parser with
+//! repairs. `parse_generictree`, `parse_map`, `parse_actions`, `parse_fold` and `parse_flat` make values in place of
+//! `parse_noaction`. Module `editor` of `crates/examples` has a lexer and a recoverer.
 //!
-//! `ParserData` holds a grammar, a graph and a table that were checked against it, so that no call on it asks for more.
-//! Its `next_tokens` tells which tokens may come after some lexemes, as those before an error. A parser
-//! (`RTParserBuilder`) runs the lexemes of a lexer over them: it tells the first fault of the lexer, or the value and the
-//! errors of the machine with repairs, where a `Recoverer` hands in sequences at each error and the first that can be
+//! `ParserData` holds a grammar, a graph and a table that were checked against it, so no call on it requires more.
+//! Its `next_tokens` returns the tokens that may come after some lexemes, such as those before an error. A parser
+//! (`RTParserBuilder`) runs the lexemes of a lexer over them. It returns the first error of the lexer, or the value
+//! and the errors of the run with repairs: at each error a `Recoverer` returns sequences, and the first that can be
 //! taken is applied. The contracts that matter most: `parserdata::ParserData::new` (a pair of a graph and a table is
-//! refused exactly where it isn't safe, at its least place, or where a chain of reductions passes the cap), and those of
-//! `builder::RTParserBuilder`, by `specs/Parses` (`IsParse`: what a parse comes to, and what follows of it).
+//! refused if and only if it isn't safe, at its least place, or where a chain of reductions passes the cap), and
+//! those of `builder::RTParserBuilder`, by `specs/Parses` (`IsParse`: the result of a parse, and what follows from
+//! it).
 //!
-//! Lexemes, trees, the stacks of values and the texts of errors are those of `parse_trees`, whose modules `flat`, `lex_api`,
-//! `node` and `parse_repair` are handed out here.
+//! Lexemes, trees, the stacks of values and the texts of errors are those of `parse_trees`, whose modules `flat`,
+//! `lex_api`, `node` and `parse_repair` are exported here.
 #![tactic(auto)]
 
 mod apply;

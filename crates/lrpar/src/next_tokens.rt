@@ -24,7 +24,7 @@ use state_table::StIdx;
 use std::alloc::{AllocError, Global};
 use vob::Vob;
 
-/// Whether all lexemes are of tokens of the grammar other than the end.
+/// Returns whether all lexemes are of tokens of the grammar other than the end.
 fn are_inside<S: IndexStorage, L: Lexeme<S>>(grm: &NumberedGrammar<S>, lexemes: &[L]) -> bool
     ensures { TellsInside grm.now.grammar (token_by L.lex) lexemes.now result }
 {
@@ -37,7 +37,8 @@ fn are_inside<S: IndexStorage, L: Lexeme<S>>(grm: &NumberedGrammar<S>, lexemes: 
     true
 }
 
-/// The states right after the last of the lexemes was shifted, the last one on top; None where the run fails before one.
+/// Returns the states right after the last of the lexemes was shifted, the last one on top; None where the run fails
+/// before one.
 fn states_behind<S: IndexStorage, L: Lexeme<S>>(
     alloc: Global,
     grm: &NumberedGrammar<S>,
@@ -66,8 +67,8 @@ fn states_behind<S: IndexStorage, L: Lexeme<S>>(
     Ok(Some(overlay.over))
 }
 
-/// Whether a token may come next on the base: it is shifted after the reductions that it asks for, or for the end token
-/// the run accepts. What the overlay held is let go.
+/// Returns whether a token may come next on the base: it is shifted after the reductions that it asks for, or for the
+/// end token the run accepts. What the overlay held is let go.
 fn may_follow<S: IndexStorage>(
     grm: &NumberedGrammar<S>,
     stable: &FullTable<S>,
@@ -93,7 +94,7 @@ fn may_follow<S: IndexStorage>(
     Ok(shifts)
 }
 
-/// A bit for each token: whether it may come next on the base.
+/// Returns a bit for each token: whether it may come next on the base.
 pub(crate) fn tokens_behind<S: IndexStorage>(
     alloc: Global,
     grm: &NumberedGrammar<S>,
@@ -121,7 +122,7 @@ pub(crate) fn tokens_behind<S: IndexStorage>(
     Ok(bits)
 }
 
-/// A bit for each token: whether it may come after the lexemes. None where these have an error themselves.
+/// Returns a bit for each token: whether it may come after the lexemes. None where these have an error themselves.
 fn told_behind<S: IndexStorage, L: Lexeme<S>>(
     alloc: Global,
     grm: &NumberedGrammar<S>,
@@ -145,14 +146,15 @@ fn told_behind<S: IndexStorage, L: Lexeme<S>>(
 }
 
 impl<S: IndexStorage> ParserData<S> {
-    /// The tokens that may come after these lexemes, a bit for each token by its number; that of the end token is set where
-    /// they are a sentence as they stand. None where they have an error themselves. What was wanted at an error are those
-    /// after the lexemes before its index.
+    /// Returns the tokens that may come after these lexemes, a bit for each token by its number. The bit of the
+    /// end token is set where the lexemes are a sentence. `None` where the lexemes have an error themselves. At
+    /// an error, pass the lexemes before its index.
     ///
-    /// A token is told exactly where a run on the lexemes and that token comes past it. It is asked of the stack right after
-    /// the last shift: the one at an error may have been reduced on the wrong lexeme already, and would tell too few. With a
-    /// grammar's own table, where each rule derives some text, each token that is told goes on with a beginning of a
-    /// sentence; where `complete` holds too, no other does. A token costs the reductions that it asks for, one chain at most.
+    /// A token's bit is set if and only if a run on the lexemes shifts that token next, or accepts at the end
+    /// token. The stack is the one right after the last shift, since the stack at an error may have been reduced
+    /// on the wrong lexeme already, and would give too few tokens. With a grammar's own table, where each rule
+    /// derives some text, each such token begins a sentence with the lexemes; where `complete` holds too, no
+    /// other does. A token costs the reductions before it, at most one chain.
     pub fn next_tokens<L: Lexeme<S>>(
         &self,
         alloc: Global,
@@ -171,7 +173,7 @@ impl<S: IndexStorage> ParserData<S> {
             IsSome o ↔ BeginsSentence self.now.grammar.grammar (start_symbol self.now.grammar.grammar) (map (token_by L.lex) lexemes.now)) }
     {
         self.facts();
-        // Read, so that the proof may use that each token's number is one.
+        // For the proof alone: this read shows that each token's number is one.
         let _end = self.grm().eof_token_idx().0.to_usize();
         told_behind(alloc, self.grm(), self.full(), self.cap(), lexemes)
     }

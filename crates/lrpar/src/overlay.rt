@@ -17,14 +17,14 @@ use cfg_numbered::yacc::grammar::NumberedGrammar;
 use state_table::{Action, StIdx};
 use std::alloc::AllocError;
 
-/// The lowest `kept` states of a base, and those over them. The top is last.
+/// The lowest `kept` states of a base, and the states over them. The top is last.
 #[derive(Drop)]
 pub(crate) struct Overlay<S: IndexStorage> {
     pub kept: usize,
     pub over: Vec<StIdx<S>>,
 }
 
-/// The state with `count` others above it.
+/// Returns the state with `count` others above it.
 pub(crate) fn under<S: IndexStorage>(
     base: &[StIdx<S>],
     overlay: &Overlay<S>,
@@ -77,7 +77,7 @@ pub(crate) fn replace<S: IndexStorage>(
     Ok(())
 }
 
-/// One reduction on the token, where one can be made that leaves a state.
+/// Makes one reduction on the token, where one is made that leaves a state, and returns whether it did.
 pub(crate) fn reduce_on<S: IndexStorage>(
     grm: &NumberedGrammar<S>,
     stable: &FullTable<S>,
@@ -109,7 +109,7 @@ pub(crate) fn reduce_on<S: IndexStorage>(
     Ok(true)
 }
 
-/// Reductions on the token until no more comes. As chains of them are within `limit`, this ends.
+/// Reduces on the token until it has no more reductions. As chains of them are within `limit`, this ends.
 pub(crate) fn reduce_all<S: IndexStorage>(
     grm: &NumberedGrammar<S>,
     stable: &FullTable<S>,
@@ -133,7 +133,7 @@ pub(crate) fn reduce_all<S: IndexStorage>(
     }
 }
 
-/// Whether the token is shifted after reductions on it; where it is, that is done.
+/// Returns whether the token is shifted after reductions on it; where it is, that is done.
 pub(crate) fn shift_on<S: IndexStorage>(
     grm: &NumberedGrammar<S>,
     stable: &FullTable<S>,
@@ -161,7 +161,7 @@ pub(crate) fn shift_on<S: IndexStorage>(
     Ok(true)
 }
 
-/// Whether the run accepts after reductions on the end token.
+/// Returns whether the run accepts after reductions on the end token.
 pub(crate) fn accepts_on<S: IndexStorage>(
     grm: &NumberedGrammar<S>,
     stable: &FullTable<S>,
@@ -186,7 +186,7 @@ pub(crate) fn accepts_on<S: IndexStorage>(
     }
 }
 
-/// What turns on one token come to on the states decides, edit by edit, whether a sequence of repairs can be taken.
+/// Proves that the turns on one token decide, edit by edit, whether a sequence of repairs can be taken.
 #[tactic(auto, using(crate::proofs::Taken::edits_are_taken))]
 pub fn edits_are_taken<L>()
     ensures { EditsAreTaken L }

@@ -1,4 +1,4 @@
-//! Parses with repairs: a run, and at each of its errors the first sequence handed in that can be taken.
+//! Parses with repairs: a run, and at each of its errors the first passed sequence that can be taken.
 
 ghost use Rattle.std.specs.Prelude.{◌≡◌, ◌≤◌, ◌<◌, ℕ, List, [], length, drop, IfOk, OnOk};
 ghost use Rattle.cfg_theory.specs.Grammar.{end_token};
@@ -30,13 +30,16 @@ use parse_trees::values::ValueStack;
 use state_table::StIdx;
 use std::alloc::{AllocError, Global};
 
-/// An error of a run: the state on top, the next lexeme or the one made up past the last, its index, and the sequences
-/// that can be taken there.
+/// An error of a run.
 #[derive(Drop)]
 pub(crate) struct ErrorFound<S: IndexStorage, L> {
+    /// The state on top.
     pub stidx: StIdx<S>,
+    /// The next lexeme, or past the last one a faulty lexeme of the end token.
     pub lexeme: L,
+    /// The lexeme's index.
     pub index: usize,
+    /// The sequences that can be taken there, in the order in which they were passed.
     pub repairs: Vec<Vec<RepairStep<S>>>,
 }
 
@@ -47,7 +50,7 @@ pub(crate) struct Mended<S: IndexStorage, L> {
     pub next: Option<usize>,
 }
 
-/// What a parse comes to: its values, whether it accepts, and its errors.
+/// The result of a parse: its values, whether it accepts, and its errors.
 #[derive(Drop)]
 pub(crate) struct Parsed<S: IndexStorage, L, V> {
     pub values: V,
@@ -55,7 +58,7 @@ pub(crate) struct Parsed<S: IndexStorage, L, V> {
     pub errors: Vec<ErrorFound<S, L>>,
 }
 
-/// The offset at which the last lexeme ends, 0 where there is none.
+/// Returns the offset at which the last lexeme ends, 0 where there is none.
 pub(crate) fn end_offset<S: IndexStorage, L: Lexeme<S>, E: Copy>(
     lexemes: &LexemeList<'_, L, E>,
 ) -> usize
@@ -68,7 +71,7 @@ pub(crate) fn end_offset<S: IndexStorage, L: Lexeme<S>, E: Copy>(
     lexemes.at(count - 1).span().end()
 }
 
-/// The lexeme at the index, or past the last one a faulty lexeme of the end token.
+/// Returns the lexeme at the index, or past the last one a faulty lexeme of the end token.
 fn lexeme_or_end<S: IndexStorage, L: Lexeme<S>, E: Copy>(
     grm: &NumberedGrammar<S>,
     lexemes: &LexemeList<'_, L, E>,
@@ -83,7 +86,7 @@ fn lexeme_or_end<S: IndexStorage, L: Lexeme<S>, E: Copy>(
     }
 }
 
-/// The error of a run that failed at the index: asks the recoverer, and lists what can be taken.
+/// Returns the error of a run that failed at the index: asks the recoverer, and lists what can be taken.
 fn find_error<S: IndexStorage, L: Lexeme<S>, E: Copy, R: Recoverer<S, L>>(
     alloc: Global,
     grm: &NumberedGrammar<S>,
@@ -176,8 +179,8 @@ fn mend<S: IndexStorage, L: Lexeme<S>, E: Copy, V: ValueStack<S, L>, R: Recovere
     }
 }
 
-/// What the lexemes come to, where at each error the first sequence handed in that can be taken is applied; where there
-/// is none, the parse ends.
+/// Runs over the lexemes, applying at each error the first passed sequence that can be taken; where there is none,
+/// the parse ends.
 pub(crate) fn parse_lexemes<
     S: IndexStorage,
     L: Lexeme<S>,

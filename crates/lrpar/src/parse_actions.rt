@@ -26,7 +26,7 @@ use parse_trees::lexemes::ParseRefusal;
 use parse_trees::node::Node;
 use std::alloc::{AllocError, Global};
 
-/// An argument of an action: what an action answered, or a lexeme.
+/// An argument of an action: the value that an action returned, or a lexeme.
 #[derive(Debug, Drop)]
 pub enum AStackType<LexemeT, ActionT> {
     /// The value that an action returned for a rule's node.
@@ -35,17 +35,18 @@ pub enum AStackType<LexemeT, ActionT> {
     Lexeme(LexemeT),
 }
 
-/// Answers a value for each reduction of a parse.
+/// Makes a value for each reduction of a parse.
 pub trait Actions<T: LexerTypes, X: Lexer<T>> {
     /// The type of the values.
     type ActionT: Drop;
 
     ghost use Rattle.lrpar.specs.declared.parse_actions.AStackType.{AStackType};
 
-    /// What may be answered with a lexer, at a production, its rule, a span and the arguments.
+    /// The values that `act` may return with a lexer for a production, its rule, a span and the arguments.
     ghost answers: { Self → X → ℕ → ℕ → Extent → List (AStackType T.LexemeT Self.ActionT) → Self.ActionT → Type 0 };
 
-    /// Answers the value of a node: its production, its rule, its span, and what its symbols gave.
+    /// Returns the value of a node from its production, its rule, its span, and the values of its symbols in
+    /// order.
     fn act(
         &self,
         alloc: Global,
@@ -58,7 +59,7 @@ pub trait Actions<T: LexerTypes, X: Lexer<T>> {
         ensures { IfOk result (answers self.now lexer.now (T.StorageT.number pidx.0) (T.StorageT.number ridx.0) (span_of_places span) args.items) };
 }
 
-/// The nodes of arguments: a lexeme's is a node of its own.
+/// Returns the nodes of arguments: a lexeme's is a node of its own.
 fn nodes_of<L: Lexeme<S>, S: IndexStorage>(
     alloc: Global,
     args: Vec<AStackType<L, Node<L, S>>>,
@@ -75,7 +76,7 @@ fn nodes_of<L: Lexeme<S>, S: IndexStorage>(
     Ok(nodes)
 }
 
-/// Makes nodes.
+/// Actions that make nodes.
 #[derive(Clone, Copy, Debug, PartialEq, Eq)]
 pub struct GenericTreeActions;
 
@@ -100,7 +101,7 @@ impl<T: LexerTypes, X: Lexer<T>> Actions<T, X> for GenericTreeActions {
     }
 }
 
-/// What an action answered.
+/// Returns the value that an action returned; `None` for a lexeme.
 fn answer_of<L: Drop, U: Drop>(value: Option<AStackType<L, U>>) -> Option<U>
     ensures { result ≡ action_in value }
 {
@@ -113,7 +114,7 @@ fn answer_of<L: Drop, U: Drop>(value: Option<AStackType<L, U>>) -> Option<U>
 
 type Acted<L, U> = Result<AStackType<L, U>, AllocError>;
 
-/// What the list of a lexer comes to, with the value that actions give.
+/// Parses the list of a lexer, with the value that actions make.
 pub(crate) fn parse_acted<
     T: LexerTypes,
     X: Lexer<T>,

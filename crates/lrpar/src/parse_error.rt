@@ -23,26 +23,26 @@ pub struct ParseError<L, S> {
     pub stidx: StIdx<S>,
     /// The next lexeme, or past the last one a lexeme of the end token.
     pub lexeme: L,
-    /// The sequences of repairs that can be taken there, in the order in which they were handed in.
+    /// The sequences of repairs that can be taken there, in the order in which they were passed.
     pub repairs: Vec<Vec<ParseRepair<L, S>>>,
 }
 
 impl<L: Copy, S: Copy> ParseError<L, S> {
-    /// The state on top of the stack.
+    /// Returns the state on top of the stack.
     pub fn stidx(&self) -> StIdx<S>
         ensures { result ≡ self.now.stidx }
     {
         self.stidx
     }
 
-    /// The next lexeme, or past the last one a lexeme of the end token.
+    /// Returns the next lexeme, or past the last one a lexeme of the end token.
     pub fn lexeme(&self) -> &L
         ensures { result.now ≡ self.now.lexeme }
     {
         &self.lexeme
     }
 
-    /// The sequences of repairs that can be taken there, in the order in which they were handed in.
+    /// Returns the sequences of repairs that can be taken there, in the order in which they were passed.
     pub fn repairs(&self) -> &Vec<Vec<ParseRepair<L, S>>>
         ensures { result.now ≡ self.now.repairs }
     {
@@ -68,8 +68,9 @@ pub enum LexParseError<T: LexerTypes> {
 }
 
 impl<T: LexerTypes> LexParseError<T> {
-    /// Answers where the error is, by line and column, and of an error of parsing the sequences of repairs that can be
-    /// taken. `epp` answers the text of a token; one without is shown by its number.
+    /// Returns the error as text: its line and column, both counted from 1, and for a parse error the sequences
+    /// of repairs that can be taken. `epp` returns the printed text of a token; one without is shown by its
+    /// number.
     pub fn pp<
         'input,
         X: NonStreamingLexer<'input, T>,

@@ -28,7 +28,7 @@ use parse_trees::node::Node;
 use parse_trees::node_values::NodeValues;
 use std::alloc::Global;
 
-/// The node that a parse leaves, where it accepts.
+/// Returns the node that a parse leaves, where it accepts.
 fn node_left<S: IndexStorage, L: Lexeme<S>>(
     values: NodeValues<S, L>,
     accepted: bool,
@@ -38,7 +38,7 @@ fn node_left<S: IndexStorage, L: Lexeme<S>>(
     if accepted { values.finish() } else { None }
 }
 
-/// What the list of a lexer comes to, with a node for its value.
+/// Parses the list of a lexer, with a node for its value.
 pub(crate) fn parse_nodes<S: IndexStorage, L: Lexeme<S>, E: Copy, R: Recoverer<S, L>>(
     alloc: Global,
     grm: &NumberedGrammar<S>,

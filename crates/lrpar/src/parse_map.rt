@@ -21,7 +21,7 @@ use parse_trees::lex_api::Lexeme;
 use parse_trees::lexemes::ParseRefusal;
 use std::alloc::{AllocError, Global};
 
-/// What the list of a lexer comes to, with the value that functions of lexemes, and of rules and values, give.
+/// Parses the list of a lexer, with the value that functions of lexemes, and of rules and values, make.
 pub(crate) fn parse_mapped<
     S: IndexStorage,
     L: Lexeme<S>,

@@ -20,7 +20,7 @@ use parse_trees::lex_api::Lexeme;
 use parse_trees::lexemes::ParseRefusal;
 use std::alloc::Global;
 
-/// What the list of a lexer comes to, of which no value is made.
+/// Parses the list of a lexer without making a value.
 pub(crate) fn parse_unvalued<S: IndexStorage, L: Lexeme<S>, E: Copy, R: Recoverer<S, L>>(
     alloc: Global,
     grm: &NumberedGrammar<S>,

@@ -20,14 +20,14 @@ use parse_trees::lexemes::{ParseRefusal, admit};
 use parse_trees::values::ValueStack;
 use std::alloc::Global;
 
-/// What the list of a lexer comes to: its first fault, or its lexemes with their parse.
+/// The result of parsing a lexer's list: its first error, or its lexemes with their parse.
 #[derive(Drop)]
 pub(crate) enum Outcome<'a, S: IndexStorage, L, E, V> {
     Fault(E),
     Parsed(LexemeList<'a, L, E>, Parsed<S, L, V>),
 }
 
-/// What the list of a lexer comes to. `values` is a stack without entries.
+/// Parses the list of a lexer. `values` is a stack without entries.
 pub(crate) fn parse_items<
     'a,
     S: IndexStorage,

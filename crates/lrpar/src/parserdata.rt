@@ -43,7 +43,9 @@ pub struct ParserData<S: IndexStorage> {
     grm: NumberedGrammar<S>,
     sgraph: StateGraph<S>,
     stable: FullTable<S>,
+    /// The greatest number of reductions allowed one after another on a token.
     cap: u16,
+    /// Whether each item's action is in its cell.
     complete: bool,
 }
 
@@ -71,7 +73,7 @@ pub struct Parts<S: IndexStorage> {
     pub stable: StateTable<S>,
 }
 
-/// Why data were refused. The parts are handed back.
+/// Why data were refused. The first two have the parts, to be used again.
 #[derive(Drop)]
 pub enum ParserDataError<S: IndexStorage> {
     /// A run on the table could be stuck or accept what is no derivation: the least place that doesn't fit.
@@ -141,7 +143,7 @@ impl<S: IndexStorage> Display for ParserDataError<S> {
 
 impl<S: IndexStorage> Error for ParserDataError<S> {}
 
-/// What a check comes to.
+/// The result of a check.
 #[derive(Clone, Copy, Debug, PartialEq, Eq)]
 enum Verdict<S> {
     Checked(bool),
@@ -159,7 +161,7 @@ fn judge<S: IndexStorage>(
 ) -> Result<Verdict<S>, AllocError>
     ensures { IfOk result (TellsVerdict S.number grm.now.grammar sgraph.now stable.now cap) }
 {
-    // Read, so that the proof may use what is so of each grammar, graph and table.
+    // For the proof alone: this read gives it the invariant of each grammar, graph and table.
     grm.start_prod();
     sgraph.all_states_len();
     let rows = stable.stable();
@@ -203,7 +205,7 @@ impl<S: IndexStorage> ParserData<S> {
         ParserData::of_parts(alloc, grm, sgraph, full, cap)
     }
 
-    /// The same, over the table as it is.
+    /// Checks data as `new` does, over a table that has its full rows.
     fn of_parts(
         alloc: Global,
         grm: NumberedGrammar<S>,
@@ -217,7 +219,7 @@ impl<S: IndexStorage> ParserData<S> {
         ensures refused { IfErr result (IsDataRefusal S.number grm sgraph stable cap) }
         ensures of_builder { IfErr result (λ e. IsTableOf grm sgraph stable → IsUnsafeTable e → ⊥) }
     {
-        // Read, so that the proof may use what is so of each grammar.
+        // For the proof alone: this read gives it the invariant of each grammar.
         grm.start_prod();
         match judge(alloc, &grm, &sgraph, &stable, cap)? {
             Verdict::Checked(complete) => Ok(ParserData {
@@ -278,15 +280,15 @@ impl<S: IndexStorage> ParserData<S> {
         &self.stable
     }
 
-    /// How many reductions a chain has at most.
+    /// Returns how many reductions a chain has at most.
     pub fn cap(&self) -> u16
         ensures { result ≡ self.now.cap }
     {
         self.cap
     }
 
-    /// Whether each item's action stands in its cell, so that the run accepts each derivation. Of what the builder made
-    /// of a grammar without precedences this is so exactly where no conflict is listed.
+    /// Returns whether each item's action is in its cell, so that a run accepts each sentence. For data that the
+    /// builder made of a grammar without precedences this holds if and only if no conflict is listed.
     pub fn complete(&self) -> bool
         ensures value { IsTrue result ↔ Complete self.now.grammar.grammar (automaton_of self.now.graph self.now.table) }
         ensures listed { IsTableOf self.now.grammar self.now.graph self.now.table → NoPrecedences (precedences_of self.now.grammar) → IsTrue result ↔ IsNone self.now.table.conflicts }
@@ -295,20 +297,20 @@ impl<S: IndexStorage> ParserData<S> {
         self.is_complete()
     }
 
-    /// Whether the data are complete.
+    /// Returns whether the data are complete.
     fn is_complete(&self) -> bool
         ensures { Tells (Complete self.now.grammar.grammar (automaton_of self.now.graph self.now.table)) result }
     {
         self.complete
     }
 
-    /// A law: what a run may rely on.
+    /// Proves the facts that a run relies on.
     pub(crate) fn facts(&self)
         ensures table { IsTableFor self.now.grammar.grammar self.now.table }
         ensures pair { IsSafePair self.now.grammar.grammar self.now.graph self.now.table }
         ensures chains { (g : GraphValue) → ChainsWithin self.now.grammar.grammar (automaton_of g self.now.table) self.now.cap }
     {
-        // Read, so that the proof may use what is so of all data.
+        // For the proof alone: this read gives it the invariant of all data.
         let _cap = self.cap;
     }
 }

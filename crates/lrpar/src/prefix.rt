@@ -1,4 +1,4 @@
-//! Tokens that a run shifts one after another, behind each of which it may be asked which tokens may come next.
+//! Tokens that a run shifts one after another; after each of them it can be asked which tokens may come next.
 
 ghost use Rattle.std.specs.Prelude.{◌≡◌, ◌<◌, ◌≤◌, ◌↔◌, ℕ, false, true, [], ◌∷◌, ◌++◌, length, IfOk, OnErr, OnOk, IsTrue};
 ghost use Rattle.cfg_theory.specs.Derivation.{AllProductive, BeginsSentence, IsSentence};
@@ -25,17 +25,19 @@ use std::alloc::{AllocError, Global};
 use std::marker::Model;
 use vob::Vob;
 
-/// Tokens of which none is an error, and the states of a run right after it shifted the last of them. Contracts see the data
-/// and the tokens.
+/// Tokens of which none is an error, and the states of a run right after it shifted the last of them. Contracts see
+/// the data and the tokens.
 ///
-/// Who asks at several places of a list of lexemes which tokens may come next goes through it once: the tokens between two
-/// places are pushed, each at the cost of the reductions that it asks for. A run's own stack at an error doesn't serve: it
+/// To ask at several indices of a list of lexemes which tokens may come next, go through it once, and push the tokens
+/// between two indices, each at the cost of its reductions. The stack of a run at an error doesn't serve, since it
 /// may have been reduced on the wrong lexeme already.
 #[derive(Drop)]
 pub struct Prefix<'a, S: IndexStorage> {
     data: &'a ParserData<S>,
     tokens: Vec<TIdx<S>>,
+    /// The states of the run right after the last token.
     states: Vec<StIdx<S>>,
+    /// A buffer: the states after reductions on a token.
     overlay: Overlay<S>,
 }
 
@@ -50,7 +52,7 @@ impl<'a, S: IndexStorage> Model for Prefix<'a, S> {
     ghost invariant = { λ p. IsPrefix p.data.now (tokens_of S.number p.tokens.items) (stack_of S.number p.states.items) };
 }
 
-/// Makes the stack that an overlay stands for that of its base. Where there is no memory, the base stays.
+/// Makes the stack of an overlay that of its base. Where memory is refused, the base stays.
 fn settle<S: IndexStorage>(
     states: &mut Vec<StIdx<S>>,
     overlay: &Overlay<S>,
@@ -95,7 +97,7 @@ fn shift_whole<S: IndexStorage>(
 }
 
 impl<S: IndexStorage> ParserData<S> {
-    /// No tokens yet, to which some are pushed.
+    /// Makes a prefix without tokens, to which some are pushed.
     pub fn prefix(&self, alloc: Global) -> Result<Prefix<'_, S>, AllocError>
         ensures { IfOk result (λ p. p ≡ record { parser = self.entry.now; tokens = [] }) }
     {
@@ -116,15 +118,15 @@ impl<S: IndexStorage> ParserData<S> {
 }
 
 impl<'a, S: IndexStorage> Prefix<'a, S> {
-    /// Lends the tokens, the last one behind all others.
+    /// Lends the tokens, in order.
     pub fn tokens(&self) -> &[TIdx<S>]
         ensures { tokens_of S.number result.now ≡ self.now.tokens }
     {
         self.tokens.as_slice()
     }
 
-    /// Puts a token behind the others, if a run on them and this one comes past it. It answers whether it does; where it
-    /// doesn't, or there is no memory, nothing is changed. It costs the reductions that the token asks for.
+    /// Adds a token, if a run on the tokens so far shifts it next, and returns whether it does. Where it doesn't,
+    /// or memory is refused, nothing is changed. The cost is that of the reductions before the shift.
     pub fn push(&mut self, tidx: TIdx<S>) -> Result<bool, AllocError>
         ensures pushed { IfOk result (λ told. told ≡ true → self.new ≡ record { parser = self.old.parser; tokens = self.old.tokens ++ S.number tidx.0 ∷ [] }) }
         ensures stays { IfOk result (λ told. told ≡ false → self.new ≡ self.old) }
@@ -148,9 +150,9 @@ impl<'a, S: IndexStorage> Prefix<'a, S> {
         Ok(true)
     }
 
-    /// The tokens that may come next, a bit for each token by its number; that of the end token is set where the tokens are a
-    /// sentence as they stand. What is told is what `ParserData::next_tokens` tells of lexemes of these tokens, with no run
-    /// made anew: a token costs the reductions that it asks for, one chain at most.
+    /// Returns the tokens that may come next, a bit for each token by its number. The bit of the end token is set
+    /// where the tokens are a sentence. The result is that of `ParserData::next_tokens` for lexemes of these
+    /// tokens, without running over them anew: a token costs its reductions, at most one chain.
     pub fn next_tokens(&self, alloc: Global) -> Result<Vob, AllocError>
         ensures told { IfOk result (λ v. (c : Config ℕ) × Reaches (grammar_in self.now.parser) (machine_in self.now.parser) own self.now.tokens [] c × AreNext (grammar_in self.now.parser) (machine_in self.now.parser) own c v.bits) }
         ensures sound { IfOk result (λ v. IsTableIn self.now.parser → AllProductive (grammar_in self.now.parser) →

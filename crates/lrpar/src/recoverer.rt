@@ -1,4 +1,4 @@
-//! Who hands in repairs.
+//! What a parse asks for repairs.
 
 ghost use Rattle.std.specs.Prelude.{◌≡◌, ℕ, List, [], IfOk};
 ghost use Rattle.lr_theory.specs.Repair.{Edit};
@@ -10,13 +10,14 @@ pub use parse_trees::parse_repair::RepairStep;
 use state_table::StIdx;
 use std::alloc::{AllocError, Global};
 
-/// Hands in, at an error, the sequences of repairs that are to be tested there.
+/// Returns, at an error, the sequences of repairs that are to be tested there.
 pub trait Recoverer<S: IndexStorage, L: Lexeme<S>> {
-    /// What may be handed in at an error, by its state, the index of the next lexeme, and that lexeme.
+    /// The sequences that `sequences` may return at an error, by its state, the index of the next lexeme, and
+    /// that lexeme.
     ghost answers: { Self → ℕ → ℕ → L → List (List Edit) → Type 0 };
 
-    /// The sequences to test, in this order, where the state on top is `stidx` and `lexeme` is next: that at the index `laidx`,
-    /// or past the last one a lexeme of the end token.
+    /// Returns the sequences to test, in this order. `stidx` is the state on top, and `lexeme` the next lexeme,
+    /// at the index `laidx`; past the last one it is a lexeme of the end token.
     fn sequences(
         &self,
         alloc: Global,
@@ -27,7 +28,7 @@ pub trait Recoverer<S: IndexStorage, L: Lexeme<S>> {
         ensures { IfOk result (λ r. answers self.now (S.number stidx.0) laidx lexeme (sequences_of S.number r.items)) };
 }
 
-/// Hands in nothing, so that a parse ends at its first error.
+/// A recoverer without repairs, so that a parse ends at its first error.
 #[derive(Clone, Copy, Debug, PartialEq, Eq)]
 pub struct NoRecovery;
 

@@ -14,7 +14,7 @@ use cfg_numbered::yacc::grammar::NumberedGrammar;
 use state_table::{Action, StIdx, StateTable};
 use std::alloc::{AllocError, Global};
 
-/// The production at an index.
+/// Returns the production at an index.
 pub(crate) fn prod_of_list<S: IndexStorage>(list: &[PIdx<S>], index: usize) -> PIdx<S>
     requires { index < length list.now }
     ensures { slice_get list.now index ≡ Some result }
@@ -22,7 +22,7 @@ pub(crate) fn prod_of_list<S: IndexStorage>(list: &[PIdx<S>], index: usize) -> P
     list[index]
 }
 
-/// Whether a production stands in a list.
+/// Returns whether a production is in a list.
 fn is_listed<S: IndexStorage>(list: &[PIdx<S>], pidx: PIdx<S>) -> bool
     ensures { result ≡ true → Lists S.number list.now (S.number pidx.0) }
 {
@@ -53,7 +53,7 @@ fn put_reducer<S: IndexStorage>(
     Ok(())
 }
 
-/// Those of a state.
+/// Returns the productions by which a state reduces.
 fn reducers_of<S: IndexStorage>(
     alloc: Global,
     grm: &NumberedGrammar<S>,
@@ -74,7 +74,7 @@ fn reducers_of<S: IndexStorage>(
     Ok(list)
 }
 
-/// Those of each state.
+/// Returns the productions by which each state reduces.
 pub(crate) fn all_reducers<S: IndexStorage>(
     alloc: Global,
     grm: &NumberedGrammar<S>,
@@ -92,7 +92,7 @@ pub(crate) fn all_reducers<S: IndexStorage>(
     Ok(all)
 }
 
-/// The ones of a state among those of all.
+/// Returns the ones of a state among those of all.
 pub(crate) fn reducers_at<'a, S: IndexStorage>(
     grm: &NumberedGrammar<S>,
     stable: &StateTable<S>,

@@ -1,4 +1,4 @@
-//! Testing the sequences of repairs that are handed in at an error.
+//! Tests the sequences of repairs that are passed at an error.
 
 ghost use Rattle.std.specs.Prelude.{◌≡◌, ◌<◌, ◌≤◌, ℕ, length, drop, map, slice_get, Some, List, [], IfOk, IfSome, IsSome};
 ghost use Rattle.lr_theory.specs.Chains.{ChainsWithin};
@@ -23,7 +23,7 @@ use parse_trees::parse_repair::{RepairStep, step_at};
 use state_table::StIdx;
 use std::alloc::{AllocError, Global};
 
-/// The index of the next lexeme after an insertion, where it can be made.
+/// Returns the index of the next lexeme after an insertion, where it can be made.
 fn take_insert<S: IndexStorage, L: Lexeme<S>, E: Copy>(
     grm: &NumberedGrammar<S>,
     stable: &FullTable<S>,
@@ -53,7 +53,7 @@ fn take_insert<S: IndexStorage, L: Lexeme<S>, E: Copy>(
     Ok(Some(index))
 }
 
-/// The index of the next lexeme after the one at an index is kept, where it can be.
+/// Returns the index of the next lexeme after the one at an index is shifted, where it can be.
 fn take_shift<S: IndexStorage, L: Lexeme<S>, E: Copy>(
     grm: &NumberedGrammar<S>,
     stable: &FullTable<S>,
@@ -84,7 +84,7 @@ fn take_shift<S: IndexStorage, L: Lexeme<S>, E: Copy>(
     Ok(Some(index + 1))
 }
 
-/// The index of the next lexeme after a step, where it can be made.
+/// Returns the index of the next lexeme after a step, where it can be made.
 fn take_step<S: IndexStorage, L: Lexeme<S>, E: Copy>(
     grm: &NumberedGrammar<S>,
     stable: &FullTable<S>,
@@ -121,7 +121,7 @@ fn take_step<S: IndexStorage, L: Lexeme<S>, E: Copy>(
     }
 }
 
-/// Whether the next lexeme is shifted, or past the last one the run accepts.
+/// Returns whether the next lexeme is shifted, or past the last one the run accepts.
 fn gets_past<S: IndexStorage, L: Lexeme<S>, E: Copy>(
     grm: &NumberedGrammar<S>,
     stable: &FullTable<S>,
@@ -148,8 +148,8 @@ fn gets_past<S: IndexStorage, L: Lexeme<S>, E: Copy>(
     Ok(past)
 }
 
-/// Whether the sequence can be taken where the lexeme at an index is next: its steps can be made, and the next lexeme behind
-/// them is shifted, or the run accepts where none is left.
+/// Returns whether the sequence can be taken where the lexeme at an index is next. Its steps can be made, and then
+/// the next lexeme is shifted, or the run accepts where none is left.
 fn is_taken<S: IndexStorage, L: Lexeme<S>, E: Copy>(
     grm: &NumberedGrammar<S>,
     stable: &FullTable<S>,
@@ -182,7 +182,7 @@ fn is_taken<S: IndexStorage, L: Lexeme<S>, E: Copy>(
     Ok(taken)
 }
 
-/// Those of the sequences that are handed in which can be taken where the lexeme at an index is next, in their order.
+/// Returns those of the passed sequences that can be taken where the lexeme at an index is next, in their order.
 pub(crate) fn taken_of<S: IndexStorage, L: Lexeme<S>, E: Copy>(
     alloc: Global,
     grm: &NumberedGrammar<S>,

@@ -1,4 +1,4 @@
-//! Entries of the rows that a table lends of a state.
+//! Reads entries of a state's rows of a table.
 
 ghost use Rattle.std.specs.Prelude.{◌≡◌, ◌<◌, Some, length, slice_get};
 ghost use Rattle.state_table.specs.CellViews.{action_of, cells_of, targets_of};
@@ -6,7 +6,7 @@ ghost use Rattle.state_table.specs.CellViews.{action_of, cells_of, targets_of};
 use cfg_base::index::IndexStorage;
 use state_table::{Action, StIdx};
 
-/// The cell at a place, beside its token's number.
+/// Returns the cell at an index of a row, beside its token's number.
 pub(crate) fn cell_of_row<S: IndexStorage>(
     row: &[(u32, Action<S>)],
     index: usize,
@@ -18,7 +18,7 @@ pub(crate) fn cell_of_row<S: IndexStorage>(
     (number as usize, action)
 }
 
-/// The goto at a place, beside its rule's number.
+/// Returns the goto at an index of a row, beside its rule's number.
 pub(crate) fn goto_of_row<S: IndexStorage>(
     row: &[(u32, StIdx<S>)],
     index: usize,

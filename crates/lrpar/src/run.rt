@@ -1,4 +1,4 @@
-//! The run over checked tables: shifts and reductions, with values from functions that are handed in.
+//! The run over checked tables: shifts and reductions, with values from functions that are passed.
 
 ghost use Rattle.std.specs.Prelude.{◌≡◌, ◌≤◌, ◌+◌, ℕ, List, length, drop, slice_get, IfOk, OnOk};
 ghost use Rattle.lr_theory.specs.Automaton.{Safe};
@@ -44,7 +44,7 @@ pub(crate) enum Ending {
     Failed(usize),
 }
 
-/// The token of the next lexeme, or the end token where there is none.
+/// Returns the token of the next lexeme, or the end token where there is none.
 fn next_token<S: IndexStorage, L: Lexeme<S>>(grm: &NumberedGrammar<S>, next: Option<L>) -> TIdx<S>
     ensures { S.number result.0 ≡ token_of (token_by L.lex) (end_token grm.now.grammar) next }
 {
@@ -54,7 +54,8 @@ fn next_token<S: IndexStorage, L: Lexeme<S>>(grm: &NumberedGrammar<S>, next: Opt
     }
 }
 
-/// One step of the machine, on the stacks. `tidx` is the token of the next lexeme, or the end token where there is none.
+/// Makes one step of the machine, on the stacks. `tidx` is the token of the next lexeme, or the end token where there
+/// is none.
 #[inline(always)]
 fn take_turn<S: IndexStorage, L: Lexeme<S>, V: ValueStack<S, L>>(
     alloc: Global,
@@ -151,7 +152,7 @@ pub(crate) fn run_from<S: IndexStorage, L: Lexeme<S>, E: Copy, V: ValueStack<S, 
     ensures stacks { IfOk result (StacksEnded S.number L.lex stable.now (V.starts_by stacks.new.values) stacks.new lexemes.now) }
     ensures keeps { OnOk result (V.keeps stacks.old.values stacks.new.values) }
 {
-    // Read, so that the proof may use that the number of lexemes fits.
+    // For the proof alone: this read shows that the number of lexemes fits.
     let _count = lexemes.len();
     let mut at = index;
     'lexemes: loop {

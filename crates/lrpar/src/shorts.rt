@@ -1,4 +1,5 @@
-//! A quick test that no chain is long: it follows the reductions of one symbol, without their tokens.
+//! Unit chains: a quick test that no chain is long, which follows the reductions of one symbol without looking at
+//! tokens.
 
 ghost use Rattle.std.specs.Prelude.{◌≡◌, ◌<◌, ◌+◌, ℕ, List, true, Some, length, slice_get, IfOk};
 ghost use Rattle.state_table.specs.Graphs.{GraphValue};
@@ -23,7 +24,7 @@ pub(crate) enum Short<S> {
     Other,
 }
 
-/// One production more.
+/// Returns the kind of a state's reductions with those by one production more.
 fn joined<S: IndexStorage>(grm: &NumberedGrammar<S>, found: Short<S>, pidx: PIdx<S>) -> Short<S>
     requires { S.number pidx.0 < length grm.now.grammar.productions }
     ensures { (ps : List (PIdx S)) (n : ℕ) → slice_get ps n ≡ Some pidx → ShortIn S.number grm.now.grammar ps n found → ShortIn S.number grm.now.grammar ps (n + 1) result }
@@ -48,7 +49,7 @@ fn joined<S: IndexStorage>(grm: &NumberedGrammar<S>, found: Short<S>, pidx: PIdx
     }
 }
 
-/// The ones of a state that reduces by these productions.
+/// Returns the kind of the reductions of a state that reduces by these productions.
 fn short_of<S: IndexStorage>(grm: &NumberedGrammar<S>, list: &[PIdx<S>]) -> Short<S>
     requires { (p : ℕ) → Lists S.number list.now p → p < length grm.now.grammar.productions }
     ensures { (v : TableValue) (q : ℕ) → AreReducers S.number grm.now.grammar v q list.now → ShortAt S.number grm.now.grammar v q result }
@@ -60,7 +61,7 @@ fn short_of<S: IndexStorage>(grm: &NumberedGrammar<S>, list: &[PIdx<S>]) -> Shor
     found
 }
 
-/// Those of all states.
+/// Returns the kind of each state's reductions.
 pub(crate) fn all_shorts<S: IndexStorage>(
     alloc: Global,
     grm: &NumberedGrammar<S>,
@@ -80,7 +81,7 @@ pub(crate) fn all_shorts<S: IndexStorage>(
     Ok(shorts)
 }
 
-/// The one of a state.
+/// Returns the kind of a state's reductions.
 pub(crate) fn short_at<S: IndexStorage>(shorts: &[Short<S>], state: StIdx<S>) -> Short<S>
     requires { S.number state.0 < length shorts.now }
     ensures { slice_get shorts.now (S.number state.0) ≡ Some result }
@@ -88,7 +89,8 @@ pub(crate) fn short_at<S: IndexStorage>(shorts: &[Short<S>], state: StIdx<S>) ->
     shorts[state.0.to_usize()]
 }
 
-/// Whether it is seen, without looking at tokens, that no chain from the state with another one above it passes the limit.
+/// Returns whether it is seen, without looking at tokens, that no chain from the state with another one above it
+/// passes the limit.
 pub(crate) fn is_quiet<S: IndexStorage>(
     grm: &NumberedGrammar<S>,
     stable: &StateTable<S>,

@@ -28,7 +28,7 @@ pub(crate) struct Stacks<S: IndexStorage, V> {
 }
 
 impl<S: IndexStorage, V: Drop> Stacks<S, V> {
-    /// The stacks of a run's start.
+    /// Returns the stacks of a run's start.
     pub(crate) fn start(alloc: Global, state: StIdx<S>, values: V) -> Result<Self, AllocError>
         ensures states { IfOk result (λ s. states_of S.number s.states.items ≡ S.number state.0 ∷ []) }
         ensures values { IfOk result (λ s. s.values ≡ values) }

@@ -22,7 +22,7 @@ enum Piece<S> {
     Shift(usize, usize),
 }
 
-/// The end of the last part, where that is a deletion that starts at an offset.
+/// Returns the end of the last part, where that is a deletion that starts at an offset.
 fn touched<S: IndexStorage>(pieces: &[Piece<S>], end: usize) -> Option<usize>
     ensures { Touches end (reverse (map (seen_as S.number) pieces.now)) result }
 {
@@ -80,7 +80,7 @@ fn push_piece<S: IndexStorage, L: Lexeme<S>>(
     }
 }
 
-/// The parts of a sequence, the first one last.
+/// Returns the parts of a sequence, the first one last.
 fn pieces_of<S: IndexStorage, L: Lexeme<S>>(
     alloc: Global,
     repairs: &[ParseRepair<L, S>],
@@ -143,7 +143,7 @@ fn joined(alloc: Global, parts: &[String]) -> Result<String, AllocError>
     }
 }
 
-/// The spaces that fill a number up to the digits of another.
+/// Returns the spaces that fill a number up to the digits of another.
 fn filling_of(alloc: Global, count: usize, number: &str) -> Result<String, AllocError>
     ensures { IfOk result (λ spaces. string_bytes spaces ≡ replicate (length (decimal count) - length number.now) 32) }
 {
@@ -153,7 +153,7 @@ fn filling_of(alloc: Global, count: usize, number: &str) -> Result<String, Alloc
     Ok(spaces)
 }
 
-/// What stands in front of a sequence: its number on a line of its own.
+/// Returns the line in front of a sequence, which has its number.
 fn front_of(alloc: Global, count: usize, number: usize) -> Result<String, AllocError>
     ensures { IfOk result (λ front. string_bytes front ≡ number_front count number) }
 {
@@ -231,7 +231,7 @@ fn push_name<'a, S: IndexStorage, F: Fn(TIdx<S>) -> Option<&'a str>>(
     }
 }
 
-/// What is shown of a part of a sequence.
+/// Returns the text of a part of a sequence.
 fn part_of<
     'input,
     T: LexerTypes,
@@ -262,7 +262,7 @@ fn part_of<
     }
 }
 
-/// What is shown of the parts of a sequence.
+/// Returns the text of the parts of a sequence.
 fn parts_of<
     'input,
     T: LexerTypes,
@@ -286,7 +286,7 @@ fn parts_of<
     Ok(parts)
 }
 
-/// What is shown of a sequence.
+/// Returns the text of a sequence.
 fn sequence_of<
     'input,
     T: LexerTypes,
@@ -309,7 +309,7 @@ fn sequence_of<
     Ok(text)
 }
 
-/// What is shown of sequences.
+/// Returns the text of sequences.
 fn sequences_of<
     'input,
     T: LexerTypes,
@@ -333,7 +333,7 @@ fn sequences_of<
     Ok(sequences)
 }
 
-/// The text of an error of parsing at a lexeme, where these sequences of repairs can be taken.
+/// Returns the text of an error of parsing at a lexeme, where these sequences of repairs can be taken.
 pub fn parsing_text<
     'input,
     T: LexerTypes,
@@ -358,7 +358,7 @@ pub fn parsing_text<
     Ok(text)
 }
 
-/// The text of an error of lexing.
+/// Returns the text of an error of lexing.
 pub fn lexing_text<'input, T: LexerTypes, X: NonStreamingLexer<'input, T>>(
     alloc: Global,
     lexer: &X,

@@ -23,7 +23,7 @@ use cfg_numbered::yacc::grammar::NumberedGrammar;
 use std::alloc::{AllocError, Global};
 use std::marker::Model;
 
-/// A lexeme, or a production with its span and the number of nodes below it, which stand right before it.
+/// A lexeme, or a production with its span and the number of nodes below it, which come right before it.
 #[derive(Clone, Copy)]
 pub enum FlatNode<S, L> {
     /// A leaf.
@@ -42,7 +42,7 @@ pub enum FlatNode<S, L> {
     },
 }
 
-/// A node on a walk: its index, and how many nodes stand above it.
+/// A node on a walk: its index, and the number of nodes above it.
 #[derive(Clone, Copy, Debug, PartialEq, Eq)]
 pub struct Visit {
     /// The index in the tree's vector of nodes.
@@ -68,7 +68,7 @@ impl<S: IndexStorage, L: Lexeme<S>> Model for FlatTree<S, L> {
     ghost invariant = { λ f. IsSomeTree (span_by L.lex) (record { pieces = pieces_of S.number f.nodes.items }) };
 }
 
-/// Answers the node of an index.
+/// Returns the node of an index.
 pub(crate) fn node_at<S: IndexStorage, L: Lexeme<S>>(
     nodes: &[FlatNode<S, L>],
     index: usize,
@@ -79,7 +79,7 @@ pub(crate) fn node_at<S: IndexStorage, L: Lexeme<S>>(
     nodes[index]
 }
 
-/// Answers how many nodes stand below the one of an index.
+/// Returns the number of nodes below the one of an index.
 fn below_at<S: IndexStorage, L: Lexeme<S>>(nodes: &[FlatNode<S, L>], index: usize) -> usize
     requires { index < length nodes.now }
     ensures { option_map nodes_below (slice_get (pieces_of S.number nodes.now) index) ≡ Some result }
@@ -94,7 +94,7 @@ fn below_at<S: IndexStorage, L: Lexeme<S>>(nodes: &[FlatNode<S, L>], index: usiz
     }
 }
 
-/// Answers the span of the node of an index.
+/// Returns the span of the node of an index.
 pub(crate) fn span_at<S: IndexStorage, L: Lexeme<S>>(nodes: &[FlatNode<S, L>], index: usize) -> Span
     requires { index < length nodes.now }
     ensures { option_map (piece_span (span_by L.lex)) (slice_get (pieces_of S.number nodes.now) index) ≡ Some (span_of_places result) }
@@ -120,7 +120,7 @@ fn push_children<S: IndexStorage, L: Lexeme<S>>(
     ensures { (k : ℕ) (t : Tree L) → StandsAt (span_by L.lex) (pieces_of S.number nodes.now) k t → at.index + 1 ≡ k + size t →
         OnOk result (waiting.new.items ≡ waiting.old.items ++ reverse (root_visits k (at.depth + 1) (below t))) }
 {
-    // Read, so that the proof may use that the number of nodes fits.
+    // For the proof alone: this read shows that the number of nodes fits.
     let _count = nodes.len();
     let depth = at.depth + 1;
     let stop = at.index - below_at(nodes, at.index);
@@ -134,7 +134,7 @@ fn push_children<S: IndexStorage, L: Lexeme<S>>(
 }
 
 impl<S: IndexStorage, L: Lexeme<S>> FlatTree<S, L> {
-    /// Answers the nodes, each behind its children.
+    /// Returns the nodes, each behind its children.
     pub fn nodes(&self) -> &[FlatNode<S, L>]
         ensures value { pieces_of S.number result.now ≡ self.now.pieces }
         ensures tree { IsSomeTree (span_by L.lex) self.now }
@@ -143,7 +143,7 @@ impl<S: IndexStorage, L: Lexeme<S>> FlatTree<S, L> {
         self.nodes.as_slice()
     }
 
-    /// Answers the tree by rules. It is one of the grammar, as each that `parse_flat` answers is.
+    /// Returns the tree by rules. It is one of the grammar, as each tree that `parse_flat` returns is.
     pub fn to_node(&self, alloc: Global, grm: &NumberedGrammar<S>) -> Result<Node<L, S>, AllocError>
         requires { IsFlatTree grm.now.grammar (token_by L.lex) (span_by L.lex) self.now }
         ensures { (t : Tree L) → IsFlat (span_by L.lex) t self.now.pieces → IfOk result (λ node. shape_of S.number node ≡ shape grm.now.grammar t) }
@@ -152,7 +152,7 @@ impl<S: IndexStorage, L: Lexeme<S>> FlatTree<S, L> {
         Ok(node)
     }
 
-    /// Answers all nodes, each before its children, these from left to right.
+    /// Returns all nodes, each before its children, these from left to right.
     pub fn preorder(&self, alloc: Global) -> Result<Vec<Visit>, AllocError>
         ensures { (t : Tree L) → IsFlat (span_by L.lex) t self.now.pieces → IfOk result (λ visits. visits.items ≡ preorder 0 0 t) }
     {
@@ -160,7 +160,7 @@ impl<S: IndexStorage, L: Lexeme<S>> FlatTree<S, L> {
         Ok(visits)
     }
 
-    /// Answers the children of a visited node, from left to right.
+    /// Returns the children of a visited node, from left to right.
     pub fn children(&self, alloc: Global, at: Visit) -> Result<Vec<Visit>, AllocError>
         requires index { at.index < length self.now.pieces }
         requires depth { at.depth < length self.now.pieces }
@@ -174,8 +174,8 @@ impl<S: IndexStorage, L: Lexeme<S>> FlatTree<S, L> {
         Ok(visits)
     }
 
-    /// Answers a line for each node, a space deeper than its parent: a rule's name, or a token's and the text of the
-    /// lexeme.
+    /// Returns a line for each node, a space deeper than its parent: a rule's name, or a token's and the text of
+    /// the lexeme.
     pub fn pp(
         &self,
         alloc: Global,
@@ -190,7 +190,7 @@ impl<S: IndexStorage, L: Lexeme<S>> FlatTree<S, L> {
     }
 }
 
-/// Answers the lines of a tree's nodes.
+/// Returns the lines of a tree's nodes.
 fn text_of<S: IndexStorage, L: Lexeme<S>>(
     alloc: Global,
     grm: &NumberedGrammar<S>,
@@ -227,7 +227,7 @@ fn push_visit<S: IndexStorage, L: Lexeme<S>>(
             span: _,
             below: _,
         } => {
-            // Read, so that the proof may use that rules are in range.
+            // For the proof alone: this read shows that rules are in range.
             let _start = grm.start_prod();
             push_rule_line(text, grm, visit.depth, grm.prod_to_rule(pidx))?;
             Ok(())
@@ -235,7 +235,7 @@ fn push_visit<S: IndexStorage, L: Lexeme<S>>(
     }
 }
 
-/// Answers the lines of visited nodes.
+/// Returns the lines of visited nodes.
 fn visited_text<S: IndexStorage, L: Lexeme<S>>(
     alloc: Global,
     grm: &NumberedGrammar<S>,
@@ -253,7 +253,7 @@ fn visited_text<S: IndexStorage, L: Lexeme<S>>(
     Ok(text)
 }
 
-/// Answers the nodes of a tree, each before its children.
+/// Returns the nodes of a tree, each before its children.
 fn preorder_of<S: IndexStorage, L: Lexeme<S>>(
     alloc: Global,
     nodes: &[FlatNode<S, L>],
@@ -274,7 +274,7 @@ fn preorder_of<S: IndexStorage, L: Lexeme<S>>(
     Ok(found)
 }
 
-/// The trees on a parser's stack, one behind the other, and behind how many nodes each ends. The last one is on top.
+/// The trees on a parser's stack, one behind the other. The last one is on top.
 #[derive(Drop)]
 pub struct FlatBuilder<S: IndexStorage, L: Lexeme<S>> {
     /// The nodes of all trees, each node behind those below it.
@@ -296,7 +296,7 @@ fn put_node<S: IndexStorage, L: Lexeme<S>>(
 }
 
 impl<S: IndexStorage, L: Lexeme<S>> FlatBuilder<S, L> {
-    /// Makes the stack of no trees, with room for as many nodes.
+    /// Makes a stack without trees, with room for `count` nodes.
     pub(crate) fn with_room(alloc: Global, count: usize) -> Result<Self, AllocError>
         ensures stack { IfOk result (λ s. IsFlatStack (span_by L.lex) [] (pieces_of S.number s.nodes.items) s.ends.items) }
         ensures empty { IfOk result (λ s. s.nodes.items ≡ []) }
@@ -317,7 +317,7 @@ impl<S: IndexStorage, L: Lexeme<S>> FlatBuilder<S, L> {
         Ok(())
     }
 
-    /// Puts the `count` topmost trees below the production, whose span is told.
+    /// Puts the `count` topmost trees below the production, which has the span.
     pub(crate) fn reduce(
         &mut self,
         pidx: PIdx<S>,
@@ -338,7 +338,7 @@ impl<S: IndexStorage, L: Lexeme<S>> FlatBuilder<S, L> {
         Ok(())
     }
 
-    /// Makes the tree, where one alone stands on the stack.
+    /// Makes the tree of the one tree on the stack.
     pub(crate) fn finish(self) -> FlatTree<S, L>
         requires { (t : Tree L) × IsFlatStack (span_by L.lex) (t ∷ []) (pieces_of S.number self.nodes.items) self.ends.items }
         ensures { (t : Tree L) → IsFlatStack (span_by L.lex) (t ∷ []) (pieces_of S.number self.nodes.items) self.ends.items → IsFlat (span_by L.lex) t result.pieces }

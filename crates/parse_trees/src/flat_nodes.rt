@@ -1,4 +1,4 @@
-//! The `Node` of a tree that stands as a list.
+//! Makes the `Node` of a flat tree.
 
 ghost use Rattle.std.specs.Prelude.{◌≡◌, ℕ, List, map, Some, IfOk, OnOk};
 ghost use Rattle.cfg_theory.specs.Tree.{Tree, IsTree};
@@ -45,7 +45,7 @@ fn put_listed<S: IndexStorage, L: Lexeme<S>>(
     }
 }
 
-/// Answers the node of a list that is of a tree of the grammar.
+/// Returns the node of a list that is of a tree of the grammar.
 pub(crate) fn node_of<S: IndexStorage, L: Lexeme<S>>(
     alloc: Global,
     grm: &NumberedGrammar<S>,

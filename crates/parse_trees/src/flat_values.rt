@@ -27,7 +27,7 @@ pub struct FlatValues<S: IndexStorage, L: Lexeme<S>> {
 }
 
 impl<S: IndexStorage, L: Lexeme<S>> FlatValues<S, L> {
-    /// Makes the stack of no trees, with room for as many nodes.
+    /// Makes a stack without trees, with room for `count` nodes.
     pub fn with_room(alloc: Global, count: usize) -> Result<Self, AllocError>
         ensures stands { IfOk result (λ s. FlatStand (span_by L.lex) [] (pieces_of S.number s.builder.nodes.items) s.builder.ends.items) }
         ensures start { IfOk result (λ s. (n : ℕ) → PiecesStartBy (span_by L.lex) (pieces_of S.number s.builder.nodes.items) n) }
@@ -36,8 +36,8 @@ impl<S: IndexStorage, L: Lexeme<S>> FlatValues<S, L> {
         Ok(FlatValues { builder })
     }
 
-    /// The span of a reduction of `count` trees: from the start of the deepest to the end of the top one; where it has
-    /// none, that of the top one, or (0, 0) on an empty stack.
+    /// Returns the span of a reduction of `count` trees: from the start of the deepest to the end of the top one.
+    /// Where `count` is 0 it is that of the top tree, or (0, 0) on an empty stack.
     fn reduced_span(&self, count: usize) -> Span
         requires { (ts : List (Tree L)) × FlatStand (span_by L.lex) ts (pieces_of S.number self.now.builder.nodes.items) self.now.builder.ends.items × (count ≤ length ts) }
         ensures { (ts : List (Tree L)) → FlatStand (span_by L.lex) ts (pieces_of S.number self.now.builder.nodes.items) self.now.builder.ends.items → span_of_places result ≡ reduction_span count (stack_spans (span_by L.lex) ts) }
@@ -55,7 +55,7 @@ impl<S: IndexStorage, L: Lexeme<S>> FlatValues<S, L> {
         Span::new(deepest.start(), top.end())
     }
 
-    /// Makes the tree, where one alone stands on the stack.
+    /// Makes the tree of the one tree on the stack.
     pub fn finish(self) -> FlatTree<S, L>
         requires { (t : Tree L) × FlatStand (span_by L.lex) (t ∷ []) (pieces_of S.number self.builder.nodes.items) self.builder.ends.items }
         ensures { (t : Tree L) → FlatStand (span_by L.lex) (t ∷ []) (pieces_of S.number self.builder.nodes.items) self.builder.ends.items → IsFlat (span_by L.lex) t result.pieces }

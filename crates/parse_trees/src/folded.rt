@@ -1,4 +1,4 @@
-//! Values that functions give for lexemes and nodes, kept beside a run; and none of any.
+//! Value stacks beside a run: one of values that functions return for lexemes and nodes, and one that has none.
 
 ghost use Rattle.std.specs.Prelude.{◌≡◌, ◌<◌, ◌≤◌, ◌∷◌, ℕ, List, reverse, length, [], Some, OnOk, IfOk};
 ghost use Rattle.cfg_theory.specs.Fold.{no_span, Folds};
@@ -19,8 +19,8 @@ use cfg_base::span::Span;
 use cfg_base::symbol::{PIdx, RIdx};
 use std::alloc::{AllocError, Global};
 
-/// The span of a reduction of `count` entries: from the start of the deepest to the end of the top one; where it has
-/// none, that of the top entry, or (0, 0) on an empty stack.
+/// Returns the span of a reduction of `count` entries: from the start of the deepest to the end of the top one. Where
+/// `count` is 0 it is that of the top entry, or (0, 0) on an empty stack.
 pub(crate) fn reduced_span(spans: &[Span], count: usize) -> Span
     requires enough { count ≤ length spans.now }
     requires ascend { StartsAscend spans.now }
@@ -37,8 +37,8 @@ pub(crate) fn reduced_span(spans: &[Span], count: usize) -> Span
     Span::new(deepest.start(), top.end())
 }
 
-/// Takes the arguments of a reduction by a production of `count` symbols off the stacks, and puts the answer of
-/// `fnonterm` and its span in their place.
+/// Takes the arguments of a reduction by a production of `count` symbols off the stacks, and puts the value that
+/// `fnonterm` returns and its span in their place.
 pub(crate) fn fold_top<S: IndexStorage, V: Drop, R>(
     alloc: Global,
     values: &mut Vec<V>,
@@ -81,7 +81,7 @@ pub struct FoldedValues<'a, V, F, R> {
     pub fnonterm: &'a R,
 }
 
-/// The stack of a run's start, with no entry.
+/// Returns the stack of a run's start, with no entry.
 pub fn no_folds<'a, S: IndexStorage, L: Lexeme<S>, V: Drop, F, R>(
     alloc: Global,
     fterm: &'a F,
@@ -105,7 +105,7 @@ where
     }
 }
 
-/// The value of a tree that stands alone.
+/// Returns the value of the one tree on the stack.
 pub fn folded_value<'a, S: IndexStorage, L: Lexeme<S>, V: Drop, F, R>(
     folded: FoldedValues<'a, V, F, R>,
 ) -> Option<V>
@@ -170,7 +170,7 @@ where
     }
 }
 
-/// No values.
+/// A value stack that stores nothing.
 #[derive(Drop)]
 pub struct NoValues;
 

@@ -153,12 +153,12 @@ pub trait NonStreamingLexer<'input, T: LexerTypes>: Lexer<T> {
         requires end { IsCharBoundary (text self.now) span.end }
         ensures { result.now ≡ slice_range (text self.now) span.start span.end };
 
-    /// The lines that the span is on, without the last one's LF.
+    /// Returns the lines that the span is on, without the last one's LF.
     fn span_lines_str(&self, span: Span) -> &'input str
         requires within { span.end ≤ length (text self.now) }
         ensures { result.now ≡ slice_range (text self.now) (line_start (text self.now) span.start) (line_end (text self.now) span.end) };
 
-    /// The line and the column of the span's start, and those of its end.
+    /// Returns the line and the column of the span's start, and those of its end.
     fn line_col(&self, span: Span) -> ((usize, usize), (usize, usize))
         requires { span.end ≤ length (text self.now) }
         ensures { result ≡ ((line_of (text self.now) span.start, column_of (text self.now) (text self.now) span.start), (line_of (text self.now) span.end, column_of (text self.now) (text self.now) span.end)) };

@@ -5,7 +5,7 @@ ghost use Rattle.parse_trees.specs.LexemeViews.{ReadsAs};
 
 use std::marker::Model;
 
-/// A lexer's list where it stands: each item of it is a lexeme. Contracts see the lexemes.
+/// A lexer's list without a copy: each item of it is a lexeme. Contracts see the lexemes.
 #[derive(Drop)]
 pub struct LexemeList<'a, L, E> {
     items: &'a [Result<L, E>],
@@ -22,7 +22,7 @@ impl<'a, L, E> Model for LexemeList<'a, L, E> {
     ghost invariant = { λ l. AreItems l.items.now (lexemes_of l.items.now) };
 }
 
-/// The lexemes of a lexer's list, or the first fault.
+/// Returns the lexemes of a lexer's list, or the first fault.
 pub(crate) fn read_list<L: Copy, E: Copy>(items: &[Result<L, E>]) -> Result<LexemeList<'_, L, E>, E>
     ensures { ReadsAs items.now result }
 {
@@ -35,14 +35,14 @@ pub(crate) fn read_list<L: Copy, E: Copy>(items: &[Result<L, E>]) -> Result<Lexe
 }
 
 impl<'a, L: Copy, E: Copy> LexemeList<'a, L, E> {
-    /// How many there are.
+    /// Returns how many there are.
     pub fn len(&self) -> usize
         ensures { result ≡ length self.now }
     {
         self.items.len()
     }
 
-    /// The lexeme at the index, or none past the last one.
+    /// Returns the lexeme at the index, or none past the last one.
     #[inline(always)]
     pub fn get(&self, index: usize) -> Option<L>
         ensures { result ≡ slice_get self.now index }
@@ -53,7 +53,7 @@ impl<'a, L: Copy, E: Copy> LexemeList<'a, L, E> {
         }
     }
 
-    /// The lexeme at an index before the end.
+    /// Returns the lexeme at an index before the end.
     pub fn at(&self, index: usize) -> L
         requires { index < length self.now }
         ensures { slice_get self.now index ≡ Some result }

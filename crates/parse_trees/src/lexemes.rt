@@ -34,7 +34,7 @@ pub(crate) enum LexemeMisfit {
     Decreases(usize),
 }
 
-/// Tells what is wrong with the lexeme at an index.
+/// Returns what keeps a run from taking the lexeme at an index, if anything does.
 fn misfit_at<S: IndexStorage, L: Lexeme<S>, E: Copy>(
     end: usize,
     lexemes: &LexemeList<'_, L, E>,
@@ -58,7 +58,7 @@ fn misfit_at<S: IndexStorage, L: Lexeme<S>, E: Copy>(
     None
 }
 
-/// Tells why a run doesn't take these lexemes.
+/// Returns what keeps a run from taking the first lexeme that it doesn't take, if there is one.
 pub(crate) fn misfit_of<S: IndexStorage, L: Lexeme<S>, E: Copy>(
     grm: &NumberedGrammar<S>,
     lexemes: &LexemeList<'_, L, E>,

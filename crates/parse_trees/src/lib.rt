@@ -1,4 +1,5 @@
-//! What a parse makes, apart from tables: lexemes, trees, the stacks of values beside a run, repairs and errors as texts.
+//! What a parse makes, apart from tables: lexemes, trees, the stacks of values beside a run, repairs and errors as
+//! texts.
 //!
 //! ```rust
 //! use cfg_base::index::IndexStorage;
@@ -16,10 +17,10 @@
 //! }
 //! ```
 //!
-//! `lrpar` runs lexers' lexemes over tables, makes such values on the way, and hands out under its own name what its
-//! callers need of this crate. The contracts that matter most: those of the trait `values::ValueStack`, which each stack of
-//! values meets and the run stands on; `lexemes::admit`, which tells the lexemes that a run takes, by `specs/Lexemes`; those
-//! of `node::Node` and `flat::FlatTree`, by `specs/Shapes` and `specs/FlatTrees`; and those of `error_texts`.
+//! `lrpar` runs lexers' lexemes over tables, makes such values on the way, and exports what its callers need of this
+//! crate. The contracts that matter most: those of the trait `values::ValueStack`, which each stack of values meets
+//! and the run relies on; `lexemes::admit`, which returns the lexemes that a run takes, by `specs/Lexemes`; those of
+//! `node::Node` and `flat::FlatTree`, by `specs/Shapes` and `specs/FlatTrees`; and those of `error_texts`.
 #![tactic(auto)]
 
 pub mod error_texts;

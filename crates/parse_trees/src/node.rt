@@ -40,8 +40,8 @@ impl<L: Lexeme<S>, S: IndexStorage> Drop for Node<L, S> {
 }
 
 impl<L: Lexeme<S>, S: IndexStorage> Node<L, S> {
-    /// Answers a line for each node, a space deeper than its parent: a rule's name, or a token's and the text of the
-    /// lexeme.
+    /// Returns a line for each node, a space deeper than its parent: a rule's name, or a token's and the text of
+    /// the lexeme.
     pub fn pp(
         &self,
         alloc: Global,
@@ -64,7 +64,7 @@ impl<L: Lexeme<S>, S: IndexStorage> Node<L, S> {
         Ok(text)
     }
 
-    /// Answers a copy.
+    /// Copies the tree.
     pub fn clone(&self, alloc: Global) -> Result<Node<L, S>, AllocError>
         ensures { IfOk result (λ node. shape_of S.number node ≡ shape_of S.number self.now) }
     {
@@ -73,7 +73,7 @@ impl<L: Lexeme<S>, S: IndexStorage> Node<L, S> {
         Ok(node)
     }
 
-    /// Says whether the nodes have the same rules at the same places, and equal lexemes.
+    /// Returns whether the nodes have the same rules at the same places, and equal lexemes.
     pub fn equals(&self, alloc: Global, other: &Node<L, S>) -> Result<bool, AllocError>
         ensures { IfOk result (λ same. same ≡ same_shape L.eq (shape_of S.number self.now) (shape_of S.number other.now)) }
     {
@@ -82,7 +82,7 @@ impl<L: Lexeme<S>, S: IndexStorage> Node<L, S> {
         Ok(same_lists(one.as_slice(), two.as_slice()))
     }
 
-    /// Answers the nodes below, and the rule; a lexeme has none.
+    /// Returns the nodes below, and the rule; a lexeme has none.
     pub fn into_nodes(self) -> Option<(RIdx<S>, Vec<Node<L, S>>)>
         ensures below { IfSome result (λ below. self ≡ variants.Nonterm below.0 below.1) }
         ensures none { result ≡ None → (lexeme : L) × (self ≡ variants.Term lexeme) }
@@ -130,7 +130,7 @@ fn dismantle<L: Lexeme<S>, S: IndexStorage>(mut nodes: Vec<Node<L, S>>) {
     }
 }
 
-/// A node that is still to be shown, and how many nodes stand above it.
+/// A node that is still to be shown, and the number of nodes above it.
 #[derive(Clone, Copy)]
 pub(crate) struct Waiting<'a, L: Lexeme<S>, S: IndexStorage> {
     pub node: &'a Node<L, S>,
@@ -164,12 +164,12 @@ pub(crate) fn push_rule_line<S: IndexStorage>(
     Ok(())
 }
 
-/// Answers the name of a token that isn't the end token.
+/// Returns the name of a token that isn't the end token.
 fn named<S: IndexStorage>(grm: &NumberedGrammar<S>, tidx: TIdx<S>) -> &str
     requires { S.number tidx.0 < end_token grm.now.grammar }
     ensures { result.now ≡ token_text grm.now (S.number tidx.0) }
 {
-    // Read, so that the proof may use what is so of each grammar.
+    // For the proof alone: this read gives it the invariant of each grammar.
     let _end = grm.eof_token_idx();
     match grm.token_name(tidx) {
         Some(name) => name,
@@ -222,7 +222,7 @@ fn show_next<'a, L: Lexeme<S>, S: IndexStorage>(
         }
         Node::Nonterm { ridx, nodes } => {
             push_rule_line(text, grm, depth, *ridx)?;
-            // Read, so that the proof may use that the text's length fits.
+            // For the proof alone: this read shows that the text's length fits.
             let _len = text.len();
             push_nodes(nodes.as_slice(), depth + 1, waiting)?;
             Ok(())

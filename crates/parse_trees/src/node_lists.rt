@@ -53,7 +53,7 @@ fn list_next<'a, L: Lexeme<S>, S: IndexStorage>(
     }
 }
 
-/// Answers the nodes, each before its children, these from right to left.
+/// Returns the nodes, each before its children, these from right to left.
 pub(crate) fn entries_of<L: Lexeme<S>, S: IndexStorage>(
     alloc: Global,
     root: &Node<L, S>,
@@ -85,7 +85,7 @@ pub(crate) fn join_last<L: Lexeme<S>, S: IndexStorage>(
     Ok(())
 }
 
-/// Takes the last node for the only child of one of the rule, which stands in its place.
+/// Replaces the last node by one of the rule, whose only child it is.
 #[inline(always)]
 pub(crate) fn join_one<L: Lexeme<S>, S: IndexStorage>(
     made: &mut Vec<Node<L, S>>,
@@ -121,7 +121,7 @@ fn make_next<L: Lexeme<S>, S: IndexStorage>(
     }
 }
 
-/// Answers the node that is listed so.
+/// Returns the node that the entries list.
 pub(crate) fn built<L: Lexeme<S>, S: IndexStorage>(
     alloc: Global,
     entries: &[NodeEntry<S, L>],
@@ -140,7 +140,7 @@ pub(crate) fn built<L: Lexeme<S>, S: IndexStorage>(
     }
 }
 
-/// Says whether the entries are equal.
+/// Returns whether the entries are equal.
 fn same_entry<L: Lexeme<S>, S: IndexStorage>(one: NodeEntry<S, L>, other: NodeEntry<S, L>) -> bool
     ensures { result ≡ same_entry L.eq (entry_of S.number one) (entry_of S.number other) }
 {
@@ -153,7 +153,7 @@ fn same_entry<L: Lexeme<S>, S: IndexStorage>(one: NodeEntry<S, L>, other: NodeEn
     }
 }
 
-/// Says whether the lists are equal.
+/// Returns whether the lists are equal.
 pub(crate) fn same_lists<L: Lexeme<S>, S: IndexStorage>(
     one: &[NodeEntry<S, L>],
     other: &[NodeEntry<S, L>],

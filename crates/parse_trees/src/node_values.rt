@@ -24,7 +24,7 @@ pub struct NodeValues<S: IndexStorage, L: Lexeme<S>> {
 }
 
 impl<S: IndexStorage, L: Lexeme<S>> NodeValues<S, L> {
-    /// Makes the stack of no trees, with room for as many.
+    /// Makes a stack without trees, with room for `count` of them.
     pub fn with_room(alloc: Global, count: usize) -> Result<Self, AllocError>
         ensures { IfOk result (λ s. shapes_on S.number s.nodes.items ≡ []) }
     {
@@ -32,7 +32,7 @@ impl<S: IndexStorage, L: Lexeme<S>> NodeValues<S, L> {
         Ok(NodeValues { nodes })
     }
 
-    /// Makes the topmost tree, where there is one.
+    /// Returns the topmost tree, if there is one.
     pub fn finish(self) -> Option<Node<L, S>>
         ensures { (G : Grammar) (t : Tree L) → shapes_on S.number self.nodes.items ≡ map (shape G) (t ∷ []) → HasNode S.number G result (Some t) }
     {

@@ -1,4 +1,4 @@
-//! Repairs: steps as they are handed in, and as they are told, with the lexemes that they delete or keep.
+//! Repairs: steps as they are passed, and as they are reported, with the lexemes that they delete or shift.
 
 ghost use Rattle.std.specs.Prelude.{◌≡◌, ◌<◌, Some, length, slice_get, drop, map, IfOk};
 ghost use Rattle.parse_trees.specs.Edits.{edit_of, edits_of, sequences_of};
@@ -9,29 +9,29 @@ use cfg_base::index::IndexStorage;
 use cfg_base::symbol::TIdx;
 use std::alloc::{AllocError, Global};
 
-/// A step of a repair.
+/// A step of a repair, as a recoverer returns it.
 #[derive(Clone, Copy, Debug, PartialEq, Eq)]
 pub enum RepairStep<S> {
-    /// A lexeme of the token is made up before the next one.
+    /// Inserts a lexeme of the token before the next one.
     Insert(TIdx<S>),
-    /// The next lexeme is left out.
+    /// Deletes the next lexeme.
     Delete,
-    /// The next lexeme is taken as it is.
+    /// Shifts the next lexeme.
     Shift,
 }
 
-/// A step of a repair, with the lexeme that it deletes or keeps.
+/// A step of a repair, as an error reports it, with the lexeme that it deletes or shifts.
 #[derive(Clone, Copy, Debug, PartialEq, Eq, Hash)]
 pub enum ParseRepair<L, S> {
-    /// A lexeme of the token is made up.
+    /// Inserts a lexeme of the token.
     Insert(TIdx<S>),
-    /// The lexeme is left out.
+    /// Deletes the lexeme.
     Delete(L),
-    /// The lexeme is taken as it is.
+    /// Shifts the lexeme.
     Shift(L),
 }
 
-/// The step of a number.
+/// Returns the step at an index.
 pub fn step_at<S: IndexStorage>(steps: &[RepairStep<S>], number: usize) -> RepairStep<S>
     requires { number < length steps.now }
     ensures { slice_get steps.now number ≡ Some result }
@@ -39,8 +39,8 @@ pub fn step_at<S: IndexStorage>(steps: &[RepairStep<S>], number: usize) -> Repai
     steps[number]
 }
 
-/// What a step does where the lexeme at an index is next, and the index of the next lexeme behind it; None where a lexeme is
-/// wanted and none is left.
+/// Returns a step as it is reported where the lexeme at `index` is next, and the index of the lexeme that is next
+/// after it. `None` where the step needs a lexeme and none is left.
 fn show_step<S: IndexStorage, L: Copy, E: Copy>(
     lexemes: &LexemeList<'_, L, E>,
     index: usize,
@@ -66,7 +66,7 @@ fn show_step<S: IndexStorage, L: Copy, E: Copy>(
     }
 }
 
-/// What a sequence does where the lexeme at an index is next.
+/// Returns a sequence as it is reported where the lexeme at `index` is next.
 fn show_steps<S: IndexStorage, L: Copy, E: Copy>(
     alloc: Global,
     lexemes: &LexemeList<'_, L, E>,
@@ -88,7 +88,7 @@ fn show_steps<S: IndexStorage, L: Copy, E: Copy>(
     Ok(repairs)
 }
 
-/// What each of these sequences does where the lexeme at an index is next.
+/// Returns each of these sequences as it is reported where the lexeme at `index` is next.
 pub fn show_sequences<S: IndexStorage, L: Copy, E: Copy>(
     alloc: Global,
     lexemes: &LexemeList<'_, L, E>,

@@ -4,7 +4,7 @@ ghost use Rattle.std.specs.Prelude.{◌≡◌, ◌≤◌, ◌∷◌, ◌++◌, [
 
 use std::alloc::AllocError;
 
-/// Keeps the first `kept` entries, and puts one on them.
+/// Truncates the stack to its first `kept` entries, and puts one on them.
 pub fn put_above<T: Copy>(stack: &mut Vec<T>, kept: usize, top: T) -> Result<(), AllocError>
     requires { kept ≤ length stack.old.items }
     ensures { OnOk result (stack.new.items ≡ take kept stack.old.items ++ top ∷ []) }

@@ -12,7 +12,7 @@ use std::alloc::{AllocError, Global};
 
 /// A stack beside the machine's trees: a shift puts an entry on it, and a reduction puts one in place of several.
 pub trait ValueStack<S: IndexStorage, L: Lexeme<S>> {
-    /// The entries stand for these trees, the topmost first.
+    /// The entries are for these trees, the topmost first.
     ghost stands: { Grammar → Self → List (Tree L) → Type 0 };
 
     /// No entry starts after this offset.
@@ -21,13 +21,13 @@ pub trait ValueStack<S: IndexStorage, L: Lexeme<S>> {
     /// What starts by an offset starts by each later one. An implementer proves it.
     ghost starts_later: { (s : Self) (m n : ℕ) → starts_by s m → m ≤ n → starts_by s n };
 
-    /// What no call changes of a stack is the same of both.
+    /// Whether two stacks agree in all that no call changes, such as functions that were passed.
     ghost keeps: { Self → Self → Type 0 };
 
-    /// A stack keeps itself. An implementer proves it.
+    /// A stack agrees with itself. An implementer proves it.
     ghost keeps_all: { (s : Self) → keeps s s };
 
-    /// What two calls after each other keep is kept by both. An implementer proves it.
+    /// Stacks that agree with a third one agree. An implementer proves it.
     ghost keeps_on: { (s t u : Self) → keeps s t → keeps t u → keeps s u };
 
     /// Puts an entry for a lexeme on top.

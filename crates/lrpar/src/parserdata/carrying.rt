@@ -1,4 +1,4 @@
-//! Whether the edges into each state carry its items past dot nought.
+//! Whether the edges into each state carry its items past dot zero.
 
 ghost use Rattle.std.specs.Prelude.{◌≡◌, ◌<◌, ◌+◌, ℕ, [], Some, length, get_or, slice_get, slice_set, true, IfOk};
 ghost use Rattle.cfg_numbered.specs.Symbols.{sym_of};
@@ -16,7 +16,7 @@ use cfg_numbered::yacc::grammar::NumberedGrammar;
 use state_table::{Itemset, StIdx, StateGraph};
 use std::alloc::{AllocError, Global};
 
-/// The items past dot nought of a set.
+/// Returns the items past dot zero of a set.
 fn past_items<S: IndexStorage>(
     alloc: Global,
     items: &Itemset<S>,
@@ -36,7 +36,7 @@ fn past_items<S: IndexStorage>(
     Ok(past)
 }
 
-/// Those of each state.
+/// Returns the items past dot zero of each state.
 fn all_past<S: IndexStorage>(
     alloc: Global,
     sgraph: &StateGraph<S>,
@@ -52,7 +52,7 @@ fn all_past<S: IndexStorage>(
     Ok(all)
 }
 
-/// One of the items.
+/// Returns the item at an index.
 fn past_at<S: IndexStorage>(past: &[PastItem<S>], index: usize) -> PastItem<S>
     requires { index < length past.now }
     ensures { slice_get past.now index ≡ Some result }
@@ -60,7 +60,7 @@ fn past_at<S: IndexStorage>(past: &[PastItem<S>], index: usize) -> PastItem<S>
     past[index]
 }
 
-/// Those of a state.
+/// Returns the items past dot zero of a state.
 fn past_of<'a, S: IndexStorage>(
     sgraph: &StateGraph<S>,
     past: &'a [Vec<PastItem<S>>],
@@ -73,7 +73,7 @@ fn past_of<'a, S: IndexStorage>(
     past[state.0.to_usize()].as_slice()
 }
 
-/// Keeps a place for a production, if there is room for it.
+/// Stores an index for a production, if there is room for it.
 fn put_place<S: IndexStorage>(places: &mut Vec<usize>, pidx: PIdx<S>, index: usize)
     ensures { length places.new.items ≡ length places.old.items }
 {
@@ -83,7 +83,7 @@ fn put_place<S: IndexStorage>(places: &mut Vec<usize>, pidx: PIdx<S>, index: usi
     }
 }
 
-/// Keeps for each production of a set where its last item stands; the places of the others are left.
+/// Stores for each production of a set the index of its last item; those of the others stay.
 fn put_places<S: IndexStorage>(items: &Itemset<S>, places: &mut Vec<usize>)
     ensures { length places.new.items ≡ length places.old.items }
 {
@@ -93,7 +93,7 @@ fn put_places<S: IndexStorage>(items: &Itemset<S>, places: &mut Vec<usize>)
     }
 }
 
-/// Whether an item stands at an index.
+/// Returns whether an item is at an index.
 fn is_item_at<S: IndexStorage>(
     items: &Itemset<S>,
     index: usize,
@@ -112,7 +112,7 @@ fn is_item_at<S: IndexStorage>(
     at.0.to_usize() == dot.0.to_usize()
 }
 
-/// Whether a set has an item. It is looked for at its production's place first.
+/// Returns whether a set has an item. It is looked for at its production's place first.
 fn has_item_by<S: IndexStorage>(
     items: &Itemset<S>,
     places: &[usize],
@@ -130,7 +130,7 @@ fn has_item_by<S: IndexStorage>(
     has_item(items, pidx, dot)
 }
 
-/// Whether an edge carries the items past dot nought of the set that it leads to.
+/// Returns whether an edge carries the items past dot zero of the set that it leads to.
 fn carries<S: IndexStorage>(
     grm: &NumberedGrammar<S>,
     from: &Itemset<S>,
@@ -152,7 +152,7 @@ fn carries<S: IndexStorage>(
     true
 }
 
-/// Whether a state is flagged.
+/// Returns whether a state is flagged.
 pub(crate) fn is_flagged<S: IndexStorage>(flags: &Vec<bool>, state: StIdx<S>) -> bool
     requires { S.number state.0 < length flags.now.items }
     ensures { slice_get flags.now.items (S.number state.0) ≡ Some result }
@@ -204,7 +204,7 @@ fn flag_from<S: IndexStorage>(
     }
 }
 
-/// A flag for each state, whether some edge into it doesn't carry.
+/// Returns a flag for each state, whether some edge into it doesn't carry.
 pub(crate) fn flags_of<S: IndexStorage>(
     alloc: Global,
     grm: &NumberedGrammar<S>,

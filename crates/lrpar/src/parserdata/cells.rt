@@ -20,7 +20,7 @@ use cfg_base::symbol::{PIdx, RIdx, SIdx, Symbol, TIdx};
 use cfg_numbered::yacc::grammar::NumberedGrammar;
 use state_table::{Action, Itemset, StIdx, StateTable};
 
-/// Whether two states are one, or there is none on both sides.
+/// Returns whether two states are one, or there is none on both sides.
 fn same_states<S: IndexStorage>(a: Option<StIdx<S>>, b: Option<StIdx<S>>) -> bool
     ensures { Tells (state_of S.number a ≡ state_of S.number b) result }
 {
@@ -31,7 +31,7 @@ fn same_states<S: IndexStorage>(a: Option<StIdx<S>>, b: Option<StIdx<S>>) -> boo
     }
 }
 
-/// Whether a shift on a token fits: it goes along the edge, and the token isn't the end token.
+/// Returns whether a shift on a token fits: it goes along the edge, and the token isn't the end token.
 fn shift_fits<S: IndexStorage>(
     grm: &NumberedGrammar<S>,
     items: &Itemset<S>,
@@ -47,7 +47,7 @@ fn shift_fits<S: IndexStorage>(
     tidx.0.to_usize() != grm.eof_token_idx().0.to_usize()
 }
 
-/// Whether a reduction fits: its production is complete there, and isn't the start production.
+/// Returns whether a reduction fits: its production is complete there, and isn't the start production.
 fn reduce_fits<S: IndexStorage>(
     grm: &NumberedGrammar<S>,
     items: &Itemset<S>,
@@ -64,7 +64,7 @@ fn reduce_fits<S: IndexStorage>(
     has_end(grm, items, pidx)
 }
 
-/// Whether accepting on a token fits: the start production is complete there, and it is the end token.
+/// Returns whether accepting on a token fits: the start production is complete there, and it is the end token.
 fn accept_fits<S: IndexStorage>(
     grm: &NumberedGrammar<S>,
     items: &Itemset<S>,
@@ -80,7 +80,7 @@ fn accept_fits<S: IndexStorage>(
     has_end(grm, items, grm.start_prod())
 }
 
-/// Whether an action on a token fits.
+/// Returns whether an action on a token fits.
 fn action_fits<S: IndexStorage>(
     grm: &NumberedGrammar<S>,
     items: &Itemset<S>,
@@ -99,7 +99,7 @@ fn action_fits<S: IndexStorage>(
     }
 }
 
-/// Whether an action reduces by the production of which that was seen to fit.
+/// Returns whether an action reduces by the production of which that was seen to fit.
 fn is_seen<S: IndexStorage>(seen: Option<PIdx<S>>, action: Action<S>) -> bool
     ensures { result ≡ true → (G : Grammar) (i : ItemSet) (edge : Option ℕ) (t : ℕ) → ReducesWell S.number G i seen → IsFor G i edge t (action_of S.number action) }
 {
@@ -109,7 +109,7 @@ fn is_seen<S: IndexStorage>(seen: Option<PIdx<S>>, action: Action<S>) -> bool
     }
 }
 
-/// The production of a reduction that fits, or else the one before.
+/// Returns the production of a reduction that fits, or else the one before.
 fn seen_after<S: IndexStorage>(seen: Option<PIdx<S>>, action: Action<S>) -> Option<PIdx<S>>
     ensures { (G : Grammar) (i : ItemSet) (edge : Option ℕ) (t : ℕ) → ReducesWell S.number G i seen → IsFor G i edge t (action_of S.number action) → ReducesWell S.number G i result }
 {
@@ -119,7 +119,7 @@ fn seen_after<S: IndexStorage>(seen: Option<PIdx<S>>, action: Action<S>) -> Opti
     }
 }
 
-/// The least token whose action doesn't fit.
+/// Returns the least token whose action doesn't fit.
 pub(crate) fn least_action<S: IndexStorage>(
     grm: &NumberedGrammar<S>,
     items: &Itemset<S>,
@@ -152,7 +152,7 @@ pub(crate) fn least_action<S: IndexStorage>(
     None
 }
 
-/// Whether a goto is the edge at an index.
+/// Returns whether a goto is the edge at an index.
 fn is_edge<S: IndexStorage>(
     edges: &[(Symbol<S>, StIdx<S>)],
     index: usize,
@@ -176,7 +176,7 @@ fn is_edge<S: IndexStorage>(
     }
 }
 
-/// Whether no edge on a rule below the count stands at an index.
+/// Returns whether no edge on a rule below the count is at an index.
 fn ends_at<S: IndexStorage>(edges: &[(Symbol<S>, StIdx<S>)], index: usize, rules: RIdx<S>) -> bool
     ensures { result ≡ true → (A q : ℕ) → slice_get (edges_seen S.number edges.now) index ≡ Some (rule A, q) → A < S.number rules.0 → ⊥ }
 {
@@ -190,7 +190,7 @@ fn ends_at<S: IndexStorage>(edges: &[(Symbol<S>, StIdx<S>)], index: usize, rules
     }
 }
 
-/// Whether the gotos are, one by one, the edges on rules below the count.
+/// Returns whether the gotos are, one by one, the edges on rules below the count.
 fn are_edges<S: IndexStorage>(
     edges: &[(Symbol<S>, StIdx<S>)],
     row: &[(u32, StIdx<S>)],
@@ -207,7 +207,7 @@ fn are_edges<S: IndexStorage>(
     ends_at(edges, row.len(), rules)
 }
 
-/// The least rule whose goto isn't its edge.
+/// Returns the least rule whose goto isn't its edge.
 pub(crate) fn least_goto<S: IndexStorage>(
     edges: &[(Symbol<S>, StIdx<S>)],
     stable: &StateTable<S>,
@@ -223,7 +223,7 @@ pub(crate) fn least_goto<S: IndexStorage>(
     first_goto(edges, stable, state)
 }
 
-/// The same, by a look at each rule.
+/// Returns the least rule whose goto isn't its edge, by a look at each rule.
 fn first_goto<S: IndexStorage>(
     edges: &[(Symbol<S>, StIdx<S>)],
     stable: &StateTable<S>,
@@ -246,7 +246,7 @@ fn first_goto<S: IndexStorage>(
     None
 }
 
-/// The lesser of two rules, or the one that there is.
+/// Returns the lesser of two rules, or the one that there is.
 pub(crate) fn lesser_rule<S: IndexStorage>(
     a: Option<RIdx<S>>,
     b: Option<RIdx<S>>,
@@ -265,7 +265,7 @@ pub(crate) fn lesser_rule<S: IndexStorage>(
     }
 }
 
-/// The lesser of two tokens, or the one that there is.
+/// Returns the lesser of two tokens, or the one that there is.
 pub(crate) fn lesser_token<S: IndexStorage>(
     a: Option<TIdx<S>>,
     b: Option<TIdx<S>>,
@@ -284,7 +284,7 @@ pub(crate) fn lesser_token<S: IndexStorage>(
     }
 }
 
-/// The rule of a production that begins where there is no goto on it.
+/// Returns the rule of a production that begins where there is no goto on it.
 fn bare_of<S: IndexStorage>(
     grm: &NumberedGrammar<S>,
     stable: &StateTable<S>,
@@ -310,7 +310,7 @@ fn bare_of<S: IndexStorage>(
     }
 }
 
-/// Whether the goto at an index of a state's row is on a rule.
+/// Returns whether the goto at an index of a state's row is on a rule.
 fn is_goto_on<S: IndexStorage>(
     stable: &StateTable<S>,
     state: StIdx<S>,
@@ -328,8 +328,8 @@ fn is_goto_on<S: IndexStorage>(
     number == ridx.0.to_usize()
 }
 
-/// The index in a state's row of the goto on a rule, where that is this one or the next; else this one, if there is a goto
-/// on the rule at all.
+/// Returns the index in a state's row of the goto on a rule, where that is this index or the next; else this one, if
+/// there is a goto on the rule at all.
 fn goto_near<S: IndexStorage>(
     stable: &StateTable<S>,
     state: StIdx<S>,
@@ -353,7 +353,8 @@ fn goto_near<S: IndexStorage>(
     }
 }
 
-/// The same for the rule of a production that begins; this index where none does.
+/// Returns the index in a state's row of the goto on the rule of a production that begins; this index where none
+/// begins.
 fn begun_near<S: IndexStorage>(
     grm: &NumberedGrammar<S>,
     stable: &StateTable<S>,
@@ -376,7 +377,8 @@ fn begun_near<S: IndexStorage>(
     goto_near(stable, state, index, grm.prod_to_rule(pidx))
 }
 
-/// Whether there is a goto on the rule of each production that begins. Items and gotos are gone through side by side.
+/// Returns whether there is a goto on the rule of each production that begins. Items and gotos are gone through side
+/// by side.
 fn begin_all<S: IndexStorage>(
     grm: &NumberedGrammar<S>,
     items: &Itemset<S>,
@@ -399,7 +401,7 @@ fn begin_all<S: IndexStorage>(
     true
 }
 
-/// The least rule with a production that begins where there is no goto on it.
+/// Returns the least rule with a production that begins where there is no goto on it.
 pub(crate) fn least_bare<S: IndexStorage>(
     grm: &NumberedGrammar<S>,
     items: &Itemset<S>,
@@ -417,7 +419,7 @@ pub(crate) fn least_bare<S: IndexStorage>(
     first_bare(grm, items, stable, state)
 }
 
-/// The same, by a look at each item.
+/// Returns the least rule with a production that begins where there is no goto on it, by a look at each item.
 fn first_bare<S: IndexStorage>(
     grm: &NumberedGrammar<S>,
     items: &Itemset<S>,

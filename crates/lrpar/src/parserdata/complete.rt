@@ -1,4 +1,4 @@
-//! Whether each item's action stands in its cell.
+//! Whether each item's action is in its cell.
 
 ghost use Rattle.std.specs.Prelude.{◌≡◌, ◌<◌, ℕ, Some, true, length, option_map, slice_get};
 ghost use Rattle.cfg_theory.specs.Grammar.{token, symbol_at, IsNext};
@@ -22,7 +22,7 @@ use cfg_numbered::yacc::grammar::NumberedGrammar;
 use state_table::{Action, Itemset, StIdx, StateGraph};
 use vob::Vob;
 
-/// Whether an action shifts.
+/// Returns whether an action shifts.
 fn is_shift<S: IndexStorage>(action: Action<S>) -> bool
     ensures { Tells ((q : ℕ) × (action_of S.number action ≡ shift q)) result }
 {
@@ -32,7 +32,7 @@ fn is_shift<S: IndexStorage>(action: Action<S>) -> bool
     }
 }
 
-/// Whether an action reduces by a production.
+/// Returns whether an action reduces by a production.
 fn is_reduce<S: IndexStorage>(action: Action<S>, pidx: PIdx<S>) -> bool
     ensures { Tells (action_of S.number action ≡ reduce (S.number pidx.0)) result }
 {
@@ -42,7 +42,7 @@ fn is_reduce<S: IndexStorage>(action: Action<S>, pidx: PIdx<S>) -> bool
     }
 }
 
-/// Whether an action accepts.
+/// Returns whether an action accepts.
 fn is_accept<S: IndexStorage>(action: Action<S>) -> bool
     ensures { Tells (action_of S.number action ≡ accept) result }
 {
@@ -52,7 +52,7 @@ fn is_accept<S: IndexStorage>(action: Action<S>) -> bool
     }
 }
 
-/// The symbol behind a dot, if there is one.
+/// Returns the symbol behind a dot, if there is one.
 fn next_of<S: IndexStorage>(
     grm: &NumberedGrammar<S>,
     pidx: PIdx<S>,
@@ -69,7 +69,7 @@ fn next_of<S: IndexStorage>(
     Some(symbols[at])
 }
 
-/// Whether a token behind the dot of an item is shifted.
+/// Returns whether a token behind the dot of an item is shifted.
 fn next_is_shifted<S: IndexStorage>(
     grm: &NumberedGrammar<S>,
     stable: &FullTable<S>,
@@ -89,7 +89,7 @@ fn next_is_shifted<S: IndexStorage>(
     }
 }
 
-/// Whether a state reduces by a production on each of these tokens.
+/// Returns whether a state reduces by a production on each of these tokens.
 fn reduces_on<S: IndexStorage>(
     stable: &FullTable<S>,
     state: StIdx<S>,
@@ -113,7 +113,7 @@ fn reduces_on<S: IndexStorage>(
     true
 }
 
-/// Whether the actions of an item stand in their cells.
+/// Returns whether the actions of an item are in their cells.
 fn item_stands<S: IndexStorage>(
     grm: &NumberedGrammar<S>,
     items: &Itemset<S>,
@@ -142,7 +142,7 @@ fn item_stands<S: IndexStorage>(
     }
 }
 
-/// Whether those of each item of a state do.
+/// Returns whether those of each item of a state do.
 fn state_stands<S: IndexStorage>(
     grm: &NumberedGrammar<S>,
     items: &Itemset<S>,
@@ -163,7 +163,7 @@ fn state_stands<S: IndexStorage>(
     true
 }
 
-/// Whether those of each item of all states do.
+/// Returns whether those of each item of all states do.
 pub(crate) fn is_complete<S: IndexStorage>(
     grm: &NumberedGrammar<S>,
     sgraph: &StateGraph<S>,

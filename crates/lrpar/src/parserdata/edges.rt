@@ -1,4 +1,4 @@
-//! Edges in order: where the one on a symbol stands, and the first that shouldn't be there.
+//! Edges in order: the index of the one on a symbol, and the first that shouldn't be there.
 
 ghost use Rattle.std.specs.Prelude.{◌≡◌, ◌<◌, ◌≤◌, Some, length, slice_get};
 ghost use Rattle.cfg_theory.specs.Grammar.{rule, token};
@@ -14,7 +14,7 @@ use cfg_base::index::IndexStorage;
 use cfg_base::symbol::{RIdx, Symbol, TIdx};
 use state_table::StIdx;
 
-/// Whether a symbol comes before another one.
+/// Returns whether a symbol comes before another one.
 fn is_before<S: IndexStorage>(a: Symbol<S>, b: Symbol<S>) -> bool
     ensures { Tells (SymBefore (sym_of S.number a) (sym_of S.number b)) result }
 {
@@ -26,7 +26,7 @@ fn is_before<S: IndexStorage>(a: Symbol<S>, b: Symbol<S>) -> bool
     }
 }
 
-/// The edge at an index.
+/// Returns the edge at an index.
 pub(crate) fn edge_at<S: IndexStorage>(
     edges: &[(Symbol<S>, StIdx<S>)],
     index: usize,
@@ -37,7 +37,7 @@ pub(crate) fn edge_at<S: IndexStorage>(
     edges[index]
 }
 
-/// The first index from `from` on whose edge isn't on a symbol before this one.
+/// Returns the first index from `from` on whose edge isn't on a symbol before this one.
 pub(crate) fn first_not_before<S: IndexStorage>(
     edges: &[(Symbol<S>, StIdx<S>)],
     from: usize,
@@ -56,7 +56,7 @@ pub(crate) fn first_not_before<S: IndexStorage>(
     edges.len()
 }
 
-/// The target of the edge on a symbol, which stands at this index if there is one.
+/// Returns the target of the edge on a symbol, which is at this index if there is one.
 pub(crate) fn target_at<S: IndexStorage>(
     edges: &[(Symbol<S>, StIdx<S>)],
     index: usize,
@@ -77,7 +77,7 @@ pub(crate) fn target_at<S: IndexStorage>(
     Some(target)
 }
 
-/// The token of an edge that leads into the start state.
+/// Returns the token of an edge that leads into the start state.
 fn token_into<S: IndexStorage>(edge: (Symbol<S>, StIdx<S>), start: StIdx<S>) -> Option<TIdx<S>>
     ensures { TellsBad (edge_seen S.number edge) token (BadToken (S.number start.0)) (token_number S.number result) }
 {
@@ -93,7 +93,7 @@ fn token_into<S: IndexStorage>(edge: (Symbol<S>, StIdx<S>), start: StIdx<S>) -> 
     }
 }
 
-/// The rule of an edge that leads into the start state, or that is on no rule below the count.
+/// Returns the rule of an edge that leads into the start state, or that is on no rule below the count.
 fn rule_into<S: IndexStorage>(
     edge: (Symbol<S>, StIdx<S>),
     start: StIdx<S>,
@@ -116,7 +116,7 @@ fn rule_into<S: IndexStorage>(
     }
 }
 
-/// The least token on which an edge leads into the start state.
+/// Returns the least token on which an edge leads into the start state.
 pub(crate) fn least_token_into<S: IndexStorage>(
     edges: &[(Symbol<S>, StIdx<S>)],
     start: StIdx<S>,
@@ -132,7 +132,8 @@ pub(crate) fn least_token_into<S: IndexStorage>(
     None
 }
 
-/// The least rule on which an edge leads into the start state, or which isn't below the count and has an edge.
+/// Returns the least rule on which an edge leads into the start state, or which isn't below the count and has an
+/// edge.
 pub(crate) fn least_rule_into<S: IndexStorage>(
     edges: &[(Symbol<S>, StIdx<S>)],
     start: StIdx<S>,

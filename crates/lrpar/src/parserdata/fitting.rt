@@ -1,4 +1,4 @@
-//! Places where a graph and a table don't fit a grammar.
+//! Cells at which a graph and a table don't fit a grammar.
 
 use cfg_base::symbol::{PIdx, RIdx, SIdx, TIdx};
 use state_table::StIdx;
@@ -17,14 +17,14 @@ pub enum Cell<S> {
     Rule(RIdx<S>),
 }
 
-/// A place at which a graph and a table don't fit a grammar.
+/// A cell at which a graph and a table don't fit a grammar.
 #[derive(Clone, Copy, Debug, PartialEq, Eq)]
 pub(crate) struct Misfit<S> {
     pub state: StIdx<S>,
     pub cell: Cell<S>,
 }
 
-/// An item past dot nought, by its production and the dot one less.
+/// An item past dot zero, by its production and the dot one less.
 #[derive(Clone, Copy, Debug, PartialEq, Eq)]
 pub(crate) struct PastItem<S> {
     pub pidx: PIdx<S>,

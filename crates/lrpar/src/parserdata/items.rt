@@ -15,7 +15,7 @@ use cfg_base::symbol::{PIdx, SIdx, Symbol};
 use cfg_numbered::yacc::grammar::NumberedGrammar;
 use state_table::{Itemset, StIdx};
 
-/// Whether a set has an item.
+/// Returns whether a set has an item.
 pub(crate) fn has_item<S: IndexStorage>(items: &Itemset<S>, pidx: PIdx<S>, dot: SIdx<S>) -> bool
     ensures { Tells (HasItem items.now (S.number pidx.0) (S.number dot.0)) result }
 {
@@ -25,7 +25,7 @@ pub(crate) fn has_item<S: IndexStorage>(items: &Itemset<S>, pidx: PIdx<S>, dot: 
     }
 }
 
-/// Whether two symbols are one.
+/// Returns whether two symbols are one.
 pub(crate) fn same_symbols<S: IndexStorage>(a: Symbol<S>, b: Symbol<S>) -> bool
     ensures { Tells (sym_of S.number a ≡ sym_of S.number b) result }
 {
@@ -36,7 +36,7 @@ pub(crate) fn same_symbols<S: IndexStorage>(a: Symbol<S>, b: Symbol<S>) -> bool
     }
 }
 
-/// Whether the symbol stands behind the dot.
+/// Returns whether the symbol is behind the dot.
 pub(crate) fn is_next<S: IndexStorage>(
     grm: &NumberedGrammar<S>,
     pidx: PIdx<S>,
@@ -56,7 +56,7 @@ pub(crate) fn is_next<S: IndexStorage>(
     same_symbols(symbols[at], symbol)
 }
 
-/// Whether a set has the item of a production whose dot is at its end.
+/// Returns whether a set has the item of a production whose dot is at its end.
 pub(crate) fn has_end<S: IndexStorage>(
     grm: &NumberedGrammar<S>,
     items: &Itemset<S>,
@@ -71,7 +71,7 @@ pub(crate) fn has_end<S: IndexStorage>(
     has_item(items, pidx, grm.prod_len(pidx))
 }
 
-/// Whether an item of a state fits.
+/// Returns whether an item of a state fits.
 fn item_fits<S: IndexStorage>(
     grm: &NumberedGrammar<S>,
     start: StIdx<S>,
@@ -97,7 +97,7 @@ fn item_fits<S: IndexStorage>(
     true
 }
 
-/// Whether each item of a state fits.
+/// Returns whether each item of a state fits.
 pub(crate) fn items_fit<S: IndexStorage>(
     grm: &NumberedGrammar<S>,
     items: &Itemset<S>,

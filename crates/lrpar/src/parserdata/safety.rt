@@ -1,4 +1,4 @@
-//! Whether a graph and a table fit a grammar: the least place where they don't.
+//! Whether a graph and a table fit a grammar: the least cell at which they don't.
 
 ghost use Rattle.std.specs.Prelude.{◌≡◌, ◌<◌, ℕ, length, IfOk};
 ghost use Rattle.state_table.specs.Graphs.{IsGraphValue};
@@ -19,7 +19,7 @@ use cfg_numbered::yacc::grammar::NumberedGrammar;
 use state_table::{StIdx, StateGraph, StateTable};
 use std::alloc::{AllocError, Global};
 
-/// Whether the counts of the three agree, and the start states of graph and table.
+/// Returns whether the counts of the three agree, and the start states of graph and table.
 fn counts_agree<S: IndexStorage>(
     grm: &NumberedGrammar<S>,
     sgraph: &StateGraph<S>,
@@ -42,7 +42,7 @@ fn counts_agree<S: IndexStorage>(
     stable.start_state().0.to_usize() == sgraph.start_state().0.to_usize()
 }
 
-/// The least token whose cell doesn't fit at a state.
+/// Returns the least token whose cell doesn't fit at a state.
 fn least_token<S: IndexStorage>(
     grm: &NumberedGrammar<S>,
     sgraph: &StateGraph<S>,
@@ -63,7 +63,7 @@ fn least_token<S: IndexStorage>(
     lesser_token(action, into)
 }
 
-/// The least rule whose goto doesn't fit at a state.
+/// Returns the least rule whose goto doesn't fit at a state.
 fn least_rule<S: IndexStorage>(
     grm: &NumberedGrammar<S>,
     sgraph: &StateGraph<S>,
@@ -85,7 +85,7 @@ fn least_rule<S: IndexStorage>(
     lesser_rule(lesser_rule(goto, into), bare)
 }
 
-/// The first part of a state, behind the counts, that doesn't fit.
+/// Returns the first part of a state, behind the counts, that doesn't fit.
 fn first_cell<S: IndexStorage>(
     grm: &NumberedGrammar<S>,
     sgraph: &StateGraph<S>,
@@ -115,7 +115,7 @@ fn first_cell<S: IndexStorage>(
     None
 }
 
-/// The first part of the least state that doesn't fit, where the counts agree.
+/// Returns the first part of the least state that doesn't fit, where the counts agree.
 fn first_misfit<S: IndexStorage>(
     grm: &NumberedGrammar<S>,
     sgraph: &StateGraph<S>,
@@ -138,7 +138,7 @@ fn first_misfit<S: IndexStorage>(
     None
 }
 
-/// The least place where a graph and a table don't fit a grammar; none where they are safe for it.
+/// Returns the least place where a graph and a table don't fit a grammar; none where they are safe for it.
 pub(crate) fn least_misfit<S: IndexStorage>(
     alloc: Global,
     grm: &NumberedGrammar<S>,
@@ -147,7 +147,7 @@ pub(crate) fn least_misfit<S: IndexStorage>(
 ) -> Result<Option<Misfit<S>>, AllocError>
     ensures { IfOk result (TellsMisfit S.number grm.now.grammar sgraph.now stable.now) }
 {
-    // Read, so that the proof may use what is so of each graph and of each table.
+    // For the proof alone: this read gives it the invariant of each graph and of each table.
     let states = sgraph.all_states_len().0;
     stable.states_len();
     if !counts_agree(grm, sgraph, stable) {

@@ -20,33 +20,46 @@ pub(crate) type Need<S> = Option<(PIdx<S>, SIdx<S>)>;
 /// A replacement: the state, the rule of the item at dot 0, the other needed item, and whether the item is the first of both.
 type Key = (usize, usize, usize, usize, bool);
 
-/// A state with the items that need the token there, the visit that comes behind it, and whether an edge leads to that one.
+/// A state with the items that need the token there.
 #[derive(Clone, Copy)]
 struct Visit<S> {
+    /// The state.
     stidx: StIdx<S>,
+    /// The first needed item, if there is one.
     first: Need<S>,
+    /// The second needed item, if there is one.
     second: Need<S>,
+    /// The index of the visit that comes behind this one.
     next: usize,
+    /// Whether an edge leads to that visit.
     by_edge: bool,
 }
 
-/// A visit on the way back to dot 0: its index, the number of edges left, and the next of the predecessors.
+/// A visit on the way back to dot 0.
 #[derive(Clone, Copy)]
 struct Step {
+    /// The index of the visit.
     index: usize,
+    /// The number of edges left.
     left: usize,
+    /// The index of the next predecessor to go to.
     next: usize,
 }
 
-/// The visits so far; the steps back from the nearest one, and its distance; those that wait, each with its distance; the
-/// replacements; and the visit that needs nothing.
+/// The state of the search.
 #[derive(Drop)]
 struct Search<S> {
+    /// The visits so far.
     visits: Vec<Visit<S>>,
+    /// The steps back from the nearest visit.
     way: Vec<Step>,
+    /// The distance of that visit.
     distance: usize,
+    /// The visits that wait, each behind its distance.
     queue: BTreeSet<(usize, usize)>,
+    /// The replacements that were made.
     seen: BTreeSet<Key>,
+    /// The visit that needs nothing.
     done: Option<usize>,
 }
 

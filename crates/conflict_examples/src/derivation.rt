@@ -14,16 +14,18 @@ use cfg_base::symbol::{PIdx, Symbol, TIdx};
 use cfg_numbered::yacc::NumberedGrammar;
 use std::alloc::{AllocError, Global};
 
-/// How many steps a derivation may have, and symbols in their productions, all together. A rule may be empty only by a chain of
-/// rules of which each stands twice in the one before; then there would be as many steps as doublings make.
+/// The most steps, and symbols in their productions, that a derivation may have, all together. A rule may be nullable
+/// only by a chain of rules of which each occurs twice in the one before: then the steps would double with each.
 const MOST_STEPS: usize = 262_144;
 
-/// The form that a derivation has come to, its first symbol last; the productions of its steps; and how many further steps and
-/// symbols it may have.
+/// A leftmost derivation.
 #[derive(Drop)]
 pub(crate) struct Derivation<S> {
+    /// The form that it reached, its first symbol last.
     pub form: Vec<Symbol<S>>,
+    /// The productions of its steps.
     pub steps: Vec<PIdx<S>>,
+    /// How many further steps and symbols it may have.
     room: usize,
 }
 

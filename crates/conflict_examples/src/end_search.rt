@@ -1,5 +1,6 @@
-//! Searches for an example of a production that may be reduced where a text has ended. No table is made of a grammar with such
-//! a production. So the search goes over the productions alone: from that of the start in, and over the symbol of this one.
+//! Searches for an example of a production that may be reduced at the end of a text. No table is made of a grammar
+//! with such a production. So the search goes over the productions alone: from that of the start in, and over the
+//! symbol of this one.
 
 ghost use Rattle.std.specs.Prelude.{◌≡◌, IfOk, IfSome};
 ghost use Rattle.cfg_theory.specs.Grammar.{end_token};
@@ -20,23 +21,27 @@ use cfg_numbered::yacc::NumberedGrammar;
 use std::alloc::{AllocError, Global};
 use std::collections::BTreeSet;
 
-/// An open production with its dot, behind which nothing has to follow; whether the start's symbol is before the dots; and the
-/// frame around it.
+/// An open production with its dot, behind which nothing has to follow.
 #[derive(Clone, Copy)]
 struct Frame<S> {
     pidx: PIdx<S>,
     dot: SIdx<S>,
+    /// Whether the start's symbol is before the dots.
     past: bool,
+    /// The index of the frame around it.
     around: usize,
 }
 
-/// The grammar, its nullable rules, and the dots 0 and 1; the frames so far, in the order of the search, and their numbers.
+/// The state of the search.
 #[derive(Drop)]
 struct Frames<'a, S: IndexStorage> {
     grm: &'a NumberedGrammar<S>,
     nullable: &'a Nullable,
+    /// The dots 0 and 1.
     dots: (SIdx<S>, SIdx<S>),
+    /// The frames so far, in the order of the search.
     list: Vec<Frame<S>>,
+    /// The numbers of these frames.
     seen: BTreeSet<(usize, usize, bool)>,
 }
 
@@ -187,9 +192,9 @@ fn accept_candidates<S: IndexStorage>(
     Ok(Some((Candidate { items, steps }, second)))
 }
 
-/// Returns an example of a production that may be reduced where a text has ended, as a `StateTableError` names one: before the
-/// end token the text may be accepted, which is the first action, or the production reduced. None where the search finds none;
-/// that it finds one for each production that such an error names is not proved.
+/// Returns an example of a production that may be reduced at the end of a text, as a `StateTableError` names one:
+/// before the end token the text may be accepted, which is the first action, or the production reduced. `None` where
+/// the search finds none. It is not proved that it finds one for each production that such an error names.
 pub fn accept_reduce<S: IndexStorage>(
     alloc: Global,
     grm: &NumberedGrammar<S>,

@@ -15,7 +15,7 @@ use std::alloc::{AllocError, Global};
 /// grammar of numbers, its string with the last symbol first.
 #[derive(Drop)]
 pub struct ConflictExample<S> {
-    /// What stands before the token, rules and tokens.
+    /// The rules and tokens before the token.
     pub symbols: Vec<Symbol<S>>,
     /// The token on which the conflict is; the end token where it is at the text's end.
     pub token: TIdx<S>,
@@ -31,8 +31,9 @@ pub struct ActionExample<S> {
     /// The open productions, from that of the start to the innermost, each with its dot. Each is of the rule after the dot of
     /// the one before it. The symbols before the dots, one list behind the other, are those of the example.
     pub spine: Vec<(PIdx<S>, SIdx<S>)>,
-    /// For a reduction the productions by which what follows the innermost production comes to begin with the token, or to be
-    /// empty where the token is the end token. Each replaces the first symbol, which is its rule. None for a shift.
+    /// For a shift none. For a reduction the productions that lead from what follows the innermost production to
+    /// a form that begins with the token, or to the empty form where the token is the end token. Each replaces
+    /// the first symbol, which is its rule.
     pub steps: Vec<PIdx<S>>,
 }
 

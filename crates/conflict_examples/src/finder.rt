@@ -50,8 +50,9 @@ impl<'a, S: IndexStorage> ExampleFinder<'a, S> {
         Ok(ExampleFinder { grm, graph, tables })
     }
 
-    /// Returns an example of a listed shift against a reduction: on its own token, after symbols that lead to its state. None
-    /// where the search finds none; that it finds one for each entry that a table lists is not proved.
+    /// Returns an example of a listed shift against a reduction: on its own token, after symbols that lead to its
+    /// state. `None` where the search finds none. It is not proved that it finds one for each entry that a table
+    /// lists.
     pub fn shift_reduce(
         &self,
         alloc: Global,
@@ -74,9 +75,9 @@ impl<'a, S: IndexStorage> ExampleFinder<'a, S> {
         shift_example(alloc, &source, &candidates, production, stidx)
     }
 
-    /// Returns an example of a listed pair of reductions, after symbols that lead to its state. Its token may be another than the
-    /// listed one: states that were merged share lookaheads that no single string has. None where the search finds none; that
-    /// it finds one for each entry that a table lists is not proved.
+    /// Returns an example of a listed pair of reductions, after symbols that lead to its state. Its token may be
+    /// another than the listed one: states that were merged share lookaheads that no single string has. `None`
+    /// where the search finds none. It is not proved that it finds one for each entry that a table lists.
     pub fn reduce_reduce(
         &self,
         alloc: Global,

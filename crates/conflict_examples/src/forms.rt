@@ -68,7 +68,7 @@ fn with_form<S: IndexStorage>(
     Ok(forms)
 }
 
-/// Returns the forms from one, which has its first symbol last, by these steps, as far as a rule stands first.
+/// Returns the forms from one, which has its first symbol last, by these steps, as far as a rule is first.
 fn forms_from<S: IndexStorage>(
     alloc: Global,
     grm: &NumberedGrammar<S>,

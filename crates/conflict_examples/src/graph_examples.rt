@@ -24,9 +24,9 @@ pub trait ConflictExamples<S: IndexStorage> {
     /// The graph that is asked.
     ghost graph: { Self → GraphValue };
 
-    /// Returns an example of a listed shift against a reduction: on its own token, after symbols that lead to its state and leave the
-    /// token both actions of canonical LR(1). None where the search finds none; that it finds one for each entry that a table
-    /// lists is not proved.
+    /// Returns an example of a listed shift against a reduction: on its own token, after symbols that lead to its
+    /// state and leave the token both actions of canonical LR(1). `None` where the search finds none. It is not
+    /// proved that it finds one for each entry that a table lists.
     fn shift_reduce_example(
         &self,
         alloc: Global,
@@ -38,9 +38,10 @@ pub trait ConflictExamples<S: IndexStorage> {
         ensures token { IfOk result (λ o. IfSome o (λ x. S.number x.token.0 ≡ S.number entry.now.0.0)) }
         ensures state { IfOk result (λ o. IfSome o (λ x. Leads (graph_of (graph self.now)) (example_of S.number x).string (S.number entry.now.2.0))) };
 
-    /// Returns an example of a listed pair of reductions, after symbols that lead to its state and leave its token both actions of
-    /// canonical LR(1). Its token may be another than the listed one: states that were merged share lookaheads that no single
-    /// string has. None where the search finds none; that it finds one for each entry that a table lists is not proved.
+    /// Returns an example of a listed pair of reductions, after symbols that lead to its state and leave its
+    /// token both actions of canonical LR(1). Its token may be another than the listed one: states that were
+    /// merged share lookaheads that no single string has. `None` where the search finds none. It is not proved
+    /// that it finds one for each entry that a table lists.
     fn reduce_reduce_example(
         &self,
         alloc: Global,

@@ -2,23 +2,24 @@
 
 ghost use Rattle.conflict_examples.specs.Spines.{SpinesAreItems, ExamplesAreContests, StepsMakeForms};
 
-/// An item is present after a string exactly where it stands innermost in a spine before whose dots the string stands, and
-/// a token is among its lookaheads exactly where it may stand behind such a spine.
+/// Proves what spines are in canonical LR(1) (Knuth 1965). An item is present after a string if and only if it is
+/// innermost in a spine with this string before its dots. A token is among its lookaheads if and only if it may
+/// follow such a spine.
 #[tactic(auto, using(crate::proofs::Items::spines_are_items))]
 pub fn spines_are_items()
     ensures { SpinesAreItems }
 {}
 
-/// After the string of an example canonical LR(1) leaves its token both actions, and where it leaves a token two actions,
-/// there is an example.
+/// Proves that there is an example if and only if canonical LR(1) leaves a token two actions. It leaves them after
+/// the example's string.
 #[tactic(auto, using(crate::proofs::Contests::examples_are_contests))]
 pub fn examples_are_contests()
     ensures { ExamplesAreContests }
 {}
 
-/// The forms of what shows a reduction, as `ActionExample::forms` makes them, lead from what stands behind the innermost
-/// production to one that begins with the token, or to the empty one where the token is the end token: each comes from the one
-/// before by one replacement.
+/// Proves what the forms of a reduction are that `ActionExample::forms` makes. The first is what follows the
+/// innermost production. Each comes from the one before by one replacement. The last one begins with the token, or is
+/// empty where the token is the end token.
 #[tactic(auto, using(crate::proofs::Contests::steps_make_forms))]
 pub fn steps_make_forms()
     ensures { StepsMakeForms }

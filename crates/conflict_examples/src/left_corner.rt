@@ -13,20 +13,26 @@ use cfg_numbered::yacc::NumberedGrammar;
 use std::alloc::{AllocError, Global};
 use std::collections::BTreeSet;
 
-/// A symbol, its production, or none for what follows the spine, the number of symbols before it, and the production's corner.
+/// A left corner: a symbol that is first in a production, or behind nullable ones.
 #[derive(Clone, Copy)]
 struct Corner<S> {
     symbol: Symbol<S>,
+    /// The production; `None` for what follows the spine.
     pidx: Option<PIdx<S>>,
+    /// The number of symbols before this one.
     index: usize,
+    /// The index of the corner whose rule the production is of.
     parent: usize,
 }
 
-/// The corners so far, in the order of the search; their rules; and the index of the corner that is the token.
+/// The state of the search.
 #[derive(Drop)]
 struct Corners<S> {
+    /// The corners so far, in the order of the search.
     list: Vec<Corner<S>>,
+    /// The rules of these corners.
     seen: BTreeSet<usize>,
+    /// The index of the corner that is the token.
     done: Option<usize>,
 }
 

@@ -6,7 +6,7 @@
 //! use state_table::{Conflicts, StateGraph};
 //! use std::alloc::{AllocError, Global};
 //!
-//! /// Of each listed shift against a reduction, how many symbols stand before the token in an example.
+//! /// Of each listed shift against a reduction, how many symbols are before the token in an example.
 //! fn lengths(
 //!     alloc: Global,
 //!     grm: &NumberedGrammar<u32>,
@@ -24,21 +24,21 @@
 //! }
 //! ```
 //!
-//! For `%start s %% s: 'if' e 'then' s | 'if' e 'then' s 'else' s | 'x'; e: 'e';` the list holds 6 alone: the example is
-//! `if e then if e then s` before `else`. Its spine for the shift is `^ -> . s`, `s -> if e then . s` and
-//! `s -> if e then s . else s`; for the reduction it is `^ -> . s`, `s -> if e then . s else s` and `s -> if e then s .`,
-//! with no further productions, since what stands behind is `else s`, its one form.
+//! For `%start s %% s: 'if' e 'then' s | 'if' e 'then' s 'else' s | 'x'; e: 'e';` the list holds 6 alone: the example
+//! is `if e then if e then s` before `else`. Its spine for the shift is `^ -> . s`, `s -> if e then . s` and `s -> if
+//! e then s . else s`; for the reduction it is `^ -> . s`, `s -> if e then . s else s` and `s -> if e then s .`, with
+//! no further productions, since `else s` follows, its one form.
 //!
-//! A graph may be asked itself, where one example is wanted: with `ConflictExamples` in scope
-//! `graph.shift_reduce_example(alloc, grm, entry)` makes a finder and asks it once.
+//! Where one example is wanted, `ConflictExamples` has calls on the graph: `graph.shift_reduce_example(alloc, grm,
+//! entry)` makes a finder and asks it once.
 //!
-//! A backward search over the finished graph finds a path to the conflict (`backward_search`), a second search the open
-//! productions along this path (`spine_search`), and a third one how the token comes to stand behind them (`left_corner`). None
-//! of this is trusted: each result is a candidate (`witness::Candidate`) that is checked against the grammar (`spine`,
-//! `derivation`, `witness`), and only what passes is returned (`example_check`). Where a production may be reduced where a text has
-//! ended no table is made, and `accept_reduce` searches over the productions alone (`end_search`). An example isn't found where
-//! its derivation would have more than 262,144 steps and symbols (`derivation`); the forms are written out only when asked
-//! for (`forms`).
+//! A backward search over the finished graph finds a path to the conflict (`backward_search`), a second search the
+//! open productions along this path (`spine_search`), and a third one how the token can follow them (`left_corner`).
+//! None of this is trusted: each result is a candidate (`witness::Candidate`) that is checked against the grammar
+//! (`spine`, `derivation`, `witness`), and only what passes is returned (`example_check`). Where a production may be
+//! reduced at the end of a text no table is made, and `accept_reduce` searches over the productions alone
+//! (`end_search`). No example is found where its derivation would have more than 262,144 steps and symbols
+//! (`derivation`). The forms are written out only when asked for (`forms`).
 //!
 //! The contracts that matter most are those of `finder::ExampleFinder` and of `graph_examples::ConflictExamples`; the laws that
 //! tie examples to canonical LR(1) are in `laws`.

@@ -11,12 +11,14 @@ use cfg_base::symbol::{PIdx, SIdx, Symbol};
 use cfg_numbered::yacc::NumberedGrammar;
 use std::alloc::{AllocError, Global};
 
-/// The open productions with their dots, from that of the start in. Besides the symbols before the dots, and those that
-/// follow the innermost production, the first of these last.
+/// A spine: productions that are open one within another.
 #[derive(Drop)]
 pub(crate) struct Spine<S> {
+    /// The productions with their dots, from that of the start in.
     pub items: Vec<(PIdx<S>, SIdx<S>)>,
+    /// The symbols before the dots.
     pub symbols: Vec<Symbol<S>>,
+    /// The symbols that follow the innermost production, the first of them last.
     pub rest: Vec<Symbol<S>>,
 }
 

@@ -8,26 +8,32 @@ use state_table::stidx::StIdx;
 use std::alloc::{AllocError, Global};
 use std::collections::BTreeSet;
 
-/// An open production with its dot: the place in the path where it begins, whether it needs the token behind it, and the link of
-/// the production within it.
+/// An open production with its dot.
 #[derive(Clone, Copy)]
 struct Link<S> {
     pidx: PIdx<S>,
     dot: SIdx<S>,
+    /// The index in the path of the state where it begins.
     place: usize,
+    /// Whether it needs the token behind it.
     needs: bool,
+    /// The index of the link of the production within it.
     within: usize,
 }
 
-/// What tells links apart: the place, the rule, and whether the token is needed.
+/// What identifies a link: the place in the path, the rule, and whether the token is needed.
 type Key = (usize, usize, bool);
 
-/// The links so far, in the order of the search; their keys, and the last of these; and the link that the search is for.
+/// The state of the search.
 #[derive(Drop)]
 struct Links<S> {
+    /// The links so far, in the order of the search.
     list: Vec<Link<S>>,
+    /// The keys of these links.
     seen: BTreeSet<Key>,
+    /// The last of these keys.
     last: Option<Key>,
+    /// The index of the link that the search is for.
     done: Option<usize>,
 }
 

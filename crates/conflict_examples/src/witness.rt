@@ -18,8 +18,8 @@ use cfg_base::symbol::{PIdx, SIdx, Symbol, TIdx};
 use cfg_numbered::yacc::NumberedGrammar;
 use std::alloc::{AllocError, Global};
 
-/// The result of a search for one action, which may be wrong: the open productions, from that of the start in, and the
-/// productions by which the token comes to stand behind them.
+/// The result of a search for one action, which may be wrong: the open productions, from that of the start in, and
+/// the productions by which the token can follow them.
 #[derive(Drop)]
 pub(crate) struct Candidate<S> {
     pub items: Vec<(PIdx<S>, SIdx<S>)>,

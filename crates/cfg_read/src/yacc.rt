@@ -22,18 +22,18 @@ pub use validity_info::{
     ASTModificationError, ASTWithValidityInfo, one_answer, valid_trees_are_well_formed,
 };
 
-/// What a grammar text is written for.
+/// The syntax of a grammar text.
 #[derive(Clone, Copy, Debug, PartialEq, Eq)]
 pub enum YaccKind {
     /// Yacc's own syntax.
     Original(YaccOriginalActionKind),
     /// A syntax where each rule has the type of its actions behind its name.
     Grmtools,
-    /// A syntax with `%implicit_tokens`, which may stand anywhere without being named in a rule.
+    /// A syntax with `%implicit_tokens`, which may appear anywhere without being named in a rule.
     Eco,
 }
 
-/// What the actions of an original Yacc grammar stand for.
+/// What the actions of an original Yacc grammar are.
 #[derive(Clone, Copy, Debug, PartialEq, Eq)]
 pub enum YaccOriginalActionKind {
     /// Code of the grammar's author.

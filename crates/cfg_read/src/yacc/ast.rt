@@ -77,14 +77,14 @@ impl Production {
         })
     }
 
-    /// The symbols.
+    /// Returns the symbols.
     pub fn symbols(&self) -> &[Symbol]
         ensures { map ast_symbol_of result.now ≡ (production_of self.now).symbols }
     {
         self.kept.symbols()
     }
 
-    /// The token of `%prec`.
+    /// Returns the token of `%prec`.
     pub fn precedence(&self) -> Option<&String>
         ensures { option_map string_bytes (option_copied result) ≡ (production_of self.now).precedence }
     {
@@ -94,7 +94,7 @@ impl Production {
         }
     }
 
-    /// The action.
+    /// Returns the trimmed text of the action, without its braces.
     pub fn action(&self) -> Option<&String>
         ensures { option_map string_bytes (option_copied result) ≡ (production_of self.now).action }
     {
@@ -104,7 +104,7 @@ impl Production {
         }
     }
 
-    /// Where the action stands.
+    /// Returns the byte span of the action's text.
     pub fn action_span(&self) -> Option<Span>
         ensures { result ≡ (production_of self.now).action_span }
     {
@@ -114,8 +114,8 @@ impl Production {
         }
     }
 
-    /// The span of symbols, `%empty` and `%prec` with its token; without these an empty one at the `|` or `;`. In a fresh
-    /// rule that of the rule's name.
+    /// Returns the span of symbols, `%empty` and `%prec` with its token; without these an empty one at the `|` or
+    /// `;`. In a fresh rule that of the rule's name.
     pub fn prod_span(&self) -> Span
         ensures { result ≡ (production_of self.now).span }
     {
@@ -138,7 +138,7 @@ pub(super) fn boxed(alloc: Global, word: Option<Word>) -> Result<Option<Box<Word
     }
 }
 
-/// The text of a word in a box, if there is one.
+/// Returns the text of a word in a box, if there is one.
 fn boxed_text_of(word: &Option<Box<Word>>) -> Option<&String>
     ensures { option_map string_bytes (option_copied result) ≡ asts.text_of (option_map boxed_word word.now) }
 {
@@ -148,7 +148,7 @@ fn boxed_text_of(word: &Option<Box<Word>>) -> Option<&String>
     }
 }
 
-/// The text of a word, if there is one.
+/// Returns the text of a word, if there is one.
 fn text_of(word: &Option<Word>) -> Option<&String>
     ensures { option_map string_bytes (option_copied result) ≡ asts.text_of (option_map word_of word.now) }
 {
@@ -158,7 +158,7 @@ fn text_of(word: &Option<Word>) -> Option<&String>
     }
 }
 
-/// The span of a word, if there is one.
+/// Returns the span of a word, if there is one.
 fn span_of(word: &Option<Word>) -> Option<Span>
     ensures { result ≡ asts.span_of (option_map word_of word.now) }
 {
@@ -171,7 +171,8 @@ fn span_of(word: &Option<Word>) -> Option<Span>
 /// A rule, and the numbers of its productions.
 #[derive(Debug, Drop)]
 pub struct Rule {
-    /// The name, and where the rule's first heading stands. Of a fresh rule where the symbol with the `?` first stands.
+    /// The name, and its byte span in the rule's first heading; for a fresh rule the span of the first symbol
+    /// with the `?`.
     pub name: (String, Span),
     /// The numbers of its productions, in order.
     pub pidxs: Vec<usize>,
@@ -182,14 +183,20 @@ pub struct Rule {
 /// What a grammar text says: its rules, productions and tokens by number, and its declarations.
 #[derive(Debug, Drop)]
 pub struct GrammarAST {
+    /// Whether nothing is wrong with the text.
     is_valid: bool,
+    /// The name of the start rule, with the span where the text names it first.
     start: Option<(String, Span)>,
+    /// The rules by name, those of optional symbols last.
     rules: IndexMap<String, Rule>,
     prods: Vec<Production>,
+    /// The tokens by name, with the span of the first appearance.
     tokens: IndexMap<String, Span>,
+    /// The precedences of tokens by name, with the token's first span in a precedence line.
     precs: IndexMap<String, (Precedence, Span)>,
     avoid_insert: IndexMap<String, Span>,
     implicit_tokens: IndexMap<String, Span>,
+    /// For each token of `%epp` its span, and the printed text with its span.
     epp: IndexMap<String, (Span, (String, Span))>,
     expect: Option<(usize, Span)>,
     expectrr: Option<(usize, Span)>,
@@ -225,11 +232,11 @@ impl Model for GrammarAST {
       expect_unused = map ast_symbol_of a.expect_unused.items;
     } };
 
-    // Each rule has the name that it stands under.
+    // Each rule has the name of its key.
     ghost invariant = { λ a. own_names a.rules ≡ rule_keys a.rules };
 }
 
-/// The index of a name in a map, by where the name itself tells to look first.
+/// Returns the index of a name in a map, trying the index stored in the name first.
 fn number_in<V>(names: &IndexMap<String, V>, name: &Name) -> Option<usize>
     ensures { result ≡ position (bytes_eq (name_text name.now)) (map key_text names.now.entries) }
 {
@@ -274,14 +281,14 @@ impl GrammarAST {
         self.start = Some((name, span));
     }
 
-    /// The start rule, and where the text names it first: in `%start`, else as the first heading.
+    /// Returns the start rule, and where the text names it first: in `%start`, else as the first heading.
     pub fn start(&self) -> Option<&(String, Span)>
         ensures { option_map named_span (option_copied result) ≡ self.now.start }
     {
         self.start.as_ref()
     }
 
-    /// The rules, in the order of their first headings, and behind them those that optional symbols stand for.
+    /// Returns the rules, in the order of their first headings, and then those that optional symbols mean.
     pub fn rules(&self) -> &IndexMap<String, Rule>
         ensures rules { named_rules result.now ≡ self.now.rules }
         ensures names { own_names result.now ≡ rule_keys result.now }
@@ -289,105 +296,106 @@ impl GrammarAST {
         &self.rules
     }
 
-    /// The number of the rule of this name, by where the name itself tells to look first.
+    /// Returns the number of the rule of this name, trying the index stored in the name first.
     pub fn rule_number(&self, name: &Name) -> Option<usize>
         ensures { result ≡ position (bytes_eq (name_text name.now)) (map (λ r. r.name.text) self.now.rules) }
     {
         number_in(&self.rules, name)
     }
 
-    /// The number of the token of this name, by where the name itself tells to look first.
+    /// Returns the number of the token of this name, trying the index stored in the name first.
     pub fn token_number(&self, name: &Name) -> Option<usize>
         ensures { result ≡ position (bytes_eq (name_text name.now)) (texts self.now.tokens) }
     {
         number_in(&self.tokens, name)
     }
 
-    /// The productions, in the order of the text, and behind them two for each rule that optional symbols stand for.
+    /// Returns the productions, in the order of the text, and then two for each rule that optional symbols mean.
     pub fn prods(&self) -> &[Production]
         ensures { map production_of result.now ≡ self.now.productions }
     {
         &self.prods
     }
 
-    /// The tokens, each with the span of its first appearance, in the order of these.
+    /// Returns the tokens, each with the span of its first appearance, in the order of these.
     pub fn tokens(&self) -> &IndexMap<String, Span>
         ensures { named_spans result.now ≡ self.now.tokens }
     {
         &self.tokens
     }
 
-    /// The spans of the tokens' first appearances, in order.
+    /// Returns the spans of the tokens' first appearances, in order.
     pub fn spans(&self) -> &[Span]
         ensures { result.now ≡ map (λ w. w.span) self.now.tokens }
     {
         self.tokens.values().as_slice()
     }
 
-    /// The precedences of tokens, each with the token's first span in a precedence line.
+    /// Returns the precedences of tokens, each with the token's first span in a precedence line.
     pub fn precs(&self) -> &IndexMap<String, (Precedence, Span)>
         ensures { named_precedences result.now ≡ self.now.precedences }
     {
         &self.precs
     }
 
-    /// The tokens of `%avoid_insert`, each with its first span there.
+    /// Returns the tokens of `%avoid_insert`, each with its first span there.
     pub fn avoid_insert(&self) -> &IndexMap<String, Span>
         ensures { named_spans result.now ≡ self.now.avoid_insert }
     {
         &self.avoid_insert
     }
 
-    /// The tokens of `%implicit_tokens`, each with its first span there.
+    /// Returns the tokens of `%implicit_tokens`, each with its first span there.
     pub fn implicit_tokens(&self) -> &IndexMap<String, Span>
         ensures { named_spans result.now ≡ self.now.implicit_tokens }
     {
         &self.implicit_tokens
     }
 
-    /// The printed texts of tokens: the span of the token, and the text with its span.
+    /// Returns the printed texts of tokens: the span of the token, and the text with its span.
     pub fn epp(&self) -> &IndexMap<String, (Span, (String, Span))>
         ensures { named_epps result.now ≡ self.now.epp }
     {
         &self.epp
     }
 
-    /// How many shift/reduce conflicts are expected.
+    /// Returns how many shift/reduce conflicts are expected.
     pub fn expect(&self) -> Option<(usize, Span)>
         ensures { option_map number_with_span result ≡ self.now.expect }
     {
         self.expect
     }
 
-    /// How many reduce/reduce conflicts are expected.
+    /// Returns how many reduce/reduce conflicts are expected.
     pub fn expectrr(&self) -> Option<(usize, Span)>
         ensures { option_map number_with_span result ≡ self.now.expect_rr }
     {
         self.expectrr
     }
 
-    /// The name and the type of `%parse-param`.
+    /// Returns the name and the type of `%parse-param`.
     pub fn parse_param(&self) -> Option<&(String, String)>
         ensures { option_map param_pair (option_copied result) ≡ self.now.parse_param }
     {
         self.parse_param.as_ref()
     }
 
-    /// The text of `%parse-generics`.
+    /// Returns the text of `%parse-generics`.
     pub fn parse_generics(&self) -> Option<&String>
         ensures { option_map string_bytes (option_copied result) ≡ self.now.parse_generics }
     {
         self.parse_generics.as_ref()
     }
 
-    /// The text behind the second `%%`.
+    /// Returns the text behind the second `%%`.
     pub fn programs(&self) -> Option<&String>
         ensures { option_map string_bytes (option_copied result) ≡ self.now.programs }
     {
         self.programs.as_ref()
     }
 
-    /// The names of `%expect-unused`: those without quotes as rules, whatever they name, and the quoted ones as tokens.
+    /// Returns the names of `%expect-unused`: those without quotes as rules, whatever they name, and the quoted
+    /// ones as tokens.
     pub fn expect_unused(&self) -> &[Symbol]
         ensures { map ast_symbol_of result.now ≡ self.now.expect_unused }
     {

@@ -1,4 +1,4 @@
-//! Reads a grammar text as a whole: its section, and what stands behind it.
+//! Reads a grammar text as a whole: its section, and the text behind it.
 
 ghost use Rattle.std.specs.Prelude.{◌≡◌, ◌≤◌, ◌++◌, ◌∷◌, [], ℕ, List, Some, None, length, map, option_map, option_copied, IfOk, IfErr};
 ghost use Rattle.cfg_base.specs.declared.header.value.HeaderValue.{HeaderValue};
@@ -41,7 +41,7 @@ pub enum YaccGrammarFailure {
     Invalid(Vec<YaccGrammarError>),
 }
 
-/// What reading a grammar text answers.
+/// The result of reading a grammar text.
 pub type YaccGrammarResult<T> = Result<T, YaccGrammarFailure>;
 
 /// Makes the errors of a section those of its text.
@@ -104,7 +104,7 @@ fn fault_failure(alloc: Global, e: ReadError) -> YaccGrammarFailure
     }
 }
 
-/// Reads a text's section: answers its header, empty where there is none, and the offset behind it, else 0.
+/// Reads a text's section, and returns its header, empty where there is none, and the offset behind it, else 0.
 pub(crate) fn read_section(alloc: Global, text: &str) -> YaccGrammarResult<(Header<Span>, usize)>
     ensures ok { IfOk result (λ r. ReadsHeader (source text.now) r.0 r.1) }
     ensures within { IfOk result (λ r. r.1 ≤ length text.now) }
@@ -132,7 +132,7 @@ pub(crate) fn read_rest(
     }
 }
 
-/// Makes the failure of a value that stands for no kind.
+/// Makes the failure of a value that means no kind.
 fn kind_failure(alloc: Global, e: KindError<Span>) -> YaccGrammarFailure
     ensures { (m : Meaning SpanModel) → IsKindError ⟦<Span as Clone>⟧.is_clone m e → IsFailure (FailsMeaning m) result }
 {
@@ -148,7 +148,7 @@ fn kind_failure(alloc: Global, e: KindError<Span>) -> YaccGrammarFailure
     }
 }
 
-/// Answers the value of a key, if the key is there.
+/// Returns the value of a key, if the key is there.
 fn value_of<'a>(
     alloc: Global,
     header: &'a Header<Span>,
@@ -160,7 +160,7 @@ fn value_of<'a>(
     Ok(header.get(&key))
 }
 
-/// Makes the failure of a text that tells no kind.
+/// Makes the failure of a text that names no kind.
 fn no_kind(alloc: Global) -> YaccGrammarFailure
     ensures { IsFailure (FailsKind None) result }
 {
@@ -171,7 +171,7 @@ fn no_kind(alloc: Global) -> YaccGrammarFailure
     }
 }
 
-/// Answers the kind of a key's value.
+/// Returns the kind of a key's value.
 fn kind_of_value(alloc: Global, value: &HeaderValue<Span>) -> YaccGrammarResult<YaccKind>
     ensures ok { IfOk result (λ k. meaning_of (value_text value.now.1) ≡ means k) }
     ensures err { IfErr result (λ e. IsFailure (FailsMeaning (meaning_of (value_text value.now.1))) e) }
@@ -182,7 +182,7 @@ fn kind_of_value(alloc: Global, value: &HeaderValue<Span>) -> YaccGrammarResult<
     }
 }
 
-/// Answers the kind of a key's value, if the key is there.
+/// Returns the kind of a key's value, if the key is there.
 #[tactic(auto, using(crate::proofs::TextKinds::some_fails))]
 fn told_kind(alloc: Global, value: Option<&HeaderValue<Span>>) -> YaccGrammarResult<YaccKind>
     ensures ok { IfOk result (λ k. said_meaning (option_map entry_text (option_copied value.entry)) ≡ Some (means k)) }
@@ -197,7 +197,7 @@ fn told_kind(alloc: Global, value: Option<&HeaderValue<Span>>) -> YaccGrammarRes
     }
 }
 
-/// Answers the kind that a header tells by `yacckind`.
+/// Returns the kind that a header names by `yacckind`.
 pub(crate) fn kind_in(alloc: Global, header: &Header<Span>) -> YaccGrammarResult<YaccKind>
     ensures ok { (pairs : List PairText) → Holds header.now pairs → IfOk result (λ k. told_kind pairs ≡ Some (means k)) }
     ensures err { (pairs : List PairText) → Holds header.now pairs → IfErr result (λ e. IsFailure (FailsKind (told_kind pairs)) e) }
@@ -211,8 +211,8 @@ pub(crate) fn kind_in(alloc: Global, header: &Header<Span>) -> YaccGrammarResult
     }
 }
 
-/// A law: for each kind, a text has exactly one reading or exactly one list of errors: never two, never
-/// both, and never neither.
+/// Proves that for each kind, a text has exactly one reading or exactly one list of errors: never two, never both,
+/// and never neither.
 pub fn one_file()
     ensures some { (kind : YaccKind) (text : List ℕ) → FileOutcome kind text }
     ensures readings { (kind : YaccKind) (text : List ℕ) (x y : SyntaxText) → ReadsFile kind text x → ReadsFile kind text y → x ≡ y }
@@ -224,7 +224,7 @@ pub fn one_file()
     laws::one_reading();
 }
 
-/// A law: a text tells exactly one kind, or has exactly one list of errors that keep it from telling one.
+/// Proves that a text names exactly one kind, or has exactly one list of errors that keep it from naming one.
 pub fn one_kind()
     ensures some { (text : List ℕ) → KindOutcome text }
     ensures kinds { (text : List ℕ) (k l : YaccKind) → TellsKind text k → TellsKind text l → k ≡ l }

@@ -1,4 +1,4 @@
-//! Kinds of grammars and what stands for them in a section.
+//! Kinds of grammars, and the values of a section that mean them.
 
 ghost use Rattle.std.specs.Prelude.{◌≡◌, Ok, IfOk, IfErr, option_map};
 ghost use lib.Chars.{codes};
@@ -21,8 +21,8 @@ use std::fmt::{Debug, Display, Formatter, Write};
 pub enum KindError<T> {
     /// The request for memory that was refused.
     Memory(AllocError),
-    /// The value stands for no kind. The one location is that of the first word from the left that
-    /// doesn't fit, else that of the value.
+    /// The value means no kind. The one location is that of the first word from the left that doesn't fit, else
+    /// that of the value.
     Invalid(HeaderError<T>),
 }
 
@@ -42,7 +42,7 @@ impl<T> Display for KindError<T> {
 
 impl<T: Debug + Drop> Error for KindError<T> {}
 
-/// Why a value stands for no kind, and where that shows.
+/// Why a value means no kind, and the location that shows it.
 #[derive(Drop)]
 struct Misfit<'a, T> {
     why: &'static str,
@@ -56,7 +56,7 @@ fn is_word(text: &String, word: &str) -> bool
     text.as_str().eq_ignore_ascii_case(word)
 }
 
-/// The namespace of a path, where it isn't this one.
+/// Returns the namespace of a path, where it isn't this one.
 fn misplaced<'a, T>(path: &'a Namespaced<T>, namespace: &str) -> Option<Misfit<'a, T>>
     ensures { (m : Meaning T) → or_misfit result m ≡ within (path_text path.now).namespace namespace.now m }
 {
@@ -112,7 +112,7 @@ fn unknown_variant<'a, T>(path: &'a Namespaced<T>) -> Misfit<'a, T>
     }
 }
 
-/// The kind of a path without an argument.
+/// Returns the kind of a path without an argument.
 fn kind_alone<'a, T>(path: &'a Namespaced<T>) -> Result<YaccKind, Misfit<'a, T>>
     ensures { found_meaning result ≡ alone_meaning (path_text path.now) }
 {
@@ -125,7 +125,7 @@ fn kind_alone<'a, T>(path: &'a Namespaced<T>) -> Result<YaccKind, Misfit<'a, T>>
     }
 }
 
-/// The kind of `Original` with this argument.
+/// Returns the kind of `Original` with this argument.
 fn kind_of_argument<'a, T>(path: &'a Namespaced<T>) -> Result<YaccKind, Misfit<'a, T>>
     ensures { found_meaning result ≡ argument_meaning (path_text path.now) }
 {
@@ -138,7 +138,7 @@ fn kind_of_argument<'a, T>(path: &'a Namespaced<T>) -> Result<YaccKind, Misfit<'
     }
 }
 
-/// The kind of a path with an argument.
+/// Returns the kind of a path with an argument.
 fn kind_with<'a, T>(
     path: &'a Namespaced<T>,
     argument: &'a Namespaced<T>,
@@ -169,7 +169,7 @@ fn find_kind<'a, T>(value: &'a Value<T>) -> Result<YaccKind, Misfit<'a, T>>
     }
 }
 
-/// The error of a value that stands for no kind.
+/// Returns the error of a value that means no kind.
 fn misfit_error<T: Clone>(
     alloc: Global,
     why: &'static str,
@@ -211,7 +211,7 @@ impl YaccKind {
         }
     }
 
-    /// The value that stands for a kind, each word in its namespace, all at `Other("YaccKind")`.
+    /// Returns the value that means a kind, each word in its namespace, all at `Other("YaccKind")`.
     pub fn try_to_value(self, alloc: Global) -> Result<Value<Location>, AllocError>
         ensures { IfOk result (λ v. map_value location_text (value_text v) ≡ value_of self) }
     {
@@ -258,7 +258,7 @@ fn original(alloc: Global, action: YaccOriginalActionKind) -> Result<Setting<Loc
     Ok(Setting::Constructor { ctor, arg })
 }
 
-/// A law: the value made from a kind stands for that kind.
+/// Proves that the value made from a kind means that kind.
 pub fn kind_comes_back()
     ensures { (v : Value Location) (k : YaccKind) → map_value location_text (value_text v) ≡ value_of k → meaning_of (value_text v) ≡ means k }
 {}

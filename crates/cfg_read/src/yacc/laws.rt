@@ -10,18 +10,18 @@ ghost use Rattle.cfg_read.specs.WellFormedAst.{IsWellFormedAst, names_of_rules};
 
 use crate::yacc::{YaccKind, YaccOriginalActionKind};
 
-/// What the tree of a valid text names is there, each name once, each production is one rule's, and precedences of one
-/// level have one kind.
+/// Proves that the tree of a valid text is well formed. What it names is there, each name once; each production is
+/// one rule's; and precedences of one level have one kind.
 pub fn valid_texts_have_well_formed_trees()
     ensures { (told : Bool) (x : SyntaxText) → IsValid x → IsWellFormedAst (ast_of told x) }
 {}
 
-/// That stays so whichever of its rules is taken as the start rule.
+/// Proves that the tree stays well formed whichever of its rules is made the start rule.
 pub fn any_rule_may_start()
     ensures { (ast : Ast) (w : WordText) → IsWellFormedAst ast → Contains (names_of_rules ast) w.text → IsWellFormedAst (record ast { start = Some w }) }
 {}
 
-/// `==` of kinds is equality of the values.
+/// Proves that `==` of kinds is equality of the values.
 pub fn equality_is_of_values()
     ensures kind { (a b : YaccKind) → IsTrue (⟦<YaccKind as PartialEq>⟧.eq a b) ↔ (a ≡ b) }
     ensures action { (a b : YaccOriginalActionKind) → IsTrue (⟦<YaccOriginalActionKind as PartialEq>⟧.eq a b) ↔ (a ≡ b) }

@@ -27,8 +27,8 @@ pub struct Name {
     text: RcStr,
     /// Where the part begins.
     start: u32,
-    /// Where the name may stand in a list of names: of one that was read among all names of its text, of one in a tree among
-    /// the rules or the tokens. A look-up tries this place first, and no answer hangs on it.
+    /// An index at which the name may be in a list of names: for a name that was read among all names of its
+    /// text, for one in a tree among the rules or the tokens. A look-up tries it first; no result depends on it.
     place: u16,
     /// How long the part is, or `WHOLE`.
     len: u8,
@@ -89,7 +89,7 @@ impl Name {
         })
     }
 
-    /// The text.
+    /// Returns the text.
     pub fn as_str(&self) -> &str
         ensures { result.now ≡ name_text self.now }
     {
@@ -101,12 +101,12 @@ impl Name {
         &text[start..start + self.len as usize]
     }
 
-    /// Where to look for the text first.
+    /// Returns the index at which a look-up tries first.
     pub(crate) fn place(&self) -> usize {
         self.place as usize
     }
 
-    /// Whether a `?` was read right behind it.
+    /// Returns whether a `?` was read right behind it.
     pub(crate) fn is_optional(&self) -> bool
         ensures { result ≡ name_optional self.now }
     {
@@ -121,7 +121,7 @@ impl Name {
         self.is_optional = is_optional;
     }
 
-    /// Has look-ups try this place first.
+    /// Sets the index at which look-ups try first.
     pub(crate) fn set_place(&mut self, place: u32)
         ensures text { name_text self.new ≡ name_text self.old }
         ensures mark { name_optional self.new ≡ name_optional self.old }
@@ -129,7 +129,7 @@ impl Name {
         self.place = (place % 0x1_0000) as u16;
     }
 
-    /// A name of the same text, with such a mark.
+    /// Returns a name of the same text, with such a mark.
     pub(crate) fn marked(&self, is_optional: bool) -> Result<Name, AllocError>
         ensures text { IfOk result (λ n. name_text n ≡ name_text self.now) }
         ensures mark { IfOk result (λ n. name_optional n ≡ is_optional) }
@@ -144,7 +144,7 @@ impl Name {
         })
     }
 
-    /// A name of the same text, without a `?`.
+    /// Returns a name of the same text, without a `?`.
     pub(crate) fn plain(&self) -> Result<Name, AllocError>
         ensures text { IfOk result (λ n. name_text n ≡ name_text self.now) }
         ensures mark { IfOk result (λ n. name_optional n ≡ false) }
@@ -248,7 +248,7 @@ impl NameSet {
         }
     }
 
-    /// Creates a set of no names, with room for so many.
+    /// Creates a set of no names, with room for `room` of them.
     pub(crate) fn with_room(alloc: Global, room: usize) -> Result<NameSet, AllocError>
         ensures { IfOk result (λ n. n ≡ []) }
     {
@@ -256,14 +256,14 @@ impl NameSet {
         Ok(NameSet { names })
     }
 
-    /// How many there are.
+    /// Returns how many there are.
     pub(crate) fn len(&self) -> usize
         ensures { result ≡ length self.now }
     {
         self.names.len()
     }
 
-    /// The place of a name, if it is there, by where the name itself tells to look first.
+    /// Returns the index of a name, if it is there, trying the index stored in the name first.
     pub(crate) fn find(&self, name: &Name) -> Option<usize>
         ensures there { IfSome result (λ p. slice_get self.now p ≡ Some (name_text name.now)) }
         ensures found { is_some result ≡ list_any (bytes_eq (name_text name.now)) self.now }
@@ -276,7 +276,7 @@ impl NameSet {
         }
     }
 
-    /// Puts a name that isn't there yet behind the others, and answers its place.
+    /// Puts a name that isn't there yet behind the others, and returns its index.
     pub(crate) fn put(&mut self, name: &Name) -> Result<usize, AllocError>
         requires { list_any (bytes_eq (name_text name.now)) self.old ≡ false }
         ensures texts { OnOk result (self.new ≡ self.old ++ name_text name.now ∷ []) }
@@ -288,7 +288,7 @@ impl NameSet {
         Ok(place)
     }
 
-    /// Notes a name that was read, and has look-ups of it try first the place that all that are read alike have here.
+    /// Notes a name that was read, and stores in it the index that all that are read alike have here.
     pub(crate) fn note(&mut self, name: &mut Name) -> Result<(), AllocError>
         ensures text { name_text name.new ≡ name_text name.old }
         ensures mark { name_optional name.new ≡ name_optional name.old }

@@ -1,4 +1,4 @@
-//! What the names of a text stand for.
+//! What the names of a text mean: rules, tokens, or nothing.
 
 ghost use Rattle.std.specs.Prelude.{◌≡◌, ◌++◌, ◌∷◌, [], ℕ, Bool, false, List, length, slice_get, Some, IfOk, OnOk, OnErr};
 ghost use Rattle.std.specs.List.{list_any, IsDistinct};
@@ -16,7 +16,7 @@ use indexmap::IndexMap;
 use std::alloc::{AllocError, Global};
 use std::marker::Model;
 
-/// What a name stands for.
+/// What a name means.
 #[derive(Clone, Copy, Debug, PartialEq, Eq)]
 pub(crate) struct Entry {
     /// Whether `%token` declares it.
@@ -25,12 +25,12 @@ pub(crate) struct Entry {
     pub(crate) is_rule: bool,
     /// Whether a token has it.
     pub(crate) is_token: bool,
-    /// Where to look first for the rule, and for the token.
+    /// The index at which to look first for the rule, and for the token.
     pub(crate) rule: u32,
     pub(crate) token: u32,
 }
 
-/// A name that stands for nothing.
+/// A name that means nothing.
 const NOTHING: Entry = Entry {
     is_declared: false,
     is_rule: false,
@@ -39,7 +39,7 @@ const NOTHING: Entry = Entry {
     token: 0,
 };
 
-/// The names of a text, what they stand for, and the tokens with their first spans.
+/// The names of a text, what they mean, and the tokens with their first spans.
 #[derive(Drop)]
 pub(crate) struct NameTable {
     names: NameSet,
@@ -59,7 +59,7 @@ impl Model for NameTable {
     ghost invariant = { λ t. IsTable t.names t.entries.items (named_spans t.tokens) };
 }
 
-/// Puts a name that isn't there yet behind the others, as one that stands for nothing.
+/// Puts a name that isn't there yet behind the others, as one that means nothing.
 fn add(names: &mut NameSet, entries: &mut Vec<Entry>, name: &Name) -> Result<usize, AllocError>
     requires absent { list_any (bytes_eq (name_text name.now)) names.old ≡ false }
     requires size { length entries.old.items ≡ length names.old }
@@ -74,7 +74,7 @@ fn add(names: &mut NameSet, entries: &mut Vec<Entry>, name: &Name) -> Result<usi
     Ok(place)
 }
 
-/// The place of a name, which is put behind the others where it isn't there yet.
+/// Returns the index of a name, which is put behind the others if it isn't there yet.
 fn place_in(names: &mut NameSet, entries: &mut Vec<Entry>, name: &Name) -> Result<usize, AllocError>
     requires { length entries.old.items ≡ length names.old }
     ensures size { length entries.new.items ≡ length names.new }
@@ -88,7 +88,7 @@ fn place_in(names: &mut NameSet, entries: &mut Vec<Entry>, name: &Name) -> Resul
     }
 }
 
-/// Puts a token with its span behind the others, and answers where to look for it.
+/// Puts a token with its span behind the others, and returns where to look for it.
 fn add_token(
     tokens: &mut IndexMap<String, Span>,
     alloc: Global,
@@ -106,7 +106,7 @@ fn add_token(
 }
 
 impl NameTable {
-    /// Begins with names that stand for nothing, and room for so many tokens.
+    /// Makes a table of names that mean nothing, with room for `room` tokens.
     pub(crate) fn of(alloc: Global, names: NameSet, room: usize) -> Result<NameTable, AllocError>
         ensures { IfOk result (λ t. known_of t ≡ no_names) }
     {
@@ -120,7 +120,7 @@ impl NameTable {
         })
     }
 
-    /// What a name stands for.
+    /// Returns what a name means.
     pub(crate) fn entry(&self, name: &Name) -> Entry
         ensures declared { result.is_declared ≡ (known_of self.now).declared (name_text name.now) }
         ensures rule { result.is_rule ≡ (known_of self.now).rules (name_text name.now) }
@@ -155,7 +155,7 @@ impl NameTable {
         Ok(())
     }
 
-    /// Notes that a token has a name: its first span, and where to look for it, which it answers.
+    /// Notes that a token has a name: its first span, and where to look for it, which it returns.
     pub(crate) fn note_token(
         &mut self,
         alloc: Global,
@@ -175,7 +175,7 @@ impl NameTable {
         Ok(number)
     }
 
-    /// The same of a name that stands for this.
+    /// Notes that a token has a name, as `note_token` does, where the name's entry is known.
     pub(crate) fn note_token_of(
         &mut self,
         alloc: Global,
@@ -192,19 +192,19 @@ impl NameTable {
         self.note_token(alloc, name, span)
     }
 
-    /// How many rules there are.
+    /// Returns how many rules there are.
     pub(crate) fn rules_len(&self) -> usize {
         self.rules_len as usize
     }
 
-    /// The tokens, each with its first span.
+    /// Returns the tokens, each with its first span.
     pub(crate) fn tokens(&self) -> &IndexMap<String, Span>
         ensures { named_spans result.now ≡ self.now.tokens }
     {
         &self.tokens
     }
 
-    /// The tokens, taken over.
+    /// Returns the tokens, taken over.
     pub(crate) fn into_tokens(self) -> IndexMap<String, Span>
         ensures { named_spans result ≡ self.tokens }
     {

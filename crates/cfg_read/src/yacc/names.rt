@@ -31,7 +31,7 @@ fn push_mention<'a>(
     }
 }
 
-/// Collects each name of the words once, where it first stands.
+/// Collects each name of the words once, at its first appearance.
 pub(crate) fn distinct_names<'a>(
     alloc: Global,
     words: &[(&'a str, Span)],
@@ -84,7 +84,7 @@ pub(crate) fn level_words<'a>(
     Ok(found)
 }
 
-/// Tells whether these precedence lines have so many tokens.
+/// Returns whether these precedence lines have `count` tokens.
 pub(crate) fn have_so_many_tokens(levels: &[Level], count: usize) -> bool
     ensures { result ≡ true → length (flat_map (λ l. words_in l.tokens) (map level_of levels.now)) ≡ count }
 {
@@ -98,7 +98,7 @@ pub(crate) fn have_so_many_tokens(levels: &[Level], count: usize) -> bool
     left == 0
 }
 
-/// Tells whether these lines have so many names and tokens.
+/// Returns whether these lines have `count` names and tokens.
 pub(crate) fn have_so_many_items(lines: &[Line], count: usize) -> bool
     ensures { result ≡ true → length (flat_map words_in (map line_of lines.now)) ≡ count }
 {
@@ -206,8 +206,8 @@ pub(crate) fn line_symbols<'a>(
     Ok(found)
 }
 
-/// Puts those symbols from `next` on that stand before an offset behind the others, up to the first that doesn't, and answers
-/// the number of that one.
+/// Puts symbols from `next` on behind the others, as long as they begin before a byte offset. Returns the index of
+/// the first that doesn't.
 fn push_before<'a>(
     found: &mut Vec<&'a Symbol>,
     symbols: &[&'a Symbol],
@@ -300,7 +300,7 @@ fn note_tokens(alloc: Global, table: &mut NameTable, symbols: &[&Symbol]) -> Res
     Ok(())
 }
 
-/// Notes what the names of a text stand for, as far as it is known before its alternatives.
+/// Notes what the names of a text mean, as far as it is known before its alternatives.
 fn note_all(alloc: Global, table: &mut NameTable, x: &Syntax) -> Result<(), AllocError>
     requires { known_of table.old ≡ no_names }
     ensures { OnOk result (known_of table.new ≡ known_before (syntax_of x.now)) }
@@ -312,7 +312,7 @@ fn note_all(alloc: Global, table: &mut NameTable, x: &Syntax) -> Result<(), Allo
     Ok(())
 }
 
-/// What the names of a text stand for, as far as it is known before its alternatives.
+/// Returns what the names of a text mean, as far as it is known before its alternatives.
 pub(crate) fn table_of(alloc: Global, names: NameSet, x: &Syntax) -> Result<NameTable, AllocError>
     ensures { IfOk result (λ t. known_of t ≡ known_before (syntax_of x.now)) }
 {

@@ -28,7 +28,7 @@ pub(crate) mod unknown;
 pub struct YaccGrammarError {
     /// What is wrong at the spans.
     pub kind: YaccGrammarErrorKind,
-    /// The spans of all occurrences of what stands more than once, in order; else one span.
+    /// The byte spans of all occurrences of what may occur once, in order; else one span.
     pub spans: Vec<Span>,
 }
 

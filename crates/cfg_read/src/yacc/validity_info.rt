@@ -68,14 +68,14 @@ pub struct ASTWithValidityInfo {
     errors: Vec<YaccGrammarError>,
 }
 
-/// Tells whether there are no errors.
+/// Returns whether there are no errors.
 fn none_of(errors: &Vec<YaccGrammarError>) -> bool
     ensures { result ≡ is_valid (failures_in errors.now.items) }
 {
     errors.is_empty()
 }
 
-/// The span of a rule's first heading.
+/// Returns the span of a rule's first heading.
 fn heading_at(rules: &IndexMap<String, Rule>, name: &str) -> Option<Span>
     ensures { result ≡ heading_at (named_rules rules.now) name.now }
 {
@@ -96,7 +96,7 @@ impl Model for ASTWithValidityInfo {
     ghost invariant = { λ c. IsWellMade (record { kind = c.yacc_kind; ast = c.ast; errors = failures_in c.errors.items }) };
 }
 
-/// What is known of a text before its alternatives.
+/// Returns the names of a text, as far as they are known before its alternatives.
 fn uses_before(alloc: Global, x: &mut Syntax) -> Result<Uses, AllocError>
     ensures same { syntax_of x.new ≡ syntax_of x.old }
     ensures known { IfOk result (λ u. uses_of u ≡ record { known = known_before (syntax_of x.old); unknown = []; fresh = [] }) }
@@ -106,7 +106,7 @@ fn uses_before(alloc: Global, x: &mut Syntax) -> Result<Uses, AllocError>
     Ok(Uses::of(alloc, table))
 }
 
-/// The tokens, taken over.
+/// Returns the tokens, taken over.
 fn tokens_in(uses: Uses) -> IndexMap<String, Span>
     ensures { named_spans result ≡ (uses_of uses).known.tokens }
 {
@@ -272,9 +272,9 @@ impl ASTWithValidityInfo {
         }
     }
 
-    /// Makes the tree of a text of a kind. The section is read, and its `yacckind` left aside. A text that
-    /// doesn't read gives an empty tree with its errors: those of the section, else the one fault of what
-    /// stands behind it. Only running out of memory gives an error.
+    /// Reads a text of a kind and checks it. The section is read, and its `yacckind` ignored. A text that doesn't
+    /// read gives an empty tree with its errors: those of the section, else the one fault of the text behind it.
+    /// Only refused memory is an `Err`.
     pub fn new(
         alloc: Global,
         yacc_kind: YaccKind,
@@ -364,8 +364,8 @@ impl ASTWithValidityInfo {
         })
     }
 
-    /// What the text says; empty where it doesn't read. Where nothing is wrong with the text what this names is there, and
-    /// its rules have names of the file grammar, or names that end in `?`.
+    /// Returns the syntax tree; empty where the text doesn't read. Where nothing is wrong with the text, all that
+    /// the tree names is there, and its rules have names of the file grammar, or names that end in `?`.
     pub fn ast(&self) -> &GrammarAST
         ensures ast { result.now ≡ self.now.ast }
         ensures well_formed { is_valid self.now.errors ≡ true → IsWellFormedAst result.now }
@@ -374,7 +374,7 @@ impl ASTWithValidityInfo {
         &self.ast
     }
 
-    /// The tree alone, for what takes its parts over.
+    /// Returns the tree alone, for what takes its parts over.
     pub fn into_ast(self) -> GrammarAST
         ensures ast { result ≡ self.ast }
         ensures well_formed { is_valid self.errors ≡ true → IsWellFormedAst result }
@@ -383,21 +383,21 @@ impl ASTWithValidityInfo {
         self.ast
     }
 
-    /// Whether nothing is wrong with the text.
+    /// Returns whether nothing is wrong with the text.
     pub fn is_valid(&self) -> bool
         ensures { result ≡ is_valid self.now.errors }
     {
         self.errors.is_empty()
     }
 
-    /// What the text is written for.
+    /// Returns the kind of the text.
     pub fn yacc_kind(&self) -> YaccKind
         ensures { result ≡ self.now.kind }
     {
         self.yacc_kind
     }
 
-    /// All that is wrong with the text.
+    /// Returns all that is wrong with the text.
     pub fn errors(&self) -> &[YaccGrammarError]
         ensures { failures_in result.now ≡ self.now.errors }
     {
@@ -405,8 +405,8 @@ impl ASTWithValidityInfo {
     }
 }
 
-/// A law: what is kept of a text of a kind is a function of both, a text that doesn't read is invalid, and
-/// the tree of a text tells whether this is valid, so that an invalid one has no warnings.
+/// Proves that the tree and the errors of a text of a kind are a function of both, and that a text that doesn't read
+/// is invalid. The tree shows whether its text is valid, so an invalid one has no warnings.
 pub fn one_answer()
     ensures answers { (kind : YaccKind) (text : List ℕ) (c d : CheckedAst) → IsChecked kind text c → IsChecked kind text d → c ≡ d }
     ensures unread { (kind : YaccKind) (text : List ℕ) (fs : List FailureText) → FailsFile kind text fs → is_valid fs ≡ false }
@@ -415,8 +415,8 @@ pub fn one_answer()
     one_file();
 }
 
-/// A law: where nothing is wrong with a text its tree is well formed, and its rules have names of the file grammar, or names
-/// that end in `?`; so it is whichever rule is made the start rule.
+/// Proves that where nothing is wrong with a text its tree is well formed, whichever rule is made the start rule. Its
+/// rules have names of the file grammar, or names that end in `?`.
 pub fn valid_trees_are_well_formed()
     ensures kept { (kind : YaccKind) (text : List ℕ) (c : CheckedAst) → IsChecked kind text c → IsWellMade c }
     ensures changed { (old : CheckedAst) (name : List ℕ) (new : CheckedAst) → IsWellMade old → ChangesStart old name new → IsWellMade new }

@@ -26,7 +26,7 @@ use indexmap::IndexMap;
 use std::alloc::{AllocError, Global};
 use std::mem;
 
-/// The first heading.
+/// Returns the first heading.
 fn first_heading(
     alloc: Global,
     rules: &[syntax::Rule],
@@ -42,7 +42,7 @@ fn first_heading(
     }
 }
 
-/// The first `%start`, else the first heading.
+/// Returns the first `%start`, else the first heading.
 fn start_word(alloc: Global, x: &Syntax) -> Result<Option<(String, Span)>, AllocError>
     ensures { IfOk result (λ named. option_map named_span named ≡ start_of (syntax_of x.now)) }
 {
@@ -52,7 +52,7 @@ fn start_word(alloc: Global, x: &Syntax) -> Result<Option<(String, Span)>, Alloc
     }
 }
 
-/// The first of these numbers, with its span.
+/// Returns the first of these numbers, with its span.
 fn to_number(numbers: &[Number]) -> Option<(usize, Span)>
     ensures { option_map number_with_span result ≡ first_item (map number_text numbers.now) }
 {
@@ -62,7 +62,7 @@ fn to_number(numbers: &[Number]) -> Option<(usize, Span)>
     }
 }
 
-/// The name and the type of a parameter.
+/// Returns the name and the type of a parameter.
 fn to_param(param: &Option<Param>) -> Result<Option<(String, String)>, AllocError>
     ensures { IfOk result (λ pair. option_map param_pair pair ≡ option_map param_texts (option_map param_of param.now)) }
 {
@@ -76,7 +76,7 @@ fn to_param(param: &Option<Param>) -> Result<Option<(String, String)>, AllocErro
     }
 }
 
-/// A symbol of `%expect-unused`: a token where it is quoted, else a rule.
+/// Returns a symbol of `%expect-unused`: a token where it is quoted, else a rule.
 fn to_expected(symbol: &Symbol) -> Result<Symbol, AllocError>
     ensures { IfOk result (λ s. ast_symbol_of s ≡ expected_ast (symbol_of symbol.now)) }
 {
@@ -89,7 +89,7 @@ fn to_expected(symbol: &Symbol) -> Result<Symbol, AllocError>
     }
 }
 
-/// These symbols of `%expect-unused`.
+/// Copies symbols of `%expect-unused` for a tree.
 fn to_all_expected(alloc: Global, symbols: &[&Symbol]) -> Result<Vec<Symbol>, AllocError>
     ensures { IfOk result (λ made. map ast_symbol_of made.items ≡ map expected_ast (symbols_at symbols.now)) }
 {
@@ -101,7 +101,7 @@ fn to_all_expected(alloc: Global, symbols: &[&Symbol]) -> Result<Vec<Symbol>, Al
     Ok(made)
 }
 
-/// The names of `%expect-unused`.
+/// Returns the names of `%expect-unused`.
 fn expected(alloc: Global, x: &Syntax) -> Result<Vec<Symbol>, AllocError>
     ensures { IfOk result (λ made. map ast_symbol_of made.items ≡ map expected_ast (expected_symbols (syntax_of x.now))) }
 {
@@ -110,7 +110,7 @@ fn expected(alloc: Global, x: &Syntax) -> Result<Vec<Symbol>, AllocError>
     Ok(made)
 }
 
-/// The type of a rule's actions: its own, else the one for all rules.
+/// Returns the type of a rule's actions: its own, else the one for all rules.
 fn to_type(own: &Option<Box<Word>>, shared: Option<&Word>) -> Result<Option<String>, AllocError>
     ensures { IfOk result (λ made. option_map string_bytes made
         ≡ option_or (text_of (option_map boxed_word own.now)) (text_of (option_map (λ w. word_of w.now) shared.entry))) }
@@ -124,14 +124,14 @@ fn to_type(own: &Option<Box<Word>>, shared: Option<&Word>) -> Result<Option<Stri
     }
 }
 
-/// The last `%actiontype`.
+/// Returns the last `%actiontype`.
 fn shared_type(words: &[Word]) -> Option<&Word>
     ensures { text_of (option_map (λ w. word_of w.now) result) ≡ last_text (words_of words.now) }
 {
     words.last()
 }
 
-/// The rule of a heading, without productions.
+/// Returns the rule of a heading, without productions.
 fn to_rule(alloc: Global, rule: &syntax::Rule, shared: Option<&Word>) -> Result<Rule, AllocError>
     ensures { IfOk result (λ made. rule_entry_of made
         ≡ headed (text_of (option_map (λ w. word_of w.now) shared.entry)) (rule_of rule.now)) }
@@ -166,7 +166,7 @@ fn insert_heading(
     Ok(())
 }
 
-/// The rules of these headings, without productions, in a map with room for so many.
+/// Returns the rules of these headings, without productions, in a map with room for `room` rules.
 fn headed_rules(
     alloc: Global,
     headings: &[syntax::Rule],
@@ -204,7 +204,7 @@ pub(super) fn push_number(
     }
 }
 
-/// Gives the rule of this name the productions from one up to another, so many.
+/// Gives the rule of this name `count` productions, with the numbers from `start` on.
 pub(super) fn push_numbers(
     rules: &mut IndexMap<String, Rule>,
     name: &str,
@@ -225,7 +225,7 @@ pub(super) fn push_numbers(
     }
 }
 
-/// Puts so many numbers behind the others, from one on.
+/// Puts `count` numbers behind the others, from `start` on.
 fn push_range(numbers: &mut Vec<usize>, start: usize, count: usize) -> Result<(), AllocError>
     requires { start + count ≤ 2 ^ 64 - 1 }
     ensures { OnOk result (numbers.new.items ≡ numbers.old.items ++ count_up start count) }
@@ -237,14 +237,14 @@ fn push_range(numbers: &mut Vec<usize>, start: usize, count: usize) -> Result<()
     Ok(())
 }
 
-/// A heading, and how many alternatives stand behind it.
+/// A heading, and the number of alternatives behind it.
 #[derive(Drop)]
 pub(crate) struct Head {
     name: Name,
     count: usize,
 }
 
-/// The headings of rules.
+/// Returns the headings of rules.
 pub(crate) fn heads(alloc: Global, rules: &[syntax::Rule]) -> Result<Vec<Head>, AllocError>
     ensures heads { IfOk result (λ heads. heads_of heads.items ≡ flat_map heads_in (map rule_of rules.now)) }
     ensures count { IfOk result (λ heads. length heads.items ≡ length rules.now) }
@@ -260,7 +260,7 @@ pub(crate) fn heads(alloc: Global, rules: &[syntax::Rule]) -> Result<Vec<Head>, 
     Ok(heads)
 }
 
-/// Gives the rules of these headings the numbers of their productions, and answers how many there are.
+/// Gives the rules of these headings the numbers of their productions, and returns how many there are.
 fn number_headings(rules: &mut IndexMap<String, Rule>, heads: &[Head]) -> Result<usize, AllocError>
     requires names { own_names rules.old ≡ rule_keys rules.old }
     requires fits { length (heads_of heads.now) ≤ 2 ^ 64 - 1 }
@@ -295,7 +295,7 @@ fn number_fresh(
     Ok(())
 }
 
-/// The printed texts, taken over.
+/// Returns the printed texts, taken over.
 fn epp_in(alloc: Global, mut x: Syntax) -> Vec<Epp>
     ensures { result ≡ x.epp }
 {
@@ -372,7 +372,7 @@ impl GrammarAST {
         Ok(())
     }
 
-    /// Puts in what a text hands on: the parameter, the generics and the programs.
+    /// Puts in what a text passes on: the parameter, the generics and the programs.
     fn fill_texts(&mut self, alloc: Global, x: &Syntax) -> Result<(), AllocError>
         ensures { OnOk result (self.new ≡ with_parts_of (ast_of true (syntax_of x.now)) self.old) }
     {

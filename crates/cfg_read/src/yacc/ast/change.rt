@@ -1,4 +1,4 @@
-//! Changes of a syntax tree, and what it has under a name.
+//! Changes a syntax tree, and looks a rule up by its name.
 
 ghost use Rattle.std.specs.Prelude.{◌≡◌, true, [], is_some, option_map, OnOk, OnErr};
 ghost use Rattle.std.specs.Option.{option_copied};
@@ -76,7 +76,7 @@ impl GrammarAST {
         self.programs = Some(text);
     }
 
-    /// The rule of this name.
+    /// Returns the rule of this name.
     pub fn get_rule(&self, name: &str) -> Option<&Rule>
         ensures rule { option_map rule_entry_of (option_copied result) ≡ rule_named self.now.rules name.now }
         ensures there { is_some result ≡ has_rule self.now.rules name.now }
@@ -84,7 +84,7 @@ impl GrammarAST {
         self.rules.get(name)
     }
 
-    /// Tells whether this is the name of a token.
+    /// Returns whether this is the name of a token.
     pub fn has_token(&self, name: &str) -> bool
         ensures { result ≡ is_among self.now.tokens name.now }
     {

@@ -262,7 +262,7 @@ impl GrammarAST {
         Ok(())
     }
 
-    /// Puts in what another tree hands on: printed texts, the parameter, the generics and the programs.
+    /// Puts in what another tree passes on: printed texts, the parameter, the generics and the programs.
     fn copy_texts_of(&mut self, from: &GrammarAST) -> Result<(), AllocError>
         ensures { OnOk result (self.new ≡ with_texts_of from.now self.old) }
     {

@@ -1,4 +1,4 @@
-//! Fresh rules, which optional symbols stand for, and their productions.
+//! Fresh rules, which optional symbols mean, and their productions.
 
 ghost use Rattle.std.specs.Prelude.{◌≡◌, ◌++◌, map, fold, IfOk, OnOk};
 ghost use Rattle.std.specs.List.{flat_map};
@@ -15,7 +15,7 @@ use cfg_base::span::Span;
 use indexmap::IndexMap;
 use std::alloc::{AllocError, Global};
 
-/// A rule without productions and type.
+/// Returns a rule without productions and type.
 fn blank_rule(alloc: Global, name: &str, span: Span) -> Result<Rule, AllocError>
     ensures { IfOk result (λ made. rule_entry_of made ≡ fresh_rule (record { text = name.now; span = span })) }
 {
@@ -62,7 +62,7 @@ pub(super) fn insert_fresh_rules(
     Ok(())
 }
 
-/// A production of a fresh rule at this span.
+/// Returns a production of a fresh rule at this span.
 fn to_production(alloc: Global, symbols: Vec<Symbol>, span: Span) -> Result<Production, AllocError>
     ensures { IfOk result (λ p. production_of p ≡ fresh_production span (map ast_symbol_of symbols.items)) }
 {
@@ -84,7 +84,7 @@ fn push_both(alloc: Global, made: &mut Vec<Production>, fresh: &Fresh) -> Result
     Ok(())
 }
 
-/// The productions of the fresh rules of these symbols.
+/// Returns the productions of the fresh rules of these symbols.
 pub(super) fn fresh_productions(
     alloc: Global,
     fresh: &IndexMap<String, Fresh>,

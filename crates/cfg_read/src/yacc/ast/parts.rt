@@ -16,7 +16,7 @@ use cfg_base::span::Span;
 use indexmap::IndexMap;
 use std::alloc::{AllocError, Global};
 
-/// A word's text, if there is a word.
+/// Returns a word's text, if there is a word.
 pub(super) fn to_text(word: &Option<Word>) -> Result<Option<String>, AllocError>
     ensures { IfOk result (λ text. option_map string_bytes text ≡ text_of (option_map word_of word.now)) }
 {
@@ -71,7 +71,7 @@ fn take_all_first(
     Ok(())
 }
 
-/// Each name of these lines with its first span, in the order of these.
+/// Returns each name of these lines with its first span, in the order of these.
 fn first_spans(alloc: Global, lines: &[Line]) -> Result<IndexMap<String, Span>, AllocError>
     ensures { IfOk result (λ spans. named_spans spans ≡ distinct (flat_map words_in (map line_of lines.now))) }
 {
@@ -105,7 +105,7 @@ fn insert_epp(
     Ok(())
 }
 
-/// The printed texts, a token's first one.
+/// Returns the printed texts, a token's first one.
 pub(super) fn first_epps(
     alloc: Global,
     all: Vec<Epp>,
@@ -153,7 +153,7 @@ fn insert_level(
     Ok(())
 }
 
-/// The precedences: each line is a level, the first one 0, and a token's first one counts.
+/// Returns the precedences: each line is a level, the first one 0, and a token's first one counts.
 fn first_precedences(
     alloc: Global,
     levels: &[Level],
@@ -179,7 +179,7 @@ pub(crate) struct Lines {
     pub(crate) implicit_tokens: IndexMap<String, Span>,
 }
 
-/// The lines of a text by names, where the first one of a name counts.
+/// Returns the lines of a text by names, where the first one of a name counts.
 pub(crate) fn first_lines(alloc: Global, x: &Syntax) -> Result<Lines, AllocError>
     ensures { IfOk result (λ l. AreLinesOf (syntax_of x.now) l) }
 {

@@ -22,26 +22,26 @@ use cfg_base::span::Span;
 use indexmap::IndexMap;
 use std::alloc::{AllocError, Global};
 
-/// A symbol that stands for a fresh rule.
+/// A symbol that means a fresh rule.
 #[derive(Drop)]
 pub(crate) struct Fresh {
-    /// Where it first stands, with its `?`.
+    /// The byte span of its first appearance, with its `?`.
     pub(crate) span: Span,
     /// The symbol without the `?`, as one of a tree.
     pub(crate) inner: Symbol,
 }
 
-/// What alternatives are settled by, and what they add.
+/// The names by which alternatives become productions, and what alternatives add to them.
 #[derive(Drop)]
 pub(crate) struct Uses {
     pub(crate) table: NameTable,
-    /// The names that stand for nothing, where they stand.
+    /// The names that mean nothing, with their spans.
     pub(crate) unknown: Vec<(Name, Span)>,
-    /// What optional symbols stand for, by the names of the fresh rules.
+    /// The symbols with a `?`, by the names of their fresh rules.
     pub(crate) fresh: IndexMap<String, Fresh>,
 }
 
-/// The name of the fresh rule of a symbol: `'X'?` of a token X, `X?` of a rule.
+/// Returns the name of the fresh rule of a symbol: `'X'?` of a token X, `X?` of a rule.
 fn fresh_name(alloc: Global, text: &str, is_token: bool) -> Result<String, AllocError>
     ensures { IfOk result (λ name. string_bytes name ≡ fresh_name is_token text.now) }
 {
@@ -52,7 +52,7 @@ fn fresh_name(alloc: Global, text: &str, is_token: bool) -> Result<String, Alloc
     }
 }
 
-/// The name of the fresh rule of a symbol, as the rule's own and as that of a symbol.
+/// Returns the name of the fresh rule of a symbol, as the rule's own and as that of a symbol.
 fn fresh_names(alloc: Global, inner: &Symbol) -> Result<(String, Name), AllocError>
     ensures name { IfOk result (λ names. string_bytes names.0 ≡ fresh_name (ast_symbol_of inner.now).is_token (ast_symbol_of inner.now).word.text) }
     ensures same { IfOk result (λ names. name_text names.1 ≡ string_bytes names.0) }
@@ -81,7 +81,7 @@ fn insert_fresh(
 }
 
 impl Uses {
-    /// Begins with what is known before alternatives.
+    /// Makes the uses known before alternatives.
     pub(crate) fn of(alloc: Global, table: NameTable) -> Uses
         ensures { uses_of result ≡ record { known = known_of table; unknown = []; fresh = [] } }
     {
@@ -92,8 +92,8 @@ impl Uses {
         }
     }
 
-    /// Notes the symbol of an optional one by the name of its fresh rule, where it isn't there yet, and answers the symbol of
-    /// that rule.
+    /// Notes the inner symbol of an optional one by the name of its fresh rule, where that isn't there yet.
+    /// Returns the symbol of that rule.
     fn note_fresh(&mut self, alloc: Global, span: Span, inner: Symbol) -> Result<Symbol, AllocError>
         ensures symbol { IfOk result (λ s. ast_symbol_of s ≡ record { is_token = false; word = record { text = fresh_name (ast_symbol_of inner).is_token (ast_symbol_of inner).word.text; span = span } }) }
         ensures noted { OnOk result ((uses_of self.new).fresh ≡ with_fresh_ast (uses_of self.old).fresh (record { word = record { text = fresh_name (ast_symbol_of inner).is_token (ast_symbol_of inner).word.text; span = span }; inner = ast_symbol_of inner })) }
@@ -112,7 +112,7 @@ impl Uses {
         }
     }
 
-    /// Makes a name that isn't a token one of a tree, and notes it where it stands for nothing.
+    /// Makes a name that isn't a token one of a tree, and notes it where it means nothing.
     fn settle_name(&mut self, name: &mut Name, entry: Entry, span: Span) -> Result<(), AllocError>
         requires { entry.is_rule ≡ (known_of self.old.table).rules (name_text name.old) }
         ensures unknown { OnOk result ((uses_of self.new).unknown ≡ (uses_of self.old).unknown ++ without (known_of self.old.table).rules (record { text = name_text name.old; span = span } ∷ [])) }
@@ -180,7 +180,7 @@ impl Uses {
         Ok(())
     }
 
-    /// The production of an alternative.
+    /// Returns the production of an alternative.
     fn to_production(
         &mut self,
         alloc: Global,
@@ -239,7 +239,7 @@ impl Uses {
         Ok(())
     }
 
-    /// The productions of these rules, in the order of the text.
+    /// Returns the productions of these rules, in the order of the text.
     pub(crate) fn productions(
         &mut self,
         alloc: Global,
@@ -262,7 +262,7 @@ impl Uses {
     }
 }
 
-/// How much room the productions of these rules take, for a list that is filled with them.
+/// Returns the room that the productions of these rules take, for a list that is filled with them.
 fn room_for(rules: &[syntax::Rule]) -> usize {
     let mut room = 0usize;
     'rules: for rule in rules {
@@ -271,7 +271,7 @@ fn room_for(rules: &[syntax::Rule]) -> usize {
     room
 }
 
-/// A law: what is collected of all alternatives of a text, where it begins with what is known before them.
+/// Proves that what is collected of all alternatives of a text, where it begins with what is known before them.
 pub(crate) fn all_settled()
     ensures { (x : SyntaxText) → AreUsesOf x (with_symbols (record { known = known_before x; unknown = []; fresh = [] }) (symbols_used x)) }
 {}

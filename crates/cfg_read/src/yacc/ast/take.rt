@@ -1,4 +1,4 @@
-//! Parts that are taken out of syntax trees, for what is made of a tree that isn't kept.
+//! Parts that are taken out of syntax trees, for what is made of a tree that is dropped.
 
 ghost use Rattle.std.specs.Prelude.{◌≡◌, map, option_map};
 ghost use Rattle.std.specs.String.{string_bytes};
@@ -14,7 +14,7 @@ use indexmap::IndexMap;
 use std::alloc::Global;
 use std::mem;
 
-/// The text of a word, if there is one, taken over.
+/// Returns the text of a word, if there is one, taken over.
 fn into_text(word: Option<Word>) -> Option<String>
     ensures { option_map string_bytes result ≡ asts.text_of (option_map word_of word) }
 {
@@ -25,7 +25,7 @@ fn into_text(word: Option<Word>) -> Option<String>
 }
 
 impl Production {
-    /// The action, taken over.
+    /// Returns the action, taken over.
     pub fn into_action(self) -> Option<String>
         ensures { option_map string_bytes result ≡ (production_of self).action }
     {

@@ -24,7 +24,7 @@ use std::fmt;
 pub enum YaccGrammarWarningKind {
     /// A rule that the start rule doesn't lead to.
     UnusedRule,
-    /// A token that stands in no rule that the start rule leads to.
+    /// A token in no rule that is reached from the start rule.
     UnusedToken,
 }
 
@@ -47,7 +47,7 @@ impl fmt::Display for YaccGrammarWarningKind {
 pub struct YaccGrammarWarning {
     /// What isn't used.
     pub kind: YaccGrammarWarningKind,
-    /// Where the rule's first heading or the token's first appearance stands.
+    /// The byte span of the rule's first heading, or of the token's first appearance.
     pub spans: Vec<Span>,
 }
 
@@ -105,7 +105,7 @@ fn insert_tokens<'a>(names: &mut IndexSet<&'a str>, symbols: &'a [Symbol]) -> Re
     Ok(())
 }
 
-/// The names of `%expect-unused` that stand there without quotes.
+/// Returns the names of `%expect-unused` without quotes.
 fn expected_rules<'a>(alloc: Global, symbols: &'a [Symbol]) -> Result<IndexSet<&'a str>, AllocError>
     ensures { IfOk result (λ s. (name : List ℕ) → has_name s name ≡ expects_rule (map ast_symbol_of symbols.now) name) }
 {
@@ -114,7 +114,7 @@ fn expected_rules<'a>(alloc: Global, symbols: &'a [Symbol]) -> Result<IndexSet<&
     Ok(names)
 }
 
-/// All names of `%expect-unused`.
+/// Returns all names of `%expect-unused`.
 fn expected_tokens<'a>(
     alloc: Global,
     symbols: &'a [Symbol],
@@ -146,42 +146,42 @@ fn push_if(
     Ok(())
 }
 
-/// The last byte of a name.
+/// Returns the last byte of a name.
 fn last_byte(name: &str) -> Option<u8>
     ensures { result ≡ slice_get name.now (length name.now - 1) }
 {
     name.as_bytes().last().copied()
 }
 
-/// Tells whether the last byte of a name is `?`.
+/// Returns whether the last byte of a name is `?`.
 fn ends_in_mark(name: &str) -> bool
     ensures { result ≡ is_at name.now (length name.now - 1) 63 }
 {
     last_byte(name) == Some(b'?')
 }
 
-/// Tells whether a name ends in `?`, as that of a fresh rule does.
+/// Returns whether a name ends in `?`, as that of a fresh rule does.
 fn is_fresh_name(name: &str) -> bool
     ensures { result ≡ is_fresh_name name.now }
 {
     ends_in_mark(name)
 }
 
-/// Tells whether a rule is fresh, reached or expected to be unused.
+/// Returns whether a rule is fresh, reached or expected to be unused.
 fn is_silent_rule(name: &str, reached: &IndexSet<&str>, expected: &IndexSet<&str>) -> bool
     ensures { result ≡ (is_fresh_name name.now || (has_name reached.now name.now || has_name expected.now name.now)) }
 {
     is_fresh_name(name) || reached.contains(name) || expected.contains(name)
 }
 
-/// Tells whether this is a name of the map.
+/// Returns whether this is a name of the map.
 fn is_key(name: &str, spans: &IndexMap<String, Span>) -> bool
     ensures { result ≡ is_among (named_spans spans.now) name.now }
 {
     spans.contains_key(name)
 }
 
-/// Tells whether a token is used, implicit or expected to be unused.
+/// Returns whether a token is used, implicit or expected to be unused.
 fn is_silent(
     name: &str,
     used: &IndexSet<&str>,
@@ -194,7 +194,7 @@ fn is_silent(
 }
 
 impl GrammarAST {
-    /// The numbers of the productions of the rule of this name.
+    /// Returns the numbers of the productions of the rule of this name.
     fn numbers(&self, name: &str) -> Option<&Vec<usize>>
         ensures numbers { option_map (λ ns. ns.items) (option_copied result)
             ≡ option_map (λ r. r.productions) (rule_named self.now.rules name.now) }
@@ -206,7 +206,7 @@ impl GrammarAST {
         }
     }
 
-    /// Adds the rules that stand in these productions.
+    /// Adds the rules in these productions.
     fn insert_all_rules<'a>(
         &'a self,
         names: &mut IndexSet<&'a str>,
@@ -223,7 +223,7 @@ impl GrammarAST {
         Ok(())
     }
 
-    /// Adds the tokens that stand in these productions.
+    /// Adds the tokens in these productions.
     fn insert_all_tokens<'a>(
         &'a self,
         names: &mut IndexSet<&'a str>,
@@ -240,7 +240,7 @@ impl GrammarAST {
         Ok(())
     }
 
-    /// Adds the rules that stand in an alternative of the rule of this name.
+    /// Adds the rules in the alternatives of the rule of this name.
     fn insert_rules_under<'a>(
         &'a self,
         names: &mut IndexSet<&'a str>,
@@ -256,7 +256,7 @@ impl GrammarAST {
         Ok(())
     }
 
-    /// Adds the tokens that stand in an alternative of the rule of this name.
+    /// Adds the tokens in the alternatives of the rule of this name.
     fn insert_tokens_under<'a>(
         &'a self,
         names: &mut IndexSet<&'a str>,
@@ -272,7 +272,7 @@ impl GrammarAST {
         Ok(())
     }
 
-    /// The name of the start rule.
+    /// Returns the name of the start rule.
     fn start_names(&self, alloc: Global) -> Result<IndexSet<&str>, AllocError>
         ensures { IfOk result (λ s. names_in s ≡ start_names self.now) }
     {
@@ -283,7 +283,8 @@ impl GrammarAST {
         Ok(names)
     }
 
-    /// The names that the start rule leads to, each once: its own, and those in alternatives of the rules among them.
+    /// Returns the names that the start rule leads to, each once: its own, and those in alternatives of the rules
+    /// among them.
     fn reached(&self, alloc: Global) -> Result<IndexSet<&str>, AllocError>
         ensures { IfOk result (λ s. (name : List ℕ) → IsTrue (has_name s name) ↔ IsReached self.now name) }
     {
@@ -297,7 +298,7 @@ impl GrammarAST {
         Ok(names)
     }
 
-    /// The tokens that stand in alternatives of these rules.
+    /// Returns the tokens in alternatives of these rules.
     fn used<'a>(
         &'a self,
         alloc: Global,
@@ -418,8 +419,8 @@ impl GrammarAST {
         }
     }
 
-    /// Lists the rules, then the tokens, that the start rule doesn't lead to, by number: none that `%expect-unused` names, no
-    /// fresh rules, no implicit tokens, and none at all of a text that isn't valid.
+    /// Lists the rules, then the tokens, that aren't reached from the start rule, by number. Those that
+    /// `%expect-unused` names, fresh rules and implicit tokens are left out. A text that isn't valid has none.
     pub fn warnings(&self, alloc: Global) -> Result<Vec<YaccGrammarWarning>, AllocError>
         ensures { IfOk result (λ ws. AreWarnings self.now (map warning_of ws.items)) }
     {

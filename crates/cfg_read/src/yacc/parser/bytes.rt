@@ -7,35 +7,35 @@ ghost use Rattle.cfg_read.specs.Bytes.{is_blank, is_name_start, is_name_byte, is
 
 use cfg_base::text::{is_digit, is_letter, is_white};
 
-/// Tells white within a line: space, tab, CR.
+/// Returns whether a byte is white within a line: space, tab, CR.
 pub(crate) fn is_blank(b: u8) -> bool
     ensures { result ≡ is_blank b }
 {
     b == b' ' || b == b'\t' || b == b'\r'
 }
 
-/// Tells what a name begins with: letters, `_`, `.`.
+/// Returns whether a name may begin with a byte: a letter, `_`, `.`.
 pub(crate) fn is_name_start(b: u8) -> bool
     ensures { result ≡ is_name_start b }
 {
     is_letter(b) || b == b'_' || b == b'.'
 }
 
-/// Tells what a name holds: letters, digits, `_`, `.`.
+/// Returns whether a name may have a byte: a letter, a digit, `_`, `.`.
 fn is_name_byte(b: u8) -> bool
     ensures { result ≡ is_name_byte b }
 {
     is_name_start(b) || is_digit(b)
 }
 
-/// Tells what a declaration's word holds: letters, `_`, `-`.
+/// Returns whether a declaration's word may have a byte: a letter, `_`, `-`.
 fn is_keyword_byte(b: u8) -> bool
     ensures { result ≡ is_keyword_byte b }
 {
     is_letter(b) || b == b'_' || b == b'-'
 }
 
-/// Tells the two quotes.
+/// Returns whether a byte is a quote, single or double.
 pub(crate) fn is_quote(b: u8) -> bool
     ensures { result ≡ is_quote b }
 {
@@ -85,7 +85,7 @@ pub(crate) fn plain_len(bytes: &[u8]) -> usize
     bytes.iter().take_while(|b| **b != b'\\').count()
 }
 
-/// Tells whether one of the bytes is LF.
+/// Returns whether one of the bytes is LF.
 pub(crate) fn has_line_feed(bytes: &[u8]) -> bool
     ensures { result ≡ list_any is_line_feed bytes.now }
 {

@@ -6,7 +6,7 @@ ghost use Rattle.cfg_read.specs.Declarations.{declaration_named, knows};
 
 use crate::yacc::{AssocKind, YaccKind};
 
-/// A declaration, without what stands behind its word.
+/// A declaration, without the text behind its word.
 #[derive(Clone, Copy, Debug, PartialEq, Eq)]
 pub enum Declaration {
     /// `%token`, with tokens up to the next declaration.
@@ -56,7 +56,7 @@ pub enum LineText {
     ParseGenerics,
 }
 
-/// Tells whether two words are one. Most that aren't differ in their lengths.
+/// Returns whether two words are one. Most that aren't differ in their lengths.
 #[inline(always)]
 fn is_word(word: &str, other: &str) -> bool
     ensures { result ≡ bytes_eq word.now other.now }
@@ -64,7 +64,7 @@ fn is_word(word: &str, other: &str) -> bool
     word.len() == other.len() && word == other
 }
 
-/// Answers the declaration of a word.
+/// Returns the declaration of a word.
 #[tactic(auto, unfolding(crate::specs::Declarations::declaration_named))]
 pub(crate) fn declaration_named(word: &str) -> Option<Declaration>
     ensures { result ≡ declaration_named word.now }
@@ -102,7 +102,7 @@ pub(crate) fn declaration_named(word: &str) -> Option<Declaration>
     }
 }
 
-/// Tells whether a kind has a declaration.
+/// Returns whether a kind has a declaration.
 pub(crate) fn knows(kind: YaccKind, declaration: Declaration) -> bool
     ensures { result ≡ knows kind declaration }
 {

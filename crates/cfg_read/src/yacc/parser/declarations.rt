@@ -230,7 +230,7 @@ impl<'a> Scanner<'a> {
         }
     }
 
-    /// Tells whether a `%` with a word stands here; else the `%%` does.
+    /// Returns whether a `%` with a word is here; else the `%%` does.
     fn begins_declaration(&self, offset: usize) -> Result<bool, ReadError>
         ensures ok { IfOk result (λ b. token_kind_at self.now.text.now offset ≡ percent_or_separator b) }
         ensures fits { IfOk result (λ b. FitsToken self.now.text.now offset (percent_or_separator b)) }
@@ -244,7 +244,7 @@ impl<'a> Scanner<'a> {
         }
     }
 
-    /// Reads the declaration whose `%` stands here, and the gap behind it.
+    /// Reads the declaration whose `%` is here, and the gap behind it.
     fn parse_declaration(
         &self,
         alloc: Global,

@@ -17,9 +17,12 @@ const FEW: usize = 64;
 #[derive(Debug, Drop)]
 pub(crate) struct Draft {
     pub(crate) symbols: Vec<Symbol>,
+    /// Whether `%empty` was read.
     pub(crate) is_empty: bool,
+    /// The token of `%prec`.
     pub(crate) precedence: Option<Box<Word>>,
     pub(crate) action: Option<Word>,
+    /// From the first part to the last, actions left out; `None` while there is none.
     pub(crate) span: Option<Span>,
 }
 
@@ -35,7 +38,7 @@ fn span_with(span: Option<Span>, start: usize, end: usize) -> Option<Span>
     }
 }
 
-/// Answers the span so far, else an empty one at this offset.
+/// Returns the span so far, else an empty one at this offset.
 fn span_or(span: Option<Span>, offset: usize) -> Span
     ensures { result ≡ span_or span offset }
 {
@@ -73,14 +76,14 @@ impl Draft {
         }
     }
 
-    /// Tells whether neither `%prec` nor an action was read.
+    /// Returns whether neither `%prec` nor an action was read.
     pub(crate) fn is_open(&self) -> bool
         ensures { result ≡ is_open (part_of self.now) }
     {
         self.precedence.is_none() && self.action.is_none()
     }
 
-    /// Tells whether neither `%empty`, `%prec` nor an action was read.
+    /// Returns whether neither `%empty`, `%prec` nor an action was read.
     pub(crate) fn takes_empty(&self) -> bool
         ensures { result ≡ (not (part_of self.now).is_empty && is_open (part_of self.now)) }
     {
@@ -131,7 +134,7 @@ impl Draft {
         self.action = Some(word);
     }
 
-    /// Tells whether nothing was read.
+    /// Returns whether nothing was read.
     fn is_blank(&self) -> bool
         ensures { result ≡ true → part_of self.now ≡ no_part }
     {

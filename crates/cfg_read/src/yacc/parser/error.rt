@@ -13,7 +13,7 @@ use std::error::Error;
 use std::fmt;
 use std::fmt::{Display, Formatter, Write};
 
-/// What is wrong with a grammar text. `MismatchedBrace`, `ProgramsNotSupported` and `ExpectedInput` are never told.
+/// What is wrong with a grammar text. `docs/FILE_GRAMMAR.md` has a table with the offset and an example of each.
 #[derive(Debug, PartialEq, Eq, Drop)]
 pub enum YaccGrammarErrorKind {
     /// `%expect` or `%expect-rr` is without a number, or with one past `usize::MAX`.
@@ -90,7 +90,7 @@ pub enum YaccGrammarErrorKind {
 }
 
 impl YaccGrammarErrorKind {
-    /// A copy of one without a value.
+    /// Returns a copy of one without a value.
     fn copy_plain(&self) -> YaccGrammarErrorKind
         requires { holds_value self.now ≡ false }
         ensures { result ≡ self.now }
@@ -128,7 +128,7 @@ impl YaccGrammarErrorKind {
         }
     }
 
-    /// What one without a value prints.
+    /// Returns the printed text of an error without a value.
     fn plain_text(&self) -> &'static str
         requires { holds_value self.now ≡ false }
         ensures { result.now ≡ failure_text (kind_of self.now) }

@@ -9,7 +9,7 @@ ghost use Rattle.cfg_read.specs.PlainReading.{ReadsPlain};
 ghost use Rattle.cfg_read.specs.FreshRules.{fresh_of};
 ghost use Rattle.cfg_read.specs.SyntaxErrors.{Faults, Outcome};
 
-/// For each kind, a text has exactly one reading or exactly one fault from an offset on: never two,
+/// Proves that, for each kind, a text has exactly one reading or exactly one fault from an offset on, never two,
 /// never both, and never neither.
 pub fn one_reading()
     ensures some { (kind : YaccKind) (text : List ℕ) (start : ℕ) → Outcome kind text start }
@@ -18,7 +18,8 @@ pub fn one_reading()
     ensures faults { (kind : YaccKind) (text : List ℕ) (start : ℕ) (d e : YaccGrammarErrorKind) (p q : ℕ) → Faults kind text start d p → Faults kind text start e q → (d ≡ e) × (p ≡ q) }
 {}
 
-/// A text that reads where no construct takes a `?` behind a symbol has that same reading, without fresh rules.
+/// Proves that a text that reads without any `?` behind a symbol has the same reading with that construct, and no
+/// fresh rules.
 pub fn old_texts_read_the_same()
     ensures reads { (kind : YaccKind) (text : List ℕ) (start : ℕ) (x : SyntaxText) → ReadsPlain kind text start x → Reads kind text start x }
     ensures fresh { (kind : YaccKind) (text : List ℕ) (start : ℕ) (x : SyntaxText) → ReadsPlain kind text start x → fresh_of x ≡ [] }

@@ -112,7 +112,7 @@ impl<'a> Scanner<'a> {
         }
     }
 
-    /// The name from one offset up to another, noted.
+    /// Returns the name from one offset up to another, noted.
     fn name_at(
         &self,
         alloc: Global,
@@ -128,7 +128,7 @@ impl<'a> Scanner<'a> {
         Ok(name)
     }
 
-    /// Reads the name of a rule, and answers it with its span and where it ends.
+    /// Reads the name of a rule, and returns it with its span and where it ends.
     pub(crate) fn parse_heading_name(
         &self,
         alloc: Global,
@@ -148,7 +148,7 @@ impl<'a> Scanner<'a> {
         }
     }
 
-    /// Finds a token of the kind that stands here: whether it is quoted, the span of its text, and where it ends.
+    /// Finds a token of the kind that is here: whether it is quoted, the span of its text, and where it ends.
     pub(crate) fn token_part(
         &self,
         kind: TokenKind,
@@ -173,7 +173,7 @@ impl<'a> Scanner<'a> {
         }
     }
 
-    /// The symbol of a span of the text.
+    /// Returns the symbol of a span of the text.
     pub(crate) fn symbol_at(
         &self,
         alloc: Global,
@@ -194,7 +194,7 @@ impl<'a> Scanner<'a> {
         }
     }
 
-    /// Reads a token of the kind that stands here.
+    /// Reads a token of the kind that is here.
     pub(crate) fn token_of(
         &self,
         alloc: Global,
@@ -243,7 +243,7 @@ impl<'a> Scanner<'a> {
         Ok((word, end))
     }
 
-    /// Reads digits: answers where they end.
+    /// Reads digits, and returns the offset behind them.
     fn parse_digits(&self, offset: usize) -> Option<usize>
         ensures value { MatchOption result (number_at self.now.text.now offset (token_kind_at self.now.text.now offset) ≡ None) (λ b. token_kind_at self.now.text.now offset ≡ tokens.Digits b) }
         ensures fits { IfSome result (λ b. FitsDigits self.now.text.now offset b) }
@@ -270,7 +270,7 @@ impl<'a> Scanner<'a> {
         ))
     }
 
-    /// Finds the first `\` between two offsets; answers the second offset where there is none.
+    /// Returns the offset of the first `\` between two offsets, or the second offset where there is none.
     fn plain_end(&self, start: usize, end: usize) -> usize
         requires { FitsPart self.now.text.now start end }
         ensures value { result ≡ start + prefix_len is_plain (slice_range self.now.text.now start end) }
@@ -328,7 +328,7 @@ impl<'a> Scanner<'a> {
         }
     }
 
-    /// Reads the rest of a line: answers the span of its text, and where the line ends.
+    /// Reads the rest of a line, and returns the span of its text, and the offset of the line's end.
     pub(crate) fn parse_rest_span(&self, offset: usize) -> Result<(Span, usize), ReadError>
         requires { IsCharBoundary self.now.text.now offset }
         ensures ok { IfOk result (λ r. (rest_of_line self.now.text.now offset ≡ Some (word_at self.now.text.now r.0)) × (r.1 ≡ line_end self.now.text.now offset)) }
@@ -344,7 +344,7 @@ impl<'a> Scanner<'a> {
         Ok((span, end))
     }
 
-    /// Reads the rest of a line: answers its text, and where the line ends.
+    /// Reads the rest of a line, and returns its text, and the offset of the line's end.
     pub(crate) fn parse_rest_of_line(
         &self,
         alloc: Global,

@@ -54,7 +54,7 @@ fn push_alternative(
     Ok(())
 }
 
-/// Tells whether a token of this kind begins a part of an alternative; else it stands at the end of one.
+/// Returns whether a token of this kind begins a part of an alternative; else it ends one.
 fn begins_part(kind: TokenKind, offset: usize) -> Result<bool, ReadError>
     ensures ok { IfOk result (λ b. (is_part kind ≡ b) × (ends_alternative kind ≡ not b)) }
     ensures err { IfErr result (λ e. IsFaultAt (alternative_fault kind) offset e) }
@@ -71,7 +71,7 @@ fn begins_part(kind: TokenKind, offset: usize) -> Result<bool, ReadError>
 }
 
 impl<'a> Scanner<'a> {
-    /// Tells whether a `?` stands here.
+    /// Returns whether a `?` is here.
     #[inline(always)]
     fn has_mark(&self, offset: usize) -> bool
         ensures value { result ≡ is_at self.now.text.now offset 63 }
@@ -80,7 +80,7 @@ impl<'a> Scanner<'a> {
         self.byte(offset) == Some(b'?')
     }
 
-    /// Reads a symbol of an alternative, a token of the kind that stands here.
+    /// Reads a symbol of an alternative, a token of the kind that is here.
     fn parse_symbol(
         &self,
         alloc: Global,
@@ -112,7 +112,7 @@ impl<'a> Scanner<'a> {
         Ok(after)
     }
 
-    /// Reads the `%empty` that stands here.
+    /// Reads the `%empty` that is here.
     fn parse_empty(&self, draft: &mut Draft, offset: usize) -> Result<usize, ReadError>
         requires literal { IsLiteral self.now.text.now offset "empty" }
         requires within { offset + 6 ≤ length self.now.text.now }
@@ -132,7 +132,7 @@ impl<'a> Scanner<'a> {
         Ok(offset + 6)
     }
 
-    /// Reads the token of the `%prec` that stands at `offset`.
+    /// Reads the token of the `%prec` at `offset`.
     fn parse_prec_token(
         &self,
         alloc: Global,
@@ -184,7 +184,7 @@ impl<'a> Scanner<'a> {
         Ok(end)
     }
 
-    /// Reads the action whose `{` stands here.
+    /// Reads the action whose `{` is here.
     fn parse_action(
         &self,
         alloc: Global,
@@ -210,7 +210,7 @@ impl<'a> Scanner<'a> {
         Ok(end + 1)
     }
 
-    /// Reads a part of an alternative, which begins with a token of the kind that stands here.
+    /// Reads a part of an alternative, which begins with a token of the kind that is here.
     fn parse_part_alone(
         &self,
         alloc: Global,
@@ -235,7 +235,7 @@ impl<'a> Scanner<'a> {
         }
     }
 
-    /// Reads a part of an alternative, which begins with a token of the kind that stands here, and the gap behind it.
+    /// Reads a part of an alternative, which begins with a token of the kind that is here, and the gap behind it.
     fn parse_part(
         &self,
         alloc: Global,
@@ -282,7 +282,7 @@ impl<'a> Scanner<'a> {
         Ok((alternative, end))
     }
 
-    /// Tells whether the `;` stands where an alternative ends; else the `|` does.
+    /// Returns whether the alternative ends with `;`; else it ends with `|`.
     fn is_last(&self, offset: usize) -> bool
         requires end { ends_alternative (token_kind_at self.now.text.now offset) ≡ true }
         ensures { token_kind_at self.now.text.now offset ≡ bar_or_semicolon result }
@@ -330,7 +330,7 @@ impl<'a> Scanner<'a> {
         }
     }
 
-    /// Tells whether `->` stands here.
+    /// Returns whether `->` is here.
     fn is_arrow(&self, offset: usize) -> bool
         ensures arrow { Decides result (token_kind_at self.now.text.now offset ≡ tokens.Arrow) }
         ensures fits { IsTrue result → (offset + 2 ≤ length self.now.text.now) × IsCharBoundary self.now.text.now (offset + 2) }
@@ -355,7 +355,7 @@ impl<'a> Scanner<'a> {
         Ok((word, colon + 1))
     }
 
-    /// Reads what stands between a rule's name and its alternatives.
+    /// Reads the text between a rule's name and its alternatives.
     fn parse_heading(
         &self,
         alloc: Global,
@@ -408,7 +408,7 @@ impl<'a> Scanner<'a> {
         ))
     }
 
-    /// Tells whether a rule begins here; else the rules end here.
+    /// Returns whether a rule begins here; else the rules end here.
     fn begins_rule(&self, offset: usize) -> Result<bool, ReadError>
         ensures ok { IfOk result (λ b. (begins_name (token_kind_at self.now.text.now offset) ≡ b) × (ends_rules (token_kind_at self.now.text.now offset) ≡ not b)) }
         ensures err { IfErr result (λ e. IsFaultAt (rule_fault (token_kind_at self.now.text.now offset)) offset e) }
@@ -459,7 +459,7 @@ impl<'a> Scanner<'a> {
         read
     }
 
-    /// Tells whether `%%` stands where the rules end; else the text ends.
+    /// Returns whether the rules end with `%%`; else the text ends.
     fn has_programs(&self, offset: usize) -> bool
         requires end { ends_rules (token_kind_at self.now.text.now offset) ≡ true }
         ensures kind { token_kind_at self.now.text.now offset ≡ end_or_separator result }
@@ -468,7 +468,7 @@ impl<'a> Scanner<'a> {
         matches!(self.token_kind_at(offset), TokenKind::Separator)
     }
 
-    /// Reads the programs behind the `%%` that stands here.
+    /// Reads the programs behind the `%%` that is here.
     fn parse_programs(&self, alloc: Global, offset: usize) -> Result<Word, ReadError>
         requires { (offset + 2 ≤ length self.now.text.now) × IsCharBoundary self.now.text.now (offset + 2) }
         ensures ok { IfOk result (λ w. word_of w ≡ word self.now.text.now (run_end is_white self.now.text.now (offset + 2)) (length self.now.text.now)) }
@@ -478,7 +478,7 @@ impl<'a> Scanner<'a> {
         Ok(self.word(alloc, start, self.text.len())?)
     }
 
-    /// Reads what stands behind the rules.
+    /// Reads the text behind the rules.
     fn parse_last_part(
         &self,
         alloc: Global,

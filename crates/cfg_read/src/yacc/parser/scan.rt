@@ -1,4 +1,4 @@
-//! Tells what stands at an offset of a grammar text, and where it ends.
+//! Finds what is at an offset of a grammar text, and where it ends.
 
 ghost use Rattle.std.specs.Prelude.{◌≡◌, ◌+◌, ◌≤◌, ◌<◌, length, slice_get, IfSome, IsTrue};
 ghost use Rattle.std.specs.Rc.{rc_str_bytes};
@@ -15,7 +15,7 @@ use cfg_base::text;
 use cfg_base::text::GapPart;
 use std::rc::RcStr;
 
-/// What stands at an offset, and where it ends.
+/// What is at an offset, and where it ends.
 #[derive(Clone, Copy, Debug, PartialEq, Eq)]
 pub(crate) enum TokenKind {
     End,
@@ -23,7 +23,7 @@ pub(crate) enum TokenKind {
     Name(usize),
     /// Decimal digits, up to here.
     Digits(usize),
-    /// A quoted token, whose second quote stands here.
+    /// A quoted token, whose second quote is here.
     Quoted(usize),
     /// A quote that begins no token.
     OpenQuote,
@@ -46,24 +46,24 @@ pub(crate) enum TokenKind {
 /// The string at an offset.
 #[derive(Clone, Copy, Debug, PartialEq, Eq)]
 pub(crate) enum StringKind {
-    /// Its second quote stands here.
+    /// Its second quote is here.
     Closed(usize),
-    /// It is none, because of what stands here.
+    /// It is none, because of what is here.
     Broken(usize),
 }
 
-/// A text and its kind. Offsets are those of bytes in the text; past its end nothing stands.
+/// A text and its kind. Offsets are in bytes; past the text's end nothing is found.
 #[derive(Clone, Copy, Debug)]
 pub(crate) struct Scanner<'a> {
     pub(crate) text: &'a str,
-    /// The same text, for names that share it.
+    /// The text once more, for names that share it.
     pub(crate) shared: &'a RcStr,
     pub(crate) kind: YaccKind,
     ghost same: { rc_str_bytes shared.now ≡ text.now },
 }
 
 impl<'a> Scanner<'a> {
-    /// Answers the byte at an offset; `None` from the text's end on.
+    /// Returns the byte at an offset; `None` from the text's end on.
     pub(crate) fn byte(&self, offset: usize) -> Option<u8>
         ensures value { result ≡ slice_get self.now.text.now offset }
         ensures within { IfSome result (λ _. offset < length self.now.text.now) }
@@ -113,7 +113,7 @@ impl<'a> Scanner<'a> {
         text::white_end(self.text, offset)
     }
 
-    /// Tells whether an LF stands between two offsets.
+    /// Returns whether an LF is between two offsets.
     #[tactic(auto, unfolding(crate::specs::Bytes::holds_line_feed))]
     fn holds_line_feed(&self, start: usize, end: usize) -> bool
         requires { (start ≤ end) × (end ≤ length self.now.text.now) }
@@ -122,7 +122,7 @@ impl<'a> Scanner<'a> {
         bytes::has_line_feed(&self.text.as_bytes()[start..end])
     }
 
-    /// Tells what of a line gap stands at an offset.
+    /// Returns the part of a gap within a line at an offset.
     #[tactic(auto, unfolding(crate::specs::Words::line_gap_at))]
     pub(crate) fn line_gap_at(&self, offset: usize) -> GapPart
         ensures value { result ≡ line_gap_at self.now.text.now offset }
@@ -142,7 +142,7 @@ impl<'a> Scanner<'a> {
         }
     }
 
-    /// Tells what begins at a quote.
+    /// Returns the kind of the token at a quote.
     fn quoted_kind(&self, quote: u8, offset: usize) -> TokenKind
         requires quote { slice_get self.now.text.now offset ≡ Some quote }
         requires ascii { quote < 128 }
@@ -162,7 +162,7 @@ impl<'a> Scanner<'a> {
         }
     }
 
-    /// Tells which sign stands here.
+    /// Returns the kind of the sign here.
     fn sign_kind(&self, b: u8, offset: usize) -> TokenKind
         requires { slice_get self.now.text.now offset ≡ Some b }
         ensures value { result ≡ sign_kind b self.now.text.now offset }
@@ -184,7 +184,7 @@ impl<'a> Scanner<'a> {
         }
     }
 
-    /// Tells what stands at an offset, and where it ends.
+    /// Returns the kind of the token at an offset, with its end.
     #[tactic(auto, unfolding(crate::specs::Words::token_kind_at))]
     pub(crate) fn token_kind_at(&self, offset: usize) -> TokenKind
         ensures value { result ≡ token_kind_at self.now.text.now offset }
@@ -201,14 +201,14 @@ impl<'a> Scanner<'a> {
 }
 
 impl TokenKind {
-    /// Tells whether a token begins here.
+    /// Returns whether a token begins here.
     pub(crate) fn begins_token(self) -> bool
         ensures { result ≡ begins_token self }
     {
         matches!(self, TokenKind::Name(_) | TokenKind::Quoted(_))
     }
 
-    /// Tells whether the tokens of `%token` end here.
+    /// Returns whether the tokens of `%token` end here.
     pub(crate) fn ends_tokens(self) -> bool
         ensures { result ≡ ends_tokens self }
     {
@@ -218,7 +218,7 @@ impl TokenKind {
         )
     }
 
-    /// Tells whether a line ends here, behind a line gap.
+    /// Returns whether a line ends here, behind a line gap.
     pub(crate) fn ends_line(self) -> bool
         ensures { result ≡ ends_line self }
     {

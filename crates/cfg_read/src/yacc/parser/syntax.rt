@@ -11,7 +11,7 @@ use crate::yacc::parser::declaration::{Count, LineList};
 use cfg_base::span::Span;
 use std::alloc::{AllocError, Global};
 
-/// A text, and where it stands.
+/// A text, and its byte span.
 #[derive(Debug, Drop)]
 pub struct Word {
     /// The text, of a token without its quotes.
@@ -20,8 +20,8 @@ pub struct Word {
     pub span: Span,
 }
 
-/// A symbol, and where it stands, without quotes. In what was read it is told by its quotes alone, in a production by what it
-/// stands for.
+/// A symbol, and its byte span without quotes. In what was read its kind is given by its quotes alone, in a
+/// production by what it means.
 #[derive(Debug, Drop)]
 pub enum Symbol {
     /// A rule; in what was read, a name.
@@ -31,7 +31,7 @@ pub enum Symbol {
 }
 
 impl Symbol {
-    /// The name.
+    /// Returns the name.
     pub fn name(&self) -> &Name
         ensures { name_text result.now ≡ (symbol_of self.now).word.text }
     {
@@ -41,7 +41,7 @@ impl Symbol {
         }
     }
 
-    /// Where the text stands.
+    /// Returns the byte span of the symbol's text, without quotes.
     pub fn span(&self) -> Span
         ensures { result ≡ (symbol_of self.now).word.span }
     {
@@ -51,7 +51,7 @@ impl Symbol {
         }
     }
 
-    /// Whether it is quoted.
+    /// Returns whether it is quoted.
     pub(crate) fn is_quoted(&self) -> bool
         ensures { result ≡ (symbol_of self.now).is_quoted }
     {
@@ -61,7 +61,7 @@ impl Symbol {
         }
     }
 
-    /// A copy without a `?`.
+    /// Returns a copy without a `?`.
     pub(crate) fn plain(&self) -> Result<Symbol, AllocError>
         ensures { IfOk result (λ s. symbol_of s ≡ record (symbol_of self.now) { optional = None }) }
     {
@@ -71,7 +71,8 @@ impl Symbol {
         }
     }
 
-    /// In an alternative, where a `?` stands right behind it: the span of both, quotes included.
+    /// Returns the span of the symbol and a `?` right behind it in an alternative, quotes included; `None` where
+    /// there is no `?`.
     pub(crate) fn optional(&self) -> Option<Span>
         ensures { result ≡ (symbol_of self.now).optional }
     {
@@ -86,7 +87,7 @@ impl Symbol {
     }
 }
 
-/// The span from an offset up to the `?` behind a name, if there is one.
+/// Returns the span from an offset up to the `?` behind a name, if there is one.
 fn mark_of(name: &Name, start: usize, end: usize) -> Option<Span>
     requires { start ≤ end }
     ensures { result ≡ mark_of (name_optional name.now) start end }
@@ -116,12 +117,12 @@ pub struct Plain {
     pub span: Span,
 }
 
-/// What may stand in an alternative.
+/// All parts of an alternative.
 #[derive(Debug, Drop)]
 pub struct Body {
     /// The symbols in order; none beside `%empty`.
     pub symbols: Vec<Symbol>,
-    /// Whether `%empty` stands there.
+    /// Whether `%empty` is there.
     pub is_empty: bool,
     /// The token of `%prec`.
     pub precedence: Option<Box<Word>>,
@@ -131,11 +132,11 @@ pub struct Body {
     pub span: Span,
 }
 
-/// An alternative of a rule, which a production takes over. One in which little stands is small, since a text may have one for
-/// each of its bytes.
+/// An alternative of a rule, which a production takes over. One with few parts is small, since a text may have one
+/// for each of its bytes.
 #[derive(Debug, Drop)]
 pub enum Alternative {
-    /// Nothing stands there, up to the `|` or `;` at this offset.
+    /// Nothing, up to the `|` or `;` at this byte offset.
     Blank(usize),
     /// One symbol, and nothing else.
     Single(Box<Single>),
@@ -146,7 +147,7 @@ pub enum Alternative {
 }
 
 impl Alternative {
-    /// The symbols.
+    /// Returns the symbols.
     pub fn symbols(&self) -> &[Symbol]
         ensures { symbols_of result.now ≡ (alternative_of self.now).symbols }
     {

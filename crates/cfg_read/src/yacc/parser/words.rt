@@ -39,7 +39,7 @@ impl<'a> Scanner<'a> {
         offset + 1 + bytes::keyword_len(&self.text.as_bytes()[offset + 1..])
     }
 
-    /// Reads the word behind the `%` at an offset: answers its declaration, and where the word ends.
+    /// Reads the word behind the `%` at an offset, and returns its declaration, and the offset behind the word.
     pub(crate) fn parse_keyword(&self, offset: usize) -> Option<(Declaration, usize)>
         requires { (offset < length self.now.text.now) × IsCharBoundary self.now.text.now (offset + 1) }
         ensures value { MatchOption result (declaration_of self.now.kind (keyword self.now.text.now offset) ≡ None) (λ d. (declaration_of self.now.kind (keyword self.now.text.now offset) ≡ Some d.0) × (d.1 ≡ keyword_end self.now.text.now offset)) }
@@ -52,7 +52,7 @@ impl<'a> Scanner<'a> {
         }
     }
 
-    /// Tells whether `empty` stands behind the `%` at an offset.
+    /// Returns whether `empty` is behind the `%` at an offset.
     #[tactic(auto, unfolding(crate::specs::Reading::has_letters))]
     pub(crate) fn has_empty(&self, offset: usize) -> bool
         requires { offset < length self.now.text.now }
@@ -62,7 +62,7 @@ impl<'a> Scanner<'a> {
         self.text.as_bytes()[offset + 1..].starts_with(b"empty")
     }
 
-    /// Tells whether `prec` stands behind the `%` at an offset.
+    /// Returns whether `prec` is behind the `%` at an offset.
     #[tactic(auto, unfolding(crate::specs::Reading::has_letters))]
     pub(crate) fn has_prec(&self, offset: usize) -> bool
         requires { offset < length self.now.text.now }
@@ -72,7 +72,7 @@ impl<'a> Scanner<'a> {
         self.text.as_bytes()[offset + 1..].starts_with(b"prec")
     }
 
-    /// Answers the number that these digits write, if it isn't too large.
+    /// Returns the number that these digits write, if it isn't too large.
     #[tactic(auto, unfolding(crate::specs::Words::number_of))]
     pub(crate) fn number_value(&self, start: usize, end: usize) -> Option<usize>
         requires { FitsDigits self.now.text.now start end }
@@ -81,7 +81,7 @@ impl<'a> Scanner<'a> {
         self.text[start..end].parse().ok()
     }
 
-    /// Tells whether this quote stands here and ends a string.
+    /// Returns whether this quote is here and ends a string.
     fn closes_string(&self, quote: u8, offset: usize) -> bool
         requires { 0 < offset }
         ensures value { result ≡ closes_string quote self.now.text.now offset }
@@ -90,7 +90,7 @@ impl<'a> Scanner<'a> {
         self.byte(offset) == Some(quote) && self.byte(offset - 1) != Some(b'\\')
     }
 
-    /// Tells whether what stands here can't stand in a string.
+    /// Returns whether a string can't have what is here.
     fn breaks_string(&self, offset: usize) -> bool
         ensures { result ≡ breaks_string self.now.text.now offset }
     {
@@ -101,7 +101,7 @@ impl<'a> Scanner<'a> {
         }
     }
 
-    /// Tells whether a string ends or breaks here.
+    /// Returns whether a string ends or breaks here.
     fn stops_string(&self, quote: u8, offset: usize) -> bool
         requires { 0 < offset }
         ensures { result ≡ stops_string quote self.now.text.now offset }
@@ -125,7 +125,7 @@ impl<'a> Scanner<'a> {
         None
     }
 
-    /// Tells what string stands at an offset.
+    /// Returns the string at an offset: closed, or broken.
     #[tactic(auto, unfolding(crate::specs::Words::string_at))]
     pub(crate) fn string_at(&self, offset: usize) -> StringKind
         ensures value { result ≡ string_at self.now.text.now offset }
@@ -141,7 +141,7 @@ impl<'a> Scanner<'a> {
         }
     }
 
-    /// Tells whether a `:` stands here that isn't next to another.
+    /// Returns whether a `:` is here that isn't next to another.
     fn is_lone_colon(&self, offset: usize) -> bool
         requires { 0 < offset }
         ensures value { result ≡ is_lone_colon self.now.text.now offset }
@@ -185,7 +185,7 @@ impl<'a> Scanner<'a> {
         None
     }
 
-    /// Answers the span of the text between two offsets without the white at its ends.
+    /// Returns the span of the text between two offsets without the white at its ends.
     pub(crate) fn trim(&self, start: usize, end: usize) -> Span
         requires { FitsPart self.now.text.now start end }
         ensures value { result ≡ trimmed self.now.text.now start end }

@@ -1,4 +1,4 @@
-//! Names and declarations that stand more than once.
+//! Names and declarations that appear more than once.
 
 ghost use Rattle.std.specs.Prelude.{◌≡◌, ◌++◌, ◌≤◌, [], map, vec_len, true, OnOk, IfOk};
 ghost use Rattle.std.specs.List.{flat_map};
@@ -18,7 +18,7 @@ use cfg_base::span::Span;
 use indexmap::IndexSet;
 use std::alloc::{AllocError, Global};
 
-/// What should stand once.
+/// What may occur once.
 #[derive(Clone, Copy, Debug, PartialEq, Eq)]
 enum Repeated {
     Precedence,
@@ -31,7 +31,7 @@ enum Repeated {
     ActionType,
 }
 
-/// The kind of error of what stands more than once.
+/// Returns the kind of error of what appears more than once.
 fn repeated_kind(what: Repeated) -> YaccGrammarErrorKind
     ensures { kind_of result ≡ repeated_failure what }
 {
@@ -107,7 +107,7 @@ fn grouped(alloc: Global, words: &[(&str, Span)]) -> Result<Vec<Vec<Span>>, Allo
     Ok(groups)
 }
 
-/// Tells whether these words have as many names, if these are their names, so that none is told as repeated.
+/// Returns whether these words have as many names, if these are their names, so that none is reported as repeated.
 fn all_differ(words: &[(&str, Span)], names: &IndexSet<&str>) -> bool
     ensures { result ≡ true → names_in names.now ≡ texts (distinct (words_at words.now)) → (k : FailureKind) → repeated_names k (words_at words.now) ≡ [] }
 {
@@ -129,7 +129,8 @@ fn push_groups(
     Ok(())
 }
 
-/// Puts a failure for each name that stands more than once among these words behind the others, where these are their names.
+/// Puts a failure for each name that appears more than once among these words behind the others, where these are
+/// their names.
 fn push_repeated_among(
     alloc: Global,
     errors: &mut Vec<YaccGrammarError>,
@@ -148,7 +149,7 @@ fn push_repeated_among(
     Ok(())
 }
 
-/// Puts a failure for each name that stands more than once among these words behind the others.
+/// Puts a failure for each name that appears more than once among these words behind the others.
 fn push_repeated_names(
     alloc: Global,
     errors: &mut Vec<YaccGrammarError>,
@@ -203,7 +204,7 @@ fn push_repeated_epps(
     push_repeated_names(alloc, errors, Repeated::Epp, &words)
 }
 
-/// Puts a failure for each token that stands more than once in `%avoid_insert` behind the others.
+/// Puts a failure for each token that appears more than once in `%avoid_insert` behind the others.
 fn push_repeated_avoided(
     alloc: Global,
     errors: &mut Vec<YaccGrammarError>,
@@ -222,7 +223,7 @@ fn push_repeated_avoided(
     Ok(())
 }
 
-/// Puts a failure for each token that stands more than once in `%implicit_tokens` behind the others.
+/// Puts a failure for each token that appears more than once in `%implicit_tokens` behind the others.
 fn push_repeated_implicit(
     alloc: Global,
     errors: &mut Vec<YaccGrammarError>,
@@ -241,7 +242,7 @@ fn push_repeated_implicit(
     Ok(())
 }
 
-/// Puts a failure for each name that stands more than once where it should stand once behind the others.
+/// Puts a failure for each name that occurs more often than it may behind the others.
 pub(super) fn push_repeated_words(
     alloc: Global,
     errors: &mut Vec<YaccGrammarError>,
@@ -281,7 +282,7 @@ fn spans_of_numbers(alloc: Global, numbers: &[Number]) -> Result<Vec<Span>, Allo
     Ok(spans)
 }
 
-/// Puts a failure for each declaration that stands more than once where it should stand once behind the others.
+/// Puts a failure for each declaration that occurs more often than it may behind the others.
 pub(super) fn push_repeated_declarations(
     alloc: Global,
     errors: &mut Vec<YaccGrammarError>,

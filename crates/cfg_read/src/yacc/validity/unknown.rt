@@ -1,4 +1,4 @@
-//! Names that stand for nothing.
+//! Names that mean nothing.
 
 ghost use Rattle.std.specs.Prelude.{◌≡◌, ◌++◌, ◌∷◌, [], if◌then◌else◌, IfOk, OnOk};
 ghost use Rattle.std.specs.String.{string_bytes};
@@ -33,7 +33,7 @@ enum Unknown {
     Token,
 }
 
-/// The kind of error of an unknown name.
+/// Returns the kind of error of an unknown name.
 fn unknown_kind(what: Unknown, name: String) -> YaccGrammarErrorKind
     ensures { kind_of result ≡ unknown_failure what (string_bytes name) }
 {
@@ -141,7 +141,7 @@ fn push_invalid_start(
     Ok(())
 }
 
-/// Tells whether a symbol of `%expect-unused` names something.
+/// Returns whether a symbol of `%expect-unused` names something.
 fn is_known(symbol: &Symbol, table: &NameTable, tokens: &IndexMap<String, Span>) -> bool
     ensures { result ≡ known_by (known_of table.now).rules (is_among (named_spans tokens.now)) (symbol_of symbol.now) }
 {
@@ -187,7 +187,7 @@ fn push_unknown_symbols(
     Ok(())
 }
 
-/// The failures of tokens of `%prec` without a precedence.
+/// Returns the failures of tokens of `%prec` without a precedence.
 pub(crate) fn unknown_precs(
     alloc: Global,
     x: &Syntax,
@@ -287,7 +287,8 @@ fn push_errors(
     Ok(())
 }
 
-/// Puts a failure for each name that stands for nothing behind the others, where these are those of tokens of `%prec`.
+/// Puts a failure for each name that means nothing behind the others; `precs` are the failures of the tokens of
+/// `%prec`.
 pub(super) fn push_unknown_names(
     alloc: Global,
     errors: &mut Vec<YaccGrammarError>,

@@ -19,7 +19,7 @@ pub struct Counted<T> {
 impl<T> Counted<T> {
     ghost use Rattle.byte_streams.specs.Counting.{inner_of, failures_of};
 
-    /// No failure is counted yet.
+    /// Makes a reader or a writer whose count of failures is 0.
     pub fn new(inner: T) -> Self
         ensures inner { inner_of result ≡ inner }
         ensures failures { failures_of result ≡ 0 }
@@ -27,7 +27,7 @@ impl<T> Counted<T> {
         Counted { inner, failures: 0 }
     }
 
-    /// The reader or the writer, as it stands.
+    /// Returns the reader or the writer, without its count.
     pub fn into_inner(self) -> T
         ensures { result ≡ inner_of self }
     {
@@ -35,14 +35,14 @@ impl<T> Counted<T> {
     }
 }
 
-// One more, up to the greatest number.
+// Returns the count raised by one, up to `u64::MAX`.
 fn raised(count: u64) -> u64
     ensures { result ≡ one_more count }
 {
     count.saturating_add(1)
 }
 
-// The count after so many bytes were taken of the ones handed over.
+// Returns the count after `taken` of `handed` bytes were taken: one more where none of some were.
 fn after_taking(taken: usize, handed: usize, count: u64) -> u64
     ensures { CountsTaken taken handed count result }
 {

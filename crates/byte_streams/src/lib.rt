@@ -1,6 +1,6 @@
-//! What gives bytes and what takes them, with a count of failures: `Source` and `Sink`, and `Counted`, which makes either
-//! of any reader or writer of std. `read_text` reads an input to its end as a text, `write_all` writes a whole text, and
-//! `write_long` writes a text as it is made, a part at a time, so that few bytes wait.
+//! Sources and sinks of bytes with a count of failures: the traits `Source` and `Sink`, and `Counted`, which makes
+//! either of any reader or writer of std. `read_text` reads an input to its end as a text. `write_all` writes a whole
+//! text, and `write_long` writes a text in parts as it is made, so that few bytes wait.
 //!
 //! ```rust
 //! use byte_streams::{Counted, InputFault, read_text};
@@ -14,10 +14,10 @@
 //! }
 //! ```
 //!
-//! Of a reader of the bytes `ID` it answers `Ok` of that text, of one of the byte FF `Err(InputFault::NotUtf8)`, of one that
-//! fails `Err(InputFault::Read)`, and of one that gives more than 67,108,864 bytes `Err(InputFault::TooLong)`.
+//! For a reader of the bytes `ID` it returns `Ok` of that text, for one of the byte FF `Err(InputFault::NotUtf8)`,
+//! for one that fails `Err(InputFault::Read)`, and for one of more than 67,108,864 bytes `Err(InputFault::TooLong)`.
 //!
-//! Contracts tell which bytes are gone from a source or are out at a sink where these are known, and why a call
+//! Contracts say which bytes were read from a source or written to a sink, where these are known, and why a call
 //! failed. `specs/Source`, `specs/Sink` and `specs/Inputs` have the definitions.
 #![tactic(auto)]
 

@@ -1,4 +1,4 @@
-//! What gives bytes, and an input as a whole.
+//! Sources of bytes, and an input as a whole.
 
 ghost use Rattle.std.specs.Prelude.{◌≡◌, ℕ, ◌≤◌, ◌+◌, ◌-◌, List, Option, IfOk, IfErr, OnOk, OnErr, vec_len, string_bytes, string_len};
 ghost use Rattle.std.specs.Io.KnownBytes.{IsAtEnd};
@@ -11,8 +11,7 @@ use std::io;
 /// The greatest number of bytes of an input.
 pub const MOST_BYTES: usize = 67_108_864;
 
-/// What gives bytes, tells them where they are known, and counts its failures: each one, and nothing
-/// else, raises the count by one, or finds it at `u64::MAX`.
+/// Gives bytes, and counts its failures: each failure, and nothing else, raises the count by one, up to `u64::MAX`.
 pub trait Source {
     /// The bytes that the reads from here on give, to the end of the input; `None` where an implementer doesn't
     /// say which.
@@ -26,7 +25,7 @@ pub trait Source {
     fn read(&mut self, buf: &mut [u8]) -> io::Result<usize>
         ensures { Reads (known self.old) (faults self.old) (known self.new) (faults self.new) result buf.new };
 
-    /// How many reads have failed.
+    /// Returns how many reads have failed.
     fn failures(&self) -> u64
         ensures { result ≡ faults self.now };
 }
@@ -70,7 +69,7 @@ fn read_whole<S: Source>(alloc: Global, source: &mut S) -> Result<Vec<u8>, Input
     Err(InputFault::TooLong)
 }
 
-// One read, of no more bytes than an input may still have, and one more.
+// Makes one read, of at most as many bytes as an input may still have, and one more.
 fn read_more<S: Source>(source: &mut S, bytes: &mut Vec<u8>) -> Result<usize, InputFault>
     requires { vec_len bytes.old ≤ most_bytes }
     ensures moves { OnOk result (Moves (S.known source.old) (S.known source.new) bytes.old.items bytes.new.items) }

@@ -1,4 +1,4 @@
-//! What takes bytes, and a text written as a whole.
+//! Sinks for bytes, and a text written as a whole.
 
 ghost use Rattle.std.specs.Prelude.{◌≡◌, ◌<◌, ℕ, List, Option, length, vec_len, OnOk, OnErr};
 ghost use Rattle.std.specs.Io.KnownBytes.{Appends};
@@ -10,9 +10,8 @@ use std::io;
 /// A text that is written as it is made waits until it has this many bytes.
 pub const MOST_WAITING: usize = 65_536;
 
-/// What takes bytes, tells them where they are known, and counts its failures: each one, and nothing
-/// else, raises the count by one, or finds it at `u64::MAX`. An error is a failure, and so is a write that takes nothing
-/// of a text that isn't empty.
+/// Takes bytes, and counts its failures: each failure, and nothing else, raises the count by one, up to `u64::MAX`.
+/// An error is a failure, and so is a write that takes nothing of bytes that aren't empty.
 pub trait Sink {
     /// All bytes that were taken so far, in order; `None` where an implementer doesn't say which.
     ghost known: { Self → Option (List ℕ) };
@@ -25,7 +24,7 @@ pub trait Sink {
     fn write(&mut self, bytes: &[u8]) -> io::Result<usize>
         ensures { Writes (known self.old) (faults self.old) (known self.new) (faults self.new) result bytes.now };
 
-    /// How many writes have failed, or took nothing of a text that isn't empty.
+    /// Returns how many writes have failed, or took nothing of a text that isn't empty.
     fn failures(&self) -> u64
         ensures { result ≡ faults self.now };
 }

@@ -11,7 +11,7 @@ use cfg_base::span::Span;
 use std::alloc::{AllocError, Global};
 
 impl<'a> SpannedDiagnosticFormatter<'a> {
-    /// The first byte of the line that a span starts on.
+    /// Returns the first byte of the line that a span starts on.
     fn line_of_span(&self, span: Span) -> usize
         ensures value { result ≡ line_of_span self.now.text span }
         ensures inside { result ≤ length self.now.text }
@@ -20,7 +20,7 @@ impl<'a> SpannedDiagnosticFormatter<'a> {
         first
     }
 
-    /// Where a span ends on the line that it starts on.
+    /// Returns the byte offset at which a span ends on the line that it starts on.
     fn end_of_span(&self, span: Span) -> usize
         ensures value { result ≡ end_of_span self.now.text span }
         ensures inside { result ≤ length self.now.text }
@@ -32,7 +32,7 @@ impl<'a> SpannedDiagnosticFormatter<'a> {
             .min(shown_end(self.src, start))
     }
 
-    /// Puts a line and what stands under its front.
+    /// Puts a line, and the marks under its front.
     fn open_line(&self, alloc: Global, text: &mut String, start: usize) -> Result<(), AllocError>
         requires { start ≤ length self.now.text }
         ensures { OnOk result (string_bytes text.new ≡ string_bytes text.old ++ opened_line self.now.text start) }

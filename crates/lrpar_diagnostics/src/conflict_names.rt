@@ -1,4 +1,4 @@
-//! Names, spans and symbols that conflicts are told by.
+//! Names, spans and symbols by which conflicts are shown.
 
 ghost use Rattle.std.specs.Prelude.{◌≡◌, ◌<◌, ℕ, length, slice_get, map, IfOk, IfSome, option_map, Some};
 ghost use Rattle.cfg_theory.specs.Grammar.{head_of};
@@ -13,18 +13,18 @@ use cfg_numbered::yacc::NumberedGrammar;
 use cfg_read::yacc::ast::{GrammarAST, Production, Symbol};
 use std::alloc::{AllocError, Global};
 
-/// The rule of a production.
+/// Returns the rule of a production.
 fn rule_of<S: IndexStorage>(grm: &NumberedGrammar<S>, pidx: PIdx<S>) -> RIdx<S>
     requires { S.number pidx.0 < length grm.now.grammar.productions }
     ensures value { S.number result.0 ≡ head_of grm.now.grammar (S.number pidx.0) }
     ensures within { S.number result.0 < grm.now.grammar.rules }
 {
-    // Called for what it tells: the grammar is well formed.
+    // Called for its clause that the grammar is well formed.
     let _start = grm.start_prod();
     grm.prod_to_rule(pidx)
 }
 
-/// The name of the rule of a production.
+/// Returns the name of the rule of a production.
 pub(crate) fn rule_name<S: IndexStorage>(grm: &NumberedGrammar<S>, pidx: PIdx<S>) -> &str
     requires { S.number pidx.0 < length grm.now.grammar.productions }
     ensures { result.now ≡ rule_name grm.now (S.number pidx.0) }
@@ -32,7 +32,7 @@ pub(crate) fn rule_name<S: IndexStorage>(grm: &NumberedGrammar<S>, pidx: PIdx<S>
     grm.rule_name_str(rule_of(grm, pidx))
 }
 
-/// Where the text has the name of the rule of a production.
+/// Returns the span of the name of a production's rule in the text.
 pub(crate) fn rule_span<S: IndexStorage>(grm: &NumberedGrammar<S>, pidx: PIdx<S>) -> Span
     requires { S.number pidx.0 < length grm.now.grammar.productions }
     ensures { result ≡ rule_span grm.now (S.number pidx.0) }
@@ -40,7 +40,7 @@ pub(crate) fn rule_span<S: IndexStorage>(grm: &NumberedGrammar<S>, pidx: PIdx<S>
     grm.rule_name_span(rule_of(grm, pidx))
 }
 
-/// The name of a token; `$` for the end token.
+/// Returns the name of a token; `$` for the end token.
 pub(crate) fn shown_token<S: IndexStorage>(grm: &NumberedGrammar<S>, tidx: TIdx<S>) -> &str
     ensures { result.now ≡ shown_token grm.now (S.number tidx.0) }
 {
@@ -50,7 +50,7 @@ pub(crate) fn shown_token<S: IndexStorage>(grm: &NumberedGrammar<S>, tidx: TIdx<
     grm.token_name(tidx).unwrap_or("$")
 }
 
-/// Where the text has a token; `dollar` for the end token.
+/// Returns the span of a token in the text; `dollar` for the end token.
 pub(crate) fn token_span<S: IndexStorage>(
     grm: &NumberedGrammar<S>,
     dollar: &Option<Span>,
@@ -67,7 +67,7 @@ pub(crate) fn token_span<S: IndexStorage>(
     grm.token_span(tidx)
 }
 
-/// The span of the token of this name.
+/// Returns the span of the token of this name.
 pub(crate) fn span_of_token<S: IndexStorage>(grm: &NumberedGrammar<S>, name: &str) -> Option<Span>
     ensures { IsSpanOfToken grm.now name.now result }
 {
@@ -96,7 +96,7 @@ fn spans_of_symbols(alloc: Global, symbols: &[Symbol]) -> Result<Vec<Span>, Allo
     Ok(spans)
 }
 
-/// The spans of a production's symbols; without these its own.
+/// Returns the spans of a production's symbols; without these its own.
 fn spans_of(alloc: Global, production: &Production) -> Result<Vec<Span>, AllocError>
     ensures { IfOk result (λ spans. spans.items ≡ spans_of (production_of production.now)) }
 {
@@ -107,7 +107,7 @@ fn spans_of(alloc: Global, production: &Production) -> Result<Vec<Span>, AllocEr
     Ok(spans)
 }
 
-/// The spans of the symbols of the production of this number; (0, 0) for one past the text's productions.
+/// Returns the spans of the symbols of the production of this number; (0, 0) for one past the text's productions.
 pub(crate) fn production_spans(
     alloc: Global,
     ast: &GrammarAST,

@@ -253,9 +253,10 @@ impl<'a> SpannedDiagnosticFormatter<'a> {
         Ok(())
     }
 
-    /// The conflicts of a grammar that was read from this source, those among reductions first. Each is told at the name of
-    /// the rule that is reduced to, with what the text has of the rules, the token and the production underlined. The end
-    /// token is told as `$`, at a token of that name. The states aren't looked at.
+    /// Returns the text of the conflicts of a grammar that was read from this source, those among reductions
+    /// first. Each is shown at the name of the rule that is reduced to, with the rules, the token and the
+    /// production underlined. The end token is shown as `$`, at a token of that name. The states aren't looked
+    /// at.
     pub fn format_conflicts<S: IndexStorage>(
         &self,
         alloc: Global,
@@ -282,7 +283,7 @@ impl<'a> SpannedDiagnosticFormatter<'a> {
         Ok(text)
     }
 
-    /// A listed shift against a reduction as `format_conflicts` tells it, alone.
+    /// Returns the text of a listed shift against a reduction alone, as `format_conflicts` shows it.
     pub fn format_shift_reduce<S: IndexStorage>(
         &self,
         alloc: Global,
@@ -299,7 +300,7 @@ impl<'a> SpannedDiagnosticFormatter<'a> {
         Ok(text)
     }
 
-    /// A listed pair of reductions as `format_conflicts` tells it, alone.
+    /// Returns the text of a listed pair of reductions alone, as `format_conflicts` shows it.
     pub fn format_reduce_reduce<S: IndexStorage>(
         &self,
         alloc: Global,

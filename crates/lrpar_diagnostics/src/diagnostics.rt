@@ -50,14 +50,14 @@ impl<'a> SpannedDiagnosticFormatter<'a> {
         })
     }
 
-    /// The lines of the source.
+    /// Returns the lines of the source.
     pub fn nlc(&self) -> &NewlineCache
         ensures { result.now ≡ newlines_of self.now.text }
     {
         &self.newlines
     }
 
-    /// A number that tells an order: `1st`, `2nd`, `3rd`, `4th`.
+    /// Returns an ordinal number: `1st`, `2nd`, `3rd`, `4th`.
     pub fn ordinal(alloc: Global, v: usize) -> Result<String, AllocError>
         ensures { IfOk result (λ text. string_bytes text ≡ ordinal_text v) }
     {
@@ -66,8 +66,8 @@ impl<'a> SpannedDiagnosticFormatter<'a> {
         Ok(text)
     }
 
-    /// A message with the path and where the span starts: line and column, or (0, 0) past the source's end. Without a
-    /// span it tells the path alone.
+    /// Returns a message with the path and the span's start: its line and column, counted from 1 and in
+    /// characters, or (0, 0) past the source's end. Without a span it has the path alone.
     pub fn file_location_msg(
         &self,
         alloc: Global,
@@ -82,7 +82,7 @@ impl<'a> SpannedDiagnosticFormatter<'a> {
         }
     }
 
-    /// A message with the path alone.
+    /// Returns a message with the path alone.
     fn unlocated(&self, alloc: Global, msg: &str) -> Result<String, AllocError>
         ensures { IfOk result (λ text. string_bytes text ≡ located_text self.now msg.now None) }
     {
@@ -91,7 +91,7 @@ impl<'a> SpannedDiagnosticFormatter<'a> {
         Ok(text)
     }
 
-    /// A message with the path and where the span starts.
+    /// Returns a message with the path and where the span starts.
     fn located(&self, alloc: Global, msg: &str, span: Span) -> Result<String, AllocError>
         ensures { IfOk result (λ text. string_bytes text ≡ located_text self.now msg.now (Some span)) }
     {
@@ -101,7 +101,7 @@ impl<'a> SpannedDiagnosticFormatter<'a> {
         Ok(text)
     }
 
-    /// The line and the column of an offset.
+    /// Returns the line and the column of an offset.
     fn place_at(&self, offset: usize) -> (usize, usize)
         ensures { result ≡ place_of self.now.text offset }
     {
@@ -110,7 +110,7 @@ impl<'a> SpannedDiagnosticFormatter<'a> {
     }
 }
 
-/// What stands behind a number that tells an order.
+/// Returns the suffix of an ordinal number.
 fn suffix_of(v: usize) -> &'static str
     ensures { result.now ≡ ordinal_suffix v }
 {

@@ -14,7 +14,7 @@ use cfg_base::text::line_end;
 use std::alloc::{AllocError, Global};
 
 impl<'a> SpannedDiagnosticFormatter<'a> {
-    /// The span, where an offset past the source counts as its end.
+    /// Returns the span, where an offset past the source counts as its end.
     pub(crate) fn within(&self, span: Span) -> Span
         ensures value { result ≡ within self.now.text span }
         ensures inside { result.end ≤ length self.now.text }
@@ -23,7 +23,7 @@ impl<'a> SpannedDiagnosticFormatter<'a> {
         Span::new(span.start().min(len), span.end().min(len))
     }
 
-    /// The line of an offset; that of the source's end past it.
+    /// Returns the line of an offset; that of the source's end past it.
     pub(crate) fn line_at(&self, offset: usize) -> usize
         ensures { result ≡ line_of self.now.text (min offset (length self.now.text)) }
     {
@@ -31,7 +31,7 @@ impl<'a> SpannedDiagnosticFormatter<'a> {
         self.newlines.byte_to_line_num(offset).unwrap_or(0)
     }
 
-    /// The front of the line that begins here.
+    /// Returns the front of the line that begins here.
     pub(crate) fn front_of(&self, alloc: Global, start: usize) -> Result<String, AllocError>
         requires { start ≤ length self.now.text }
         ensures { IfOk result (λ front. string_bytes front ≡ front_text (line_of self.now.text start)) }
@@ -41,7 +41,7 @@ impl<'a> SpannedDiagnosticFormatter<'a> {
         Ok(front)
     }
 
-    /// Puts the line that begins here behind its front, and what stands under that front.
+    /// Puts the line that begins here behind its front, and the marks under that front.
     pub(crate) fn push_shown(
         &self,
         alloc: Global,
@@ -134,9 +134,10 @@ impl<'a> SpannedDiagnosticFormatter<'a> {
         Ok(())
     }
 
-    /// The lines that a span touches, each with the span underlined below it, and a message behind the last underline. The
-    /// underline has the width of the part within the span, and one character where that has none. A place inside a
-    /// character counts as that character's first byte, and one past the source as its end.
+    /// Returns the lines that a span touches, each with the span underlined below it, and a message behind the
+    /// last underline. The underline has the width of the part within the span, and one character where that has
+    /// none. A place inside a character counts as that character's first byte, and one past the source as its
+    /// end.
     pub fn underline_span_with_text(
         &self,
         alloc: Global,
@@ -149,8 +150,8 @@ impl<'a> SpannedDiagnosticFormatter<'a> {
         self.prefixed_underline_span_with_text(alloc, "", span, s, underline_c)
     }
 
-    /// As `underline_span_with_text`, with a prefix before each underline, in the place of as many spaces. A prefix of more
-    /// than three bytes may move the underlines.
+    /// Underlines a span with a text as `underline_span_with_text` does, with a prefix before each underline in
+    /// the place of as many spaces. A prefix of more than three bytes may move the underlines.
     pub fn prefixed_underline_span_with_text(
         &self,
         alloc: Global,

@@ -11,7 +11,7 @@ use cfg_base::span::{Span, Spanned, SpansKind};
 use std::alloc::{AllocError, Global};
 use std::error::Error;
 
-/// Shows errors and warnings under the text that they speak of.
+/// Shows errors and warnings under the text that they are about.
 pub trait DiagnosticFormatter {
     ghost use Rattle.std.specs.Prelude.{List, ℕ};
     ghost use Rattle.cfg_base.specs.SpanModel.{SpanModel};
@@ -20,16 +20,16 @@ pub trait DiagnosticFormatter {
     /// The text for a message, its spans, and what these are. An implementer says here what both calls return.
     ghost shows: { Self → List ℕ → List SpanModel → SpansKind → List ℕ };
 
-    /// An error as a text: its spans underlined in order, the first with what the error prints.
+    /// Returns an error as text: its spans underlined in order, the first with the error's message.
     fn format_error<E: Spanned + Error>(&self, alloc: Global, e: &E) -> Result<String, AllocError>
         ensures { IfOk result (λ text. IfSome (E.Display.output e.now) (λ message. string_bytes text ≡ shows self.now message (E.spans_of e.now) (E.spanskind_of e.now))) };
 
-    /// A warning as a text, in the same way.
+    /// Returns a warning as text, as `format_error` does an error.
     fn format_warning<W: Spanned>(&self, alloc: Global, w: &W) -> Result<String, AllocError>
         ensures { IfOk result (λ text. IfSome (W.Display.output w.now) (λ message. string_bytes text ≡ shows self.now message (W.spans_of w.now) (W.spanskind_of w.now))) };
 }
 
-/// What the span of this number says, from the second on.
+/// Returns the text beside the span of this number, from the second on.
 fn occurrence(alloc: Global, kind: SpansKind, number: usize) -> Result<String, AllocError>
     ensures { IfOk result (λ text. string_bytes text ≡ occurrence_text kind number) }
 {
@@ -47,7 +47,7 @@ fn occurrence(alloc: Global, kind: SpansKind, number: usize) -> Result<String, A
 }
 
 impl<'a> SpannedDiagnosticFormatter<'a> {
-    /// The dots that stand before an underline where the next span starts more than a line below.
+    /// Returns the dots before an underline where the next span starts more than a line below.
     fn dots_before(&self, span: Span, next: Option<&Span>) -> &'static str
         ensures { result.now ≡ dots_before self.now.text span (option_copied next.entry) }
     {
@@ -96,7 +96,7 @@ impl<'a> SpannedDiagnosticFormatter<'a> {
         Ok(())
     }
 
-    /// A message with its spans.
+    /// Returns a message with its spans.
     fn spanned(
         &self,
         alloc: Global,
@@ -116,7 +116,7 @@ impl<'a> SpannedDiagnosticFormatter<'a> {
         Ok(text)
     }
 
-    /// An error or a warning with its spans.
+    /// Returns an error or a warning with its spans.
     fn format_spanned<E: Spanned>(&self, alloc: Global, e: &E) -> Result<String, AllocError>
         ensures { IfOk result (λ text. IfSome (E.Display.output e.now) (λ message. string_bytes text ≡ spanned_text self.now.text message (E.spans_of e.now) (E.spanskind_of e.now))) }
     {

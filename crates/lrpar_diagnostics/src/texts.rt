@@ -9,7 +9,7 @@ use cfg_base::text::{byte_at, line_end};
 use std::alloc::{AllocError, Global};
 use unicode_width::UnicodeWidthStr;
 
-/// The text from one offset up to another, each moved to the first byte of the character that it lies in.
+/// Returns the text from one offset up to another, each moved to the first byte of the character that it lies in.
 pub(crate) fn part(text: &str, from: usize, to: usize) -> &str
     requires order { from ≤ to }
     requires inside { to ≤ length text.now }
@@ -20,7 +20,7 @@ pub(crate) fn part(text: &str, from: usize, to: usize) -> &str
     &text[first..last]
 }
 
-/// Where what is shown of the line ends that begins here.
+/// Returns the offset of the end of the shown part of the line that begins here.
 pub(crate) fn shown_end(text: &str, start: usize) -> usize
     requires { start ≤ length text.now }
     ensures value { result ≡ shown_end text.now start }
@@ -34,7 +34,7 @@ pub(crate) fn shown_end(text: &str, start: usize) -> usize
     end
 }
 
-/// Puts so many spaces.
+/// Puts `count` spaces.
 pub(crate) fn push_spaces(alloc: Global, text: &mut String, count: usize) -> Result<(), AllocError>
     ensures { OnOk result (string_bytes text.new ≡ string_bytes text.old ++ spaces count) }
 {

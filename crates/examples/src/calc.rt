@@ -1,8 +1,9 @@
-//! Answers lines of digits and minus signs: each line is read by an own lexer, parsed, and valued by actions as it is parsed.
+//! Computes lines of digits and minus signs: each line is read by a lexer of this example, parsed, and valued by
+//! actions during the parse.
 //!
-//! The clause of `eval`, that words which have a tree come to the value of that tree, is proved by the clause `parsed` of
-//! `RTParserBuilder::parse_actions`, by its part `flawless`. A run that hands a reduction its values in reverse, or one that
-//! answers the value of another tree, would break it.
+//! The clause of `eval`, that words with a tree have the value of that tree, is proved by the clause `parsed` of
+//! `RTParserBuilder::parse_actions`, by its part `flawless`. A run that passes a reduction its values in reverse, or
+//! one that returns the value of another tree, would break it.
 mod actions;
 mod eval;
 mod lexer;
@@ -20,7 +21,7 @@ const DIFFERENCES: &str = "%start D %% D: D '-' 'digit' | 'digit';";
 
 const LINES: [&str; 5] = ["9 - 3 - 2", "7", "1 - 5", "4 -", "4 * 2"];
 
-/// The grammar with its table, checked.
+/// Returns the grammar with its table, checked.
 fn checked(alloc: Global, grm: NumberedGrammar<u8>) -> Result<Option<ParserData<u8>>, AllocError> {
     match from_yacc(alloc, &grm, Minimiser::Pager) {
         Ok((graph, table)) => match ParserData::new(alloc, grm, graph, table, 1000) {
@@ -41,7 +42,7 @@ fn data_of(alloc: Global, text: &str) -> Result<Option<ParserData<u8>>, AllocErr
     }
 }
 
-/// The line and its value.
+/// Returns the line and its value.
 fn told(alloc: Global, data: &ParserData<u8>, line: &str) -> Result<String, AllocError> {
     let words = lexer::read(alloc, line)?;
     match eval::eval(alloc, data, &words) {

@@ -1,5 +1,5 @@
-//! Shows the states of a grammar, its conflicts, and whether it is LR(1) as its precedences leave it: of statements in which an
-//! `else` may go with either of two `if`s.
+//! Shows the states of a grammar, its conflicts, and whether it is LR(1) as its precedences leave it: for statements
+//! in which an `else` may belong to either of two `if`s.
 //!
 //! The clause `exact` of `judged` is proved by the clause of that name of `from_yacc`. A table that lists a conflict which no
 //! string shows, or none where some string leaves a token two actions, would break it.
@@ -20,8 +20,8 @@ const TREE: YaccKind = YaccKind::Original(YaccOriginalActionKind::GenericParseTr
 
 const STATEMENTS: &str = "%start S %% S: 'if' S 'else' S | 'if' S | 'x';";
 
-/// The graph and the table of a grammar, and whether the table lists no conflict: without precedences that is so exactly
-/// where no string leaves a token two actions of canonical LR(1).
+/// Returns the graph and the table of a grammar, and whether the table lists no conflict. Without precedences it
+/// lists none if and only if no string leaves a token two actions of canonical LR(1).
 fn judged(
     alloc: Global,
     grm: &NumberedGrammar<u32>,
@@ -36,7 +36,7 @@ fn judged(
     Ok((graph, table, clear))
 }
 
-/// The states of a grammar's table, what conflicts in it, and whether it is LR(1), or why it has none.
+/// Returns the states of a grammar's table, what conflicts in it, and whether it is LR(1), or why it has none.
 fn told_of(alloc: Global, grm: &NumberedGrammar<u32>) -> Result<String, AllocError> {
     match judged(alloc, grm) {
         Ok((graph, table, clear)) => {
@@ -61,7 +61,7 @@ fn told(alloc: Global, text: &str) -> Result<String, AllocError> {
     }
 }
 
-/// Returns what is shown.
+/// Returns the output.
 pub fn output(alloc: Global) -> Result<String, AllocError> {
     told(alloc, STATEMENTS)
 }

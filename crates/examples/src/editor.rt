@@ -1,9 +1,10 @@
-//! Underlines the errors of a text as an editor does, each with the tokens that could be inserted there: of the parser's
-//! own `Recoverer`, which offers every token, it lists those that get past the next lexeme, and goes on with the first.
+//! Underlines the errors of a text as an editor does, each with the tokens that could be inserted there. The
+//! `Recoverer` of this example offers every token, the parser lists those after which the next lexeme is shifted, and
+//! goes on with the first.
 //!
 //! The clause of its `AnyToken::sequences`, that each token is offered once and in order, is what the clause of
-//! `Recoverer::sequences` asks of it, by the edits that steps stand for. A view of steps that loses the token of an insertion,
-//! or hands on sequences in another order, would break it.
+//! `Recoverer::sequences` requires, by the edits that steps are. A view of steps that loses the token of an
+//! insertion, or passes on sequences in another order, would break it.
 mod lexer;
 mod make;
 mod offers;
@@ -34,7 +35,7 @@ fn all_shown(
     Ok(out)
 }
 
-/// The errors of the text, as they are shown, where any one token is offered at each.
+/// Returns the errors of the text, as they are shown, where any one token is offered at each.
 fn told(alloc: Global, data: &ParserData<u32>) -> Result<String, AllocError> {
     let lexer = lexer_of(alloc, data.grm(), TEXT)?;
     let offers = offers::AnyToken {

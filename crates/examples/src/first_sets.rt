@@ -17,7 +17,7 @@ use cfgrammar::yacc::{NumberedGrammar, YaccFirsts, YaccFollows};
 use cfgrammar::{RIdx, TIdx};
 use std::alloc::{AllocError, Global};
 
-/// Whether the rule derives the empty list.
+/// Returns whether the rule derives the empty list.
 fn is_nullable<S: IndexStorage>(
     grm: &NumberedGrammar<S>,
     firsts: &YaccFirsts<S>,
@@ -30,7 +30,7 @@ fn is_nullable<S: IndexStorage>(
     firsts.is_epsilon_set(ridx)
 }
 
-/// Whether a list that the rule derives begins with the token.
+/// Returns whether a list that the rule derives begins with the token.
 fn begins<S: IndexStorage>(
     grm: &NumberedGrammar<S>,
     firsts: &YaccFirsts<S>,
@@ -45,7 +45,7 @@ fn begins<S: IndexStorage>(
     firsts.is_set(ridx, tidx)
 }
 
-/// Whether the token comes right after the rule in a list that the start rule derives.
+/// Returns whether the token comes right after the rule in a list that the start rule derives.
 fn follows<S: IndexStorage>(
     grm: &NumberedGrammar<S>,
     sets: &YaccFollows<S>,
@@ -64,7 +64,7 @@ const NESTED: &str = "%start S\n%%\nS: A 'b';\nA: 'a' A | ;\n";
 
 const WRONG: &str = "%start S\n%%\nS: 'a' T;\nU: 'é' V;\n";
 
-/// Returns what is shown of a grammar and of a text that has none.
+/// Returns the output for a grammar and for a text that has none.
 pub fn output(alloc: Global) -> Result<String, AllocError> {
     let mut out = told::told(alloc, NESTED)?;
     out.push_str(told::told(alloc, WRONG)?.as_str())?;

@@ -1,8 +1,8 @@
-//! Shows of the texts of grammars what a kit of each tells: its counts, whether it is LR(1), its conflicts; or why there is
-//! no kit.
+//! Shows what a kit of each of some grammar texts has: its counts, whether it is LR(1), its conflicts; or why there
+//! is no kit.
 //!
-//! The clause of `is_lr1` is proved by the clause `exact` of `ParserKit::conflicts`. A list that lacks a conflict, or holds one
-//! that no string shows, would break it.
+//! The clause of `is_lr1` is proved by the clause `exact` of `ParserKit::conflicts`. A list that lacks a conflict, or
+//! has one that no string shows, would break it.
 ghost use Rattle.std.specs.Prelude.{◌≡◌, ◌↔◌, [], IsTrue};
 ghost use Rattle.table_theory.specs.CellLaws.{SomeContested};
 
@@ -23,7 +23,8 @@ const UNFINISHED: &str = "%start E %% E: E '+'";
 
 const ROUND: &str = "%start S %% S: S | 'x';";
 
-/// Whether no string of symbols leaves a token two actions of canonical LR(1), for a text that declares no precedence.
+/// Returns whether no string of symbols leaves a token two actions of canonical LR(1), for a text that declares no
+/// precedence.
 fn is_lr1<S: IndexStorage>(kit: &ParserKit<S>) -> bool
     ensures { kit.now.kept.ast.precedences ≡ [] → IsTrue result ↔ (SomeContested kit.now.parser.grammar.grammar → ⊥) }
 {
@@ -33,7 +34,7 @@ fn is_lr1<S: IndexStorage>(kit: &ParserKit<S>) -> bool
     kit.conflicts().is_none()
 }
 
-/// A line of what the kit of a text tells.
+/// Returns a line about the kit of a text.
 fn kit_told(alloc: Global, kit: &ParserKit<u32>) -> Result<String, AllocError> {
     let rules = usize::from(kit.grm().rules_len());
     let states = kit.sgraph().all_states_len().0.to_usize();
@@ -49,7 +50,7 @@ fn kit_told(alloc: Global, kit: &ParserKit<u32>) -> Result<String, AllocError> {
     }
 }
 
-/// The same of a text, or why it has no kit.
+/// Returns a line about the kit of a text, or why it has no kit.
 fn told(alloc: Global, text: &str) -> Result<String, AllocError> {
     match ParserKit::new(alloc, text, TREE, 1000) {
         Ok(kit) => {
@@ -62,7 +63,7 @@ fn told(alloc: Global, text: &str) -> Result<String, AllocError> {
     }
 }
 
-/// Returns what is shown of each text.
+/// Returns the output for each text.
 pub fn output(alloc: Global) -> Result<String, AllocError> {
     let mut out = String::new(alloc);
     for text in [SUMS, UNCLEAR, UNFINISHED, ROUND] {

@@ -1,8 +1,8 @@
 //! Shows for each rule of a grammar a shortest list of tokens that it derives, if it derives one; of a text that has no
 //! grammar the errors, with their lines and columns.
 //!
-//! The clause of `cheapest` is proved by the clause `ok` of `SentenceGenerator::min_sentence`. A sentence that a cheaper one of
-//! the same rule stands beside, or one that the rule doesn't derive, would break it.
+//! The clause of `cheapest` is proved by the clause `ok` of `SentenceGenerator::min_sentence`. A sentence that isn't
+//! the rule's cheapest, or one that the rule doesn't derive, would break it.
 ghost use Rattle.std.specs.Prelude.{◌<◌, IfOk, IfSome};
 ghost use Rattle.cfg_theory.specs.Cost.{IsCheapest};
 ghost use Rattle.cfg_sentences.specs.CostTable.{cost_of};
@@ -15,8 +15,8 @@ use cfgrammar::yacc::{SentenceError, SentenceGenerator};
 use cfgrammar::{RIdx, TIdx};
 use std::alloc::{AllocError, Global};
 
-/// A list of tokens that the rule derives, such that each list that it derives costs as much or more; none where it derives
-/// no list, or the cost is past 65,535.
+/// Returns a cheapest list of tokens that the rule derives. `None` where it derives no list, or the cost is past
+/// 65,535.
 fn cheapest<S: IndexStorage>(
     alloc: Global,
     sentences: &SentenceGenerator<'_, S>,
@@ -42,7 +42,7 @@ L: L 'x';
 
 const WRONG: &str = "%start S\n%%\nS: 'a' T;\nU: 'é' V;\n";
 
-/// Returns what is shown of a grammar and of a text that has none.
+/// Returns the output for a grammar and for a text that has none.
 pub fn output(alloc: Global) -> Result<String, AllocError> {
     let mut out = told::told(alloc, STATEMENTS)?;
     out.push_str(told::told(alloc, WRONG)?.as_str())?;

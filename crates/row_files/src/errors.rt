@@ -5,7 +5,7 @@ use cfg_base::span::{Spanned, SpansKind};
 use cfg_read::yacc::YaccGrammarError;
 use std::alloc::{AllocError, Global};
 
-/// An error as its kind, its spans and its text.
+/// Returns an error as its kind, its spans and its text.
 fn push_error(alloc: Global, out: &mut String, error: &YaccGrammarError) -> Result<(), AllocError> {
     let kind = &error.kind;
     out.push_str(format!(in alloc; "error {kind:?}")?.as_str())?;

@@ -1,4 +1,4 @@
-//! The parts of a file: lines that are kept, and texts.
+//! The parts of a file: lines that are written as they were read, and texts.
 
 use crate::words::push_unescaped;
 use cfg_read::yacc::{YaccKind, YaccOriginalActionKind};
@@ -6,10 +6,10 @@ use std::alloc::{AllocError, Global};
 
 #[derive(Drop)]
 pub enum Part<'a> {
-    /// A line that is kept as it stands.
+    /// A line that is written as it was read.
     Line(&'a str),
-    /// The heading that a text stands under, without its `= `, the text, and the start rule that is asked for. Its
-    /// lines come before it.
+    /// The heading above a text, without its `= `, the text, and the start rule that is asked for. Its lines come
+    /// before it.
     Text(&'a str, String, Option<&'a str>),
 }
 
@@ -21,7 +21,7 @@ struct Open<'a> {
     text: Option<String>,
 }
 
-/// The kind that the first word of a heading tells; none where the section is to tell it.
+/// Returns the kind that the first word of a heading names; `None` where the section is to name it.
 pub fn kind_of(heading: &str) -> Option<YaccKind> {
     match heading.split_whitespace().next() {
         Some("user") => Some(YaccKind::Original(YaccOriginalActionKind::UserAction)),
@@ -33,7 +33,7 @@ pub fn kind_of(heading: &str) -> Option<YaccKind> {
     }
 }
 
-/// The text before, if there is one, and one more line.
+/// Returns the text before, if there is one, and one more line.
 fn with_line(alloc: Global, before: Option<String>, line: &str) -> Result<String, AllocError> {
     let mut text = String::new(alloc);
     if let Some(before) = before {
@@ -58,7 +58,7 @@ impl<'a> Open<'a> {
         Ok(())
     }
 
-    /// Keeps a line behind a text, unless it is part of an answer.
+    /// Stores a line behind a text, unless it is part of an answer.
     fn take_other(&mut self, line: &'a str) -> Result<(), AllocError> {
         self.end_text(None)?;
         if let Some(heading) = line.strip_prefix("= ") {
@@ -92,7 +92,7 @@ impl<'a> Open<'a> {
     }
 }
 
-/// The parts of a file, in order.
+/// Returns the parts of a file, in order.
 pub fn parts(alloc: Global, file: &str) -> Result<Vec<Part<'_>>, AllocError> {
     let mut open = Open {
         parts: Vec::new(alloc),

@@ -1,12 +1,12 @@
 //! Files of grammar texts with their answers, for the programs that read them: `read_rows`, `grammar_rows`,
 //! `table_rows`.
 //!
-//! - A line `= WORD ..` tells how the texts below it are read: as one of the kind `user`, `tree` or `none` (`Original`
-//!   with `UserAction`, `GenericParseTree` or `NoAction`), `grmtools` or `eco`, or by `section` as one of the kind that
-//!   its section tells. A program may know further words.
+//! - A line `= WORD ..` says how the texts below it are read: as one of the kind `user`, `tree` or `none` (`Original`
+//!   with `UserAction`, `GenericParseTree` or `NoAction`), `grmtools` or `eco`, or with `section` as one of the kind
+//!   that its section names. A program may know further words.
 //! - The lines that begin with `|` are a text: without that `|`, with an LF between them, and with escapes (`words`).
 //! - A line `@NAME` behind a text asks for another start rule.
-//! - Lines that begin with `#` and empty lines are kept. All others are answers, which are left out here, so that a
+//! - Lines that begin with `#` and empty lines are retained. All others are answers, which are left out here, so that a
 //!   program can write its own in their place.
 #![tactic(auto)]
 

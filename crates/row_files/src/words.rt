@@ -3,7 +3,7 @@
 use cfg_base::span::Span;
 use std::alloc::{AllocError, Global};
 
-/// The letter that stands for a character behind a backslash.
+/// Returns the letter that means a character behind a backslash.
 fn letter_of(c: char) -> Option<char> {
     match c {
         '\\' => Some('\\'),
@@ -20,7 +20,7 @@ fn letter_of(c: char) -> Option<char> {
     }
 }
 
-/// The character that a letter behind a backslash stands for.
+/// Returns the character that a letter behind a backslash means.
 fn escaped_by(letter: char) -> char {
     match letter {
         'n' => '\n',
@@ -50,7 +50,7 @@ pub fn push_quoted(out: &mut String, text: &str) -> Result<(), AllocError> {
     out.push('"')
 }
 
-/// Adds what a text with escapes stands for.
+/// Adds the text that a text with escapes means.
 pub fn push_unescaped(out: &mut String, text: &str) -> Result<(), AllocError> {
     let mut is_escaped = false;
     for c in text.chars() {

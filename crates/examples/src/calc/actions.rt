@@ -13,7 +13,7 @@ use std::alloc::{AllocError, Global};
 /// What a symbol gave: a word, or the value of a tree.
 type Argument = AStackType<Word, u64>;
 
-/// The number of an argument.
+/// Returns the number of an argument.
 fn number(argument: &Argument) -> u64
     ensures { result ≡ number_in argument.now }
 {
@@ -23,7 +23,7 @@ fn number(argument: &Argument) -> u64
     }
 }
 
-/// The number of one of the arguments, or 0 past the last.
+/// Returns the number of one of the arguments, or 0 past the last.
 fn nth(args: &[Argument], index: usize) -> u64
     ensures { result ≡ get_or (map number_in args.now) index 0 }
 {
@@ -34,7 +34,7 @@ fn nth(args: &[Argument], index: usize) -> u64
     }
 }
 
-/// What a production makes of its arguments: the first one subtracts, down to 0.
+/// Returns the value of a production for its arguments: the first one subtracts, down to 0.
 fn value_of(production: u8, args: &[Argument]) -> u64
     ensures { result ≡ difference production (map number_in args.now) }
 {
@@ -45,7 +45,7 @@ fn value_of(production: u8, args: &[Argument]) -> u64
     }
 }
 
-/// Answers the values of trees.
+/// Actions that make the values of trees.
 pub struct Differences;
 
 impl Actions<LineTypes, Words> for Differences {

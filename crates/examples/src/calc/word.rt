@@ -5,7 +5,7 @@ use lrpar::Lexeme;
 use std::fmt;
 use std::fmt::{Display, Formatter, Write};
 
-/// A word of a line: its token, its bytes, and the number that it stands for.
+/// A word of a line: its token, its bytes, and the number that its digit means.
 #[derive(Clone, Copy, Debug, PartialEq, Eq, Hash)]
 pub struct Word {
     /// The number of the token in the grammar.

@@ -51,7 +51,7 @@ impl<S: IndexOrder> Lexeme<S> for ByteLexeme<S> {
     }
 
     fn new_faulty(tok_id: S, start: usize, len: usize) -> Self {
-        // Read, so that the proof may use that the number fits.
+        // For the proof alone: this read shows that the number fits.
         tok_id.to_usize();
         ByteLexeme {
             token: tok_id,
@@ -116,7 +116,7 @@ impl<S: IndexOrder> Lexer<ByteTypes<S>> for ByteLexer<S> {
     }
 }
 
-/// The lexeme of a byte, whose token has that byte for its name.
+/// Returns the lexeme of a byte, whose token has that byte for its name.
 fn lexeme_at<S: IndexOrder>(
     alloc: Global,
     grm: &NumberedGrammar<S>,
@@ -135,7 +135,7 @@ fn lexeme_at<S: IndexOrder>(
     }
 }
 
-/// The lexemes of a text, which blanks and lines part.
+/// Returns the lexemes of a text, which blanks and lines part.
 pub fn lexer_of<S: IndexOrder>(
     alloc: Global,
     grm: &NumberedGrammar<S>,

@@ -11,7 +11,7 @@ use lrpar::{Recoverer, RepairStep};
 use lrtable::StIdx;
 use std::alloc::{AllocError, Global};
 
-/// Offers, at each error, to insert any one token of so many.
+/// A recoverer that offers, at each error, to insert any one of `count` tokens.
 #[derive(Drop)]
 pub struct AnyToken {
     /// The number of tokens; those below it are offered.
@@ -36,7 +36,7 @@ impl Recoverer<u32, ByteLexeme<u32>> for AnyToken {
     }
 }
 
-/// Offers to insert each of so many tokens, in order.
+/// Offers to insert each of `count` tokens, in order.
 fn all_offers(alloc: Global, count: u32) -> Result<Vec<Vec<RepairStep<u32>>>, AllocError>
     ensures { IfOk result (λ r. sequences_of (λ t. t) r.items ≡ any_token count) }
 {

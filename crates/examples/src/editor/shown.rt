@@ -14,7 +14,7 @@ fn name_of(grm: &NumberedGrammar<u32>, tidx: TIdx<u32>) -> &str {
     grm.token_name(tidx).unwrap_or("")
 }
 
-/// The tokens that could be inserted at an error.
+/// Returns the tokens that could be inserted at an error.
 fn advice(
     alloc: Global,
     grm: &NumberedGrammar<u32>,
@@ -30,7 +30,7 @@ fn advice(
     Ok(text)
 }
 
-/// An error underlined.
+/// Returns an error underlined.
 pub fn underlined(
     alloc: Global,
     grm: &NumberedGrammar<u32>,

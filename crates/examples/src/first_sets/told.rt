@@ -64,7 +64,7 @@ fn push_follows<S: IndexStorage>(
     Ok(())
 }
 
-/// The sets of each rule, the added start rule `^` among them.
+/// Returns the sets of each rule, the added start rule `^` among them.
 fn sets_told<S: IndexStorage>(alloc: Global, grm: &YaccGrammar<S>) -> Result<String, AllocError> {
     let firsts = grm.firsts(alloc)?;
     let sets = grm.follows(alloc)?;
@@ -84,7 +84,7 @@ fn sets_told<S: IndexStorage>(alloc: Global, grm: &YaccGrammar<S>) -> Result<Str
     Ok(out)
 }
 
-/// The sets of a text's grammar, or why it has none.
+/// Returns the sets of a text's grammar, or why it has none.
 pub fn told(alloc: Global, text: &str) -> Result<String, AllocError> {
     match YaccGrammar::<u32>::new(alloc, TREE, text) {
         Ok(grm) => sets_told(alloc, &grm),

@@ -28,7 +28,7 @@ fn push_list<S: IndexStorage>(
     Ok(())
 }
 
-/// A line for each rule, the added start rule `^` among them.
+/// Returns a line for each rule, the added start rule `^` among them.
 fn lines<S: IndexStorage>(
     alloc: Global,
     grm: &NumberedGrammar<S>,
@@ -49,7 +49,7 @@ fn lines<S: IndexStorage>(
     Ok(out)
 }
 
-/// A shortest list of each rule: each token costs 1.
+/// Returns a shortest list of each rule: each token costs 1.
 fn lists_told<S: IndexStorage>(alloc: Global, grm: &YaccGrammar<S>) -> Result<String, AllocError> {
     let sentences = grm.sentence_generator(alloc, |_token| 1)?;
     let told = lines(alloc, grm, &sentences);
@@ -57,7 +57,7 @@ fn lists_told<S: IndexStorage>(alloc: Global, grm: &YaccGrammar<S>) -> Result<St
     told
 }
 
-/// The lists of a text's grammar, or why it has none.
+/// Returns the lists of a text's grammar, or why it has none.
 pub fn told(alloc: Global, text: &str) -> Result<String, AllocError> {
     match YaccGrammar::<u32>::new(alloc, TREE, text) {
         Ok(grm) => lists_told(alloc, &grm),

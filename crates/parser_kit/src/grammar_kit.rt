@@ -120,8 +120,9 @@ impl<S: IndexStorage> GrammarKit<S> {
         self.data.stable()
     }
 
-    /// The conflicts that no precedence settles, None where there are none. Without precedences some are listed exactly
-    /// where some string leaves a token two canonical LR(1) actions; with any, what is listed is contested.
+    /// Returns the conflicts that no precedence settles, `None` where there are none. Without precedences some
+    /// are listed if and only if some string leaves a token two canonical LR(1) actions; with any, each listed
+    /// one is contested.
     pub fn conflicts(&self) -> Option<&Conflicts<S>>
         ensures value { option_map (λ c. c.now) result ≡ self.now.table.conflicts }
         ensures exact { NoPrecedences (precedences_of self.now.grammar) → IsSome self.now.table.conflicts ↔ SomeContested self.now.grammar.grammar }
@@ -132,7 +133,7 @@ impl<S: IndexStorage> GrammarKit<S> {
         self.stable().conflicts()
     }
 
-    /// Whether each item's action stands in its cell, so that each sentence is parsed without errors.
+    /// Returns whether each item's action is in its cell, so that each sentence is parsed without errors.
     pub fn complete(&self) -> bool
         ensures value { IsTrue result ↔ Complete self.now.grammar.grammar (automaton_of self.now.graph self.now.table) }
         ensures unlisted { NoPrecedences (precedences_of self.now.grammar) → IsTrue result ↔ IsNone self.now.table.conflicts }
@@ -141,7 +142,7 @@ impl<S: IndexStorage> GrammarKit<S> {
         self.parser_data().complete()
     }
 
-    /// Whether each rule of the grammar derives some text.
+    /// Returns whether each rule of the grammar derives some text.
     pub fn all_productive(&self) -> bool
         ensures value { IsTrue result ↔ EachProductive self.now.grammar.grammar }
         ensures named { IsTrue result → AllProductive self.now.grammar.grammar }
@@ -195,7 +196,7 @@ impl<S: IndexStorage> GrammarKit<S> {
     }
 
     /// Parses, and makes the tree as one list of nodes. Returns the lexer's first error; or the tree, if there is
-    /// one, and the parse errors. Is refused as `parse_fold` is.
+    /// one, and the parse errors. Fails as `parse_fold` does.
     pub fn parse_flat<T: LexerTypes<StorageT = S>, X: Lexer<T>, R: Recoverer<S, T::LexemeT>>(
         &self,
         alloc: Global,
@@ -223,7 +224,7 @@ impl<S: IndexStorage> GrammarKit<S> {
 
     /// Parses, and makes the value by two functions: `fterm` for each lexeme that is shifted, `fnonterm` for each
     /// reduction, by its rule and the values of its symbols. Returns the value, if there is one, and the errors:
-    /// the lexer's first one alone, or those of the parse. Is refused as `parse_fold` is.
+    /// the lexer's first one alone, or those of the parse. Fails as `parse_fold` does.
     pub fn parse_map<
         T: LexerTypes<StorageT = S>,
         N: Drop,
@@ -260,7 +261,7 @@ impl<S: IndexStorage> GrammarKit<S> {
         self.all_productive
     }
 
-    /// A law: graph and table of a kit are its grammar's own.
+    /// Proves that graph and table of a kit are its grammar's own.
     pub fn stays_tabled(&self)
         ensures { IsTabled S.MAX self.now }
     {

@@ -40,7 +40,7 @@ use lrtable::{Conflicts, StateGraph, StateTable};
 use std::alloc::{AllocError, Global};
 use std::marker::Model;
 
-/// A parser of the grammar of a text. Contracts see what is kept of the text, and the checked data.
+/// A parser of the grammar of a text. Contracts see the text's tree and the checked data.
 #[derive(Drop)]
 pub struct ParserKit<S: IndexStorage> {
     kept: ASTWithValidityInfo,
@@ -107,7 +107,7 @@ impl<S: IndexStorage> ParserKit<S> {
         }
     }
 
-    /// What the text says.
+    /// Returns the syntax tree of the text.
     pub fn ast(&self) -> &GrammarAST
         ensures { result.now ≡ self.now.kept.ast }
     {
@@ -149,8 +149,9 @@ impl<S: IndexStorage> ParserKit<S> {
         self.kit.stable()
     }
 
-    /// The conflicts that no precedence settles, None where there are none. Without precedences some are listed exactly
-    /// where some string leaves a token two canonical LR(1) actions; with any, what is listed is contested.
+    /// Returns the conflicts that no precedence settles, `None` where there are none. Without precedences some
+    /// are listed if and only if some string leaves a token two canonical LR(1) actions; with any, each listed
+    /// one is contested.
     pub fn conflicts(&self) -> Option<&Conflicts<S>>
         ensures value { option_map (λ c. c.now) result ≡ self.now.parser.table.conflicts }
         ensures exact { NoPrecedences (precedences_of self.now.parser.grammar) → IsSome self.now.parser.table.conflicts ↔ SomeContested self.now.parser.grammar.grammar }
@@ -159,7 +160,7 @@ impl<S: IndexStorage> ParserKit<S> {
         self.kit.conflicts()
     }
 
-    /// Whether each item's action stands in its cell, so that each sentence is parsed without errors.
+    /// Returns whether each item's action is in its cell, so that each sentence is parsed without errors.
     pub fn complete(&self) -> bool
         ensures value { IsTrue result ↔ Complete self.now.parser.grammar.grammar (automaton_of self.now.parser.graph self.now.parser.table) }
         ensures unlisted { NoPrecedences (precedences_of self.now.parser.grammar) → IsTrue result ↔ IsNone self.now.parser.table.conflicts }
@@ -167,7 +168,7 @@ impl<S: IndexStorage> ParserKit<S> {
         self.kit.complete()
     }
 
-    /// Whether each rule of the grammar derives some text.
+    /// Returns whether each rule of the grammar derives some text.
     pub fn all_productive(&self) -> bool
         ensures value { IsTrue result ↔ EachProductive self.now.parser.grammar.grammar }
         ensures named { IsTrue result → AllProductive self.now.parser.grammar.grammar }
@@ -220,7 +221,7 @@ impl<S: IndexStorage> ParserKit<S> {
     }
 
     /// Parses, and makes the tree as one list of nodes. Returns the lexer's first error; or the tree, if there is
-    /// one, and the parse errors. Is refused as `parse_fold` is.
+    /// one, and the parse errors. Fails as `parse_fold` does.
     pub fn parse_flat<T: LexerTypes<StorageT = S>, X: Lexer<T>, R: Recoverer<S, T::LexemeT>>(
         &self,
         alloc: Global,
@@ -247,7 +248,7 @@ impl<S: IndexStorage> ParserKit<S> {
 
     /// Parses, and makes the value by two functions: `fterm` for each lexeme that is shifted, `fnonterm` for each
     /// reduction, by its rule and the values of its symbols. Returns the value, if there is one, and the errors:
-    /// the lexer's first one alone, or those of the parse. Is refused as `parse_fold` is.
+    /// the lexer's first one alone, or those of the parse. Fails as `parse_fold` does.
     pub fn parse<
         T: LexerTypes<StorageT = S>,
         N: Drop,
@@ -277,7 +278,7 @@ impl<S: IndexStorage> ParserKit<S> {
             .parse_map::<T, N, X, R, F, H>(alloc, lexer, recoverer, fterm, fnonterm)
     }
 
-    /// A law: each kit is that of some text, kind and cap.
+    /// Proves that each kit is that of some text, kind and cap.
     pub fn stays_kit(&self)
         ensures { IsKit S.MAX self.now }
     {

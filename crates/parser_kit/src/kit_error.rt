@@ -14,21 +14,21 @@ use std::error::Error;
 use std::fmt;
 use std::fmt::{Debug, Display, Formatter, Write};
 
-/// Why a text gives no kit: want of memory aside, the first of these that is so.
+/// Why a text gives no kit: refused memory aside, the first of these that holds.
 #[derive(Debug, Drop)]
 pub enum KitError<S: IndexStorage> {
     /// All that is wrong with the text.
     Grammar(Vec<YaccGrammarError>),
     /// A count of the grammar that the index type has no number for.
     TooMany(TooMany),
-    /// While the states are built more of them stand than the index type has numbers for but nought: so many.
+    /// While the states are built, more of them are there at once than the index type's greatest number; the
+    /// count is one more than that number.
     TooManyStates(usize),
-    /// Where a text has ended this production, the least such one, can be reduced too.
+    /// A state both accepts and reduces at the end token: the least production that it reduces.
     AcceptReduce(PIdx<S>),
     /// For each state a cell for each token and one for each rule are more than `usize::MAX`.
     TooLarge,
-    /// More than `cap` reductions come on a token one after another: from a state, or, with a rule, after its goto on the
-    /// rule. The least such place is told.
+    /// More than `cap` reductions follow each other on one token: the least such chain.
     TooManyReductions {
         /// The state at which the chain begins.
         state: StIdx<S>,

@@ -12,15 +12,15 @@ use cfg_read::yacc::{one_answer, one_kind};
 use lrpar::laws::parses_are_one;
 use lrtable::laws::tables_are_one;
 
-/// A grammar has one kit of a cap, whatever type its numbers are stored in: kits of `u8`, `u16` and `u32` have the same
-/// numbers, conflicts and tables, and so the same values and errors of the same lexemes and repairs.
+/// Proves that a grammar has one kit of a cap, whatever type its numbers are stored in. Kits of `u8`, `u16` and `u32`
+/// have the same numbers, conflicts and tables, and so the same values and errors for the same lexemes and repairs.
 pub fn kits_are_one()
     ensures { (top top' : ℕ) (k l : ParserValue) → IsTabled top k → IsTabled top' l → k.grammar ≡ l.grammar → k.cap ≡ l.cap → k ≡ l }
 {
     tables_are_one();
 }
 
-/// A text of a kind has one kit of a cap, whatever type its numbers are stored in.
+/// Proves that a text of a kind has one kit of a cap, whatever type its numbers are stored in.
 pub fn kits_of_texts_are_one()
     ensures { (top top' cap : ℕ) (kind : YaccKind) (text : List ℕ) (k l : KitValue) → IsKitOf top kind text cap k → IsKitOf top' kind text cap l → k ≡ l }
 {
@@ -28,8 +28,8 @@ pub fn kits_of_texts_are_one()
     kits_are_one();
 }
 
-/// Kits of one text, kind and cap parse alike, whatever types their numbers are stored in: of the same lexemes, where the
-/// same sequences are handed in at the same errors, they tell the same errors and give the same tree or none.
+/// Proves that kits of one text, kind and cap parse alike, whatever types their numbers are stored in. For the same
+/// lexemes, and the same sequences at the same errors, they report the same errors and give the same tree or none.
 pub fn kits_of_texts_parse_alike<S, U, L, E>()
     ensures { (top top' cap : ℕ) (kind : YaccKind) (text : List ℕ) (k l : KitValue) → IsKitOf top kind text cap k → IsKitOf top' kind text cap l → ParseAlike S U L E k.parser l.parser }
 {
@@ -37,8 +37,8 @@ pub fn kits_of_texts_parse_alike<S, U, L, E>()
     parses_are_one::<L, L>();
 }
 
-/// A text has one kind at most: the one that its section tells, or, where it has no key for it, that of Yacc's own syntax
-/// with trees.
+/// Proves that a text has at most one kind, the one that its section names, or, where it has no key for it, that of
+/// Yacc's own syntax with trees.
 pub fn kinds_of_texts_are_one()
     ensures { (text : List ℕ) (k l : YaccKind) → IsKindOfText text k → IsKindOfText text l → k ≡ l }
 {

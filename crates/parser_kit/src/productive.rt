@@ -201,7 +201,7 @@ impl Search {
     }
 }
 
-/// Whether each rule of a grammar derives some text.
+/// Returns whether each rule of a grammar derives some text.
 pub fn all_productive<S: IndexStorage>(
     alloc: Global,
     grm: &NumberedGrammar<S>,

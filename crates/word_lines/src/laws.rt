@@ -13,8 +13,8 @@ ghost use Rattle.word_lines.specs.declared.lexeme.WordLexError.{WordLexError};
 
 use cfg_base::index::{IndexStorage, each_number_is_of_one_value};
 
-/// A law: the lexemes of a line are never refused by a parse. Their tokens are those of the grammar other than the end, and
-/// none starts before one that comes earlier.
+/// Proves that the lexemes of a line are never refused by a parse. Their tokens are those of the grammar other than
+/// the end, and none starts before one that comes earlier.
 pub fn lexemes_of_lines_are_taken<S: IndexStorage>()
     ensures taken { (g : GrammarValue) (line : List ℕ) (lexemes : List (WordLexeme S)) → IsGrammar S.MAX g → AreItems (items_of S.of_number g line) lexemes → AreLexemes g.grammar (lex_of S.number) lexemes }
     ensures not_refused { (g : GrammarValue) (line : List ℕ) (m : Misfit) → IsGrammar S.MAX g → HasMisfit g.grammar (lex_of S.number) (items_of S.of_number g line) m → ⊥ }
@@ -22,7 +22,8 @@ pub fn lexemes_of_lines_are_taken<S: IndexStorage>()
     each_number_is_of_one_value::<S>();
 }
 
-/// A law: the lexemes of a line, and its errors, are parts of it, from the start of a character to that of another.
+/// Proves that the lexemes of a line, and its errors, are parts of it, from the start of a character to that of
+/// another.
 pub fn items_are_parts_of_their_line<S: IndexStorage>()
     ensures lexemes { (g : GrammarValue) (line : List ℕ) (lexemes : List (WordLexeme S)) → IsUtf8 line → AreItems (items_of S.of_number g line) lexemes → AllByRecursion (λ x. FitsInput line x.span.start x.span.end) lexemes }
     ensures errors { (g : GrammarValue) (line : List ℕ) (e : WordLexError) → IsUtf8 line → IsFirstLexError (items_of S.of_number g line) e → FitsInput line e.span.start e.span.end }

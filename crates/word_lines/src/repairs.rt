@@ -36,7 +36,7 @@ impl From<AllocError> for RepairsError {
     }
 }
 
-/// Sequences of repairs, of which all are handed in at each error, in their order. Contracts see lists of edits.
+/// Sequences of repairs, all of which are offered at each error, in their order. Contracts see lists of edits.
 #[derive(Drop)]
 pub struct RepairLines<S: IndexStorage> {
     sequences: Vec<Vec<RepairStep<S>>>,

@@ -22,7 +22,7 @@ use std::alloc::{AllocError, Global};
 // So many spaces are added at once.
 const MOST_SPACES: usize = 65_536;
 
-/// Answers the nodes of a tree in the order in which they are shown.
+/// Returns the nodes of a tree in the order in which they are shown.
 pub fn shown_nodes<S: IndexOrder>(
     alloc: Global,
     grm: &NumberedGrammar<S>,

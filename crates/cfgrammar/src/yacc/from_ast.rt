@@ -57,13 +57,13 @@ pub enum YaccGrammarMakeError {
     TooMany(TooMany),
 }
 
-/// A law: what is made of a sound tree is a grammar, where its counts fit.
+/// Proves that what is made of a sound tree is a grammar, where its counts fit.
 #[tactic(auto, using(crate::proofs::FromAstWell::made_well))]
 pub fn sound_trees_make_grammars()
     ensures { (top : ℕ) (implicit : Bool) (ast : Ast) → IsWellFormedAst ast → NamesNoAdded ast → too_many top (grammar_of implicit ast) ≡ None → IsGrammar top (value_by implicit ast) }
 {}
 
-/// A law: a tree without precedence lines has a grammar without precedences.
+/// Proves that a tree without precedence lines has a grammar without precedences.
 #[tactic(auto, using(crate::proofs::FromAstLevels::made_without_precedences))]
 pub fn trees_without_precedences_make_grammars_without()
     ensures { (kind : YaccKind) (ast : Ast) → ast.precedences ≡ [] → HasNoPrecedences (made kind ast) }

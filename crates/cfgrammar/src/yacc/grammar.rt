@@ -18,8 +18,8 @@ use std::alloc::{AllocError, Global};
 use std::marker::Model;
 use std::ops::Deref;
 
-/// The grammar of a text, whose rules, tokens and productions have numbers of `S`. What it answers are the calls of
-/// `NumberedGrammar`.
+/// The grammar of a text, whose rules, tokens and productions have numbers of `S`. It has the calls of
+/// `NumberedGrammar` by `Deref`.
 #[derive(Drop)]
 pub struct YaccGrammar<S: IndexStorage> {
     numbered: NumberedGrammar<S>,
@@ -53,28 +53,28 @@ impl<S: IndexStorage> YaccGrammar<S> {
         YaccGrammar { numbered }
     }
 
-    /// The numbered grammar alone, for calls that take it by value.
+    /// Returns the numbered grammar alone, for calls that take it by value.
     pub fn into_numbered(self) -> NumberedGrammar<S>
         ensures { result ≡ self }
     {
         self.numbered
     }
 
-    /// The FIRST sets of the rules.
+    /// Computes the FIRST sets of the rules.
     pub fn firsts(&self, alloc: Global) -> Result<YaccFirsts<S>, AllocError>
         ensures { IfOk result (λ f. AreFirsts self.now.grammar f) }
     {
         YaccFirsts::new(alloc, &self.numbered)
     }
 
-    /// The FOLLOW sets of the rules.
+    /// Computes the FOLLOW sets of the rules.
     pub fn follows(&self, alloc: Global) -> Result<YaccFollows<S>, AllocError>
         ensures { IfOk result (λ f. AreFollows self.now.grammar f) }
     {
         YaccFollows::new(alloc, &self.numbered)
     }
 
-    /// Whether a rule reaches another, or itself, by one or more references in productions.
+    /// Returns whether a rule reaches another, or itself, by one or more references in productions.
     pub fn has_path(&self, alloc: Global, from: RIdx<S>, to: RIdx<S>) -> Result<bool, AllocError>
         requires from { S.number from.0 < self.now.grammar.rules }
         requires to { S.number to.0 < self.now.grammar.rules }
@@ -83,8 +83,8 @@ impl<S: IndexStorage> YaccGrammar<S> {
         cfg_sets::has_path(alloc, &self.numbered, from, to)
     }
 
-    /// Costs of the rules' sentences, by costs of the tokens: `f` is called once for each token in order,
-    /// the end token too.
+    /// Makes a generator of the rules' sentences, with costs of tokens: `f` is called once for each token in
+    /// order, the end token too.
     pub fn sentence_generator<F: Fn(TIdx<S>) -> u8 + Drop>(
         &self,
         alloc: Global,

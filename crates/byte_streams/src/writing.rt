@@ -53,7 +53,7 @@ pub fn write_all<W: Sink>(out: &mut W, bytes: &[u8]) -> Result<(), WriteFault>
 }
 
 /// Writes the waiting bytes and empties the buffer, once they are at least `MOST_WAITING`; fewer wait on. Returns a
-/// `WriteFault` as `write_all` does; the buffer is then as it was.
+/// `WriteFault` as `write_all` does.
 pub fn write_long<W: Sink>(out: &mut W, waiting: &mut Vec<u8>) -> Result<(), WriteFault>
     ensures ok { OnOk result (IsOutBut (W.known out.old) (W.known out.new) waiting.old.items waiting.new.items) }
     ensures kept { OnOk result (W.faults out.new ≡ W.faults out.old) }

@@ -35,7 +35,8 @@ pub enum FlatNode<S, L> {
     Nonterm {
         /// The production's number, which names the rule too.
         pidx: PIdx<S>,
-        /// From the first byte of the node's first lexeme to the last one's end; empty where it has none.
+        /// From the first symbol's start to the last one's end. For a production without symbols it is the
+        /// span of the tree before, or (0, 0).
         span: Span,
         /// The number of all nodes below, at every depth; they come right before this one.
         below: usize,

@@ -202,7 +202,7 @@ pub(crate) fn reduces_by<S: IndexStorage>(cell: Action<S>, pidx: PIdx<S>) -> boo
     }
 }
 
-/// Proves that a cell follows the first reduction alone, and so does a listed shift/reduce.
+/// Proves that a cell depends on the first reduction alone, and so does a listed shift/reduce.
 pub fn cells_go_by_firsts()
     ensures cell { (accepts : Bool) (reductions : List ℕ) (edge : Option ℕ) (a : OfToken) (b : OfProduction) → cell_by accepts reductions edge a b ≡ cell_from accepts (first_of reductions) edge a b }
     ensures listed { (s t : ℕ) (reductions : List ℕ) (edge : Option ℕ) (a : OfToken) (b : OfProduction) → shifts_at s t reductions edge a b ≡ shifts_from s t (first_of reductions) edge a b }

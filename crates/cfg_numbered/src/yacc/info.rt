@@ -39,7 +39,7 @@ pub struct ProductionInfo<S> {
     pub precedence: Option<Precedence>,
     /// The text of its action, without the braces.
     pub action: Option<String>,
-    /// The byte span of the action's text, without the braces.
+    /// The byte span of the action's trimmed text.
     pub action_span: Option<Span>,
 }
 

@@ -271,7 +271,8 @@ fn room_for(rules: &[syntax::Rule]) -> usize {
     room
 }
 
-/// Proves that what is collected of all alternatives of a text, where it begins with what is known before them.
+/// Proves that the uses of a text are those known before its alternatives, with the symbols of all alternatives
+/// added.
 pub(crate) fn all_settled()
     ensures { (x : SyntaxText) → AreUsesOf x (with_symbols (record { known = known_before x; unknown = []; fresh = [] }) (symbols_used x)) }
 {}

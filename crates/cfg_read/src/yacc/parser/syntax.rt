@@ -16,7 +16,7 @@ use std::alloc::{AllocError, Global};
 pub struct Word {
     /// The text, of a token without its quotes.
     pub text: String,
-    /// The byte offsets of the text, quotes left out.
+    /// Its byte offsets in the file: without the quotes of a token, with those of a string.
     pub span: Span,
 }
 

@@ -87,28 +87,8 @@ fn start_prod<S: IndexStorage>(ast: &GrammarAST) -> PIdx<S>
     PIdx(index_of(ast.prods().len()))
 }
 
-/// The grammar of a tree whose counts fit.
+/// Builds the grammar of a tree whose counts fit. Its names and texts are taken over.
 fn of_tree<S: IndexStorage>(
-    alloc: Global,
-    ast: &GrammarAST,
-    implicit: bool,
-) -> Result<NumberedGrammar<S>, AllocError>
-    requires sound { IsWellFormedAst ast.now }
-    requires free { NamesNoAdded ast.now }
-    requires fits { too_many S.MAX (grammar_of implicit ast.now) ≡ None }
-    ensures { IfOk result (λ g. g ≡ value_by implicit ast.now) }
-{
-    let levels = info::levels(alloc, ast)?;
-    let rules = info::rules(alloc, ast, implicit)?;
-    let tokens = info::tokens(alloc, ast, &levels)?;
-    let prods = productions::all(alloc, ast, &levels, implicit)?;
-    let kept = info::kept(ast, implicit)?;
-    let start = start_prod(ast);
-    NumberedGrammar::of_parts(alloc, rules, tokens, prods, start, kept)
-}
-
-/// The grammar of a tree whose counts fit, whose names and texts are taken over.
-fn of_taken<S: IndexStorage>(
     alloc: Global,
     ast: &mut GrammarAST,
     implicit: bool,
@@ -121,34 +101,14 @@ fn of_taken<S: IndexStorage>(
     let kept = info::kept(ast, implicit)?;
     let start = start_prod(ast);
     let levels = info::levels(alloc, ast)?;
-    let prods = productions::taken(alloc, ast, &levels, implicit)?;
-    let rules = info::taken_rules(alloc, ast, implicit)?;
-    let tokens = info::taken_tokens(alloc, ast, &levels)?;
+    let prods = productions::all(alloc, ast, &levels, implicit)?;
+    let rules = info::rules(alloc, ast, implicit)?;
+    let tokens = info::tokens(alloc, ast, &levels)?;
     NumberedGrammar::of_parts(alloc, rules, tokens, prods, start, kept)
 }
 
-/// The grammar of the tree of a valid text.
-pub(crate) fn of_valid<S: IndexStorage>(
-    alloc: Global,
-    kind: YaccKind,
-    ast: &GrammarAST,
-) -> Result<YaccGrammar<S>, YaccGrammarMakeError>
-    requires sound { IsWellFormedAst ast.now }
-    requires names { NamesAreWords ast.now }
-    ensures { MakesTree S.MAX kind ast.now result }
-{
-    let implicit = adds_implicit(kind, ast);
-    match counts::too_many::<S>(ast, implicit) {
-        Some(count) => Err(YaccGrammarMakeError::TooMany(count)),
-        None => match of_tree(alloc, ast, implicit) {
-            Ok(grm) => Ok(YaccGrammar::of_numbered(grm)),
-            Err(e) => Err(YaccGrammarMakeError::Memory(e)),
-        },
-    }
-}
-
-/// The grammar of the tree of a valid text, whose names and texts are taken over.
-pub(crate) fn of_valid_taken<S: IndexStorage>(
+/// Builds the grammar of the tree of a valid text, whose names and texts are taken over.
+fn of_valid<S: IndexStorage>(
     alloc: Global,
     kind: YaccKind,
     ast: &mut GrammarAST,
@@ -160,10 +120,42 @@ pub(crate) fn of_valid_taken<S: IndexStorage>(
     let implicit = adds_implicit(kind, ast);
     match counts::too_many::<S>(ast, implicit) {
         Some(count) => Err(YaccGrammarMakeError::TooMany(count)),
-        None => match of_taken(alloc, ast, implicit) {
+        None => match of_tree(alloc, ast, implicit) {
             Ok(grm) => Ok(YaccGrammar::of_numbered(grm)),
             Err(e) => Err(YaccGrammarMakeError::Memory(e)),
         },
+    }
+}
+
+/// Builds the grammar of the tree of a valid text, and lets the tree go.
+pub(crate) fn of_own_tree<S: IndexStorage>(
+    alloc: Global,
+    kind: YaccKind,
+    ast: GrammarAST,
+) -> Result<YaccGrammar<S>, YaccGrammarMakeError>
+    requires sound { IsWellFormedAst ast }
+    requires names { NamesAreWords ast }
+    ensures { MakesTree S.MAX kind ast result }
+{
+    let mut own = ast;
+    let made = of_valid(alloc, kind, &mut own);
+    drop(own);
+    made
+}
+
+/// Builds the grammar of a copy of the tree of a valid text.
+pub(crate) fn of_lent_tree<S: IndexStorage>(
+    alloc: Global,
+    kind: YaccKind,
+    ast: &GrammarAST,
+) -> Result<YaccGrammar<S>, YaccGrammarMakeError>
+    requires sound { IsWellFormedAst ast.now }
+    requires names { NamesAreWords ast.now }
+    ensures { MakesTree S.MAX kind ast.now result }
+{
+    match ast.clone() {
+        Ok(copy) => of_own_tree(alloc, kind, copy),
+        Err(e) => Err(YaccGrammarMakeError::Memory(e)),
     }
 }
 

@@ -75,29 +75,6 @@ pub(crate) fn level_of(levels: &[Option<Precedence>], number: usize) -> Option<P
     levels[number]
 }
 
-fn epp_of(ast: &GrammarAST, name: &str) -> Result<Option<String>, AllocError>
-    ensures { IfOk result (λ text. option_map string_bytes text ≡ tree.epp_of ast.now name.now) }
-{
-    match ast.epp().get(name) {
-        Some(found) => Ok(Some(found.1.0.clone()?)),
-        None => Ok(None),
-    }
-}
-
-fn file_rule(ast: &GrammarAST, index: usize) -> Result<(String, RuleInfo), AllocError>
-    requires { index < length ast.now.rules }
-    ensures { IfOk result (λ r. slice_get (map tree.file_rule_facts ast.now.rules) index ≡ Some (rule_facts r)) }
-{
-    let (name, rule) = ast.rules().get_index(index).unwrap();
-    let name = name.clone()?;
-    let action_type = copy_of(rule.actiont.as_ref())?;
-    let rule = RuleInfo {
-        span: rule.name.1,
-        action_type,
-    };
-    Ok((name, rule))
-}
-
 /// What stands beside the name of a rule of the file, taken over.
 fn info_of(rule: Rule) -> RuleInfo
     ensures { (name : String Global) → rule_facts (name, result) ≡ tree.file_rule_facts (named_rule (name, rule)) }
@@ -140,29 +117,8 @@ fn add_implicit(alloc: Global, rules: &mut IndexMap<String, RuleInfo>) -> Result
     add_rule(alloc, rules, "~")
 }
 
-/// The rules by their names.
-pub(crate) fn rules(
-    alloc: Global,
-    ast: &GrammarAST,
-    implicit: bool,
-) -> Result<IndexMap<String, RuleInfo>, AllocError>
-    requires { AreDistinct (map (λ r. r.name) (tree.rules_of implicit ast.now)) }
-    ensures { IfOk result (λ m. map rule_facts m.entries ≡ tree.rules_of implicit ast.now) }
-{
-    let mut rules = IndexMap::with_capacity(alloc, ast.rules().len().saturating_add(3))?;
-    add_rule(alloc, &mut rules, "^")?;
-    'rules: for index in 0..ast.rules().len() {
-        let (name, rule) = file_rule(ast, index)?;
-        put_last(&mut rules, name, rule)?;
-    }
-    if implicit {
-        add_implicit(alloc, &mut rules)?;
-    }
-    Ok(rules)
-}
-
 /// The rules by their names, which are taken out of the tree.
-pub(crate) fn taken_rules(
+pub(crate) fn rules(
     alloc: Global,
     ast: &mut GrammarAST,
     implicit: bool,
@@ -183,47 +139,8 @@ pub(crate) fn taken_rules(
     Ok(rules)
 }
 
-fn file_token(
-    ast: &GrammarAST,
-    levels: &[Option<Precedence>],
-    index: usize,
-) -> Result<(String, TokenInfo), AllocError>
-    requires told { levels.now ≡ map (tree.precedence_of ast.now) (names_of_tokens ast.now) }
-    requires index { index < length ast.now.tokens }
-    ensures { IfOk result (λ t. slice_get (map (tree.file_token_facts ast.now) ast.now.tokens) index ≡ Some (token_facts t)) }
-{
-    let (name, span) = ast.tokens().get_index(index).unwrap();
-    let copy = name.clone()?;
-    let epp = epp_of(ast, name.as_str())?;
-    let token = TokenInfo {
-        span: *span,
-        epp,
-        precedence: level_of(levels, index),
-        is_avoided: ast.avoid_insert().contains_key(name.as_str()),
-    };
-    Ok((copy, token))
-}
-
-/// The tokens of the text by their names.
-pub(crate) fn tokens(
-    alloc: Global,
-    ast: &GrammarAST,
-    levels: &[Option<Precedence>],
-) -> Result<IndexMap<String, TokenInfo>, AllocError>
-    requires apart { AreDistinct (names_of_tokens ast.now) }
-    requires told { levels.now ≡ map (tree.precedence_of ast.now) (names_of_tokens ast.now) }
-    ensures { IfOk result (λ m. map token_facts m.entries ≡ map (tree.file_token_facts ast.now) ast.now.tokens) }
-{
-    let mut tokens = IndexMap::with_capacity(alloc, ast.tokens().len().saturating_add(1))?;
-    'tokens: for index in 0..ast.tokens().len() {
-        let (name, token) = file_token(ast, levels, index)?;
-        put_last(&mut tokens, name, token)?;
-    }
-    Ok(tokens)
-}
-
-/// The printed text of a token, taken over.
-fn taken_epp(epps: &mut IndexMap<String, (Span, (String, Span))>, name: &str) -> Option<String>
+/// Takes out the printed text of a token.
+fn take_epp(epps: &mut IndexMap<String, (Span, (String, Span))>, name: &str) -> Option<String>
     ensures text { option_map string_bytes result ≡ tree.epp_in (named_epps epps.old) name.now }
     ensures others { (q : String Global) → bytes_eq name.now (string_bytes q) ≡ false → tree.epp_in (named_epps epps.new) (string_bytes q) ≡ tree.epp_in (named_epps epps.old) (string_bytes q) }
 {
@@ -234,7 +151,7 @@ fn taken_epp(epps: &mut IndexMap<String, (Span, (String, Span))>, name: &str) ->
 }
 
 /// What stands beside the name of a token of the file, with its printed text taken over.
-fn taken_token(
+fn file_token(
     ast: &GrammarAST,
     epps: &mut IndexMap<String, (Span, (String, Span))>,
     precedence: Option<Precedence>,
@@ -248,14 +165,14 @@ fn taken_token(
 {
     TokenInfo {
         span,
-        epp: taken_epp(epps, name),
+        epp: take_epp(epps, name),
         precedence,
         is_avoided: ast.avoid_insert().contains_key(name),
     }
 }
 
 /// The tokens of the text by their names, which are taken out of the tree with their printed texts.
-pub(crate) fn taken_tokens(
+pub(crate) fn tokens(
     alloc: Global,
     ast: &mut GrammarAST,
     levels: &[Option<Precedence>],
@@ -269,7 +186,7 @@ pub(crate) fn taken_tokens(
     let mut tokens = IndexMap::with_capacity(alloc, from.len().saturating_add(1))?;
     'tokens: for (name, span) in from {
         let precedence = level_of(levels, tokens.len());
-        let token = taken_token(ast, &mut epps, precedence, name.as_str(), span);
+        let token = file_token(ast, &mut epps, precedence, name.as_str(), span);
         put_last(&mut tokens, name, token)?;
     }
     Ok(tokens)

@@ -84,37 +84,8 @@ fn precedence_of(
     precedence_by(ast, levels, production.precedence(), production.symbols())
 }
 
-/// A production of the file, of the rule at this index.
-fn file_part<S: IndexStorage>(
-    alloc: Global,
-    ast: &GrammarAST,
-    levels: &[Option<Precedence>],
-    implicit: bool,
-    index: usize,
-    production: &Production,
-) -> Result<ProductionInfo<S>, AllocError>
-    requires told { levels.now ≡ map (tree.precedence_of ast.now) (names_of_tokens ast.now) }
-    requires known { All (NamesOne ast.now) (views.production_of production.now).symbols }
-    requires index { index < length ast.now.rules }
-    requires rules { length (tree.rules_of implicit ast.now) ≤ S.MAX }
-    requires tokens { length ast.now.tokens ≤ S.MAX }
-    ensures production { IfOk result (λ p. production_of S.number p ≡ record { head = suc index; body = tree.file_body implicit ast.now (views.production_of production.now) }) }
-    ensures facts { IfOk result (λ p. production_facts p ≡ tree.file_production_facts ast.now (views.production_of production.now)) }
-{
-    let symbols = numbers::body(alloc, ast, implicit, production.symbols())?;
-    let action = info::copy_of(production.action())?;
-    Ok(ProductionInfo {
-        rule: RIdx(index_of(index + 1)),
-        symbols,
-        span: production.prod_span(),
-        precedence: precedence_of(ast, levels, production),
-        action,
-        action_span: production.action_span(),
-    })
-}
-
 /// A production of the file, of the rule at this index, which is taken over.
-fn taken_part<S: IndexStorage>(
+fn file_part<S: IndexStorage>(
     alloc: Global,
     ast: &GrammarAST,
     levels: &[Option<Precedence>],
@@ -144,31 +115,8 @@ fn taken_part<S: IndexStorage>(
     })
 }
 
-/// The productions of the file.
-fn file_parts<S: IndexStorage>(
-    alloc: Global,
-    ast: &GrammarAST,
-    levels: &[Option<Precedence>],
-    implicit: bool,
-) -> Result<Vec<ProductionInfo<S>>, AllocError>
-    requires told { levels.now ≡ map (tree.precedence_of ast.now) (names_of_tokens ast.now) }
-    requires sound { IsWellFormedAst ast.now }
-    requires rules { length (tree.rules_of implicit ast.now) ≤ S.MAX }
-    requires tokens { length ast.now.tokens ≤ S.MAX }
-    ensures productions { IfOk result (λ v. map (production_of S.number) v.items ≡ tree.file_productions implicit ast.now zero ast.now.productions) }
-    ensures facts { IfOk result (λ v. map production_facts v.items ≡ map (tree.file_production_facts ast.now) ast.now.productions) }
-{
-    let heads = heads::heads(alloc, ast)?;
-    let prods = ast.prods();
-    let mut made = Vec::with_capacity(alloc, prods.len().saturating_add(1))?;
-    'prods: for number in 0..prods.len() {
-        made.push(file_part(alloc, ast, levels, implicit, heads[number], &prods[number])?)?;
-    }
-    Ok(made)
-}
-
 /// These productions of the file, which are taken over.
-fn taken_parts<S: IndexStorage>(
+fn file_parts<S: IndexStorage>(
     alloc: Global,
     ast: &GrammarAST,
     levels: &[Option<Precedence>],
@@ -189,7 +137,7 @@ fn taken_parts<S: IndexStorage>(
     let mut made = Vec::with_capacity(alloc, from.len().saturating_add(1))?;
     'prods: for production in from {
         let head = heads[made.len()];
-        made.push(taken_part(alloc, ast, levels, implicit, head, production)?)?;
+        made.push(file_part(alloc, ast, levels, implicit, head, production)?)?;
     }
     Ok(made)
 }
@@ -343,27 +291,8 @@ fn push_all_added<S: IndexStorage>(
     Ok(())
 }
 
-/// The productions.
-pub(crate) fn all<S: IndexStorage>(
-    alloc: Global,
-    ast: &GrammarAST,
-    levels: &[Option<Precedence>],
-    implicit: bool,
-) -> Result<Vec<ProductionInfo<S>>, AllocError>
-    requires told { levels.now ≡ map (tree.precedence_of ast.now) (names_of_tokens ast.now) }
-    requires sound { IsWellFormedAst ast.now }
-    requires rules { length (tree.rules_of implicit ast.now) ≤ S.MAX }
-    requires tokens { length ast.now.tokens ≤ S.MAX }
-    ensures productions { IfOk result (λ v. map (production_of S.number) v.items ≡ tree.productions_of implicit ast.now) }
-    ensures facts { IfOk result (λ v. map production_facts v.items ≡ tree.production_facts_of implicit ast.now) }
-{
-    let mut made = file_parts(alloc, ast, levels, implicit)?;
-    push_all_added(alloc, &mut made, ast, implicit)?;
-    Ok(made)
-}
-
 /// The productions, which are taken out of the tree.
-pub(crate) fn taken<S: IndexStorage>(
+pub(crate) fn all<S: IndexStorage>(
     alloc: Global,
     ast: &mut GrammarAST,
     levels: &[Option<Precedence>],
@@ -379,7 +308,7 @@ pub(crate) fn taken<S: IndexStorage>(
 {
     let heads = heads::heads(alloc, ast)?;
     let from = ast.take_prods(alloc);
-    let mut made = taken_parts(alloc, ast, levels, implicit, heads, from)?;
+    let mut made = file_parts(alloc, ast, levels, implicit, heads, from)?;
     push_all_added(alloc, &mut made, ast, implicit)?;
     Ok(made)
 }

@@ -19,10 +19,7 @@ fn of_valid_kept<S: IndexStorage>(
     ensures { MakesTree S.MAX info.kind info.ast result }
 {
     let kind = info.yacc_kind();
-    let mut ast = info.into_ast();
-    let made = from_ast::of_valid_taken(alloc, kind, &mut ast);
-    drop(ast);
-    made
+    from_ast::of_own_tree(alloc, kind, info.into_ast())
 }
 
 /// The answer for what is kept of an invalid text, which is let go.
@@ -94,7 +91,7 @@ impl<S: IndexStorage> YaccGrammar<S> {
         ensures { Makes S.MAX info.now result }
     {
         if info.is_valid() {
-            from_ast::of_valid(alloc, info.yacc_kind(), info.ast())
+            from_ast::of_lent_tree(alloc, info.yacc_kind(), info.ast())
         } else {
             from_ast::refused(alloc, info.errors())
         }

@@ -8,7 +8,7 @@ use Rattle.cfg_read.specs.SyntaxTexts.{EppText}
 use Rattle.cfg_read.specs.AstModels.{named_epp}
 use Rattle.cfgrammar.specs.FromAst.{epp_in}
 use Rattle.cfgrammar.proofs.FromAstLookups.{found_find, is_key}
-use Rattle.cfgrammar.proofs.yacc.from_ast.info.taken_epp.Goals as goal
+use Rattle.cfgrammar.proofs.yacc.from_ast.info.take_epp.Goals as goal
 
 abbrev shown : SpanModel × (String Global × SpanModel) → List ℕ
 shown v = string_bytes v.1.0

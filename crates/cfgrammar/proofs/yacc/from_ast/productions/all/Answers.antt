@@ -6,18 +6,18 @@ use Rattle.cfg_read.specs.Names.{texts}
 use Rattle.cfg_read.specs.WellFormedAst.{names_of_rules, names_of_tokens, NamesOne, NameTokens}
 use Rattle.cfgrammar.specs.FromAst.{precedence_of, rules_of, file_head, file_productions, file_production_facts, start_production, implicit_productions, added_production_facts}
 use Rattle.cfgrammar.proofs.FromAstHeads.{head_within}
-use Rattle.cfgrammar.proofs.yacc.from_ast.productions.taken.Goals as goal
+use Rattle.cfgrammar.proofs.yacc.from_ast.productions.all.Goals as goal
 
-pub taken_parts-requires-clause-told : goal.taken_parts-requires-clause-told
-taken_parts-requires-clause-told g c = subst (λ (a : Ast). c.args.levels.now ≡ map (precedence_of a) (names_of_tokens a)) (sym c.take_prods-from.ensures.rest) c.requires.told
+pub file_parts-requires-clause-told : goal.file_parts-requires-clause-told
+file_parts-requires-clause-told g c = subst (λ (a : Ast). c.args.levels.now ≡ map (precedence_of a) (names_of_tokens a)) (sym c.take_prods-from.ensures.rest) c.requires.told
 
-pub taken_parts-requires-clause-known : goal.taken_parts-requires-clause-known
-taken_parts-requires-clause-known g c =
+pub file_parts-requires-clause-known : goal.file_parts-requires-clause-known
+file_parts-requires-clause-known g c =
     let all = subst (λ (ps : List ProductionAst). All (λ (p : ProductionAst). All (NamesOne c.args.ast.now) p.symbols) ps) (sym c.take_prods-from.ensures.productions) c.requires.sound.symbols in
     subst (λ (a : Ast). All (λ (p : ProductionAst). All (NamesOne a) p.symbols) (map views.production_of c.take_prods-from.result.items)) (sym c.take_prods-from.ensures.rest) all
 
-pub taken_parts-requires-clause-within : goal.taken_parts-requires-clause-within
-taken_parts-requires-clause-within g c = λ p lt.
+pub file_parts-requires-clause-within : goal.file_parts-requires-clause-within
+file_parts-requires-clause-within g c = λ p lt.
     let ast = c.args.ast.now in
     let len = length-map c.take_prods-from.result.items views.production_of in
     let same = ap length c.take_prods-from.ensures.productions in
@@ -25,22 +25,22 @@ taken_parts-requires-clause-within g c = λ p lt.
     let few = ap (λ (a : Ast). length a.rules) c.take_prods-from.ensures.rest in
     omega (arith, within, few)
 
-pub taken_parts-requires-clause-heads : goal.taken_parts-requires-clause-heads
-taken_parts-requires-clause-heads g c = λ p lt.
+pub file_parts-requires-clause-heads : goal.file_parts-requires-clause-heads
+file_parts-requires-clause-heads g c = λ p lt.
     let len = length-map c.take_prods-from.result.items views.production_of in
     let same = ap length c.take_prods-from.ensures.productions in
     subst (λ (a : Ast). suc (get_or c.in_ok-heads.heads.items p 0) ≡ file_head a p) (sym c.take_prods-from.ensures.rest) (c.in_ok-heads.ensures.each p (omega (arith, len, same, lt)))
 
-pub taken_parts-requires-clause-count : goal.taken_parts-requires-clause-count
-taken_parts-requires-clause-count g c =
+pub file_parts-requires-clause-count : goal.file_parts-requires-clause-count
+file_parts-requires-clause-count g c =
     let len = length-map c.take_prods-from.result.items views.production_of in
     c.in_ok-heads.ensures.count ∙ sym (ap length c.take_prods-from.ensures.productions) ∙ len
 
-pub taken_parts-requires-clause-rules : goal.taken_parts-requires-clause-rules
-taken_parts-requires-clause-rules g c = subst (λ (a : Ast). length (rules_of c.args.implicit a) ≤ g.S.IndexStorage.MAX) (sym c.take_prods-from.ensures.rest) c.requires.rules
+pub file_parts-requires-clause-rules : goal.file_parts-requires-clause-rules
+file_parts-requires-clause-rules g c = subst (λ (a : Ast). length (rules_of c.args.implicit a) ≤ g.S.IndexStorage.MAX) (sym c.take_prods-from.ensures.rest) c.requires.rules
 
-pub taken_parts-requires-clause-tokens : goal.taken_parts-requires-clause-tokens
-taken_parts-requires-clause-tokens g c = subst (λ (a : Ast). length a.tokens ≤ g.S.IndexStorage.MAX) (sym c.take_prods-from.ensures.rest) c.requires.tokens
+pub file_parts-requires-clause-tokens : goal.file_parts-requires-clause-tokens
+file_parts-requires-clause-tokens g c = subst (λ (a : Ast). length a.tokens ≤ g.S.IndexStorage.MAX) (sym c.take_prods-from.ensures.rest) c.requires.tokens
 
 pub push_all_added-requires-clause-start : goal.push_all_added-requires-clause-start
 push_all_added-requires-clause-start g c = subst (λ (a : Ast). IsSomeAnd a.start (λ w. Contains (names_of_rules a) w.text)) (sym c.take_prods-from.ensures.rest) c.requires.sound.start

@@ -20,7 +20,6 @@ ghost use Rattle.parser_kit.specs.KitParses.{IsHanded, IsKitOutcome, IsKitParse,
 
 use crate::grammar_kit_error::GrammarKitError;
 use crate::making::{data_of, tables_of};
-use crate::parsing::{flat, folded, mapped};
 use crate::productive::all_productive;
 use cfg_base::index::IndexStorage;
 use cfg_base::span::Span;
@@ -28,7 +27,7 @@ use cfg_base::symbol::{PIdx, RIdx};
 use cfg_numbered::yacc::NumberedGrammar;
 use lrpar::{
     FlatTree, FoldedOutcome, LexParseError, Lexer, LexerTypes, ParseError, ParseRefusal,
-    ParserData, Recoverer,
+    ParserData, RTParserBuilder, Recoverer,
 };
 use lrtable::laws::conflicts_are_canonical;
 use lrtable::{Conflicts, StateGraph, StateTable};
@@ -192,7 +191,8 @@ impl<S: IndexStorage> GrammarKit<S> {
         ensures traceless { NoPrecedences (precedences_of self.now.grammar) → IsNone self.now.table.conflicts → AllProductive self.now.grammar.grammar → IfOk result (WhereParsed (λ value errors. LeavesNoTrace S.number T.LexemeT.lex T.LexemeT.faulty_of self.now (R.answers recoverer.now) (X.lexed lexer.now) (HasValue self.now.grammar.grammar (values_by S.number (F.post fterm.now) (H.post fnonterm.now)) (span_by T.LexemeT.lex) value) errors)) }
     {
         self.stays_tabled();
-        folded::<T, V, X, R, F, H>(alloc, self.parser_data(), lexer, recoverer, fterm, fnonterm)
+        let parser = RTParserBuilder::<T, _>::new(self.parser_data()).recoverer(recoverer);
+        parser.parse_fold(alloc, lexer, fterm, fnonterm)
     }
 
     /// Parses, and makes the tree as one list of nodes. Returns the lexer's first error; or the tree, if there is
@@ -219,7 +219,8 @@ impl<S: IndexStorage> GrammarKit<S> {
         ensures traceless { NoPrecedences (precedences_of self.now.grammar) → IsNone self.now.table.conflicts → AllProductive self.now.grammar.grammar → IfOk result (λ r. IfOk r (λ p. LeavesNoTrace S.number T.LexemeT.lex T.LexemeT.faulty_of self.now (R.answers recoverer.now) (X.lexed lexer.now) (HasFlat (span_by T.LexemeT.lex) p.0) p.1.items)) }
     {
         self.stays_tabled();
-        flat::<T, X, R>(alloc, self.parser_data(), lexer, recoverer)
+        let parser = RTParserBuilder::<T, _>::new(self.parser_data()).recoverer(recoverer);
+        parser.parse_flat(alloc, lexer)
     }
 
     /// Parses, and makes the value by two functions: `fterm` for each lexeme that is shifted, `fnonterm` for each
@@ -251,7 +252,8 @@ impl<S: IndexStorage> GrammarKit<S> {
         ensures traceless { NoPrecedences (precedences_of self.now.grammar) → IsNone self.now.table.conflicts → AllProductive self.now.grammar.grammar → IfOk result (λ r. IsHanded errors.LexError errors.ParseError (X.lexed lexer.now) (λ value es. LeavesNoTrace S.number T.LexemeT.lex T.LexemeT.faulty_of self.now (R.answers recoverer.now) (X.lexed lexer.now) (HasValue self.now.grammar.grammar (mapped_by S.number (F.post fterm.now) (H.post fnonterm.now)) (span_by T.LexemeT.lex) value) es) r.0 r.1.items) }
     {
         self.stays_tabled();
-        mapped::<T, N, X, R, F, H>(alloc, self.parser_data(), lexer, recoverer, fterm, fnonterm)
+        let parser = RTParserBuilder::<T, _>::new(self.parser_data()).recoverer(recoverer);
+        parser.parse_map(alloc, lexer, fterm, fnonterm)
     }
 
     /// Whether each rule derives some text, as it was found.

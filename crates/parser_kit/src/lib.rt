@@ -33,7 +33,6 @@ pub mod kit;
 pub mod kit_error;
 pub mod laws;
 mod making;
-mod parsing;
 mod productive;
 mod text_making;
 

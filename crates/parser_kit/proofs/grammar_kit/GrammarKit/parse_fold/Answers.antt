@@ -1,23 +1,33 @@
-use Rattle.std.proofs.Common.{sym, subst}
-use Rattle.cfg_theory.specs.Grammar.{WellFormed}
-use Rattle.lrpar.specs.Checked.{ParserValue}
-use Rattle.state_table.specs.Tables.{IsTableOf}
+use Rattle.std.proofs.Common.{◌∙◌}
+use Rattle.parse_trees.specs.Stacks.{values_by}
+use Rattle.parser_kit.proofs.KitParses.{told_follows, told_ok, told_traceless}
 use Rattle.parser_kit.proofs.grammar_kit.GrammarKit.parse_fold.Goals as goal
 
-pub folded-requires-clause-well_formed : goal.folded-requires-clause-well_formed
-folded-requires-clause-well_formed g c = subst (λ (d : ParserValue). WellFormed d.grammar.grammar) (sym c.parser_data.ensures) c.stays_tabled.ensures.well_formed
-
-pub folded-requires-clause-table : goal.folded-requires-clause-table
-folded-requires-clause-table g c = subst (λ (d : ParserValue). IsTableOf d.grammar d.graph d.table) (sym c.parser_data.ensures) c.stays_tabled.ensures.table
-
 pub returns-clause-parsed : goal.returns-clause-parsed
-returns-clause-parsed g c = rw c.parser_data.ensures at c.folded.ensures.parsed
-
-pub returns-clause-refused : goal.returns-clause-refused
-returns-clause-refused g c = rw c.parser_data.ensures at c.folded.ensures.refused
+returns-clause-parsed g c =
+    let same = c.recoverer-parser.ensures.same ∙ c.new.ensures ∙ c.parser_data.ensures in
+    let told = rw (same, c.recoverer-parser.ensures.recoverer) at c.parse_fold.ensures.parsed in
+    let number = g.S.IndexStorage.number in
+    told_ok c.args.self.now c.stays_tabled.ensures.well_formed c.stays_tabled.ensures.table {S = g.row.S.Denot} {L = g.row.T-LexemeT.Denot} {E = g.row.T-LexErrorT.Denot} number g.T.LexemeT.Lexeme.lex g.T.LexemeT.Lexeme.faulty_of (g.R.Recoverer.answers c.args.recoverer.now) (g.X.Lexer.lexed c.args.lexer.now)
+    {V = g.row.V.Denot} (values_by number (goal.F-post g c.args.fterm.now) (goal.H-post g c.args.fnonterm.now)) c.parse_fold.result told
 
 pub returns-clause-sentences : goal.returns-clause-sentences
-returns-clause-sentences g c = rw c.parser_data.ensures at c.folded.ensures.sentences
+returns-clause-sentences g c =
+    let same = c.recoverer-parser.ensures.same ∙ c.new.ensures ∙ c.parser_data.ensures in
+    let told = rw (same, c.recoverer-parser.ensures.recoverer) at c.parse_fold.ensures.parsed in
+    let number = g.S.IndexStorage.number in
+    told_follows c.args.self.now c.stays_tabled.ensures.well_formed c.stays_tabled.ensures.table {S = g.row.S.Denot} {L = g.row.T-LexemeT.Denot} {E = g.row.T-LexErrorT.Denot} number g.T.LexemeT.Lexeme.lex g.T.LexemeT.Lexeme.faulty_of (g.R.Recoverer.answers c.args.recoverer.now) (g.X.Lexer.lexed c.args.lexer.now)
+    {V = g.row.V.Denot} (values_by number (goal.F-post g c.args.fterm.now) (goal.H-post g c.args.fnonterm.now)) c.parse_fold.result told
 
 pub returns-clause-traceless : goal.returns-clause-traceless
-returns-clause-traceless g c = rw c.parser_data.ensures at c.folded.ensures.traceless
+returns-clause-traceless g c =
+    let same = c.recoverer-parser.ensures.same ∙ c.new.ensures ∙ c.parser_data.ensures in
+    let told = rw (same, c.recoverer-parser.ensures.recoverer) at c.parse_fold.ensures.parsed in
+    let number = g.S.IndexStorage.number in
+    told_traceless c.args.self.now c.stays_tabled.ensures.well_formed c.stays_tabled.ensures.table {S = g.row.S.Denot} {L = g.row.T-LexemeT.Denot} {E = g.row.T-LexErrorT.Denot} number g.T.LexemeT.Lexeme.lex g.T.LexemeT.Lexeme.faulty_of (g.R.Recoverer.answers c.args.recoverer.now) (g.X.Lexer.lexed c.args.lexer.now)
+    {V = g.row.V.Denot} (values_by number (goal.F-post g c.args.fterm.now) (goal.H-post g c.args.fnonterm.now)) c.parse_fold.result told
+
+pub returns-clause-refused : goal.returns-clause-refused
+returns-clause-refused g c =
+    let same = c.recoverer-parser.ensures.same ∙ c.new.ensures ∙ c.parser_data.ensures in
+    rw same at c.parse_fold.ensures.refused

@@ -1,23 +1,34 @@
-use Rattle.std.proofs.Common.{sym, subst}
-use Rattle.cfg_theory.specs.Grammar.{WellFormed}
-use Rattle.lrpar.specs.Checked.{ParserValue}
-use Rattle.state_table.specs.Tables.{IsTableOf}
+use Rattle.std.proofs.Common.{◌∙◌}
+use Rattle.parse_trees.specs.Stacks.{mapped_by}
+use Rattle.lrpar.specs.declared.parse_error.LexParseError.TheVariants as errors
+use Rattle.parser_kit.proofs.HandedOut.{handed_follows, handed_ok, handed_traceless}
 use Rattle.parser_kit.proofs.grammar_kit.GrammarKit.parse_map.Goals as goal
 
-pub mapped-requires-clause-well_formed : goal.mapped-requires-clause-well_formed
-mapped-requires-clause-well_formed g c = subst (λ (d : ParserValue). WellFormed d.grammar.grammar) (sym c.parser_data.ensures) c.stays_tabled.ensures.well_formed
-
-pub mapped-requires-clause-table : goal.mapped-requires-clause-table
-mapped-requires-clause-table g c = subst (λ (d : ParserValue). IsTableOf d.grammar d.graph d.table) (sym c.parser_data.ensures) c.stays_tabled.ensures.table
-
 pub returns-clause-parsed : goal.returns-clause-parsed
-returns-clause-parsed g c = rw c.parser_data.ensures at c.mapped.ensures.parsed
-
-pub returns-clause-refused : goal.returns-clause-refused
-returns-clause-refused g c = rw c.parser_data.ensures at c.mapped.ensures.refused
+returns-clause-parsed g c =
+    let same = c.recoverer-parser.ensures.same ∙ c.new.ensures ∙ c.parser_data.ensures in
+    let told = rw (same, c.recoverer-parser.ensures.recoverer) at c.parse_map.ensures.parsed in
+    let number = g.S.IndexStorage.number in
+    handed_ok c.args.self.now c.stays_tabled.ensures.well_formed c.stays_tabled.ensures.table {S = g.row.S.Denot} {L = g.row.T-LexemeT.Denot} {E = g.row.T-LexErrorT.Denot} {V = g.row.N.Denot} errors.LexError errors.ParseError number g.T.LexemeT.Lexeme.lex g.T.LexemeT.Lexeme.faulty_of
+    (g.R.Recoverer.answers c.args.recoverer.now) (mapped_by number (goal.F-post g c.args.fterm.now) (goal.H-post g c.args.fnonterm.now)) (g.X.Lexer.lexed c.args.lexer.now) c.parse_map.result told
 
 pub returns-clause-sentences : goal.returns-clause-sentences
-returns-clause-sentences g c = rw c.parser_data.ensures at c.mapped.ensures.sentences
+returns-clause-sentences g c =
+    let same = c.recoverer-parser.ensures.same ∙ c.new.ensures ∙ c.parser_data.ensures in
+    let told = rw (same, c.recoverer-parser.ensures.recoverer) at c.parse_map.ensures.parsed in
+    let number = g.S.IndexStorage.number in
+    handed_follows c.args.self.now c.stays_tabled.ensures.well_formed c.stays_tabled.ensures.table {S = g.row.S.Denot} {L = g.row.T-LexemeT.Denot} {E = g.row.T-LexErrorT.Denot} {V = g.row.N.Denot} errors.LexError errors.ParseError number g.T.LexemeT.Lexeme.lex g.T.LexemeT.Lexeme.faulty_of
+    (g.R.Recoverer.answers c.args.recoverer.now) (mapped_by number (goal.F-post g c.args.fterm.now) (goal.H-post g c.args.fnonterm.now)) (g.X.Lexer.lexed c.args.lexer.now) c.parse_map.result told
 
 pub returns-clause-traceless : goal.returns-clause-traceless
-returns-clause-traceless g c = rw c.parser_data.ensures at c.mapped.ensures.traceless
+returns-clause-traceless g c =
+    let same = c.recoverer-parser.ensures.same ∙ c.new.ensures ∙ c.parser_data.ensures in
+    let told = rw (same, c.recoverer-parser.ensures.recoverer) at c.parse_map.ensures.parsed in
+    let number = g.S.IndexStorage.number in
+    handed_traceless c.args.self.now c.stays_tabled.ensures.well_formed c.stays_tabled.ensures.table {S = g.row.S.Denot} {L = g.row.T-LexemeT.Denot} {E = g.row.T-LexErrorT.Denot} {V = g.row.N.Denot} errors.LexError errors.ParseError number g.T.LexemeT.Lexeme.lex g.T.LexemeT.Lexeme.faulty_of
+    (g.R.Recoverer.answers c.args.recoverer.now) (mapped_by number (goal.F-post g c.args.fterm.now) (goal.H-post g c.args.fnonterm.now)) (g.X.Lexer.lexed c.args.lexer.now) c.parse_map.result told
+
+pub returns-clause-refused : goal.returns-clause-refused
+returns-clause-refused g c =
+    let same = c.recoverer-parser.ensures.same ∙ c.new.ensures ∙ c.parser_data.ensures in
+    rw same at c.parse_map.ensures.refused

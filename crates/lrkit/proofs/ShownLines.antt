@@ -8,7 +8,7 @@ use Rattle.cfg_numbered.specs.Value.{GrammarValue}
 use Rattle.cfg_theory.specs.Grammar.{WellFormed, end_token}
 use Rattle.cfg_theory.specs.Tree.{Tree}
 use Rattle.lr_theory.specs.Repair.{Edit, insert, delete, keep}
-use Rattle.line_laws.specs.ShownTexts.{FitsText, FlatParsesCanBeShown, InsertsWithin, MakesWithin}
+use Rattle.word_lines.specs.ShownTexts.{FitsText, FlatParsesCanBeShown, InsertsWithin, MakesWithin}
 use Rattle.lrpar.specs.FlatParses.{HasFlat, IsFlatParse}
 use Rattle.parse_trees.specs.FlatTrees.{FlatValue}
 use Rattle.parse_trees.specs.Lexemes.{AreItems, IsFirstLexError}

@@ -19,11 +19,10 @@ ghost use Rattle.lrkit.specs.Writing.{BeginsLine, WritesLine};
 use crate::fault::RunFault;
 use crate::trees::write_tree;
 use byte_streams::{Sink, write_all};
-use line_laws::laws::flat_parses_can_be_shown;
 use lrpar::{FlatTree, ParseError, ParseRefusal};
 use parser_kit::ParserKit;
 use std::alloc::Global;
-use word_lines::laws::items_are_parts_of_their_line;
+use word_lines::laws::{flat_parses_can_be_shown, items_are_parts_of_their_line};
 use word_lines::shown::{push_errors, push_fault};
 use word_lines::{LexerRoom, RepairLines, WordLexError, WordLexeme, WordLexer, WordLexerTypes};
 

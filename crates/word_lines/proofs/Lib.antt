@@ -7,3 +7,4 @@ mod LineCuts
 mod FittedWords
 mod ShownNames
 mod Spaces
+pub mod ShownTexts

@@ -3,3 +3,4 @@ pub mod Lexing
 pub mod Repairs
 pub mod RepairReading
 pub mod LineTexts
+pub mod ShownTexts

@@ -22,7 +22,7 @@ use Rattle.lrpar.specs.Parses.{AllThree, ErrorValue, IsParse, IsToldError}
 use Rattle.parse_trees.specs.Shown.{shown}
 use Rattle.lrpar.specs.Told.{ToldError, told_of, as_told}
 use Rattle.lrpar.specs.declared.parse_error.ParseError.{ParseError}
-use Rattle.line_laws.specs.ShownTexts.{FitsText, InsertsWithin, MakesWithin, ValueFits, ParseErrorFits, ParsesCanBeShown, FlatParsesCanBeShown}
+use Rattle.word_lines.specs.ShownTexts.{FitsText, InsertsWithin, MakesWithin, ValueFits, ParseErrorFits, ParsesCanBeShown, FlatParsesCanBeShown}
 
 -- ---- lists
 

@@ -4,8 +4,6 @@ ghost use Rattle.std.specs.Prelude.{◌≡◌};
 ghost use Rattle.lrkit.specs.Faults.{run_fault_of, status_of};
 
 use byte_streams::InputFault;
-use cfg_base::span::Spanned;
-use cfg_read::yacc::YaccGrammarError;
 use parser_kit::KitError;
 use std::alloc::AllocError;
 use std::fmt;
@@ -33,7 +31,7 @@ impl fmt::Display for Input {
 #[derive(Debug, Drop, Error)]
 pub enum RunFault {
     /// The grammar's text gives no parser, or there is no memory.
-    #[error("{text}", text = KitText(.0))]
+    #[error(transparent)]
     Kit(KitError<u32>),
     /// The counts of the listed conflicts aren't those of `%expect` and `%expect-rr`.
     #[error("conflicts: {shift_reduce} shift/reduce, {reduce_reduce} reduce/reduce, expected {expect} and {expect_rr}")]
@@ -56,33 +54,6 @@ pub enum RunFault {
     /// A write failed, or took nothing of a text that isn't empty.
     #[error("write fault")]
     Write,
-}
-
-// Shows all errors of a grammar.
-#[derive(Clone, Copy)]
-struct KitText<'a>(&'a KitError<u32>);
-
-impl fmt::Display for KitText<'_> {
-    fn fmt<W: fmt::Write>(&self, f: &mut fmt::Formatter<W>) -> fmt::Result {
-        match self.0 {
-            KitError::Grammar(errors) => write_errors(f, errors.as_slice()),
-            other => write!(f, "{other}"),
-        }
-    }
-}
-
-// A line for each error, with no line feed behind the last.
-fn write_errors<W: fmt::Write>(
-    f: &mut fmt::Formatter<W>,
-    errors: &[YaccGrammarError],
-) -> fmt::Result {
-    let mut front = "";
-    for error in errors {
-        let start = error.spans().first().map_or(0, |span| span.start());
-        write!(f, "{front}grammar error at byte {start}: {error}")?;
-        front = "\n";
-    }
-    Ok(())
 }
 
 impl From<KitError<u32>> for RunFault {

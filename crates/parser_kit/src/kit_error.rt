@@ -6,6 +6,7 @@ ghost use Rattle.parser_kit.specs.declared.kit_error.KitError.TheVariants as err
 
 use crate::grammar_kit_error::{GrammarKitError, write_chain};
 use cfg_base::index::IndexStorage;
+use cfg_base::span::Spanned;
 use cfg_base::symbol::{PIdx, RIdx, TIdx};
 use cfgrammar::yacc::{TooMany, YaccGrammarError};
 use lrtable::StIdx;
@@ -14,7 +15,8 @@ use std::error::Error;
 use std::fmt;
 use std::fmt::{Debug, Display, Formatter, Write};
 
-/// Why a text gives no kit: refused memory aside, the first of these that holds.
+/// Why a text gives no kit: refused memory aside, the first of these that holds. Its text has a line for each error of the
+/// grammar, and else one line.
 #[derive(Debug, Drop)]
 pub enum KitError<S: IndexStorage> {
     /// All that is wrong with the text.
@@ -85,10 +87,21 @@ fn write_count<W: Write>(f: &mut Formatter<W>, count: TooMany) -> fmt::Result {
     }
 }
 
+/// Writes a line for each error, by the first byte of its first span, with no line feed behind the last.
+fn write_errors<W: Write>(f: &mut Formatter<W>, errors: &[YaccGrammarError]) -> fmt::Result {
+    let mut front = "";
+    for error in errors {
+        let start = error.spans().first().map_or(0, |span| span.start());
+        write!(f, "{front}grammar error at byte {start}: {error}")?;
+        front = "\n";
+    }
+    Ok(())
+}
+
 impl<S: IndexStorage> Display for KitError<S> {
     fn fmt<W: Write>(&self, f: &mut Formatter<W>) -> fmt::Result {
         match self {
-            KitError::Grammar(_) => write!(f, "invalid grammar"),
+            KitError::Grammar(errors) => write_errors(f, errors.as_slice()),
             KitError::TooMany(count) => write_count(f, *count),
             KitError::TooManyStates(n) => write!(f, "too many states: {n}"),
             KitError::AcceptReduce(pidx) => {

@@ -1,7 +1,7 @@
 //! What texts come to: a kit with its counts, or why there is none.
 
 use crate::same::same;
-use crate::texts::{declared, repeated};
+use crate::texts::{any_of, declared, repeated, ruled};
 use cfg_base::index::IndexStorage;
 use cfg_read::yacc::{YaccGrammarError, YaccKind, YaccOriginalActionKind};
 use parser_kit::{KitError, ParserKit};
@@ -26,13 +26,12 @@ fn kit_text<S: IndexStorage>(alloc: Global, kit: &ParserKit<S>) -> Result<String
     format!(in alloc; "{sr} {rr} {complete} {productive}")
 }
 
-/// An error of a text with its spans.
-fn push_error(
+/// Adds the spans of an error of a text.
+fn push_spans(
     alloc: Global,
     text: &mut String,
     error: &YaccGrammarError,
 ) -> Result<(), AllocError> {
-    text.push_str(format!(in alloc; "{error}")?.as_str())?;
     for span in error.spans.as_slice() {
         let start = span.start();
         let end = span.end();
@@ -41,13 +40,13 @@ fn push_error(
     Ok(())
 }
 
-/// Why there is none.
+/// Why there is none, and for each error of the grammar its spans behind a semicolon.
 fn error_text<S: IndexStorage>(alloc: Global, error: &KitError<S>) -> Result<String, AllocError> {
     let mut text = format!(in alloc; "{error}")?;
     if let KitError::Grammar(errors) = error {
         for error in errors.as_slice() {
-            text.push_str("; ")?;
-            push_error(alloc, &mut text, error)?;
+            text.push(';')?;
+            push_spans(alloc, &mut text, error)?;
         }
     }
     Ok(text)
@@ -103,17 +102,24 @@ const TEXTS: &[(&str, &str)] = &[
     ),
     (
         "%start S %% S: T;",
-        "invalid grammar; Unknown reference to rule 'T' 15-16",
+        "grammar error at byte 15: Unknown reference to rule 'T'; 15-16",
+    ),
+    (
+        "%start S %% S: T U | 'a';",
+        "grammar error at byte 15: Unknown reference to rule 'T'\ngrammar error at byte 17: Unknown reference to rule 'U'; 15-16; 17-18",
     ),
     ("%start S %% S: 'a' U | 'b'; U: 'u' U;", "0 0 true false"),
     ("%start S %% S: U; U: U 'x';", "0 0 true false"),
     ("%start S %% S: A; A: B; B: A | 'x';", "0 1 false true"),
-    ("%start S", "invalid grammar; File ends prematurely 8-8"),
-    ("%% S: 'a'", "invalid grammar; Incomplete rule 9-9"),
-    ("", "invalid grammar; File ends prematurely 0-0"),
+    (
+        "%start S",
+        "grammar error at byte 8: File ends prematurely; 8-8",
+    ),
+    ("%% S: 'a'", "grammar error at byte 9: Incomplete rule; 9-9"),
+    ("", "grammar error at byte 0: File ends prematurely; 0-0"),
     (
         "%start S %start S %% S: 'a';",
-        "invalid grammar; Duplicated %start declaration 7-8 16-17",
+        "grammar error at byte 7: Duplicated %start declaration; 7-8 16-17",
     ),
     (
         "%start A %% A : 'a' 'b' | B 'b'; B : 'a' | C; C : 'a';",
@@ -133,11 +139,11 @@ const SECTIONS: &[(&str, &str)] = &[
     ),
     (
         "%implicit_tokens ws\n%% S: 'a' 'b';",
-        "invalid grammar; Unknown declaration 0-0",
+        "grammar error at byte 0: Unknown declaration; 0-0",
     ),
     (
         "%grmtools{yacckind: Foo} %% S: 'a';",
-        "invalid grammar; Cannot convert to YaccKind: Unknown variant 20-23",
+        "grammar error at byte 20: Cannot convert to YaccKind: Unknown variant; 20-23",
     ),
     ("%% S: 'a';", "0 0 true true"),
 ];
@@ -189,6 +195,17 @@ fn numbers_have_an_end(rt: HostRuntime) -> Result<(), Fail> {
     same(&rt, "255 tokens of u16", found.as_str(), "0 0 true true");
     let found = judged::<u8>(rt.alloc(), declared(rt.alloc(), 254)?.as_str())?;
     same(&rt, "254 tokens", found.as_str(), "0 0 true true");
+    let found = judged::<u8>(rt.alloc(), ruled(rt.alloc(), 254)?.as_str())?;
+    same(&rt, "254 rules", found.as_str(), "0 0 true true");
+    let found = judged::<u8>(rt.alloc(), ruled(rt.alloc(), 255)?.as_str())?;
+    same(&rt, "255 rules", found.as_str(), "too many rules: 256");
+    let found = judged::<u8>(rt.alloc(), any_of(rt.alloc(), 255)?.as_str())?;
+    same(
+        &rt,
+        "255 productions",
+        found.as_str(),
+        "too many productions: 256",
+    );
     let found = judged::<u8>(rt.alloc(), repeated(rt.alloc(), 253)?.as_str())?;
     same(&rt, "253 symbols", found.as_str(), "0 0 true true");
     let found = judged::<u8>(rt.alloc(), repeated(rt.alloc(), 254)?.as_str())?;

@@ -1,4 +1,5 @@
-//! Tests of `parser_kit`: what kits tell of their texts, which texts give none, what lines come to, and that repairs leave no trace.
+//! Tests of `parser_kit`: what kits tell of their texts, which texts give none, what lines come to, that repairs leave no trace, and
+//! vectors of the ported crates.
 #![tactic(auto)]
 
 #[cfg(test)]
@@ -17,3 +18,5 @@ mod same;
 mod spell;
 #[cfg(test)]
 mod texts;
+#[cfg(test)]
+mod vectors;

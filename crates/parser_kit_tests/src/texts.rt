@@ -36,6 +36,15 @@ pub fn any_of(alloc: Global, count: usize) -> Result<String, AllocError> {
     Ok(text)
 }
 
+/// A text of this many rules, whose first is a token.
+pub fn ruled(alloc: Global, count: usize) -> Result<String, AllocError> {
+    let mut text = String::from_str(alloc, "%start r0 %%")?;
+    for number in 0..count {
+        text.push_str(format!(in alloc; " r{number}: 'a';")?.as_str())?;
+    }
+    Ok(text)
+}
+
 /// A text whose one production is a token so many times.
 pub fn repeated(alloc: Global, count: usize) -> Result<String, AllocError> {
     let mut text = String::from_str(alloc, "%start S %% S:")?;

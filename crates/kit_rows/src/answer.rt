@@ -1,5 +1,6 @@
 //! What `run` answers to rows.
 
+use crate::fault::fault_of;
 use crate::row::{Row, source_of};
 use crate::streams::{Taker, number_in};
 use lrkit::{Counted, KitError, RunFault, run, status};
@@ -33,6 +34,20 @@ fn push_written(out: &mut String, written: &str) -> Result<(), AllocError> {
     }
 }
 
+/// Adds the text of a fault, if there is one, and the status.
+fn push_told(
+    alloc: Global,
+    out: &mut String,
+    outcome: &Result<bool, RunFault>,
+) -> Result<(), AllocError> {
+    if let Err(fault) = outcome {
+        let text = fault.to_string(alloc)?;
+        push_lines(out, "! ", text.as_str())?;
+    }
+    let code = status(outcome);
+    out.push_str(format!(in alloc; "status {code}\n")?.as_str())
+}
+
 /// Adds the text of a fault, if there is one, and the status. Want of memory is handed on.
 fn push_outcome(
     alloc: Global,
@@ -40,15 +55,22 @@ fn push_outcome(
     outcome: &Result<bool, RunFault>,
 ) -> Result<(), AllocError> {
     match outcome {
-        Err(RunFault::Kit(KitError::Memory(e))) => return Err(*e),
-        Err(fault) => {
-            let text = fault.to_string(alloc)?;
-            push_lines(out, "! ", text.as_str())?;
-        }
-        Ok(_) => {}
+        Err(RunFault::Kit(KitError::Memory(e))) => Err(*e),
+        _ => push_told(alloc, out, outcome),
     }
-    let code = status(outcome);
-    out.push_str(format!(in alloc; "status {code}\n")?.as_str())
+}
+
+/// Adds the text and the status of the fault that a heading names, if it names one.
+fn push_named(alloc: Global, out: &mut String, heading: &str) -> Result<(), AllocError> {
+    match fault_of(alloc, heading) {
+        Some(fault) => {
+            let outcome: Result<bool, RunFault> = Err(RunFault::Kit(fault));
+            let told = push_told(alloc, out, &outcome);
+            drop(outcome);
+            told
+        }
+        None => Ok(()),
+    }
 }
 
 /// What takes the output, as a heading tells.
@@ -102,13 +124,15 @@ fn take_line<'a>(
         return push_line(out, "", line);
     }
     end_row(alloc, out, row)?;
-    if let Some(heading) = line.strip_prefix("= ") {
-        row.heading = heading;
-    }
     if is_kept(line) {
-        push_line(out, "", line)
-    } else {
-        Ok(())
+        push_line(out, "", line)?;
+    }
+    match line.strip_prefix("= ") {
+        Some(heading) => {
+            row.heading = heading;
+            push_named(alloc, out, heading)
+        }
+        None => Ok(()),
     }
 }
 

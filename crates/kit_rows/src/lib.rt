@@ -8,11 +8,14 @@
 //! - `room:N`: behind the first N bytes a write fails. `full:N`: there it takes nothing.
 //! - `grammar-fails:N`, `lines-fails:N`, `repairs-fails:N`: read N of that input, counted from one, fails.
 //! - `interrupted`: such a read fails as one that was interrupted.
+//! - `fault` and one of `rules:N`, `productions:N`, `tokens:N`, `symbols:N`, `states:N`, `cells` or `memory`: below it stand the text
+//!   and the status of this fault, which no text of a row comes to.
 //! - `grammar-blanks:N`, `lines-blanks:N`, `repairs-blanks:N`: that input has N spaces behind its bytes.
 #![tactic(auto)]
 
 mod answer;
 mod bytes;
+mod fault;
 mod row;
 mod streams;
 

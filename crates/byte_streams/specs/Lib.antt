@@ -2,3 +2,4 @@ pub mod Source
 pub mod Sink
 pub mod Counting
 pub mod Inputs
+pub mod FaultTexts

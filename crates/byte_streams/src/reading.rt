@@ -6,7 +6,9 @@ ghost use Rattle.byte_streams.specs.Source.{Reads, IsWhole};
 ghost use Rattle.byte_streams.specs.Inputs.{most_bytes, IsInputFault, IsReadFault, TakesAtMost, Moves};
 
 use std::alloc::{AllocError, Global};
-use std::io;
+use std::error::Error;
+use std::fmt::{Display, Formatter, Write};
+use std::{fmt, io};
 
 /// The greatest number of bytes of an input.
 pub const MOST_BYTES: usize = 67_108_864;
@@ -42,6 +44,24 @@ pub enum InputFault {
     /// The request for memory that was refused.
     Memory(AllocError),
 }
+
+impl Display for InputFault {
+    ghost use Rattle.std.specs.Prelude.{Some};
+    ghost use Rattle.byte_streams.specs.FaultTexts.{input_fault_text};
+
+    ghost output = { λ e. Some (input_fault_text e) };
+
+    fn fmt<W: Write>(&self, f: &mut Formatter<W>) -> fmt::Result {
+        match self {
+            InputFault::Read => write!(f, "read fault"),
+            InputFault::TooLong => write!(f, "too long"),
+            InputFault::NotUtf8 => write!(f, "not UTF-8"),
+            InputFault::Memory(_) => write!(f, "out of memory"),
+        }
+    }
+}
+
+impl Error for InputFault {}
 
 impl From<AllocError> for InputFault {
     ghost use Rattle.byte_streams.specs.declared.reading.InputFault.TheVariants.{Memory};

@@ -5,7 +5,9 @@ ghost use Rattle.std.specs.Io.KnownBytes.{Appends};
 ghost use Rattle.byte_streams.specs.Sink.{Writes, BeginningWritten, IsOutBut, most_waiting};
 ghost use Rattle.byte_streams.specs.Source.{one_more};
 
-use std::io;
+use std::error::Error;
+use std::fmt::{Display, Formatter, Write};
+use std::{fmt, io};
 
 /// A text that is written as it is made waits until it has this many bytes.
 pub const MOST_WAITING: usize = 65_536;
@@ -32,6 +34,18 @@ pub trait Sink {
 /// A write failed, or took nothing of a text that isn't empty.
 #[derive(Clone, Copy, Debug)]
 pub struct WriteFault;
+
+impl Display for WriteFault {
+    ghost use Rattle.std.specs.Prelude.{Some, codes};
+
+    ghost output = { λ e. Some (codes "write fault") };
+
+    fn fmt<W: Write>(&self, f: &mut Formatter<W>) -> fmt::Result {
+        write!(f, "write fault")
+    }
+}
+
+impl Error for WriteFault {}
 
 /// Writes all of the bytes. Returns a `WriteFault` at the first write that fails or takes nothing; a beginning of the
 /// bytes, which the writes before took, is then written.

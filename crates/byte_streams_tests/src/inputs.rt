@@ -60,9 +60,7 @@ fn told<S: Source>(alloc: Global, input: &mut S) -> Result<String, AllocError> {
     match read_text(alloc, input) {
         Ok(text) => Ok(text),
         Err(InputFault::Memory(e)) => Err(e),
-        Err(InputFault::Read) => String::from_str(alloc, "? read"),
-        Err(InputFault::NotUtf8) => String::from_str(alloc, "? no text"),
-        Err(InputFault::TooLong) => String::from_str(alloc, "? too long"),
+        Err(fault) => format!(in alloc; "? {fault}"),
     }
 }
 
@@ -83,7 +81,12 @@ fn a_failing_read_is_told_and_counted(rt: HostRuntime) -> Result<(), Fail> {
     for kind in [ErrorKind::Interrupted, ErrorKind::NotFound] {
         for text in ["", "ID"] {
             let mut input = source(text.as_bytes(), 1, Some(kind));
-            same(&rt, text, told(rt.alloc(), &mut input)?.as_str(), "? read");
+            same(
+                &rt,
+                text,
+                told(rt.alloc(), &mut input)?.as_str(),
+                "? read fault",
+            );
             same(&rt, "failures", Source::failures(&input), 1);
         }
     }
@@ -99,7 +102,7 @@ fn bytes_that_are_no_text_are_told(rt: HostRuntime) -> Result<(), Fail> {
             &rt,
             "bytes",
             told(rt.alloc(), &mut input)?.as_str(),
-            "? no text",
+            "? not UTF-8",
         );
         same(&rt, "failures", Source::failures(&input), 0);
     }

@@ -1,7 +1,7 @@
 //! Texts written whole, and texts written as they are made.
 
 use crate::same::same;
-use byte_streams::{Counted, MOST_WAITING, Sink, write_all, write_long};
+use byte_streams::{Counted, MOST_WAITING, Sink, WriteFault, write_all, write_long};
 use std::alloc::{AllocError, Global};
 use std::io;
 use std::io::{ErrorKind, Write};
@@ -77,6 +77,27 @@ fn a_failing_write_leaves_a_beginning(rt: HostRuntime) -> Result<(), Fail> {
             );
         }
     }
+    Ok(())
+}
+
+/// What is displayed of the fault of a write.
+fn told(alloc: Global, written: Result<(), WriteFault>) -> Result<String, AllocError> {
+    match written {
+        Ok(()) => Ok(String::new(alloc)),
+        Err(fault) => format!(in alloc; "{fault}"),
+    }
+}
+
+#[test]
+fn a_fault_is_displayed(rt: HostRuntime) -> Result<(), Fail> {
+    let mut out = writer(rt.alloc(), 1, 1, true)?;
+    let written = write_all(&mut out, TEXT);
+    same(
+        &rt,
+        "fault",
+        told(rt.alloc(), written)?.as_str(),
+        "write fault",
+    );
     Ok(())
 }
 

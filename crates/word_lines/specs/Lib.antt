@@ -4,3 +4,4 @@ pub mod Repairs
 pub mod RepairReading
 pub mod LineTexts
 pub mod ShownTexts
+pub mod LexemeTexts

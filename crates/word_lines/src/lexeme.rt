@@ -3,13 +3,14 @@
 use cfg_base::index::{IndexOrder, IndexStorage};
 use cfg_base::span::Span;
 use lrpar::{LexError, Lexeme, LexerTypes};
+use std::error::Error;
 use std::fmt;
 use std::fmt::{Display, Formatter, Write};
 use std::hash::Hash;
 use std::marker::PhantomData;
-use thiserror::Error;
 
-/// A word of a line that is a token's name, or a lexeme that a repair made up. It is shown as its offsets.
+/// A word of a line that is a token's name, or a lexeme that a repair made up. It is shown as `WordLexeme[S..E]`, by the offsets
+/// of its first byte and of the one behind its last.
 #[derive(Clone, Copy, Debug, PartialEq, Eq, Hash)]
 pub struct WordLexeme<S> {
     /// The token's number.
@@ -21,8 +22,15 @@ pub struct WordLexeme<S> {
 }
 
 impl<S: IndexStorage> Display for WordLexeme<S> {
+    ghost use Rattle.std.specs.Prelude.{Some};
+    ghost use Rattle.word_lines.specs.LexemeTexts.{lexeme_text};
+
+    ghost output = { λ x. Some (lexeme_text x.span) };
+
     fn fmt<W: Write>(&self, f: &mut Formatter<W>) -> fmt::Result {
-        write!(f, "{}..{}", self.span.start(), self.span.end())
+        let start = self.span.start();
+        let end = self.span.end();
+        write!(f, "WordLexeme[{start}..{end}]")
     }
 }
 
@@ -70,12 +78,25 @@ impl<S: IndexOrder> Lexeme<S> for WordLexeme<S> {
 }
 
 /// A word that is no token's name.
-#[derive(Clone, Copy, Debug, PartialEq, Eq, Error)]
-#[error("no token has this name")]
+#[derive(Clone, Copy, Debug, PartialEq, Eq)]
 pub struct WordLexError {
     /// The word's bytes in the line.
     pub span: Span,
 }
+
+impl Display for WordLexError {
+    ghost use Rattle.std.specs.Prelude.{Some};
+    ghost use Rattle.word_lines.specs.LexemeTexts.{lex_error_text};
+
+    ghost output = { λ e. Some (lex_error_text e.span) };
+
+    fn fmt<W: Write>(&self, f: &mut Formatter<W>) -> fmt::Result {
+        let start = self.span.start();
+        write!(f, "Couldn't lex input starting at byte {start}")
+    }
+}
+
+impl Error for WordLexError {}
 
 impl LexError for WordLexError {
     ghost places = { λ e. e.span };

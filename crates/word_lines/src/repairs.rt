@@ -12,19 +12,35 @@ use cfg_numbered::yacc::grammar::NumberedGrammar;
 use lrpar::{Lexeme, Recoverer, RepairStep};
 use state_table::StIdx;
 use std::alloc::{AllocError, Global};
+use std::error::Error;
+use std::fmt;
+use std::fmt::{Display, Formatter, Write};
 use std::marker::Model;
-use thiserror::Error;
 
 /// Why a text has no repairs.
-#[derive(Clone, Copy, Debug, Error)]
+#[derive(Clone, Copy, Debug)]
 pub enum RepairsError {
     /// This line, counted from one, is the first that is no repair.
-    #[error("not a repair")]
     NotARepair(usize),
     /// There is no memory.
-    #[error("out of memory")]
     Memory(AllocError),
 }
+
+impl Display for RepairsError {
+    ghost use Rattle.std.specs.Prelude.{Some};
+    ghost use Rattle.word_lines.specs.LexemeTexts.{repairs_error_text};
+
+    ghost output = { λ e. Some (repairs_error_text e) };
+
+    fn fmt<W: Write>(&self, f: &mut Formatter<W>) -> fmt::Result {
+        match self {
+            RepairsError::NotARepair(line) => write!(f, "repairs line {line}: not a repair"),
+            RepairsError::Memory(_) => write!(f, "out of memory"),
+        }
+    }
+}
+
+impl Error for RepairsError {}
 
 impl From<AllocError> for RepairsError {
     ghost use Rattle.word_lines.specs.declared.repairs.RepairsError.TheVariants.{Memory};

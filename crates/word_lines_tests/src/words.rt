@@ -76,6 +76,53 @@ fn words_are_items(rt: HostRuntime) -> Result<(), Fail> {
     Ok(())
 }
 
+/// Puts an item as it is displayed.
+fn put_displayed<S: IndexOrder>(
+    alloc: Global,
+    out: &mut String,
+    item: Result<WordLexeme<S>, WordLexError>,
+) -> Result<(), AllocError> {
+    let text = match item {
+        Ok(lexeme) => format!(in alloc; "{lexeme}; ")?,
+        Err(fault) => format!(in alloc; "{fault}; ")?,
+    };
+    out.push_str(text.as_str())
+}
+
+/// The items of a line, as they are displayed.
+fn displayed<S: IndexOrder>(alloc: Global, line: &str) -> Result<String, Fail> {
+    let grm = grammar::<S>(alloc, SUMS)?;
+    let lexer = WordLexer::new(alloc, &grm, line)?;
+    let mut out = String::new(alloc);
+    for item in lexer.iter() {
+        put_displayed(alloc, &mut out, *item)?;
+    }
+    drop(grm);
+    Ok(out)
+}
+
+/// Lines, and their items as they are displayed.
+const DISPLAYED: &[(&str, &str)] = &[
+    (
+        "ID + ID",
+        "WordLexeme[0..2]; WordLexeme[3..4]; WordLexeme[5..7]; ",
+    ),
+    ("*", "Couldn't lex input starting at byte 0; "),
+    (
+        "  ä  äö",
+        "WordLexeme[2..4]; Couldn't lex input starting at byte 6; ",
+    ),
+];
+
+#[test]
+fn items_are_displayed(rt: HostRuntime) -> Result<(), Fail> {
+    for row in DISPLAYED {
+        let found = displayed::<u16>(rt.alloc(), row.0)?;
+        same(&rt, row.0, found.as_str(), row.1);
+    }
+    Ok(())
+}
+
 #[test]
 fn one_list_serves_line_after_line(rt: HostRuntime) -> Result<(), Fail> {
     let alloc = rt.alloc();

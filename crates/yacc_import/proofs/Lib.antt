@@ -1,0 +1,5 @@
+pub mod Parts
+pub mod LineFeeds
+pub mod Places
+pub mod Bytes
+pub mod Applying

@@ -1,0 +1,6 @@
+use Rattle.std.proofs.Common.{◌≡◌, ◌++◌, take}
+use Rattle.yacc_import.specs.Changes.{blanks_of}
+use Rattle.yacc_import.proofs.marks.push_blanks.Given as goal
+
+abbrev pub invariant-bytes : goal.invariant-bytes
+invariant-bytes l = l.out.items ≡ l.fn.out.items ++ blanks_of l.at (take l.i l.bytes)

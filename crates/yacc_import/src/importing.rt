@@ -1,0 +1,147 @@
+//! From a Bison file to the profile's text.
+
+ghost use Rattle.std.specs.Prelude.{◌≡◌, ◌≤◌, ◌<◌, ◌+◌, ◌*◌, length, vec_len, string_bytes, IfOk, IfErr, OnOk};
+ghost use Rattle.std.specs.List.{All};
+ghost use Rattle.yacc_import.specs.Changes.{bytes_of, places_of, changed, Fits, IsFor, LiesIn, Rises, line_feeds, marks_of, place_of};
+ghost use Rattle.yacc_import.specs.Faults.{LiesWithin};
+
+use crate::edits::notes_of;
+use crate::errors::{Fault, ImportError};
+use crate::levels::meeting_levels;
+use crate::marks::{Mark, marks_for, text_of};
+use crate::names::{Names, names_of};
+use crate::notes::Note;
+use crate::roles::{Parts, parts_of};
+use crate::tokens::{Token, tokens_of};
+use std::alloc::Global;
+
+/// A Bison file in the profile's syntax.
+#[derive(Drop)]
+pub struct Imported {
+    /// The text in the profile's syntax.
+    pub text: String,
+    /// The bytes of the text, each with the byte offset in the source that it is for.
+    pub marks: Vec<Mark>,
+    /// What was left out or changed, in order.
+    pub notes: Vec<Note>,
+    /// How many bytes the source has.
+    pub source_len: usize,
+}
+
+impl Imported {
+    /// Returns the byte offset in the source of a byte offset in the text: the source's end at the text's end and past it.
+    pub fn place_in_source(&self, at: usize) -> usize
+        ensures { result ≡ place_of self.now.marks.items self.now.source_len at }
+    {
+        match self.marks.get(at) {
+            Some(mark) => mark.place,
+            None => self.source_len,
+        }
+    }
+}
+
+/// Leaves out the levels that the profile can't say, and returns the notes.
+fn notes_with(
+    alloc: Global,
+    source: &str,
+    tokens: &[Token],
+    found: &Parts,
+    names: &mut Names<'_>,
+) -> Result<Vec<Note>, ImportError> {
+    let levels = meeting_levels(alloc, names, tokens, &found.parts)?;
+    names.unsettle(levels, tokens, &found.parts)?;
+    notes_of(alloc, source, tokens, found, names)
+}
+
+/// Returns the notes for tokens of which it is known what they are for.
+fn notes_for_parts(
+    alloc: Global,
+    source: &str,
+    tokens: &[Token],
+    found: &Parts,
+) -> Result<Vec<Note>, ImportError> {
+    let mut names = names_of(alloc, source, tokens, &found.parts)?;
+    let made = notes_with(alloc, source, tokens, found, &mut names);
+    drop(names);
+    made
+}
+
+/// Returns the notes for a source.
+fn notes_for(alloc: Global, source: &str) -> Result<Vec<Note>, ImportError> {
+    let tokens = tokens_of(alloc, source.as_bytes())?;
+    let found = parts_of(alloc, source, &tokens)?;
+    notes_for_parts(alloc, source, &tokens, &found)
+}
+
+/// Returns an error whose place lies in a source of so many bytes.
+fn within(error: ImportError, len: usize) -> ImportError
+    ensures { LiesWithin len result }
+{
+    match error {
+        ImportError::Refused(fault, at) => ImportError::Refused(fault, at.min(len)),
+        ImportError::Memory(e) => ImportError::Memory(e),
+    }
+}
+
+/// Returns a result that isn't too long.
+fn within_size(marks: Vec<Mark>, len: usize) -> Result<Vec<Mark>, ImportError>
+    ensures same { IfOk result (λ v. v ≡ marks) }
+    ensures short { OnOk result (vec_len marks ≤ 16 * len + 4096) }
+{
+    if marks.len() > len.saturating_mul(16).saturating_add(4096) {
+        return Err(ImportError::Refused(Fault::TooLong, len));
+    }
+    Ok(marks)
+}
+
+/// Applies notes to a source.
+fn apply(alloc: Global, source: &str, notes: Vec<Note>) -> Result<Imported, ImportError>
+    ensures text { IfOk result (λ m. string_bytes m.text ≡ bytes_of m.marks.items) }
+    ensures made { IfOk result (λ m. m.marks.items ≡ changed source.now 0 m.notes.items) }
+    ensures fits { IfOk result (λ m. Fits source.now 0 m.notes.items) }
+    ensures len { IfOk result (λ m. m.source_len ≡ length source.now) }
+    ensures short { IfOk result (λ m. vec_len m.marks ≤ 16 * length source.now + 4096) }
+{
+    let made = marks_for(alloc, source.as_bytes(), &notes)?;
+    let marks = within_size(made, source.len())?;
+    let text = text_of(alloc, &marks)?;
+    Ok(Imported {
+        text,
+        marks,
+        notes,
+        source_len: source.len(),
+    })
+}
+
+/// Makes the notes for a source, and applies them.
+fn import_text(alloc: Global, source: &str) -> Result<Imported, ImportError>
+    ensures text { IfOk result (λ m. string_bytes m.text ≡ bytes_of m.marks.items) }
+    ensures made { IfOk result (λ m. m.marks.items ≡ changed source.now 0 m.notes.items) }
+    ensures fits { IfOk result (λ m. Fits source.now 0 m.notes.items) }
+    ensures len { IfOk result (λ m. m.source_len ≡ length source.now) }
+    ensures short { IfOk result (λ m. vec_len m.marks ≤ 16 * length source.now + 4096) }
+{
+    let notes = notes_for(alloc, source)?;
+    apply(alloc, source, notes)
+}
+
+/// Imports a file in the syntax of Bison or of POSIX yacc.
+///
+/// The text has the source's bytes, but for the ranges that the notes name: there it has blanks, with the line feeds, tabs and
+/// carriage returns of the source, or a note's text.
+pub fn import(alloc: Global, source: &str) -> Result<Imported, ImportError>
+    ensures text { IfOk result (λ m. string_bytes m.text ≡ bytes_of m.marks.items) }
+    ensures made { IfOk result (λ m. m.marks.items ≡ changed source.now 0 m.notes.items) }
+    ensures bytes { IfOk result (λ m. All (IsFor source.now m.notes.items) m.marks.items) }
+    ensures line_feeds { IfOk result (λ m. line_feeds m.marks.items ≡ line_feeds (marks_of 0 source.now)) }
+    ensures places { IfOk result (λ m. Rises 0 (places_of m.marks.items) (length source.now)) }
+    ensures notes { IfOk result (λ m. All (LiesIn (length source.now)) m.notes.items) }
+    ensures len { IfOk result (λ m. m.source_len ≡ length source.now) }
+    ensures short { IfOk result (λ m. vec_len m.marks ≤ 16 * length source.now + 4096) }
+    ensures fault { IfErr result (LiesWithin (length source.now)) }
+{
+    match import_text(alloc, source) {
+        Ok(imported) => Ok(imported),
+        Err(e) => Err(within(e, source.len())),
+    }
+}

@@ -1,0 +1,66 @@
+//! Precedence levels among the rules: where they go before the rules.
+
+use crate::errors::{Fault, ImportError};
+use crate::notes::line_end;
+use crate::roles::Parts;
+use crate::tokens::{Kind, Token};
+use indexmap::IndexMap;
+use std::alloc::Global;
+
+/// Returns whether only blanks are between two byte offsets, up to a line feed that is there.
+fn ends_line(bytes: &[u8], start: usize, end: usize) -> bool {
+    let feed = line_end(bytes, start, end);
+    for b in bytes.get(start..feed).unwrap_or(&[]) {
+        if !matches!(*b, b' ' | b'\t' | b'\r') {
+            return false;
+        }
+    }
+    feed < end
+}
+
+/// Returns whether a declaration may be put behind a token on its line: the line ends there, and so does a declaration.
+fn has_room(bytes: &[u8], token: Token, next: Token) -> bool {
+    matches!(next.kind, Kind::Directive | Kind::Prologue | Kind::Section)
+        && ends_line(bytes, token.end, next.start)
+}
+
+/// Returns the indices of the tokens behind which levels that stand among the rules are put, with those of the levels' words. A
+/// level needs a line of its own behind all levels before the rules.
+pub(crate) fn late_places(
+    alloc: Global,
+    bytes: &[u8],
+    tokens: &[Token],
+    found: &Parts,
+) -> Result<IndexMap<usize, usize>, ImportError> {
+    let mut places = IndexMap::new(alloc);
+    let mut words = found.late.as_slice().iter();
+    let mut word = words.next();
+    let first = match found.last_level {
+        Some(last) => last.saturating_add(1),
+        None => 0,
+    };
+    for (at, (token, next)) in tokens.iter().zip(tokens.iter().skip(1)).enumerate() {
+        let Some(level) = word else {
+            return Ok(places);
+        };
+        if token.kind == Kind::Section {
+            break;
+        }
+        if at >= first && has_room(bytes, *token, *next) {
+            places.insert(at, *level)?;
+            word = words.next();
+        }
+    }
+    match word {
+        Some(level) => Err(ImportError::Refused(Fault::LateLevel, start_of(tokens, *level))),
+        None => Ok(places),
+    }
+}
+
+/// Returns the byte offset of the token at an index.
+fn start_of(tokens: &[Token], at: usize) -> usize {
+    match tokens.get(at) {
+        Some(token) => token.start,
+        None => 0,
+    }
+}

@@ -1,0 +1,342 @@
+//! Which `%precedence` levels the profile can say.
+//!
+//! A production and a token of one such level stay in conflict where they meet. The profile has no such level. But where no token
+//! of the level may follow a rule with a production of that precedence they never meet, and `%nonassoc` says the same.
+
+use crate::errors::ImportError;
+use crate::names::Names;
+use crate::roles::{Part, Role};
+use crate::tokens::{Kind, Token};
+use indexmap::IndexMap;
+use std::alloc::Global;
+
+/// Passes over the productions, after which nothing is known.
+const MOST_PASSES: usize = 256;
+
+/// Returns the bit of the level behind a level. Levels past the sixty-third have one for all.
+pub(crate) fn next_level(level: u64) -> u64 {
+    level.checked_mul(2).unwrap_or(level)
+}
+
+/// What is known of a symbol: sets of levels, a bit for each.
+#[derive(Clone, Copy)]
+struct Symbol {
+    /// Levels of tokens that may begin what it derives.
+    first: u64,
+    /// Levels of tokens that may follow it.
+    follow: u64,
+    /// Levels of tokens that may follow it within a production.
+    near: u64,
+    is_empty: bool,
+    is_token: bool,
+}
+
+/// A token of which nothing is known.
+const NOTHING: Symbol = Symbol {
+    first: 0,
+    follow: 0,
+    near: 0,
+    is_empty: false,
+    is_token: true,
+};
+
+/// Returns what is behind the symbol before one, of what is behind this one: tokens that may follow, in all and within the
+/// production, and whether the production may end there.
+fn before(symbol: Symbol, behind: Symbol) -> Symbol {
+    if symbol.is_empty {
+        return Symbol {
+            follow: behind.follow | symbol.first,
+            near: behind.near | symbol.first,
+            ..behind
+        };
+    }
+    Symbol {
+        follow: symbol.first,
+        near: symbol.first,
+        ..NOTHING
+    }
+}
+
+/// A production: its rule, the range of its symbols, and the level of its precedence.
+#[derive(Clone, Copy)]
+struct Production {
+    rule: usize,
+    start: usize,
+    end: usize,
+    level: u64,
+}
+
+#[derive(Drop)]
+struct Levels<'a> {
+    numbers: IndexMap<&'a str, usize>,
+    symbols: Vec<Symbol>,
+    /// The symbols of all productions.
+    bodies: Vec<usize>,
+    productions: Vec<Production>,
+    /// The rule whose alternatives are read.
+    rule: usize,
+    start: usize,
+    prec: Option<u64>,
+    is_open: bool,
+}
+
+impl<'a> Levels<'a> {
+    /// Returns the number of a key.
+    fn number(&mut self, key: &'a str) -> Result<usize, ImportError> {
+        if let Some(number) = self.numbers.get(&key) {
+            return Ok(*number);
+        }
+        let number = self.symbols.len();
+        self.numbers.insert(key, number)?;
+        self.symbols.push(NOTHING)?;
+        Ok(number)
+    }
+
+    /// Returns what is known of a symbol.
+    fn symbol(&self, number: usize) -> Symbol {
+        match self.symbols.get(number) {
+            Some(symbol) => *symbol,
+            None => NOTHING,
+        }
+    }
+
+    /// Adds to what is known of a symbol, and returns whether that is new.
+    fn add(&mut self, number: usize, more: Symbol) -> bool {
+        let Some(symbol) = self.symbols.get_mut(number) else {
+            return false;
+        };
+        let before = *symbol;
+        symbol.first = before.first | more.first;
+        symbol.follow = before.follow | more.follow;
+        symbol.near = before.near | more.near;
+        symbol.is_empty = before.is_empty || more.is_empty;
+        symbol.first != before.first
+            || symbol.follow != before.follow
+            || symbol.near != before.near
+            || symbol.is_empty != before.is_empty
+    }
+
+    /// Takes the tokens of the levels.
+    fn take_levels(
+        &mut self,
+        names: &Names<'a>,
+        tokens: &[Token],
+        parts: &[Part],
+    ) -> Result<(), ImportError> {
+        let mut level = None;
+        let mut next: u64 = 1;
+        for (token, part) in tokens.iter().zip(parts) {
+            match part.role {
+                Role::Precedence => {
+                    level = Some(next);
+                    next = next_level(next);
+                }
+                Role::Level | Role::MovedLevel => {
+                    if let Some(level) = level {
+                        let number = self.number(names.key(*token))?;
+                        let more = Symbol {
+                            first: level,
+                            ..NOTHING
+                        };
+                        self.add(number, more);
+                    }
+                }
+                Role::Leave(_) => {}
+                _ => level = None,
+            }
+        }
+        Ok(())
+    }
+
+    /// Takes the names of the rules.
+    fn take_heads(
+        &mut self,
+        names: &Names<'a>,
+        tokens: &[Token],
+        parts: &[Part],
+    ) -> Result<(), ImportError> {
+        for (token, part) in tokens.iter().zip(parts) {
+            if part.role == Role::Head {
+                let number = self.number(names.key(*token))?;
+                if let Some(symbol) = self.symbols.get_mut(number) {
+                    symbol.is_token = false;
+                }
+            }
+        }
+        Ok(())
+    }
+
+    /// Ends an alternative, if one is open.
+    fn end(&mut self) -> Result<(), ImportError> {
+        if !self.is_open {
+            return Ok(());
+        }
+        let (rule, start, end) = (self.rule, self.start, self.bodies.len());
+        let level = match self.prec {
+            Some(level) => level,
+            None => self.last_level(start),
+        };
+        self.productions.push(Production {
+            rule,
+            start,
+            end,
+            level,
+        })?;
+        self.start = end;
+        self.prec = None;
+        Ok(())
+    }
+
+    /// Returns the level of the last token of the symbols from `start` on.
+    fn last_level(&self, start: usize) -> u64 {
+        let mut level = 0;
+        for number in self.bodies.get(start..).unwrap_or(&[]) {
+            let symbol = self.symbol(*number);
+            if symbol.is_token {
+                level = symbol.first;
+            }
+        }
+        level
+    }
+
+    /// Takes a part of the rules.
+    fn take_part(
+        &mut self,
+        names: &Names<'a>,
+        token: Token,
+        role: Role,
+    ) -> Result<(), ImportError> {
+        match (role, token.kind) {
+            (Role::Head, _) => {
+                self.end()?;
+                self.rule = self.number(names.key(token))?;
+                self.is_open = false;
+            }
+            (Role::Symbol, _) => {
+                let number = self.number(names.key(token))?;
+                self.bodies.push(number)?;
+            }
+            (Role::Prec | Role::MovedPrec, Kind::Name | Kind::Text | Kind::Character) => {
+                let number = self.number(names.key(token))?;
+                self.prec = Some(self.symbol(number).first);
+            }
+            (Role::Keep, Kind::Colon) => self.is_open = true,
+            (Role::Keep, Kind::Bar) => self.end()?,
+            (Role::Keep, Kind::Semicolon) => {
+                self.end()?;
+                self.is_open = false;
+            }
+            _ => {}
+        }
+        Ok(())
+    }
+
+    /// Goes over a production, and returns whether anything was new.
+    fn pass(&mut self, production: Production) -> bool {
+        let mut behind = Symbol {
+            follow: self.symbol(production.rule).follow,
+            is_empty: true,
+            ..NOTHING
+        };
+        let mut is_new = false;
+        for at in 0..production.end.saturating_sub(production.start) {
+            let place = production.end.saturating_sub(at).saturating_sub(1);
+            let Some(number) = self.bodies.get(place).copied() else {
+                continue;
+            };
+            let more = Symbol {
+                follow: behind.follow,
+                near: behind.near,
+                ..NOTHING
+            };
+            is_new = self.add(number, more) || is_new;
+            behind = before(self.symbol(number), behind);
+        }
+        let more = Symbol {
+            first: behind.near,
+            is_empty: behind.is_empty,
+            ..NOTHING
+        };
+        self.add(production.rule, more) || is_new
+    }
+
+    /// Goes over the productions until nothing is new, and returns whether it came that far.
+    fn close(&mut self) -> bool {
+        for _ in 0..MOST_PASSES {
+            let mut is_new = false;
+            for at in 0..self.productions.len() {
+                if let Some(production) = self.productions.get(at).copied() {
+                    is_new = self.pass(production) || is_new;
+                }
+            }
+            if !is_new {
+                return true;
+            }
+        }
+        false
+    }
+
+    /// Returns the levels of tokens that may be shifted where a production is complete.
+    fn beside(&self, production: Production) -> u64 {
+        if production.start >= production.end {
+            return u64::MAX;
+        }
+        match self.bodies.get(production.end.saturating_sub(1)) {
+            Some(number) => self.symbol(*number).near,
+            None => u64::MAX,
+        }
+    }
+
+    /// Returns the levels where a production and a token may meet: the token may follow the rule, and also the production's last
+    /// symbol within a production.
+    fn meeting(&self) -> u64 {
+        let mut levels = 0;
+        for production in self.productions.as_slice() {
+            let follow = self.symbol(production.rule).follow;
+            levels |= follow & production.level & self.beside(*production);
+        }
+        levels
+    }
+
+    fn take_all(
+        &mut self,
+        names: &Names<'a>,
+        tokens: &[Token],
+        parts: &[Part],
+    ) -> Result<u64, ImportError> {
+        self.take_levels(names, tokens, parts)?;
+        self.take_heads(names, tokens, parts)?;
+        for (token, part) in tokens.iter().zip(parts) {
+            self.take_part(names, *token, part.role)?;
+        }
+        self.end()?;
+        if self.close() {
+            Ok(self.meeting())
+        } else {
+            Ok(u64::MAX)
+        }
+    }
+}
+
+/// Returns the `%precedence` levels of which a production and a token may meet, a bit for each in the order of the file, with
+/// one for all past the sixty-third.
+pub(crate) fn meeting_levels<'a>(
+    alloc: Global,
+    names: &Names<'a>,
+    tokens: &[Token],
+    parts: &[Part],
+) -> Result<u64, ImportError> {
+    let mut levels = Levels {
+        numbers: IndexMap::new(alloc),
+        symbols: Vec::new(alloc),
+        bodies: Vec::new(alloc),
+        productions: Vec::new(alloc),
+        rule: 0,
+        start: 0,
+        prec: None,
+        is_open: false,
+    };
+    let meeting = levels.take_all(names, tokens, parts);
+    drop(levels);
+    meeting
+}

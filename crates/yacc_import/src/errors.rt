@@ -87,6 +87,7 @@ pub enum ImportError {
     /// A fault, and the byte offset in the source at which it is.
     #[error("{0} at byte {1}")]
     Refused(Fault, usize),
+    /// Memory was refused.
     #[error("out of memory")]
     Memory(AllocError),
 }

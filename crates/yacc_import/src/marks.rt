@@ -11,7 +11,9 @@ use std::alloc::Global;
 /// A byte of the result, and the byte offset in the source that it is for.
 #[derive(Clone, Copy, Debug, PartialEq, Eq)]
 pub struct Mark {
+    /// The byte in the text.
     pub byte: u8,
+    /// The byte offset in the source.
     pub place: usize,
 }
 

@@ -53,6 +53,7 @@ pub struct Note {
     pub start: usize,
     /// The byte offset in the source at which it ends.
     pub end: usize,
+    /// What is done, and with what.
     pub kind: NoteKind,
     /// What is there instead; none where blanks are, and the line feeds of the source.
     pub text: Option<String>,

@@ -1,0 +1,5 @@
+use Rattle.std.proofs.Common.{length, ◌-◌}
+use Rattle.grammar_hints.proofs.declared_tokens.gap_end.Given as goal
+
+abbrev pub decreases-parts : goal.decreases-parts
+decreases-parts l = length l.text - l.end

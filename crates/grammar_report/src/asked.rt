@@ -8,9 +8,13 @@ pub struct LineFile<'a> {
     pub path: &'a str,
 }
 
-/// What a report tells beside what each tells.
+/// What a report has beside what each has.
 #[derive(Clone, Copy)]
 pub struct Asked<'a> {
+    /// A block for each listed conflict, in place of one for each production or pair of productions.
+    pub each: bool,
+    /// Each example from the start rule on.
+    pub full: bool,
     /// The closed states.
     pub states: bool,
     /// A cheapest sentence for each rule.

@@ -1,18 +1,20 @@
 //! Why no parser is made of a grammar with a production that may be reduced where a text has ended.
 
-use crate::examples::push_end_example;
-use crate::names::push_line;
+use crate::cycles::push_cycle;
+use crate::examples::{push_end_example, push_no_example};
+use crate::names::push_prod;
+use crate::production_places::production_span;
+use cfg_base::span::Span;
 use cfg_base::symbol::PIdx;
 use cfg_numbered::yacc::NumberedGrammar;
 use cfg_read::yacc::{ASTWithValidityInfo, YaccGrammarFailure, YaccKind, YaccOriginalActionKind};
 use cfgrammar::yacc::{YaccGrammar, YaccGrammarMakeError};
 use conflict_examples::accept_reduce;
-use lrpar_diagnostics::{DiagnosticFormatter, SpannedDiagnosticFormatter};
-use parser_kit::KitError;
 use std::alloc::{AllocError, Global};
+use text_messages::{Severity, Source};
 
 /// What is kept of a text, of the kind that its section tells, else of `Original(GenericParseTree)`.
-fn kept_of(alloc: Global, source: &str) -> Result<ASTWithValidityInfo, AllocError> {
+pub(crate) fn kept_of(alloc: Global, source: &str) -> Result<ASTWithValidityInfo, AllocError> {
     match ASTWithValidityInfo::from_str(alloc, source) {
         Ok(kept) => return Ok(kept),
         Err(YaccGrammarFailure::Memory(e)) => return Err(e),
@@ -34,47 +36,58 @@ fn grammar_of(
     }
 }
 
-/// Adds an example of the production.
-fn push_example(
+/// Adds what is wrong with the production, and an example.
+fn push_told(
     alloc: Global,
     text: &mut String,
+    source: &Source<'_>,
     grm: &NumberedGrammar<u32>,
+    span: Option<Span>,
     pidx: PIdx<u32>,
 ) -> Result<(), AllocError> {
     let example = accept_reduce(alloc, grm, pidx)?;
-    push_end_example(alloc, text, grm, &example, pidx)
+    let mut message = String::from_str(
+        alloc,
+        "accept/reduce conflict: where a text has ended, reduce ",
+    )?;
+    push_prod(&mut message, grm, pidx)?;
+    if let Some(example) = &example {
+        message.push_str(", since")?;
+        push_cycle(&mut message, grm, example.second.spine.as_slice())?;
+    }
+    source.push_message_if(alloc, text, Severity::Error, span, message.as_str())?;
+    match &example {
+        Some(example) => push_end_example(alloc, text, grm, example, pidx),
+        None => push_no_example(text),
+    }
 }
 
-/// Adds an example of the production in the grammar of what is kept of a text.
-fn push_example_in(
+/// Adds what is wrong with the production in the grammar of what is kept of a text.
+fn push_ending_in(
     alloc: Global,
     text: &mut String,
+    source: &Source<'_>,
     kept: &ASTWithValidityInfo,
     pidx: PIdx<u32>,
 ) -> Result<(), AllocError> {
     let Some(grm) = grammar_of(alloc, kept)? else {
         return Ok(());
     };
-    let pushed = push_example(alloc, text, &grm, pidx);
+    let span = production_span(kept.ast(), pidx);
+    let pushed = push_told(alloc, text, source, &grm, span, pidx);
     drop(grm);
     pushed
 }
 
-/// Adds the refusal that tells the production, and an example.
+/// Adds that a production may be reduced where a text has ended, how the start rule derives itself, and an example.
 pub(crate) fn push_ending(
     alloc: Global,
     text: &mut String,
-    formatter: &SpannedDiagnosticFormatter<'_>,
-    source: &str,
-    refusal: &KitError<u32>,
+    source: &Source<'_>,
     pidx: PIdx<u32>,
 ) -> Result<(), AllocError> {
-    let place = formatter.file_location_msg(alloc, "Error", None)?;
-    push_line(text, place.as_str())?;
-    let shown = refusal.to_string(alloc)?;
-    push_line(text, shown.as_str())?;
-    let kept = kept_of(alloc, source)?;
-    let pushed = push_example_in(alloc, text, &kept, pidx);
+    let kept = kept_of(alloc, source.text())?;
+    let pushed = push_ending_in(alloc, text, source, &kept, pidx);
     drop(kept);
     pushed
 }

@@ -1,10 +1,11 @@
 //! Examples of conflicts as a person reads them.
 
 use crate::names::{
-    Grammar, body_len, push_body, push_item, push_prod, push_symbols, push_token, push_word,
+    Grammar, body_len, prod_body, push_body, push_item, push_prod, push_symbols, push_token,
+    push_word,
 };
 use cfg_base::index::IndexStorage;
-use cfg_base::symbol::{PIdx, SIdx};
+use cfg_base::symbol::{PIdx, SIdx, Symbol};
 use conflict_examples::{ActionExample, ConflictExample};
 use std::alloc::{AllocError, Global};
 
@@ -12,8 +13,50 @@ use std::alloc::{AllocError, Global};
 /// their productions are listed.
 const MOST_SYMBOLS: usize = 262_144;
 
-/// Adds the string, a dot and the token.
+/// Returns the symbols behind the innermost dot.
+fn after_dot<'a>(grm: &'a Grammar, spine: &[(PIdx<u32>, SIdx<u32>)]) -> &'a [Symbol<u32>] {
+    let Some((pidx, dot)) = spine.last() else {
+        return &[];
+    };
+    prod_body(grm, *pidx).get(dot.0.to_usize()..).unwrap_or(&[])
+}
+
+/// Returns what follows the string as an action has it: the symbols behind the innermost dot, and the last of the forms
+/// behind that production.
+fn rest_of(
+    alloc: Global,
+    grm: &Grammar,
+    action: &ActionExample<u32>,
+) -> Result<Vec<Symbol<u32>>, AllocError> {
+    let mut rest = Vec::from_slice(alloc, after_dot(grm, action.spine.as_slice()))?;
+    let forms = action.forms(alloc, grm)?;
+    if let Some(form) = forms.as_slice().last() {
+        rest.extend_from_slice(form.as_slice())?;
+    }
+    Ok(rest)
+}
+
+/// Returns what follows the string, if both actions have it follow, so that the whole has two trees; nothing else.
+fn shared_rest(
+    alloc: Global,
+    grm: &Grammar,
+    example: &ConflictExample<u32>,
+) -> Result<Vec<Symbol<u32>>, AllocError> {
+    if has_long_forms(grm, &example.first) || has_long_forms(grm, &example.second) {
+        return Ok(Vec::new(alloc));
+    }
+    let first = rest_of(alloc, grm, &example.first)?;
+    let second = rest_of(alloc, grm, &example.second)?;
+    if first.as_slice() == second.as_slice() {
+        Ok(first)
+    } else {
+        Ok(Vec::new(alloc))
+    }
+}
+
+/// Adds the string, a dot and what follows: what both actions have follow, if that is the same, else the token alone.
 fn push_string(
+    alloc: Global,
     text: &mut String,
     grm: &Grammar,
     example: &ConflictExample<u32>,
@@ -21,7 +64,12 @@ fn push_string(
     text.push_str("  Example:")?;
     push_symbols(text, grm, example.symbols.as_slice())?;
     push_word(text, ".")?;
-    push_token(text, grm, example.token)?;
+    let rest = shared_rest(alloc, grm, example)?;
+    if rest.is_empty() {
+        push_token(text, grm, example.token)?;
+    } else {
+        push_symbols(text, grm, rest.as_slice())?;
+    }
     text.push('\n')
 }
 
@@ -144,43 +192,26 @@ fn push_reduction(
     push_action(alloc, text, grm, action)
 }
 
-fn push_none(text: &mut String) -> Result<(), AllocError> {
-    text.push_str("  No example was found.\n\n")
-}
-
-/// Adds the example of a shift against a reduction.
-pub(crate) fn push_shift_example(
+/// Adds the example of a shift against a reduction, or of a pair of reductions.
+pub(crate) fn push_example(
     alloc: Global,
     text: &mut String,
     grm: &Grammar,
-    example: &Option<ConflictExample<u32>>,
+    example: &ConflictExample<u32>,
     pidx: PIdx<u32>,
+    other: Option<PIdx<u32>>,
 ) -> Result<(), AllocError> {
-    let Some(example) = example else {
-        return push_none(text);
-    };
-    push_string(text, grm, example)?;
-    push_shift(alloc, text, grm, example)?;
-    push_reduction(alloc, text, grm, pidx, &example.second)?;
-    text.push('\n')
-}
-
-/// Adds the example of a pair of reductions.
-pub(crate) fn push_pair_example(
-    alloc: Global,
-    text: &mut String,
-    grm: &Grammar,
-    example: &Option<ConflictExample<u32>>,
-    first: PIdx<u32>,
-    second: PIdx<u32>,
-) -> Result<(), AllocError> {
-    let Some(example) = example else {
-        return push_none(text);
-    };
-    push_string(text, grm, example)?;
-    push_reduction(alloc, text, grm, first, &example.first)?;
-    push_reduction(alloc, text, grm, second, &example.second)?;
-    text.push('\n')
+    push_string(alloc, text, grm, example)?;
+    match other {
+        Some(other) => {
+            push_reduction(alloc, text, grm, pidx, &example.first)?;
+            push_reduction(alloc, text, grm, other, &example.second)
+        }
+        None => {
+            push_shift(alloc, text, grm, example)?;
+            push_reduction(alloc, text, grm, pidx, &example.second)
+        }
+    }
 }
 
 /// Adds the example of a production that may be reduced where a text has ended.
@@ -188,15 +219,16 @@ pub(crate) fn push_end_example(
     alloc: Global,
     text: &mut String,
     grm: &Grammar,
-    example: &Option<ConflictExample<u32>>,
+    example: &ConflictExample<u32>,
     pidx: PIdx<u32>,
 ) -> Result<(), AllocError> {
-    let Some(example) = example else {
-        return push_none(text);
-    };
-    push_string(text, grm, example)?;
+    push_string(alloc, text, grm, example)?;
     text.push_str("  accept")?;
     push_action(alloc, text, grm, &example.first)?;
-    push_reduction(alloc, text, grm, pidx, &example.second)?;
-    text.push('\n')
+    push_reduction(alloc, text, grm, pidx, &example.second)
+}
+
+/// Adds that there is no example.
+pub(crate) fn push_no_example(text: &mut String) -> Result<(), AllocError> {
+    text.push_str("  No example was found.\n")
 }

@@ -9,6 +9,8 @@
 //! /// The exit status of a report that asks for nothing more.
 //! fn judged(alloc: Global, text: &str) -> Result<u8, AllocError> {
 //!     let asked = Asked {
+//!         each: false,
+//!         full: false,
 //!         states: false,
 //!         sentences: false,
 //!         next: None,
@@ -24,14 +26,19 @@
 #![tactic(auto)]
 
 mod asked;
+mod beginnings;
 mod conflicts;
 mod counts;
+mod cycles;
 mod endings;
 mod examples;
 mod faults;
+mod idle;
+mod listed;
 mod names;
 mod next;
 mod outcome;
+mod production_places;
 mod reporting;
 mod sentences;
 mod settled;

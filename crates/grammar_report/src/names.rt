@@ -38,10 +38,22 @@ fn rule_and_body(grm: &Grammar, pidx: PIdx<u32>) -> (&str, &[Symbol<u32>]) {
     (rule_name(grm, grm.prod_to_rule(pidx)), grm.prod(pidx))
 }
 
-/// How many symbols a production has.
-pub(crate) fn body_len(grm: &Grammar, pidx: PIdx<u32>) -> usize {
+/// Returns the symbols of a production.
+pub(crate) fn prod_body(grm: &Grammar, pidx: PIdx<u32>) -> &[Symbol<u32>] {
     let (_, body) = rule_and_body(grm, pidx);
-    body.len()
+    body
+}
+
+/// Returns how many symbols a production has.
+pub(crate) fn body_len(grm: &Grammar, pidx: PIdx<u32>) -> usize {
+    prod_body(grm, pidx).len()
+}
+
+/// Returns the symbols behind the rule after the dot.
+pub(crate) fn symbols_behind(grm: &Grammar, item: (PIdx<u32>, SIdx<u32>)) -> &[Symbol<u32>] {
+    let (pidx, dot) = item;
+    let from = dot.0.to_usize().saturating_add(1);
+    prod_body(grm, pidx).get(from..).unwrap_or(&[])
 }
 
 /// Adds a word.

@@ -1,15 +1,14 @@
 //! Errors of lines, each with the tokens that may come there.
 
 use crate::asked::LineFile;
-use crate::faults::push_shown;
 use crate::names::push_token;
 use cfg_base::index::IndexStorage;
 use cfg_base::span::Span;
 use cfg_base::symbol::TIdx;
 use lrpar::{LexError, LexParseError, Lexer, ParseRefusal, Prefix, RTParserBuilder};
-use lrpar_diagnostics::SpannedDiagnosticFormatter;
 use parser_kit::ParserKit;
 use std::alloc::{AllocError, Global};
+use text_messages::{Severity, Source};
 use vob::Vob;
 use word_lines::{WordLexer, WordLexerTypes};
 
@@ -41,16 +40,23 @@ fn push_set(text: &mut String, kit: &ParserKit<u32>, bits: &Vob) -> Result<(), A
     Ok(())
 }
 
-/// Which tokens may come in a line at an offset.
-fn next_text(
+/// Returns what is wrong at a token: its name, or that the line ends, and which tokens may come there.
+fn unexpected(
     alloc: Global,
     kit: &ParserKit<u32>,
     lexer: &WordLexer<'_, u32>,
+    token: TIdx<u32>,
     end: usize,
 ) -> Result<String, AllocError> {
     let prefix = prefix_before(alloc, kit, lexer, end)?;
     let bits = prefix.next_tokens(alloc)?;
-    let mut text = String::from_str(alloc, "May come here:")?;
+    let mut text = String::from_str(alloc, "unexpected")?;
+    if token == kit.grm().eof_token_idx() {
+        text.push_str(" end of the line")?;
+    } else {
+        push_token(&mut text, kit.grm(), token)?;
+    }
+    text.push_str("; may come here:")?;
     push_set(&mut text, kit, &bits)?;
     Ok(text)
 }
@@ -62,24 +68,11 @@ fn moved(span: Span, start: usize) -> Span {
     Span::new(first, first.max(last))
 }
 
-/// Adds an error under its line.
-fn push_told(
-    alloc: Global,
-    text: &mut String,
-    formatter: &SpannedDiagnosticFormatter<'_>,
-    heading: &str,
-    span: Span,
-    message: &str,
-) -> Result<(), AllocError> {
-    let shown = formatter.underline_span_with_text(alloc, span, message, '^')?;
-    push_shown(alloc, text, formatter, heading, Some(span), shown.as_str())
-}
-
 /// Adds an error of the line that begins at `start`.
 fn push_error(
     alloc: Global,
     text: &mut String,
-    formatter: &SpannedDiagnosticFormatter<'_>,
+    source: &Source<'_>,
     kit: &ParserKit<u32>,
     lexer: &WordLexer<'_, u32>,
     error: &LexParseError<WordLexerTypes<u32>>,
@@ -87,27 +80,15 @@ fn push_error(
 ) -> Result<(), AllocError> {
     match error {
         LexParseError::LexError(e) => {
-            let message = "No token has this name";
-            push_told(
-                alloc,
-                text,
-                formatter,
-                "Lexing error",
-                moved(e.span(), start),
-                message,
-            )
+            let span = moved(e.span(), start);
+            source.push_message(alloc, text, Severity::Error, span, "no token has this name")
         }
         LexParseError::ParseError(e) => {
             let span = e.lexeme.span;
-            let message = next_text(alloc, kit, lexer, span.start())?;
-            push_told(
-                alloc,
-                text,
-                formatter,
-                "Parsing error",
-                moved(span, start),
-                message.as_str(),
-            )
+            let token = TIdx(e.lexeme.token);
+            let message = unexpected(alloc, kit, lexer, token, span.start())?;
+            let span = moved(span, start);
+            source.push_message(alloc, text, Severity::Error, span, message.as_str())
         }
     }
 }
@@ -116,7 +97,7 @@ fn push_error(
 fn push_first(
     alloc: Global,
     text: &mut String,
-    formatter: &SpannedDiagnosticFormatter<'_>,
+    source: &Source<'_>,
     kit: &ParserKit<u32>,
     lexer: &WordLexer<'_, u32>,
     start: usize,
@@ -125,7 +106,7 @@ fn push_first(
     match parser.parse_noaction(alloc, lexer) {
         Ok(errors) => {
             match errors.first() {
-                Some(error) => push_error(alloc, text, formatter, kit, lexer, error, start),
+                Some(error) => push_error(alloc, text, source, kit, lexer, error, start),
                 None => Ok(()),
             }
         }
@@ -138,14 +119,14 @@ fn push_first(
 fn push_line_error(
     alloc: Global,
     text: &mut String,
-    formatter: &SpannedDiagnosticFormatter<'_>,
+    source: &Source<'_>,
     kit: &ParserKit<u32>,
     line: &str,
     start: usize,
 ) -> Result<(), AllocError> {
     let words = line.strip_suffix('\r').unwrap_or(line);
     let lexer = WordLexer::new(alloc, kit.grm(), words)?;
-    let pushed = push_first(alloc, text, formatter, kit, &lexer, start);
+    let pushed = push_first(alloc, text, source, kit, &lexer, start);
     drop(lexer);
     pushed
 }
@@ -154,14 +135,14 @@ fn push_line_error(
 fn push_lines(
     alloc: Global,
     text: &mut String,
-    formatter: &SpannedDiagnosticFormatter<'_>,
+    source: &Source<'_>,
     kit: &ParserKit<u32>,
     lines: &str,
 ) -> Result<(), AllocError> {
     let mut start: usize = 0;
     'lines: for line in lines.split('\n') {
         if start < lines.len() {
-            push_line_error(alloc, text, formatter, kit, line, start)?;
+            push_line_error(alloc, text, source, kit, line, start)?;
         }
         start = start.saturating_add(line.len()).saturating_add(1);
     }
@@ -175,9 +156,9 @@ fn errors_of(
     lines: LineFile<'_>,
 ) -> Result<String, AllocError> {
     let mut text = String::new(alloc);
-    let formatter = SpannedDiagnosticFormatter::new(alloc, lines.text, lines.path)?;
-    let pushed = push_lines(alloc, &mut text, &formatter, kit, lines.text);
-    drop(formatter);
+    let source = Source::new(alloc, lines.text, lines.path)?;
+    let pushed = push_lines(alloc, &mut text, &source, kit, lines.text);
+    drop(source);
     pushed?;
     Ok(text)
 }

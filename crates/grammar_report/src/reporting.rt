@@ -9,19 +9,27 @@ use crate::conflicts::push_conflicts;
 use crate::counts::{outcome_of, push_counts};
 use crate::endings::push_ending;
 use crate::faults::{push_refusal, push_warnings};
+use crate::idle::push_idle;
 use crate::next::push_next;
 use crate::outcome::{Outcome, Report};
 use crate::sentences::{push_all_unproductive, push_sentences};
-use crate::settled::push_settled;
-use lrpar_diagnostics::SpannedDiagnosticFormatter;
+use crate::settled::{Pair, all_pairs, push_settled};
 use parser_kit::{KitError, ParserKit};
 use std::alloc::{AllocError, Global};
+use text_messages::{Severity, Source};
 
 // No chain of reductions on one token goes past this.
 const CAP: u16 = 1000;
 
-/// Adds whether each line that is a sentence gets its only tree.
-fn push_completeness(text: &mut String, kit: &ParserKit<u32>) -> Result<(), AllocError> {
+/// Adds whether each line that is a sentence gets its only tree, or that no line is one.
+fn push_completeness(
+    text: &mut String,
+    kit: &ParserKit<u32>,
+    barren: bool,
+) -> Result<(), AllocError> {
+    if barren {
+        return text.push_str("No line is a sentence.\n");
+    }
     if kit.complete() {
         text.push_str("Each line that is a sentence gets its tree, which is its only one.\n")
     } else {
@@ -31,32 +39,59 @@ fn push_completeness(text: &mut String, kit: &ParserKit<u32>) -> Result<(), Allo
     }
 }
 
-/// Adds the rules that derive no list of tokens, if there are any.
+/// Adds the rules that derive no list of tokens, if there are any, and returns whether the start rule is one of them.
 fn push_unproductive(
     alloc: Global,
     text: &mut String,
-    formatter: &SpannedDiagnosticFormatter<'_>,
+    source: &Source<'_>,
     kit: &ParserKit<u32>,
-) -> Result<(), AllocError> {
+) -> Result<bool, AllocError> {
     if kit.all_productive() {
+        return Ok(false);
+    }
+    push_all_unproductive(alloc, text, source, kit.grm(), kit.ast())
+}
+
+/// Adds the warnings of a text that gives a parser, and an empty line behind them.
+fn push_all_warnings(
+    alloc: Global,
+    text: &mut String,
+    source: &Source<'_>,
+    kit: &ParserKit<u32>,
+    pairs: &[Pair],
+) -> Result<(), AllocError> {
+    push_warnings(alloc, text, source, kit.ast())?;
+    push_idle(alloc, text, source, kit, pairs)?;
+    if text.is_empty() {
         return Ok(());
     }
-    push_all_unproductive(alloc, text, formatter, kit.grm(), kit.ast())
+    text.push('\n')
+}
+
+/// Returns how grave listed conflicts are.
+fn severity_of(outcome: Outcome) -> Severity {
+    match outcome {
+        Outcome::Expected => Severity::Note,
+        _ => Severity::Warning,
+    }
 }
 
 /// Adds what a report tells of each kit.
 fn push_told(
     alloc: Global,
     text: &mut String,
-    formatter: &SpannedDiagnosticFormatter<'_>,
+    source: &Source<'_>,
     kit: &ParserKit<u32>,
+    severity: Severity,
+    asked: Asked<'_>,
 ) -> Result<(), AllocError> {
-    push_warnings(alloc, text, formatter, kit.ast())?;
+    let pairs = all_pairs(alloc, kit)?;
+    push_all_warnings(alloc, text, source, kit, pairs.as_slice())?;
     push_counts(alloc, text, kit)?;
-    push_unproductive(alloc, text, formatter, kit)?;
-    push_conflicts(alloc, text, formatter, kit)?;
-    push_settled(alloc, text, kit)?;
-    push_completeness(text, kit)
+    let barren = push_unproductive(alloc, text, source, kit)?;
+    push_conflicts(alloc, text, source, kit, severity, asked)?;
+    push_settled(text, kit.grm(), pairs.as_slice())?;
+    push_completeness(text, kit, barren)
 }
 
 /// Adds the closed states.
@@ -88,12 +123,13 @@ fn push_asked(
 
 fn text_of_kit(
     alloc: Global,
-    formatter: &SpannedDiagnosticFormatter<'_>,
+    source: &Source<'_>,
     kit: &ParserKit<u32>,
+    severity: Severity,
     asked: Asked<'_>,
 ) -> Result<String, AllocError> {
     let mut text = String::new(alloc);
-    push_told(alloc, &mut text, formatter, kit)?;
+    push_told(alloc, &mut text, source, kit, severity, asked)?;
     push_asked(alloc, &mut text, kit, asked)?;
     Ok(text)
 }
@@ -102,23 +138,19 @@ fn text_of_kit(
 fn push_cause(
     alloc: Global,
     text: &mut String,
-    formatter: &SpannedDiagnosticFormatter<'_>,
-    source: &str,
+    source: &Source<'_>,
     refusal: &KitError<u32>,
 ) -> Result<(), AllocError> {
     match refusal {
-        KitError::AcceptReduce(pidx) => {
-            push_ending(alloc, text, formatter, source, refusal, *pidx)
-        }
-        _ => push_refusal(alloc, text, formatter, refusal),
+        KitError::AcceptReduce(pidx) => { push_ending(alloc, text, source, *pidx) }
+        _ => push_refusal(alloc, text, source, refusal),
     }
 }
 
 /// The report on a text that gives no parser.
 fn text_of_refusal(
     alloc: Global,
-    formatter: &SpannedDiagnosticFormatter<'_>,
-    source: &str,
+    source: &Source<'_>,
     refusal: &KitError<u32>,
 ) -> Result<String, AllocError>
     ensures { OnOk result (IsMemory refusal.now → ⊥) }
@@ -127,13 +159,13 @@ fn text_of_refusal(
         return Err(*e);
     }
     let mut text = String::new(alloc);
-    push_cause(alloc, &mut text, formatter, source, refusal)?;
+    push_cause(alloc, &mut text, source, refusal)?;
     Ok(text)
 }
 
 fn report_of(
     alloc: Global,
-    formatter: &SpannedDiagnosticFormatter<'_>,
+    source: &Source<'_>,
     text: &str,
     asked: Asked<'_>,
 ) -> Result<Report, AllocError>
@@ -142,13 +174,13 @@ fn report_of(
     match ParserKit::of_text(alloc, text, CAP) {
         Ok(kit) => {
             let outcome = outcome_of(&kit);
-            let told = text_of_kit(alloc, formatter, &kit, asked);
+            let told = text_of_kit(alloc, source, &kit, severity_of(outcome), asked);
             drop(kit);
             let text = told?;
             Ok(Report { text, outcome })
         }
         Err(refusal) => {
-            let told = text_of_refusal(alloc, formatter, text, &refusal);
+            let told = text_of_refusal(alloc, source, &refusal);
             drop(refusal);
             let text = told?;
             let outcome = Outcome::Invalid;
@@ -162,8 +194,8 @@ fn report_of(
 pub fn report(alloc: Global, text: &str, path: &str, asked: Asked<'_>) -> Result<Report, AllocError>
     ensures { IfOk result (λ r. IsOutcome text.now r.outcome) }
 {
-    let formatter = SpannedDiagnosticFormatter::new(alloc, text, path)?;
-    let told = report_of(alloc, &formatter, text, asked);
-    drop(formatter);
+    let source = Source::new(alloc, text, path)?;
+    let told = report_of(alloc, &source, text, asked);
+    drop(source);
     told
 }

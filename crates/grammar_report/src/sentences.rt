@@ -2,14 +2,13 @@
 
 ghost use Rattle.std.specs.Prelude.{◌≡◌, ◌<◌};
 
-use crate::faults::push_shown;
+use crate::faults::push_named;
 use crate::names::{Grammar, push_line, push_token, push_word};
-use cfg_base::span::Span;
 use cfg_base::symbol::{RIdx, TIdx};
 use cfg_read::yacc::ast::GrammarAST;
 use cfg_sentences::{CostError, SentenceError, SentenceGenerator};
-use lrpar_diagnostics::SpannedDiagnosticFormatter;
 use std::alloc::{AllocError, Global};
+use text_messages::{Severity, Source};
 
 /// Whether a rule of the text derives no list of tokens.
 fn is_unproductive(grm: &Grammar, costs: &SentenceGenerator<'_, u32>, name: &str) -> bool
@@ -24,52 +23,56 @@ fn is_unproductive(grm: &Grammar, costs: &SentenceGenerator<'_, u32>, name: &str
     }
 }
 
-fn push_unproductive(
-    alloc: Global,
-    text: &mut String,
-    formatter: &SpannedDiagnosticFormatter<'_>,
-    span: Span,
-) -> Result<(), AllocError> {
-    let shown = formatter.underline_span_with_text(alloc, span, "Unproductive rule", '^')?;
-    push_shown(
-        alloc,
-        text,
-        formatter,
-        "Warning",
-        Some(span),
-        shown.as_str(),
-    )
+/// Whether a rule is the one that sentences begin with.
+fn is_start(ast: &GrammarAST, name: &str) -> bool {
+    match ast.start() {
+        Some((start, _)) => start.as_str() == name,
+        None => false,
+    }
 }
 
+/// Adds the rules of the text that derive no list of tokens, and returns whether the start rule is one of them.
 fn push_unproductive_of(
     alloc: Global,
     text: &mut String,
-    formatter: &SpannedDiagnosticFormatter<'_>,
+    source: &Source<'_>,
     grm: &Grammar,
     ast: &GrammarAST,
     costs: &SentenceGenerator<'_, u32>,
-) -> Result<(), AllocError>
+) -> Result<bool, AllocError>
     requires { costs.now.grammar ≡ grm.now.grammar }
 {
+    let mut barren = false;
     'rules: for (name, rule) in ast.rules() {
         if is_unproductive(grm, costs, name.as_str()) {
-            push_unproductive(alloc, text, formatter, rule.name.1)?;
+            let (severity, what) = if is_start(ast, name.as_str()) {
+                barren = true;
+                (
+                    Severity::Error,
+                    "No line is a sentence: unproductive start rule",
+                )
+            } else {
+                (Severity::Warning, "Unproductive rule")
+            };
+            push_named(alloc, text, source, severity, rule.name.1, what)?;
         }
     }
-    Ok(())
+    Ok(barren)
 }
 
-/// Adds the rules of the text that derive no list of tokens.
+/// Adds the rules of the text that derive no list of tokens, and an empty line behind them. It returns whether the start rule
+/// is one of them.
 pub(crate) fn push_all_unproductive(
     alloc: Global,
     text: &mut String,
-    formatter: &SpannedDiagnosticFormatter<'_>,
+    source: &Source<'_>,
     grm: &Grammar,
     ast: &GrammarAST,
-) -> Result<(), AllocError> {
+) -> Result<bool, AllocError> {
     let costs = SentenceGenerator::new(alloc, grm, |_token| 1)?;
-    let pushed = push_unproductive_of(alloc, text, formatter, grm, ast, &costs);
+    let pushed = push_unproductive_of(alloc, text, source, grm, ast, &costs);
     drop(costs);
+    text.push('\n')?;
     pushed
 }
 

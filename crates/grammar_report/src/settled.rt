@@ -17,10 +17,10 @@ enum Choice {
 
 /// What is chosen where a production may be reduced before a token that may be shifted.
 #[derive(Clone, Copy, Debug, PartialEq, Eq, PartialOrd, Ord)]
-struct Pair {
-    pidx: PIdx<u32>,
+pub(crate) struct Pair {
+    pub pidx: PIdx<u32>,
     choice: Choice,
-    tidx: TIdx<u32>,
+    pub tidx: TIdx<u32>,
 }
 
 /// Whether the dot stands behind all symbols of a production.
@@ -30,7 +30,7 @@ fn is_ended(grm: &Grammar, item: (PIdx<u32>, SIdx<u32>)) -> bool {
 }
 
 /// The indexes of the items of a state whose dot stands at the end.
-fn ended_items(
+pub(crate) fn ended_items(
     alloc: Global,
     grm: &Grammar,
     items: &Itemset<u32>,
@@ -76,7 +76,11 @@ fn have_precedences(grm: &Grammar, tidx: TIdx<u32>, pidx: PIdx<u32>) -> bool {
 }
 
 /// What a state does on a token.
-fn action_on(table: &StateTable<u32>, stidx: StIdx<u32>, tidx: TIdx<u32>) -> Action<u32> {
+pub(crate) fn action_on(
+    table: &StateTable<u32>,
+    stidx: StIdx<u32>,
+    tidx: TIdx<u32>,
+) -> Action<u32> {
     if !table.has_state(stidx) {
         return Action::Error;
     }
@@ -138,7 +142,7 @@ fn add_pairs(
 }
 
 /// What is chosen in all states, ordered by production, choice and token.
-fn all_pairs(alloc: Global, kit: &ParserKit<u32>) -> Result<Vec<Pair>, AllocError> {
+pub(crate) fn all_pairs(alloc: Global, kit: &ParserKit<u32>) -> Result<Vec<Pair>, AllocError> {
     let mut pairs = Vec::new(alloc);
     'states: for state in 0..kit.sgraph().all_states_len().0.to_usize() {
         let stidx = kit.sgraph().state_at(state);
@@ -200,14 +204,13 @@ fn push_pairs(text: &mut String, grm: &Grammar, pairs: &[Pair]) -> Result<(), Al
 /// Adds what precedences settle: for each production that may be reduced before a token that may be shifted, which of the
 /// two is done on which tokens, or neither. It is the same in each state, since the two precedences alone decide.
 pub(crate) fn push_settled(
-    alloc: Global,
     text: &mut String,
-    kit: &ParserKit<u32>,
+    grm: &Grammar,
+    pairs: &[Pair],
 ) -> Result<(), AllocError> {
-    let pairs = all_pairs(alloc, kit)?;
     if pairs.is_empty() {
         return Ok(());
     }
     text.push_str("Settled by precedence:")?;
-    push_pairs(text, kit.grm(), pairs.as_slice())
+    push_pairs(text, grm, pairs)
 }

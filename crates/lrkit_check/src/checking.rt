@@ -4,40 +4,63 @@ ghost use Rattle.std.specs.Prelude.{◌≡◌, IfOk};
 ghost use Rattle.grammar_report.specs.Outcomes.{IsOutcome};
 
 use crate::fault::{CheckFault, Input, fault_of};
+use crate::recorded::{Recorded, cause_of};
 use crate::words::Words;
-use byte_streams::{Counted, read_text, write_all};
+use byte_streams::{read_text, write_all};
 use grammar_report::{Asked, LineFile, Outcome, Report, report};
+use std::alloc::Global;
+use std::io::Read;
 use std::rt::Files;
 use std::{fs, io};
 
-/// Reads a file as a text.
-fn read_file<R: Files + AllocGlobal>(
+/// Reads an input to its end as a text.
+fn read_from<S: Read + Drop>(alloc: Global, input: Input, from: S) -> Result<String, CheckFault> {
+    let mut source = Recorded::new(from);
+    match read_text(alloc, &mut source) {
+        Ok(text) => Ok(text),
+        Err(e) => {
+            let cause = source.cause(alloc)?;
+            Err(fault_of(input, cause, e))
+        }
+    }
+}
+
+/// Reads a file as a text; standard input where the path is `-`.
+fn read_input<R: Files + io::Input + AllocGlobal>(
     rt: &R,
     input: Input,
     path: &str,
 ) -> Result<String, CheckFault> {
-    let Ok(file) = fs::open(rt, path) else {
-        return Err(CheckFault::Read(input));
-    };
-    let mut source = Counted::new(file);
-    match read_text(rt.alloc(), &mut source) {
-        Ok(text) => Ok(text),
-        Err(e) => Err(fault_of(input, e)),
+    if path == "-" {
+        return read_from(rt.alloc(), input, rt.reader());
+    }
+    match fs::open(rt, path) {
+        Ok(file) => read_from(rt.alloc(), input, file),
+        Err(e) => {
+            let cause = cause_of(rt.alloc(), &e)?;
+            Err(CheckFault::Read(input, cause))
+        }
     }
 }
 
-/// Writes a report to standard output, and answers its outcome.
-fn write_report(rt: &impl Print, told: &Report) -> Result<Outcome, CheckFault>
+/// Writes a report to standard output, and returns its outcome.
+fn write_report<R: Print + AllocGlobal>(rt: &R, told: &Report) -> Result<Outcome, CheckFault>
     ensures { IfOk result (λ outcome. outcome ≡ told.now.outcome) }
 {
-    let mut out = Counted::new(io::writer(rt));
+    let mut out = Recorded::new(io::writer(rt));
     match write_all(&mut out, told.text.as_bytes()) {
         Ok(()) => Ok(told.outcome),
-        Err(_) => Err(CheckFault::Write),
+        Err(_) => {
+            if out.is_closed_pipe() {
+                return Err(CheckFault::Closed);
+            }
+            let cause = out.cause(rt.alloc())?;
+            Err(CheckFault::Write(cause))
+        }
     }
 }
 
-/// Writes the report on a grammar's text, and answers what is so of the text.
+/// Writes the report on a grammar's text, and returns what is so of the text.
 fn write_report_on<R: Print + AllocGlobal>(
     rt: &R,
     grammar: &str,
@@ -52,32 +75,33 @@ fn write_report_on<R: Print + AllocGlobal>(
     }
 }
 
+/// Returns what is asked for, with the lines if they are.
+fn asked_of<'a>(words: &Words, next: Option<LineFile<'a>>) -> Asked<'a> {
+    Asked {
+        each: words.each,
+        full: words.full,
+        states: words.states,
+        sentences: words.sentences,
+        next,
+    }
+}
+
 /// Reads the grammar, and then the lines if they are asked for, and writes the report.
-pub fn check<R: Files + Print + AllocGlobal>(rt: &R, words: &Words) -> Result<Outcome, CheckFault> {
-    let path = match &words.grammar {
-        Some(path) => path.as_str(),
-        None => "",
-    };
-    let grammar = read_file(rt, Input::Grammar, path)?;
-    let (states, sentences) = (words.states, words.sentences);
-    let Some(lines) = &words.lines else {
-        let next = None;
-        let asked = Asked {
-            states,
-            sentences,
-            next,
-        };
+pub fn check<R: Files + io::Input + Print + AllocGlobal>(
+    rt: &R,
+    words: &Words,
+) -> Result<Outcome, CheckFault> {
+    let path = words.path(Input::Grammar);
+    let grammar = read_input(rt, Input::Grammar, path)?;
+    if words.lines.is_none() {
+        let asked = asked_of(words, None);
         return write_report_on(rt, grammar.as_str(), path, asked);
-    };
-    let read = read_file(rt, Input::Lines, lines.as_str())?;
+    }
+    let lines = words.path(Input::Lines);
+    let read = read_input(rt, Input::Lines, lines)?;
     let next = Some(LineFile {
         text: read.as_str(),
-        path: lines.as_str(),
+        path: lines,
     });
-    let asked = Asked {
-        states,
-        sentences,
-        next,
-    };
-    write_report_on(rt, grammar.as_str(), path, asked)
+    write_report_on(rt, grammar.as_str(), path, asked_of(words, next))
 }

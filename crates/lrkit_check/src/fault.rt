@@ -1,12 +1,11 @@
 //! Why no report is written, and the program's status.
 
 ghost use Rattle.std.specs.Prelude.{◌≡◌};
-ghost use Rattle.lrkit_check.specs.Statuses.{fault_of, status_of};
+ghost use Rattle.lrkit_check.specs.Statuses.{fault_of, input_of, status_of};
 
-use byte_streams::{InputFault, WriteFault};
+use byte_streams::InputFault;
 use grammar_report::Outcome;
 use std::alloc::AllocError;
-use std::fmt;
 use thiserror::Error;
 
 /// An input of the program.
@@ -16,46 +15,66 @@ pub enum Input {
     Lines,
 }
 
-impl fmt::Display for Input {
-    fn fmt<W: fmt::Write>(&self, f: &mut fmt::Formatter<W>) -> fmt::Result {
-        match self {
-            Input::Grammar => write!(f, "grammar"),
-            Input::Lines => write!(f, "lines"),
-        }
-    }
-}
-
-/// Why no report is written, or not all of it.
+/// Why no report is written, or not all of it. The system's cause is in words.
 #[derive(Debug, Drop, Error)]
 pub enum CheckFault {
-    #[error("{0}: not UTF-8")]
+    /// The input is no UTF-8.
+    #[error("not UTF-8")]
     NotUtf8(Input),
     /// The input can't be opened, or a read fails.
-    #[error("{0}: read fault")]
-    Read(Input),
-    /// The input has more than 67,108,864 bytes.
-    #[error("{0}: too long")]
+    #[error("{1}")]
+    Read(Input, String),
+    #[error("more than 67108864 bytes")]
     TooLong(Input),
     /// A write failed, or took nothing of a text that isn't empty.
-    #[error("write fault")]
-    Write,
+    #[error("write fault: {0}")]
+    Write(String),
+    /// The reader of the pipe that is written to is gone.
+    #[error("closed pipe")]
+    Closed,
     #[error("out of memory")]
     Memory(AllocError),
 }
 
-/// The fault of an input as the program's.
-pub fn fault_of(input: Input, fault: InputFault) -> CheckFault
-    ensures { result ≡ fault_of input fault }
+impl From<AllocError> for CheckFault {
+    ghost use Rattle.lrkit_check.specs.declared.fault.CheckFault.TheVariants.{Memory};
+
+    ghost from_gives = { λ x e. e ≡ Memory x };
+
+    fn from(e: AllocError) -> CheckFault {
+        CheckFault::Memory(e)
+    }
+}
+
+impl CheckFault {
+    /// Returns the input that the fault is about, if it is about one.
+    pub fn input(&self) -> Option<Input>
+        ensures { result ≡ input_of self.now }
+    {
+        match self {
+            CheckFault::NotUtf8(input) => Some(*input),
+            CheckFault::Read(input, _) => Some(*input),
+            CheckFault::TooLong(input) => Some(*input),
+            CheckFault::Write(_) => None,
+            CheckFault::Closed => None,
+            CheckFault::Memory(_) => None,
+        }
+    }
+}
+
+/// Returns the fault of an input as the program's, with the system's cause.
+pub fn fault_of(input: Input, cause: String, fault: InputFault) -> CheckFault
+    ensures { result ≡ fault_of input cause fault }
 {
     match fault {
-        InputFault::Read => CheckFault::Read(input),
+        InputFault::Read => CheckFault::Read(input, cause),
         InputFault::TooLong => CheckFault::TooLong(input),
         InputFault::NotUtf8 => CheckFault::NotUtf8(input),
         InputFault::Memory(e) => CheckFault::Memory(e),
     }
 }
 
-/// The program's exit status.
+/// Returns the program's exit status.
 pub fn status(outcome: &Result<Outcome, CheckFault>) -> u8
     ensures { result ≡ status_of outcome.now }
 {

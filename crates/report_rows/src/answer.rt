@@ -65,6 +65,8 @@ fn push_answer(
 ) -> Result<(), AllocError> {
     let (grammar, next) = grammar_and_lines(text);
     let asked = Asked {
+        each: asks(heading, "each"),
+        full: asks(heading, "full"),
         states: asks(heading, "states"),
         sentences: asks(heading, "sentences"),
         next,

@@ -1,0 +1,224 @@
+//! Warnings of what has no effect: precedences that settle nothing, and productions that are never reduced.
+
+use crate::faults::push_named;
+use crate::names::{Grammar, push_prod};
+use crate::production_places::production_span;
+use crate::settled::{Pair, action_on, ended_items};
+use cfg_base::index::IndexStorage;
+use cfg_base::symbol::PIdx;
+use cfg_read::yacc::ast::{self, GrammarAST, Production};
+use lrtable::{Action, Itemset, StIdx};
+use parser_kit::ParserKit;
+use std::alloc::{AllocError, Global};
+use text_messages::{Severity, Source};
+
+/// Returns the name of the last token of a production.
+fn last_token(production: &Production) -> Option<&str> {
+    let mut last = None;
+    'symbols: for symbol in production.symbols() {
+        if let ast::Symbol::Token(name, _) = symbol {
+            last = Some(name.as_str());
+        }
+    }
+    last
+}
+
+/// Returns the name of the token that a production has its precedence of, if it has one.
+fn giver(ast: &GrammarAST, pidx: PIdx<u32>) -> Option<&str> {
+    let production = ast.prods().get(pidx.0.to_usize())?;
+    match production.precedence() {
+        Some(name) => Some(name.as_str()),
+        None => last_token(production),
+    }
+}
+
+/// Returns so many flags, none of which is set.
+fn unset(alloc: Global, count: usize) -> Result<Vec<bool>, AllocError> {
+    let mut flags = Vec::new(alloc);
+    flags.resize(count, false)?;
+    Ok(flags)
+}
+
+/// Sets the flag at an index.
+fn set(flags: &mut Vec<bool>, index: usize) {
+    if let Some(flag) = flags.get_mut(index) {
+        *flag = true;
+    }
+}
+
+/// Returns whether the flag at an index is set.
+fn is_set(flags: &[bool], index: usize) -> bool {
+    flags.get(index).copied().unwrap_or(false)
+}
+
+/// Sets the flag of a precedence.
+fn set_named(flags: &mut Vec<bool>, ast: &GrammarAST, name: &str) {
+    if let Some(index) = ast.precs().get_index_of(name) {
+        set(flags, index);
+    }
+}
+
+/// Adds a warning for each precedence that settles no conflict, as that of the token or of the production.
+fn push_idle_precedences(
+    alloc: Global,
+    text: &mut String,
+    source: &Source<'_>,
+    kit: &ParserKit<u32>,
+    pairs: &[Pair],
+) -> Result<(), AllocError> {
+    let mut used = unset(alloc, kit.ast().precs().len())?;
+    'pairs: for pair in pairs {
+        if kit.grm().has_token(pair.tidx) {
+            set_named(
+                &mut used,
+                kit.ast(),
+                kit.grm().token_name(pair.tidx).unwrap_or(""),
+            );
+        }
+        set_named(
+            &mut used,
+            kit.ast(),
+            giver(kit.ast(), pair.pidx).unwrap_or(""),
+        );
+    }
+    let what = "Nothing is settled by the precedence of";
+    let mut index: usize = 0;
+    'precedences: for (_name, kept) in kit.ast().precs() {
+        if !is_set(used.as_slice(), index) {
+            push_named(alloc, text, source, Severity::Warning, kept.1, what)?;
+        }
+        index = index.saturating_add(1);
+    }
+    Ok(())
+}
+
+/// Returns whether a production has a `%prec` that changes nothing: it names the last token, or no conflict is settled by it.
+fn has_idle_prec(production: &Production, settles: bool) -> bool {
+    match production.precedence() {
+        Some(name) => !settles || last_token(production) == Some(name.as_str()),
+        None => false,
+    }
+}
+
+/// Adds a warning for each `%prec` that changes nothing.
+fn push_idle_precs(
+    alloc: Global,
+    text: &mut String,
+    source: &Source<'_>,
+    ast: &GrammarAST,
+    pairs: &[Pair],
+) -> Result<(), AllocError> {
+    let mut settles = unset(alloc, ast.prods().len())?;
+    'pairs: for pair in pairs {
+        set(&mut settles, pair.pidx.0.to_usize());
+    }
+    'productions: for index in 0..ast.prods().len() {
+        let production = &ast.prods()[index];
+        if has_idle_prec(production, is_set(settles.as_slice(), index)) {
+            let span = production.prod_span();
+            source.push_message(
+                alloc,
+                text,
+                Severity::Warning,
+                span,
+                "%prec changes nothing",
+            )?;
+        }
+    }
+    Ok(())
+}
+
+/// Sets the flags of the productions that a state reduces by.
+fn set_reduced(flags: &mut Vec<bool>, kit: &ParserKit<u32>, stidx: StIdx<u32>) {
+    'tokens: for token in 0..kit.grm().tokens_len().0.to_usize() {
+        if let Action::Reduce(pidx) = action_on(kit.stable(), stidx, kit.grm().token_at(token)) {
+            set(flags, pidx.0.to_usize());
+        }
+    }
+}
+
+/// Adds the productions that stand complete in a state.
+fn add_ended(
+    alloc: Global,
+    ended: &mut Vec<PIdx<u32>>,
+    grm: &Grammar,
+    items: &Itemset<u32>,
+) -> Result<(), AllocError> {
+    let indexes = ended_items(alloc, grm, items)?;
+    'indexes: for i in 0..indexes.len() {
+        let index = indexes[i];
+        if index < items.len() {
+            let (pidx, _) = items.item_at(index);
+            ended.push(pidx)?;
+        }
+    }
+    Ok(())
+}
+
+/// Returns the productions that stand complete in some state, in order, and sets the flags of those that are reduced in some.
+fn all_ended(
+    alloc: Global,
+    reduced: &mut Vec<bool>,
+    kit: &ParserKit<u32>,
+) -> Result<Vec<PIdx<u32>>, AllocError> {
+    let mut ended = Vec::new(alloc);
+    'states: for state in 0..kit.sgraph().all_states_len().0.to_usize() {
+        let stidx = kit.sgraph().state_at(state);
+        add_ended(
+            alloc,
+            &mut ended,
+            kit.grm(),
+            kit.sgraph().closed_state(stidx),
+        )?;
+        set_reduced(reduced, kit, stidx);
+    }
+    ended.sort()?;
+    ended.dedup();
+    Ok(ended)
+}
+
+/// Adds a warning for each production of the text that stands complete in some state, and is reduced in none.
+fn push_unreduced(
+    alloc: Global,
+    text: &mut String,
+    source: &Source<'_>,
+    kit: &ParserKit<u32>,
+) -> Result<(), AllocError> {
+    let count = kit.ast().prods().len();
+    let mut reduced = unset(alloc, count)?;
+    let ended = all_ended(alloc, &mut reduced, kit)?;
+    'productions: for index in 0..ended.len() {
+        let number = ended[index].0.to_usize();
+        if number < count && !is_set(reduced.as_slice(), number) {
+            push_never(alloc, text, source, kit, ended[index])?;
+        }
+    }
+    Ok(())
+}
+
+/// Adds the warning that a production is never reduced.
+fn push_never(
+    alloc: Global,
+    text: &mut String,
+    source: &Source<'_>,
+    kit: &ParserKit<u32>,
+    pidx: PIdx<u32>,
+) -> Result<(), AllocError> {
+    let mut message = String::from_str(alloc, "Never reduced: ")?;
+    push_prod(&mut message, kit.grm(), pidx)?;
+    let span = production_span(kit.ast(), pidx);
+    source.push_message_if(alloc, text, Severity::Warning, span, message.as_str())
+}
+
+/// Adds warnings of what has no effect, with these pairs settled by precedence.
+pub(crate) fn push_idle(
+    alloc: Global,
+    text: &mut String,
+    source: &Source<'_>,
+    kit: &ParserKit<u32>,
+    pairs: &[Pair],
+) -> Result<(), AllocError> {
+    push_idle_precedences(alloc, text, source, kit, pairs)?;
+    push_idle_precs(alloc, text, source, kit.ast(), pairs)?;
+    push_unreduced(alloc, text, source, kit)
+}

@@ -1,0 +1,51 @@
+//! Where a text has its productions and their tokens.
+
+use crate::names::{Grammar, prod_body};
+use cfg_base::index::IndexStorage;
+use cfg_base::span::Span;
+use cfg_base::symbol::{PIdx, SIdx, Symbol};
+use cfg_read::yacc::ast::{self, GrammarAST};
+
+/// Returns where a production stands. One that is added to those of the text has no place.
+pub(crate) fn production_span(ast: &GrammarAST, pidx: PIdx<u32>) -> Option<Span> {
+    let production = ast.prods().get(pidx.0.to_usize())?;
+    Some(production.prod_span())
+}
+
+/// Returns how many tokens a production has before the dot.
+fn tokens_before(grm: &Grammar, pidx: PIdx<u32>, dot: SIdx<u32>) -> usize {
+    let body = prod_body(grm, pidx);
+    let mut count: usize = 0;
+    'symbols: for index in 0..dot.0.to_usize().min(body.len()) {
+        if let Symbol::Token(_) = body[index] {
+            count = count.saturating_add(1);
+        }
+    }
+    count
+}
+
+/// Returns where the token of this number stands among the tokens of a production, counted from nought.
+fn nth_token_span(symbols: &[ast::Symbol], number: usize) -> Option<Span> {
+    let mut left = number;
+    'symbols: for symbol in symbols {
+        if let ast::Symbol::Token(_, span) = symbol {
+            if left == 0 {
+                return Some(*span);
+            }
+            left = left.saturating_sub(1);
+        }
+    }
+    None
+}
+
+/// Returns where the token after the dot stands. The rules that may follow the tokens of a production, where its kind has
+/// implicit tokens, are passed over, since the text doesn't have them.
+pub(crate) fn token_span_after(
+    grm: &Grammar,
+    ast: &GrammarAST,
+    item: (PIdx<u32>, SIdx<u32>),
+) -> Option<Span> {
+    let (pidx, dot) = item;
+    let production = ast.prods().get(pidx.0.to_usize())?;
+    nth_token_span(production.symbols(), tokens_before(grm, pidx, dot))
+}

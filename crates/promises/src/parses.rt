@@ -1,16 +1,22 @@
 //! Values fold derivations, sentences come through with their only tree, repairs leave no trace.
 
-ghost use Rattle.std.specs.Prelude.{◌≡◌, ℕ, List, [], map, IfErr, IfOk, IsNone};
+ghost use Rattle.std.specs.Prelude.{◌≡◌, ℕ, List, [], Option, map, IfErr, IfOk, IsNone};
 ghost use Rattle.cfg_theory.specs.Cost.{IsCheapest};
 ghost use Rattle.cfg_theory.specs.Derivation.{AllProductive};
 ghost use Rattle.cfg_theory.specs.Grammar.{rule, start_symbol};
+ghost use Rattle.cfg_theory.specs.Tree.{Tree};
+ghost use Rattle.lr_theory.specs.Repair.{Edit};
 ghost use Rattle.lrpar.specs.FlatParses.{HasFlat};
+ghost use Rattle.lrpar.specs.Told.{told_of};
+ghost use Rattle.lrpar.specs.declared.parse_error.ParseError.{ParseError};
 ghost use Rattle.parse_trees.specs.Lexemes.{AreItems, IsFirstLexError};
 ghost use Rattle.parse_trees.specs.Refusals.{IsParseRefusal};
 ghost use Rattle.parse_trees.specs.Lex.{span_by, token_by};
 ghost use Rattle.cfg_read.specs.declared.yacc.YaccKind.{YaccKind};
 ghost use Rattle.parser_kit.specs.Kit.{IsKitOf, KitValue};
 ghost use Rattle.parser_kit.specs.KitParses.{IsKitParse, ItemsFollowSentences, LeavesNoTrace, ParseAlike};
+ghost use Rattle.word_lines.specs.Lexing.{items_of, lex_of};
+ghost use Rattle.lrkit.specs.Output.{Word, id, made_up};
 
 use cfg_base::index::IndexStorage;
 use cfgrammar::yacc::from_ast::trees_without_precedences_make_grammars_without;
@@ -19,6 +25,7 @@ use lrtable::laws::precedences_are_kept;
 use parser_kit::ParserKit;
 use parser_kit::laws::{kits_of_texts_are_one, kits_of_texts_parse_alike};
 use std::alloc::Global;
+use word_lines::{WordLexError, WordLexeme};
 
 /// For any lexer and any recoverer a parse tells the lexer's first fault alone, or is that of the machine with repairs: the
 /// tree is a derivation of the lexemes as repaired, it comes exactly where each error lists a repair, and each error lists
@@ -154,4 +161,18 @@ pub fn kits_of_a_text_answer_alike<S, U, L, E>()
 {
     kits_of_texts_are_one();
     kits_of_texts_parse_alike::<S, U, L, E>();
+}
+
+/// A kit with numbers of 8 bits and one with numbers of 32 bits of one text, kind and cap, each over the words of a line that
+/// its own lexer makes, tell the same errors and give the same tree or none, where the same repairs are handed in at each error.
+/// Shown by `table_rows`, by three index types; refused: `mutants/promises`.
+pub fn kits_of_8_and_of_32_bits_answer_alike()
+    ensures { (cap : ℕ) (kind : YaccKind) (text line : List ℕ) (repairs : List (List Edit)) (k l : KitValue) (tree other_tree : Option (Tree Word)) (errors others : List (ParseError Word ℕ)) →
+        IsKitOf 255 kind text cap k → IsKitOf 4294967295 kind text cap l →
+        IsKitParse id (lex_of id) made_up k.parser (λ state index lexeme offered. offered ≡ repairs) (items_of id k.parser.grammar line) (λ t. t ≡ tree) errors →
+        IsKitParse id (lex_of id) made_up l.parser (λ state index lexeme offered. offered ≡ repairs) (items_of id l.parser.grammar line) (λ t. t ≡ other_tree) others →
+        (map (told_of id) errors ≡ map (told_of id) others) × (tree ≡ other_tree) }
+{
+    kits_of_texts_are_one();
+    kits_of_texts_parse_alike::<u8, u32, WordLexeme<u8>, WordLexError>();
 }

@@ -17,6 +17,7 @@ enum Kind {
     Diagnostic,
     Report,
     Kit,
+    Import,
     Hostile,
 }
 
@@ -29,6 +30,7 @@ fn kind_of(word: &str) -> Option<Kind> {
         "diagnostic" => Some(Kind::Diagnostic),
         "report" => Some(Kind::Report),
         "kit" => Some(Kind::Kit),
+        "import" => Some(Kind::Import),
         "hostile" => Some(Kind::Hostile),
         _ => None,
     }
@@ -43,6 +45,7 @@ fn answer(alloc: Global, kind: Kind, file: &str) -> Result<String, AllocError> {
         Kind::Diagnostic => diagnostic_rows::answer_file(alloc, file),
         Kind::Report => report_rows::answer_file(alloc, file),
         Kind::Kit => kit_rows::answer_file(alloc, file),
+        Kind::Import => import_rows::answer_file(alloc, file),
         Kind::Hostile => hostile_rows::told(alloc, file),
     }
 }

@@ -1,0 +1,85 @@
+//! Imports as answers.
+
+use row_files::{Part, parts};
+use std::alloc::{AllocError, Global};
+use yacc_import::{ImportError, Imported, Note, import};
+
+/// Adds a line behind a mark.
+fn push_line(out: &mut String, mark: &str, line: &str) -> Result<(), AllocError> {
+    out.push_str(mark)?;
+    out.push_str(line)?;
+    out.push('\n')
+}
+
+/// Adds a note.
+fn push_note(alloc: Global, out: &mut String, note: &Note) -> Result<(), AllocError> {
+    let (start, end) = (note.start, note.end);
+    let kind = note.kind;
+    out.push_str(format!(in alloc; "{kind:?} {start}-{end}")?.as_str())?;
+    if let Some(text) = &note.text {
+        out.push(':')?;
+        out.push_str(text.as_str())?;
+    }
+    out.push('\n')
+}
+
+/// Adds the text of an import and, if they are asked for, its notes.
+fn push_imported(
+    alloc: Global,
+    out: &mut String,
+    heading: &str,
+    imported: &Imported,
+) -> Result<(), AllocError> {
+    for line in imported.text.as_str().lines() {
+        push_line(out, ">", line)?;
+    }
+    if heading.ends_with("notes") {
+        for note in imported.notes.as_slice() {
+            push_note(alloc, out, note)?;
+        }
+    }
+    Ok(())
+}
+
+fn push_answer(
+    alloc: Global,
+    out: &mut String,
+    heading: &str,
+    text: &str,
+) -> Result<(), AllocError> {
+    match import(alloc, text) {
+        Ok(imported) => {
+            let pushed = push_imported(alloc, out, heading, &imported);
+            drop(imported);
+            pushed
+        }
+        Err(ImportError::Refused(fault, at)) => {
+            out.push_str(format!(in alloc; "refused {fault:?} {at}\n")?.as_str())
+        }
+        Err(ImportError::Memory(e)) => Err(e),
+    }
+}
+
+fn push_part(alloc: Global, out: &mut String, part: &Part<'_>) -> Result<(), AllocError> {
+    match part {
+        Part::Line(line) => push_line(out, "", line),
+        Part::Text(heading, text, _start) => push_answer(alloc, out, heading, text.as_str()),
+    }
+}
+
+fn push_parts(alloc: Global, out: &mut String, parts: &[Part<'_>]) -> Result<(), AllocError> {
+    for part in parts {
+        push_part(alloc, out, part)?;
+    }
+    Ok(())
+}
+
+/// Returns the file with the right answers.
+pub fn answer_file(alloc: Global, file: &str) -> Result<String, AllocError> {
+    let mut out = String::new(alloc);
+    let parts = parts(alloc, file)?;
+    let pushed = push_parts(alloc, &mut out, parts.as_slice());
+    drop(parts);
+    pushed?;
+    Ok(out)
+}

@@ -1,6 +1,6 @@
 -- The program's faults and statuses.
-use Rattle.std.specs.Prelude.{ℕ, Result, Ok, Err, Option, None, Some}
-use Rattle.std.specs.String.{String}
+use Rattle.std.specs.Prelude.{ℕ, Result, Ok, Err, Option, None, Some, String}
+use Rattle.std.specs.declared.alloc.Global.{Global}
 use Rattle.byte_streams.specs.declared.reading.InputFault.{InputFault}
 use Rattle.byte_streams.specs.declared.reading.InputFault.TheVariants as inputs
 use Rattle.grammar_report.specs.Outcomes as reports
@@ -20,7 +20,7 @@ status_of (Err Closed) = 5
 status_of (Err (Memory e)) = 6
 
 -- the program's fault of an input, with the system's cause
-abbrev pub fault_of : Input → String → InputFault → CheckFault
+abbrev pub fault_of : Input → String Global → InputFault → CheckFault
 fault_of input cause inputs.Read = Read input cause
 fault_of input cause inputs.TooLong = TooLong input
 fault_of input cause inputs.NotUtf8 = NotUtf8 input

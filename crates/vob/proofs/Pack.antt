@@ -324,6 +324,15 @@ pub covered : (w n : ℕ) (all : List Bool) → 0 < w → Packs w n all → (n %
 covered w n all h p e =
     opened w n all p ∙ ap (λ k. take n all ++ replicate (k * w - n) false) (sym (blocks_for_next_part w n h e))
 
+-- with that room, the next item has a place
+pub place_of_next : (w n : ℕ) (all : List Bool) → 0 < w → Packs w n all → n < length (take n all ++ replicate (blocks_for w (n + 1) * w - n) false)
+place_of_next w n all h p =
+    let l = length_kept w n all h p in
+    let q = blocks_for_is w (n + 1) h in
+    let u = blocks_for w (n + 1) * w - n in
+    let size : length (take n all ++ replicate u false) ≡ n + u = length-append (take n all) (replicate u false) ∙ ap₂ (λ a b. a + b) l (length-replicate u false) in
+    omega arith
+
 -- what holds whatever the result is
 pub on_err : {A E : Type 0} (r : Result A E) (P : Type 0) → P → OnErr r P
 on_err (Ok x) P p = tt

@@ -35,3 +35,20 @@ returns-clause-capacity g c =
     let grown = pack.times_mono (vec_capacity c.self.inside.blocks) (vec_capacity c.put_bit.new.blocks) g.T.Word.BITS (omega (arith, c.in_ok-cover.ensures.capacity, c.put_bit.ensures.capacity)) in
     let was = ap (λ b. b.capacity) c.self.view_is in
     omega arith
+
+pub returns-then-self-clause-room : goal.returns-then-self-clause-room
+returns-then-self-clause-room g c =
+    let len : length c.args.self.now.bits ≡ c.self.inside.len = ap (λ b. length b.bits) (sym c.self.view_is) ∙ pack.length_kept g.T.Word.BITS c.self.inside.len (flat_map g.T.Word.bits c.self.inside.blocks.items) g.met.T.Word.some_law c.self.invariant in
+    let was = ap (λ b. b.capacity) c.self.view_is in
+    let most = c.if-self.true in
+    λ h. absurd (omega arith)
+
+pub returns-in_err-cover-clause-room : goal.returns-in_err-cover-clause-room
+returns-in_err-cover-clause-room g c =
+    let len : length c.args.self.now.bits ≡ c.self.inside.len = ap (λ b. length b.bits) (sym c.self.view_is) ∙ pack.length_kept g.T.Word.BITS c.self.inside.len (flat_map g.T.Word.bits c.self.inside.blocks.items) g.met.T.Word.some_law c.self.invariant in
+    let was = ap (λ b. b.capacity) c.self.view_is in
+    λ h. absurd (omega (arith, c.in_err-cover.ensures.full))
+
+pub put_bit-requires : goal.put_bit-requires
+put_bit-requires g c =
+    rw c.in_ok-cover.ensures.ok (pack.place_of_next g.T.Word.BITS c.self.inside.len (flat_map g.T.Word.bits c.self.inside.blocks.items) g.met.T.Word.some_law c.self.invariant)

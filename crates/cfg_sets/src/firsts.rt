@@ -7,6 +7,7 @@ ghost use Rattle.cfg_numbered.specs.Symbols.{sym_of, syms_of};
 ghost use Rattle.vob.specs.Sets.{is_set, joined_to, HasAllOf};
 ghost use Rattle.cfg_sets.specs.Firsts.{FirstSets, HasEpsilon, HasFirst, AreFirsts, AreSoundOf, IsClosedOrWaits, AreFirstsClosedBut, IsWithin, IsNullableIn, FirstBefore, SymbolFirst, FirstsOf, AllWithin, Adds, first_room};
 ghost use Rattle.cfg_sets.specs.Orders.{IsOrder};
+ghost use Rattle.cfg_sets.specs.WorkLists.{ListsNaming};
 ghost use Rattle.vob.specs.Passes.{PassStep, Anything};
 
 use crate::naming::Naming;
@@ -367,6 +368,26 @@ impl<'a, S: IndexStorage> Filling<'a, S> {
         }
         Ok(())
     }
+
+    /// Goes through all productions in the order, and then takes rules off the list until none is left.
+    fn fill_from<L: Ledger>(
+        &mut self,
+        order: &Order,
+        work: &mut WorkList,
+        steps: &mut Steps<L>,
+    ) -> Result<(), AllocError>
+        requires order { IsOrder (length self.old.grm.now.grammar.productions) order.now }
+        requires naming { ListsNaming self.old.grm.now.grammar (length self.old.grm.now.grammar.productions) self.old.naming.now }
+        requires sound { AreSoundOf self.old.grm.now.grammar self.old.firsts self.old.row.bits }
+        requires work { work.old.rules ≡ self.old.grm.now.grammar.rules }
+        ensures grammar { OnOk result (self.new.grm.now ≡ self.old.grm.now) }
+        ensures sound { OnOk result (AreSoundOf self.old.grm.now.grammar self.new.firsts self.new.row.bits) }
+        ensures closed { OnOk result (AreFirstsClosedBut self.old.grm.now.grammar self.new.firsts []) }
+        ensures takings { steps.new ≤ steps.old + (first_room self.old.firsts + length work.old.list) }
+    {
+        self.start(order, work)?;
+        fill(self, work, steps)
+    }
 }
 
 /// Computes the FIRST sets of a grammar's rules, as `YaccFirsts::new` does (Aho, Sethi and Ullman 1986, section 4.4).
@@ -380,14 +401,35 @@ pub fn fill_firsts<S: IndexStorage, L: Ledger>(
     ensures firsts { IfOk result (λ f. AreFirsts grm.now.grammar f) }
     ensures takings { steps.new ≤ steps.old + grm.now.grammar.rules * (grm.now.grammar.tokens + 2) }
 {
-    first_tables_are_exact();
     let naming = Naming::new(alloc, grm)?;
+    let filled = fill_over(alloc, grm, &naming, steps);
+    drop(naming);
+    filled
+}
+
+/// Computes the FIRST sets, where `naming` has the productions that name each rule.
+fn fill_over<S: IndexStorage, L: Ledger>(
+    alloc: Global,
+    grm: &NumberedGrammar<S>,
+    naming: &Naming,
+    steps: &mut Steps<L>,
+) -> Result<YaccFirsts<S>, AllocError>
+    requires { ListsNaming grm.now.grammar (length grm.now.grammar.productions) naming.now }
+    ensures firsts { IfOk result (λ f. AreFirsts grm.now.grammar f) }
+    ensures takings { steps.new ≤ steps.old + grm.now.grammar.rules * (grm.now.grammar.tokens + 2) }
+{
+    first_tables_are_exact();
     let order = Order::named_first(alloc, grm)?;
-    let mut filling = Filling::new(alloc, grm, &naming)?;
     let mut work = WorkList::full(alloc, grm.rules_len().0.to_usize())?;
-    filling.start(&order, &mut work)?;
-    fill(&mut filling, &mut work, steps)?;
-    Ok(filling.firsts)
+    let mut filling = Filling::new(alloc, grm, naming)?;
+    let filled = filling.fill_from(&order, &mut work, steps);
+    match filled {
+        Ok(()) => Ok(filling.firsts),
+        Err(e) => {
+            drop(filling);
+            Err(e)
+        }
+    }
 }
 
 /// Computes the FIRST sets without a step counter.

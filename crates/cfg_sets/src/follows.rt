@@ -322,16 +322,36 @@ fn fill_follows<S: IndexStorage, L: Ledger>(
 ) -> Result<YaccFollows<S>, AllocError>
     ensures { IfOk result (λ f. AreFollows grm.now.grammar f) }
 {
+    let firsts = YaccFirsts::new(alloc, grm)?;
+    let filled = fill_over(alloc, grm, &firsts, steps);
+    drop(firsts);
+    filled
+}
+
+/// Computes the FOLLOW sets over the FIRST sets.
+fn fill_over<S: IndexStorage, L: Ledger>(
+    alloc: Global,
+    grm: &NumberedGrammar<S>,
+    firsts: &YaccFirsts<S>,
+    steps: &mut Steps<L>,
+) -> Result<YaccFollows<S>, AllocError>
+    requires { AreFirsts grm.now.grammar firsts.now }
+    ensures { IfOk result (λ f. AreFollows grm.now.grammar f) }
+{
     first_tables_are_exact();
     follow_tables_are_exact();
     grm.stays_well_formed();
-    let firsts = YaccFirsts::new(alloc, grm)?;
     let order = Order::named_first(alloc, grm)?;
-    let mut filling = Filling::new(alloc, grm, &firsts)?;
     let mut work = WorkList::full(alloc, grm.rules_len().0.to_usize())?;
+    let mut filling = Filling::new(alloc, grm, firsts)?;
     filling.start(order);
-    fill(&mut filling, &mut work, steps)?;
-    Ok(filling.follows)
+    match fill(&mut filling, &mut work, steps) {
+        Ok(()) => Ok(filling.follows),
+        Err(e) => {
+            drop(filling);
+            Err(e)
+        }
+    }
 }
 
 /// Computes the FOLLOW sets without a step counter.

@@ -2,16 +2,16 @@ use Rattle.std.proofs.Common.{ap, ◌∙◌, subst}
 use Rattle.cfg_sets.specs.Follows.{AreFollows}
 use Rattle.cfg_sets.proofs.FollowSteps.{exact_follows}
 use Rattle.cfg_sets.proofs.FollowFills.{hands_all, all_wait}
-use Rattle.cfg_sets.proofs.follows.fill_follows.Goals as goal
+use Rattle.cfg_sets.proofs.follows.fill_over.Goals as goal
 
-pub returns : goal.returns
-returns g c =
-    let same = c.in_ok-fill.ensures.same.0 ∙ c.start.ensures.grammar ∙ c.in_ok-filling.ensures.grammar in
+pub returns-in-Ok : goal.returns-in-Ok
+returns-in-Ok g c =
+    let same = c.in-Ok.ensures.same.0 ∙ c.start.ensures.grammar ∙ c.in_ok-filling.ensures.grammar in
     let t = c.fill.new.table in
     let G = t.grm.now.grammar in
-    let sound = c.in_ok-fill.ensures.sound in
+    let sound = c.in-Ok.ensures.sound in
     subst (λ v. AreFollows v.grammar t.follows) same
-    (exact_follows G t.firsts.now t.follows c.first_tables_are_exact.ensures c.follow_tables_are_exact.ensures sound.1 sound.0.sizes sound.0.sound sound.2 (hands_all G t.firsts.now t.follows c.in_ok-fill.ensures.closed))
+    (exact_follows G t.firsts.now t.follows c.first_tables_are_exact.ensures c.follow_tables_are_exact.ensures sound.1 sound.0.sizes sound.0.sound sound.2 (hands_all G t.firsts.now t.follows c.in-Ok.ensures.closed))
 
 pub fill-requires-clause-closed : goal.fill-requires-clause-closed
 fill-requires-clause-closed g c =

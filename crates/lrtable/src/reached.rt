@@ -7,7 +7,7 @@ ghost use Rattle.vob.specs.Sets.{is_set};
 ghost use Rattle.lrtable.specs.Fronts.{front_of};
 ghost use Rattle.lrtable.specs.Opening.{Front, AllFit, HasFront, IsTidy, SameSizes};
 ghost use Rattle.lrtable.specs.Pruning.{Marks};
-ghost use Rattle.lrtable.specs.Reaching.{IsReachedBy, MayBeReachedBy, PassedIn, PassesTo};
+ghost use Rattle.lrtable.specs.Reaching.{AreReachedBy, IsReachedBy, MayBeReachedBy, PassedIn, PassesTo};
 
 use crate::openers::{Opener, Openers};
 use crate::opening::Opening;
@@ -134,15 +134,15 @@ fn reached_if_marked(
     }
 }
 
-/// Openers with what each marked rule leads to.
-pub(crate) fn with_reached(
+/// Returns what each marked rule reaches, and an empty list for the others.
+fn reached_lists(
     alloc: Global,
-    openers: Openers,
+    openers: &Openers,
     marks: &Vob,
     tokens: usize,
-) -> Result<Openers, AllocError>
-    requires { (A : ℕ) → AllFit (length openers) tokens (get_or openers A []) }
-    ensures { IfOk result (λ o. o ≡ openers) }
+) -> Result<Vec<Vec<Opener>>, AllocError>
+    requires { (A : ℕ) → AllFit (length openers.now) tokens (get_or openers.now A []) }
+    ensures { IfOk result (λ lists. AreReachedBy openers.now tokens (map (λ l. map front_of l.items) lists.items)) }
 {
     let rules = openers.len();
     let mut opening = Opening::empty(alloc, rules, tokens)?;
@@ -153,7 +153,7 @@ pub(crate) fn with_reached(
     'rules: for rule in 0..rules {
         let list = reached_if_marked(
             alloc,
-            &openers,
+            openers,
             &mut opening,
             &mut passed,
             &mut looks,
@@ -163,5 +163,24 @@ pub(crate) fn with_reached(
         )?;
         reached.push(list)?;
     }
-    Ok(openers.with_reached(reached, tokens))
+    Ok(reached)
+}
+
+/// Returns the openers with what each marked rule reaches.
+pub(crate) fn with_reached(
+    alloc: Global,
+    openers: Openers,
+    marks: &Vob,
+    tokens: usize,
+) -> Result<Openers, AllocError>
+    requires { (A : ℕ) → AllFit (length openers) tokens (get_or openers A []) }
+    ensures { IfOk result (λ o. o ≡ openers) }
+{
+    match reached_lists(alloc, &openers, marks, tokens) {
+        Ok(lists) => Ok(openers.with_reached(lists, tokens)),
+        Err(e) => {
+            drop(openers);
+            Err(e)
+        }
+    }
 }

@@ -29,7 +29,9 @@ fn refused_kept<S: IndexStorage>(
 ) -> Result<YaccGrammar<S>, YaccGrammarMakeError>
     ensures { Refuses info.errors result }
 {
-    from_ast::refused(alloc, info.errors())
+    let refused = from_ast::refused(alloc, info.errors());
+    drop(info);
+    refused
 }
 
 /// The grammar of what is kept of a text, which is let go.

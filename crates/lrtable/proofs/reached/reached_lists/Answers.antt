@@ -8,7 +8,7 @@ use Rattle.lrtable.specs.Reaching.{MayBeReachedBy}
 use Rattle.lrtable.specs.declared.openers.Opener.{Opener}
 use Rattle.lrtable.proofs.Reaching.{lists_more}
 use Rattle.vob.proofs.Bits.{none_in}
-use Rattle.lrtable.proofs.reached.with_reached.Goals as goal
+use Rattle.lrtable.proofs.reached.reached_lists.Goals as goal
 
 pub rules-init : goal.rules-init
 rules-init c =
@@ -53,9 +53,9 @@ rules-preserved c =
     let m = length-map c.rules.reached.items (λ (w : Vec Opener Global). map front_of w.items) in
     record {
       count = omega (arith, n, e, count);
-      each = lists_more c.args.openers c.args.tokens (map (λ (w : Vec Opener Global). map front_of w.items) c.rules.reached.items) (map (λ (w : Vec Opener Global). map front_of w.items) c.push.new.self.items) c.rules.rule (map front_of v.items)
+      each = lists_more c.args.openers.now c.args.tokens (map (λ (w : Vec Opener Global). map front_of w.items) c.rules.reached.items) (map (λ (w : Vec Opener Global). map front_of w.items) c.push.new.self.items) c.rules.rule (map front_of v.items)
           (omega (arith, m, count)) (ap (map (λ (w : Vec Opener Global). map front_of w.items)) pushed ∙ map_push (λ (w : Vec Opener Global). map front_of w.items) c.rules.reached.items v) i.each
-          (subst (λ k. MayBeReachedBy c.args.openers k c.rules.rule (map front_of v.items)) i.tokens r.reached);
+          (subst (λ k. MayBeReachedBy c.args.openers.now k c.rules.rule (map front_of v.items)) i.tokens r.reached);
       tidy = r.tidy;
       tokens = r.sizes.tokens ∙ i.tokens;
       opened = r.sizes.opened ∙ i.opened;
@@ -65,8 +65,8 @@ rules-preserved c =
       none_waits = r.none_waits;
     }
 
-pub with_reached-requires : goal.with_reached-requires
-with_reached-requires c =
+pub returns : goal.returns
+returns c =
     let m = length-map c.rules.reached.items (λ (w : Vec Opener Global). map front_of w.items) in
     let count = c.rules.invariant.count in
     λ A lt. c.rules.invariant.each A (omega (arith, m, count, lt))

@@ -5,7 +5,7 @@ use Rattle.lrtable.specs.Fronts.{front_of}
 use Rattle.lrtable.specs.Opening.{IsTidy}
 use Rattle.lrtable.specs.Reaching.{MayBeReachedBy}
 use Rattle.lrtable.specs.declared.openers.Opener.{Opener}
-use Rattle.lrtable.proofs.reached.with_reached.Given as goal
+use Rattle.lrtable.proofs.reached.reached_lists.Given as goal
 
 abbrev pub invariant-rules : goal.invariant-rules
 invariant-rules l = record {

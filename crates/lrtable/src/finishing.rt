@@ -152,6 +152,40 @@ fn from_states<S: IndexStorage>(
     Ok(of_lists(cores, closed, edges))
 }
 
+/// Returns the left corners of each rule, with what the rules behind dots reach.
+fn openers_of_grammar<S: IndexStorage>(
+    alloc: Global,
+    grm: &NumberedGrammar<S>,
+    firsts: &YaccFirsts<S>,
+) -> Result<Openers, AllocError>
+    requires { AreFirsts grm.now.grammar firsts.now }
+    ensures { IfOk result (AreFronts grm.now.grammar) }
+{
+    let tokens = grm.tokens_len().0.to_usize();
+    let behind = rules_behind(alloc, grm)?;
+    let fronts = Openers::new(alloc, grm, firsts)?;
+    with_reached(alloc, fronts, &behind, tokens)
+}
+
+/// Returns the graph of a grammar by the left corners of its rules.
+fn graph_over<S: IndexStorage>(
+    alloc: Global,
+    grm: &NumberedGrammar<S>,
+    firsts: &YaccFirsts<S>,
+    openers: &Openers,
+) -> Result<StateGraph<S>, BuildError>
+    requires firsts { AreFirsts grm.now.grammar firsts.now }
+    requires openers { AreFronts grm.now.grammar openers.now }
+    ensures graph { IfOk result (λ g. IsGraphOf grm.now.grammar g) }
+    ensures within { OnOk result (StaysWithin grm.now.grammar S.MAX) }
+    ensures many { IsErrOf result faults.TooManyStates → TooManyStand grm.now.grammar S.MAX }
+{
+    let mut closer = Closer::new(alloc, grm)?;
+    let mut states = pager::states(alloc, grm, firsts, openers, &mut closer)?;
+    let graph = from_states(alloc, grm, firsts, openers, &mut closer, &mut states)?;
+    Ok(graph)
+}
+
 /// Returns the graph of a grammar.
 pub(crate) fn graph_of_grammar<S: IndexStorage>(
     alloc: Global,
@@ -163,12 +197,8 @@ pub(crate) fn graph_of_grammar<S: IndexStorage>(
     ensures within { OnOk result (StaysWithin grm.now.grammar S.MAX) }
     ensures many { IsErrOf result faults.TooManyStates → TooManyStand grm.now.grammar S.MAX }
 {
-    let tokens = grm.tokens_len().0.to_usize();
-    let fronts = Openers::new(alloc, grm, firsts)?;
-    let behind = rules_behind(alloc, grm)?;
-    let openers = with_reached(alloc, fronts, &behind, tokens)?;
-    let mut closer = Closer::new(alloc, grm)?;
-    let mut states = pager::states(alloc, grm, firsts, &openers, &mut closer)?;
-    let graph = from_states(alloc, grm, firsts, &openers, &mut closer, &mut states)?;
-    Ok(graph)
+    let openers = openers_of_grammar(alloc, grm, firsts)?;
+    let graph = graph_over(alloc, grm, firsts, &openers);
+    drop(openers);
+    graph
 }

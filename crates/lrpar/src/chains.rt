@@ -305,6 +305,31 @@ fn long_of<S: IndexStorage>(
     Ok(found)
 }
 
+/// Returns the least chain of all states that passes the limit.
+fn long_among<S: IndexStorage>(
+    alloc: Global,
+    grm: &NumberedGrammar<S>,
+    stable: &StateTable<S>,
+    shorts: &[Short<S>],
+    reducers: &[Vec<PIdx<S>>],
+    limit: u16,
+    rooms: &mut Rooms<S>,
+) -> Result<Option<LongChain<S>>, AllocError>
+    requires table { IsTableFor grm.now.grammar stable.now }
+    requires shorts { AreShorts S.number grm.now.grammar stable.now shorts.now }
+    requires reducers { AreAllReducers S.number grm.now.grammar stable.now reducers.now }
+    ensures { IfOk result (λ found. (g : GraphValue) → TellsChain S.number grm.now.grammar (automaton_of g stable.now) limit found) }
+{
+    let states = stable.states_len().0;
+    'states: for number in 0..states.to_usize() {
+        let state = StIdx(index_below(number, states));
+        if let Some(found) = long_of(alloc, grm, stable, shorts, reducers, limit, rooms, state)? {
+            return Ok(Some(found));
+        }
+    }
+    Ok(None)
+}
+
 /// Returns the least chain of reductions that passes the limit; none where all chains are within it.
 pub(crate) fn long_chain<S: IndexStorage>(
     alloc: Global,
@@ -322,21 +347,13 @@ pub(crate) fn long_chain<S: IndexStorage>(
         stacks: Vec::new(alloc),
         spare: Vec::new(alloc),
     };
-    let states = stable.states_len().0;
-    'states: for number in 0..states.to_usize() {
-        let state = StIdx(index_below(number, states));
-        if let Some(found) = long_of(
-            alloc,
-            grm,
-            stable,
-            shorts.as_slice(),
-            reducers.as_slice(),
-            limit,
-            &mut rooms,
-            state,
-        )? {
-            return Ok(Some(found));
-        }
-    }
-    Ok(None)
+    long_among(
+        alloc,
+        grm,
+        stable,
+        shorts.as_slice(),
+        reducers.as_slice(),
+        limit,
+        &mut rooms,
+    )
 }

@@ -2,7 +2,7 @@ use Rattle.std.proofs.Common.{◌<◌}
 use Rattle.lr_theory.specs.LongChains.{Chain, Passes}
 use Rattle.state_table.specs.Tables.{automaton_of}
 use Rattle.state_table.specs.Graphs.{GraphValue}
-use Rattle.lrpar.proofs.chains.long_chain.Given as goal
+use Rattle.lrpar.proofs.chains.long_among.Given as goal
 
 abbrev pub invariant-states : goal.invariant-states
 invariant-states g l = (x : GraphValue) (d : Chain) → d.state < l.number → Passes l.grm.grammar (automaton_of x l.stable) l.limit d → ⊥

@@ -2,7 +2,7 @@ use Rattle.std.proofs.Common.{◌<◌, ◌∙◌, sym, arith}
 use Rattle.lr_theory.specs.LongChains.{Chain, Passes}
 use Rattle.state_table.specs.Tables.{automaton_of}
 use Rattle.lrpar.proofs.LeastChains.{within, more_state, least_of_all}
-use Rattle.lrpar.proofs.chains.long_chain.Goals as goal
+use Rattle.lrpar.proofs.chains.long_among.Goals as goal
 
 pub returns-in-Some : goal.returns-in-Some
 returns-in-Some g c = λ x.

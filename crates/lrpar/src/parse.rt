@@ -159,7 +159,7 @@ fn mend<S: IndexStorage, L: Lexeme<S>, E: Copy, V: ValueStack<S, L>, R: Recovere
     )?;
     match found.repairs.first() {
         Some(steps) => {
-            let next = apply_steps(
+            let applied = apply_steps(
                 alloc,
                 grm,
                 stable,
@@ -169,11 +169,17 @@ fn mend<S: IndexStorage, L: Lexeme<S>, E: Copy, V: ValueStack<S, L>, R: Recovere
                 index,
                 end,
                 steps.as_slice(),
-            )?;
-            Ok(Mended {
-                found,
-                next: Some(next),
-            })
+            );
+            match applied {
+                Ok(next) => Ok(Mended {
+                    found,
+                    next: Some(next),
+                }),
+                Err(e) => {
+                    drop(found);
+                    Err(e)
+                }
+            }
         }
         None => Ok(Mended { found, next: None }),
     }

@@ -7,20 +7,20 @@ use Rattle.parse_trees.specs.Edits.{sequences_of}
 use Rattle.lrpar.proofs.Mending.{first_taken, none_listed}
 use Rattle.lrpar.proofs.parse.mend.Goals as goal
 
-pub apply_steps-requires-clause-stand : goal.apply_steps-requires-clause-stand
-apply_steps-requires-clause-stand g c =
+pub apply_steps-applied-requires-clause-stand : goal.apply_steps-applied-requires-clause-stand
+apply_steps-applied-requires-clause-stand g c =
     let h = c.requires.stand in
     let number = g.S.IndexStorage.number in
     let found = c.in_ok-found.ensures h.0 h.1 h.2 h.3 h.4.stands (h.4.states ∙ ap (stack_of number) (sym c.as_slice.ensures.value)) h.5 in
     let first = first_taken number c.args.grm.now.grammar (automaton_of h.0 c.args.stable.now) (token_by g.L.Lexeme.lex) (made_by g.L.Lexeme.faulty_of g.L.Lexeme.lex c.args.end) h.2 found.offered c.in_ok-found.found.repairs.items c.deref.result.now c.in-Some.steps.now c.as_slice-in-Some.result.now found.told.are_repairs c.deref.ensures.value c.in-Some.ensures.value c.as_slice-in-Some.ensures.value in
     (h.0, h.1, h.2, h.3, h.4, h.5, first.takes)
 
-pub returns-in_ok-next-in-Some-clause-mended : goal.returns-in_ok-next-in-Some-clause-mended
-returns-in_ok-next-in-Some-clause-mended g c = λ x input d safe stand rest.
+pub returns-in-Ok-clause-mended : goal.returns-in-Ok-clause-mended
+returns-in-Ok-clause-mended g c = λ x input d safe stand rest.
     let number = g.S.IndexStorage.number in
     let found = c.in_ok-found.ensures x input d safe stand.stands (stand.states ∙ ap (stack_of number) (sym c.as_slice.ensures.value)) rest in
     let first = first_taken number c.args.grm.now.grammar (automaton_of x c.args.stable.now) (token_by g.L.Lexeme.lex) (made_by g.L.Lexeme.faulty_of g.L.Lexeme.lex c.args.end) d found.offered c.in_ok-found.found.repairs.items c.deref.result.now c.in-Some.steps.now c.as_slice-in-Some.result.now found.told.are_repairs c.deref.ensures.value c.in-Some.ensures.value c.as_slice-in-Some.ensures.value in
-    let k = c.in_ok-next-in-Some.ensures.applied x input d safe stand rest first.takes in
+    let k = c.in-Ok.ensures.applied x input d safe stand rest first.takes in
     record {
       offered = found.offered;
       told = found.told;

@@ -221,7 +221,16 @@ impl<S: IndexStorage> ParserData<S> {
     {
         // For the proof alone: this read gives it the invariant of each grammar.
         grm.start_prod();
-        match judge(alloc, &grm, &sgraph, &stable, cap)? {
+        let verdict = match judge(alloc, &grm, &sgraph, &stable, cap) {
+            Ok(verdict) => verdict,
+            Err(e) => {
+                drop(grm);
+                drop(sgraph);
+                drop(stable);
+                return Err(e.into());
+            }
+        };
+        match verdict {
             Verdict::Checked(complete) => Ok(ParserData {
                 grm,
                 sgraph,

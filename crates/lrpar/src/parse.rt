@@ -217,7 +217,15 @@ pub(crate) fn parse_lexemes<
     let mut errors = Vec::new(alloc);
     let mut at = 0;
     'errors: loop {
-        match run_from(alloc, grm, stable, limit, &mut stack, lexemes, at)? {
+        let ending = match run_from(alloc, grm, stable, limit, &mut stack, lexemes, at) {
+            Ok(ending) => ending,
+            Err(e) => {
+                drop(stack);
+                drop(errors);
+                return Err(e);
+            }
+        };
+        match ending {
             Ending::Accepted => {
                 return Ok(Parsed {
                     values: stack.values,
@@ -226,9 +234,17 @@ pub(crate) fn parse_lexemes<
                 });
             }
             Ending::Failed(index) => {
-                let Mended { found, next } = mend(
+                let mended = mend(
                     alloc, grm, stable, limit, &mut stack, lexemes, index, end, recoverer,
-                )?;
+                );
+                let Mended { found, next } = match mended {
+                    Ok(mended) => mended,
+                    Err(e) => {
+                        drop(stack);
+                        drop(errors);
+                        return Err(e);
+                    }
+                };
                 errors.push(found)?;
                 match next {
                     Some(index) => at = index,

@@ -41,22 +41,22 @@ returns-in-Accepted-clause-parse g c = λ x safe start.
     let lexemes = c.args.lexemes.now in
     let errors = errors_of number c.errors.errors.items in
     let u = c.errors.invariant.on x safe start in
-    let e = rw c.in-Accepted.is at (c.in_ok-run_from.ensures.ended x u.input u.goes.config safe u.goes.stand u.goes.rest_is) in
+    let e = rw c.in-Accepted.is at (c.in-Ok.ensures.ended x u.input u.goes.config safe u.goes.stand u.goes.rest_is) in
     let p = accepts_with number lex G x v holds make answers lexemes errors c.errors.stack (drop c.errors.at lexemes) u e.0 c.run_from.new.stacks.values e.1 in
     let whole = is_parse G (automaton_of x v) (token_by lex) make answers lexemes c.requires.table.well_formed safe (HoldsValue (holds c.run_from.new.stacks.values) true) (no_end_of (token_by lex) (end_token G) lexemes c.requires.lexemes.inside) errors p in
     subst (λ n. IsParse G (automaton_of x v) (token_by lex) (made_by g.L.Lexeme.faulty_of lex n) answers (HoldsValue (holds c.run_from.new.stacks.values) true) lexemes errors) c.end_offset-end.ensures whole
 
-pub mend-requires-clause-index : goal.mend-requires-clause-index
-mend-requires-clause-index g c =
+pub mend-mended-requires-clause-index : goal.mend-mended-requires-clause-index
+mend-mended-requires-clause-index g c =
     let h = c.requires.safe in
     let u = c.errors.invariant.on h.0 h.1 h.2 in
-    (rw c.in-Failed.is at (c.in_ok-run_from.ensures.ended h.0 u.input u.goes.config h.1 u.goes.stand u.goes.rest_is)).0
+    (rw c.in-Failed.is at (c.in-Ok.ensures.ended h.0 u.input u.goes.config h.1 u.goes.stand u.goes.rest_is)).0
 
-pub mend-requires-clause-stand : goal.mend-requires-clause-stand
-mend-requires-clause-stand g c =
+pub mend-mended-requires-clause-stand : goal.mend-mended-requires-clause-stand
+mend-mended-requires-clause-stand g c =
     let h = c.requires.safe in
     let u = c.errors.invariant.on h.0 h.1 h.2 in
-    let e = rw c.in-Failed.is at (c.in_ok-run_from.ensures.ended h.0 u.input u.goes.config h.1 u.goes.stand u.goes.rest_is) in
+    let e = rw c.in-Failed.is at (c.in-Ok.ensures.ended h.0 u.input u.goes.config h.1 u.goes.stand u.goes.rest_is) in
     (h.0, u.input, e.1.1.config, h.1, e.1.1.stand, e.1.1.rest_is)
 
 pub errors-smaller : goal.errors-smaller
@@ -68,9 +68,9 @@ errors-smaller g c =
     let lexemes = c.args.lexemes.now in
     let h = c.requires.safe in
     let u = c.errors.invariant.on h.0 h.1 h.2 in
-    let e = rw c.in-Failed.is at (c.in_ok-run_from.ensures.ended h.0 u.input u.goes.config h.1 u.goes.stand u.goes.rest_is) in
+    let e = rw c.in-Failed.is at (c.in-Ok.ensures.ended h.0 u.input u.goes.config h.1 u.goes.stand u.goes.rest_is) in
     let few = few_errors_yet number lex G h.0 v (g.V.ValueStack.stands G) (made_by g.L.Lexeme.faulty_of lex c.end_offset-end.result) (g.R.Recoverer.answers c.args.recoverer.now) lexemes (errors_of number c.errors.errors.items) c.errors.stack (drop c.errors.at lexemes) u e.1.0 c.run_from.new.stacks (drop c.in-Failed.index lexemes) e.1.1 in
-    fewer_left number (length lexemes) c.errors.errors.items c.push.new.self.items c.in_ok-found-in-Failed.field-0.found few c.in_ok-push-in-Failed.ensures.items
+    fewer_left number (length lexemes) c.errors.errors.items c.push.new.self.items c.in-Ok-mended.mended.found few c.in_ok-push-in-Failed.ensures.items
 
 pub errors-preserved : goal.errors-preserved
 errors-preserved g c =
@@ -83,20 +83,20 @@ errors-preserved g c =
     let answers = g.R.Recoverer.answers c.args.recoverer.now in
     let lexemes = c.args.lexemes.now in
     let errors = errors_of number c.errors.errors.items in
-    let found = c.in_ok-found-in-Failed.field-0.found in
-    let after = rw c.in-Some.is at c.in_ok-found-in-Failed.ensures.stacks in
+    let found = c.in-Ok-mended.mended.found in
+    let after = rw c.in-Some.is at c.in-Ok-mended.ensures.stacks in
     record {
       within = after.0;
       stacks = after.1;
       starts = after.2;
-      kept = g.V.ValueStack.keeps_on c.args.values c.run_from.new.stacks.values c.mend.new.stacks.values (g.V.ValueStack.keeps_on c.args.values c.errors.stack.values c.run_from.new.stacks.values c.errors.invariant.kept c.in_ok-run_from.ensures.keeps) c.in_ok-found-in-Failed.ensures.keeps;
+      kept = g.V.ValueStack.keeps_on c.args.values c.run_from.new.stacks.values c.mend-mended.new.stacks.values (g.V.ValueStack.keeps_on c.args.values c.errors.stack.values c.run_from.new.stacks.values c.errors.invariant.kept c.in-Ok.ensures.keeps) c.in-Ok-mended.ensures.keeps;
       on = λ x safe start.
           let u = c.errors.invariant.on x safe start in
-          let e = rw c.in-Failed.is at (c.in_ok-run_from.ensures.ended x u.input u.goes.config safe u.goes.stand u.goes.rest_is) in
-          let m = c.in_ok-found-in-Failed.ensures.mended x u.input e.1.1.config safe e.1.1.stand e.1.1.rest_is in
+          let e = rw c.in-Failed.is at (c.in-Ok.ensures.ended x u.input u.goes.config safe u.goes.stand u.goes.rest_is) in
+          let m = c.in-Ok-mended.ensures.mended x u.input e.1.1.config safe e.1.1.stand e.1.1.rest_is in
           let mended = rw c.in-Some.is at m.resumes in
-          let on = goes_on_with number lex G x v holds make answers lexemes errors c.errors.stack (drop c.errors.at lexemes) u e.1.0 c.run_from.new.stacks (drop c.in-Failed.index lexemes) e.1.1 m.offered (error_of number found) m.told c.mend.new.stacks (drop c.in-Some.index lexemes) mended in
-          subst (λ es. Underway number lex G x v holds make answers lexemes es c.mend.new.stacks (drop c.in-Some.index lexemes)) (sym (more_errors number c.errors.errors.items c.push.new.self.items found c.in_ok-push-in-Failed.ensures.items)) on;
+          let on = goes_on_with number lex G x v holds make answers lexemes errors c.errors.stack (drop c.errors.at lexemes) u e.1.0 c.run_from.new.stacks (drop c.in-Failed.index lexemes) e.1.1 m.offered (error_of number found) m.told c.mend-mended.new.stacks (drop c.in-Some.index lexemes) mended in
+          subst (λ es. Underway number lex G x v holds make answers lexemes es c.mend-mended.new.stacks (drop c.in-Some.index lexemes)) (sym (more_errors number c.errors.errors.items c.push.new.self.items found c.in_ok-push-in-Failed.ensures.items)) on;
     }
 
 pub returns-in-None-clause-parse : goal.returns-in-None-clause-parse
@@ -110,17 +110,17 @@ returns-in-None-clause-parse g c = λ x safe start.
     let answers = g.R.Recoverer.answers c.args.recoverer.now in
     let lexemes = c.args.lexemes.now in
     let errors = errors_of number c.errors.errors.items in
-    let found = c.in_ok-found-in-Failed.field-0.found in
+    let found = c.in-Ok-mended.mended.found in
     let u = c.errors.invariant.on x safe start in
-    let e = rw c.in-Failed.is at (c.in_ok-run_from.ensures.ended x u.input u.goes.config safe u.goes.stand u.goes.rest_is) in
-    let m = c.in_ok-found-in-Failed.ensures.mended x u.input e.1.1.config safe e.1.1.stand e.1.1.rest_is in
-    let p = gives_up_with number lex G x v holds make answers lexemes errors c.errors.stack (drop c.errors.at lexemes) u e.1.0 c.run_from.new.stacks (drop c.in-Failed.index lexemes) e.1.1 m.offered (error_of number found) m.told c.mend.new.stacks.values (rw c.in-None.is at m.resumes) in
-    let told = subst (IsParsed G (automaton_of x v) (token_by lex) make answers (HoldsValue (holds c.mend.new.stacks.values) false) lexemes) (sym (more_errors number c.errors.errors.items c.push.new.self.items found c.in_ok-push-in-Failed.ensures.items)) p in
-    let whole = is_parse G (automaton_of x v) (token_by lex) make answers lexemes c.requires.table.well_formed safe (HoldsValue (holds c.mend.new.stacks.values) false) (no_end_of (token_by lex) (end_token G) lexemes c.requires.lexemes.inside) (errors_of number c.push.new.self.items) told in
-    subst (λ n. IsParse G (automaton_of x v) (token_by lex) (made_by g.L.Lexeme.faulty_of lex n) answers (HoldsValue (holds c.mend.new.stacks.values) false) lexemes (errors_of number c.push.new.self.items)) c.end_offset-end.ensures whole
+    let e = rw c.in-Failed.is at (c.in-Ok.ensures.ended x u.input u.goes.config safe u.goes.stand u.goes.rest_is) in
+    let m = c.in-Ok-mended.ensures.mended x u.input e.1.1.config safe e.1.1.stand e.1.1.rest_is in
+    let p = gives_up_with number lex G x v holds make answers lexemes errors c.errors.stack (drop c.errors.at lexemes) u e.1.0 c.run_from.new.stacks (drop c.in-Failed.index lexemes) e.1.1 m.offered (error_of number found) m.told c.mend-mended.new.stacks.values (rw c.in-None.is at m.resumes) in
+    let told = subst (IsParsed G (automaton_of x v) (token_by lex) make answers (HoldsValue (holds c.mend-mended.new.stacks.values) false) lexemes) (sym (more_errors number c.errors.errors.items c.push.new.self.items found c.in_ok-push-in-Failed.ensures.items)) p in
+    let whole = is_parse G (automaton_of x v) (token_by lex) make answers lexemes c.requires.table.well_formed safe (HoldsValue (holds c.mend-mended.new.stacks.values) false) (no_end_of (token_by lex) (end_token G) lexemes c.requires.lexemes.inside) (errors_of number c.push.new.self.items) told in
+    subst (λ n. IsParse G (automaton_of x v) (token_by lex) (made_by g.L.Lexeme.faulty_of lex n) answers (HoldsValue (holds c.mend-mended.new.stacks.values) false) lexemes (errors_of number c.push.new.self.items)) c.end_offset-end.ensures whole
 
 pub returns-in-Accepted-clause-keeps : goal.returns-in-Accepted-clause-keeps
-returns-in-Accepted-clause-keeps g c = g.V.ValueStack.keeps_on c.args.values c.errors.stack.values c.run_from.new.stacks.values c.errors.invariant.kept c.in_ok-run_from.ensures.keeps
+returns-in-Accepted-clause-keeps g c = g.V.ValueStack.keeps_on c.args.values c.errors.stack.values c.run_from.new.stacks.values c.errors.invariant.kept c.in-Ok.ensures.keeps
 
 pub returns-in-None-clause-keeps : goal.returns-in-None-clause-keeps
-returns-in-None-clause-keeps g c = g.V.ValueStack.keeps_on c.args.values c.run_from.new.stacks.values c.mend.new.stacks.values (g.V.ValueStack.keeps_on c.args.values c.errors.stack.values c.run_from.new.stacks.values c.errors.invariant.kept c.in_ok-run_from.ensures.keeps) c.in_ok-found-in-Failed.ensures.keeps
+returns-in-None-clause-keeps g c = g.V.ValueStack.keeps_on c.args.values c.run_from.new.stacks.values c.mend-mended.new.stacks.values (g.V.ValueStack.keeps_on c.args.values c.errors.stack.values c.run_from.new.stacks.values c.errors.invariant.kept c.in-Ok.ensures.keeps) c.in-Ok-mended.ensures.keeps

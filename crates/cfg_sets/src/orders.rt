@@ -2,7 +2,7 @@
 //! of the rules that they name, unless names lead around in a cycle.
 
 ghost use Rattle.std.specs.Prelude.{◌≡◌, ◌<◌, [], ◌∷◌, ◌++◌, IfOk, OnOk, MatchOption, length, get_or};
-ghost use Rattle.cfg_sets.specs.Orders.{IsOrder};
+ghost use Rattle.cfg_sets.specs.Orders.{IsOrder, stops_below};
 
 use crate::work_list::WorkList;
 use cfg_base::index::IndexStorage;
@@ -101,8 +101,10 @@ fn go_on<S: IndexStorage>(
     push_all_named(grm, rule, stack)
 }
 
-/// Puts all rules on the stack, the first on top.
-pub fn push_rules(rules: usize, stack: &mut Vec<Stop>) -> Result<(), AllocError> {
+/// Puts the rules below a number on the stack, the first on top.
+pub fn push_rules(rules: usize, stack: &mut Vec<Stop>) -> Result<(), AllocError>
+    ensures { OnOk result (stack.new.items ≡ stack.old.items ++ stops_below rules) }
+{
     'rules: for number in 0..rules {
         let rule = rules - 1 - number;
         let is_behind = false;

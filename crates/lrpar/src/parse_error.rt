@@ -1,7 +1,9 @@
 //! Errors of lexing and of parsing.
 
-ghost use Rattle.std.specs.Prelude.{◌≡◌, ℕ, List, IfOk, string_bytes};
+ghost use Rattle.std.specs.Prelude.{◌≡◌, ◌&&◌, ℕ, List, IfOk, map, string_bytes};
+ghost use Rattle.std.specs.Cmp.Lexicographic.{pointwise};
 ghost use Rattle.parse_trees.specs.ErrorTexts.{AnswersNames};
+ghost use Rattle.parse_trees.specs.RepairParts.{repair_eq};
 ghost use Rattle.lrpar.specs.ErrorTexts.{ErrorFits, error_text};
 ghost use Rattle.lrpar.specs.declared.parse_error.LexParseError.TheVariants as errors;
 
@@ -9,12 +11,13 @@ use cfg_base::index::IndexStorage;
 use cfg_base::symbol::TIdx;
 use parse_trees::error_texts::{lexing_text, parsing_text};
 use parse_trees::lex_api::{LexError, Lexeme, LexerTypes, NonStreamingLexer};
-use parse_trees::parse_repair::ParseRepair;
+use parse_trees::parse_repair::{ParseRepair, repair_is_its_kind_and_part};
 use state_table::StIdx;
 use std::alloc::{AllocError, Global};
 use std::error::Error;
 use std::fmt;
 use std::fmt::{Debug, Display, Formatter, Write};
+use std::hash::Hash;
 
 /// An error of a parse.
 #[derive(Clone, Debug, Drop, PartialEq)]
@@ -25,6 +28,18 @@ pub struct ParseError<L, S> {
     pub lexeme: L,
     /// The sequences of repairs that can be taken there, in the order in which they were passed.
     pub repairs: Vec<Vec<ParseRepair<L, S>>>,
+}
+
+/// Proves that errors are equal where their states, their lexemes and all their repairs are, and that a clone has the parts of
+/// the error that was cloned, where that holds for clones of lexemes and numbers.
+pub fn error_is_its_parts<L: Clone + Eq + Hash, S: Clone + Eq + Hash>()
+    ensures equal { (a b : ParseError L S) → ⟦<ParseError<L, S> as PartialEq>⟧.eq a b ≡
+        (S.eq a.stidx.0 b.stidx.0 && (L.eq a.lexeme b.lexeme && pointwise (λ r s. pointwise (repair_eq L.eq S.eq) r.items s.items) a.repairs.items b.repairs.items)) }
+    ensures clone { ((x y : L) → L.is_clone x y → y ≡ x) → ((x y : S) → S.is_clone x y → y ≡ x) →
+        (a b : ParseError L S) → ⟦<ParseError<L, S> as Clone>⟧.is_clone a b →
+        (b.stidx ≡ a.stidx) × (b.lexeme ≡ a.lexeme) × (map (λ r. r.items) b.repairs.items ≡ map (λ r. r.items) a.repairs.items) }
+{
+    repair_is_its_kind_and_part::<L, S>();
 }
 
 impl<L: Copy, S: Copy> ParseError<L, S> {

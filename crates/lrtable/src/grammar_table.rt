@@ -1,6 +1,6 @@
 //! The graph and the table of a grammar.
 
-ghost use Rattle.std.specs.Prelude.{◌≡◌, ◌↔◌, ℕ, List, IfOk, IfErr, IfSome, IsSome, OnOk};
+ghost use Rattle.std.specs.Prelude.{◌≡◌, ◌↔◌, ℕ, true, List, IfOk, IfErr, IfSome, IsSome, OnOk};
 ghost use Rattle.cfg_theory.specs.Grammar.{Sym};
 ghost use Rattle.lr_theory.specs.Canonical.{Contest, Look, Present, accept, reduce};
 ghost use Rattle.lr_theory.specs.GraphLaws.{Holds};
@@ -32,6 +32,12 @@ pub enum Minimiser {
     /// Item sets of one core are one state where they are weakly compatible (Pager 1977).
     Pager,
 }
+
+/// Proves that two minimisers are equal if and only if they are one value, and that a clone is the one that was cloned.
+pub fn minimiser_is_its_value()
+    ensures equal { (a b : Minimiser) → (⟦<Minimiser as PartialEq>⟧.eq a b ≡ true) ↔ (a ≡ b) }
+    ensures clone { (a b : Minimiser) → ⟦<Minimiser as Clone>⟧.is_clone a b → b ≡ a }
+{}
 
 /// Why a grammar has no graph and table: refused memory aside, the first of these that holds. It prints the text of
 /// the error within, or else its variant's name.

@@ -13,3 +13,4 @@ pub mod NodeLists
 pub mod FlatLines
 pub mod NodeValues
 pub mod ErrorTexts
+pub mod RepairParts

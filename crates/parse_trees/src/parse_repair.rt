@@ -1,13 +1,15 @@
 //! Repairs: steps as they are passed, and as they are reported, with the lexemes that they delete or shift.
 
-ghost use Rattle.std.specs.Prelude.{◌≡◌, ◌<◌, Some, length, slice_get, drop, map, IfOk};
+ghost use Rattle.std.specs.Prelude.{◌≡◌, ◌<◌, true, Some, length, slice_get, drop, map, IfOk};
 ghost use Rattle.parse_trees.specs.Edits.{edit_of, edits_of, sequences_of};
+ghost use Rattle.parse_trees.specs.RepairParts.{repair_eq};
 ghost use Rattle.parse_trees.specs.Shown.{shown, shown_of, shown_lists, ShowsStep};
 
 use crate::lexeme_list::LexemeList;
 use cfg_base::index::IndexStorage;
 use cfg_base::symbol::TIdx;
 use std::alloc::{AllocError, Global};
+use std::hash::Hash;
 
 /// A step of a repair, as a recoverer returns it.
 #[derive(Clone, Copy, Debug, PartialEq, Eq)]
@@ -30,6 +32,16 @@ pub enum ParseRepair<L, S> {
     /// Shifts the lexeme.
     Shift(L),
 }
+
+/// Proves that repairs are equal where they are of one kind and their tokens or lexemes are equal, that equal repairs
+/// have equal hashes, and that a clone is the repair that was cloned, where that holds for clones of its parts.
+pub fn repair_is_its_kind_and_part<L: Clone + Eq + Hash, S: Clone + Eq + Hash>()
+    ensures equal { (a b : ParseRepair L S) → ⟦<ParseRepair<L, S> as PartialEq>⟧.eq a b ≡ repair_eq L.eq S.eq a b }
+    ensures hash { (a b : ParseRepair L S) → repair_eq L.eq S.eq a b ≡ true →
+        ⟦<ParseRepair<L, S> as Hash>⟧.hash_input a ≡ ⟦<ParseRepair<L, S> as Hash>⟧.hash_input b }
+    ensures clone { ((x y : L) → L.is_clone x y → y ≡ x) → ((x y : S) → S.is_clone x y → y ≡ x) →
+        (a b : ParseRepair L S) → ⟦<ParseRepair<L, S> as Clone>⟧.is_clone a b → b ≡ a }
+{}
 
 /// Returns the step at an index.
 pub fn step_at<S: IndexStorage>(steps: &[RepairStep<S>], number: usize) -> RepairStep<S>

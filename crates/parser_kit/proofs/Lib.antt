@@ -1,5 +1,8 @@
 pub mod KitParses
 mod ParsedAlike
+mod SeenRuns
+mod SeenParses
+mod SeenAlike
 pub mod Kits
 pub mod Tabled
 mod Searches

@@ -83,7 +83,7 @@ module _ {L V : Type 0} (law : ParsesAreOne L V) (lex : L → Lex) (faulty : ℕ
   Parsed G a tree lexemes errors = IsParsed G a (token_by lex) (made_by faulty lex (end_of lex lexemes)) Listed (λ t. t ≡ tree) lexemes errors
 
   -- of the same lexemes
-  same_parsed : (G : Grammar) (a : Automaton) (xs ys : List L) (tree other : Option (Tree L)) (errors others : List (ErrorValue L)) → xs ≡ ys → Parsed G a tree xs errors → Parsed G a other ys others → (errors ≡ others) × (tree ≡ other)
+  pub same_parsed : (G : Grammar) (a : Automaton) (xs ys : List L) (tree other : Option (Tree L)) (errors others : List (ErrorValue L)) → xs ≡ ys → Parsed G a tree xs errors → Parsed G a other ys others → (errors ≡ others) × (tree ≡ other)
   same_parsed G a xs ys tree other errors others same p =
       let P : List L → Type 0 = λ l. Parsed G a other l others → (errors ≡ others) × (tree ≡ other) in
       let tok = token_by lex in

@@ -2,6 +2,7 @@ pub mod Productive
 pub mod Searching
 pub mod Tabled
 pub mod KitParses
+pub mod SeenLexemes
 pub mod Kit
 pub mod KitErrors
 pub mod TextKinds

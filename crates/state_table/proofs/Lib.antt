@@ -39,3 +39,4 @@ pub mod LoneRows
 pub mod BlankCells
 pub mod SpreadSteps
 pub mod OwnSets
+pub mod BitCounts

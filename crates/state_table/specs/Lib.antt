@@ -24,3 +24,4 @@ pub mod ItemWalks
 pub mod Marks
 pub mod SpreadRows
 pub mod OwnSets
+pub mod ActionParts

@@ -4,13 +4,14 @@
 ghost use Rattle.std.specs.Prelude.{Bool, IsTrue, ◌↔◌, List, ◌∷◌, [], cond, Option, ◌≡◌, ◌<◌, ◌++◌, ℕ, length, Some, None, IfSome, MatchOption, OnOk, option_map};
 ghost use Rattle.lr_theory.specs.Automaton.{reduce};
 ghost use Rattle.table_theory.specs.Cells.{shifts_at, unsettled_entry, shift_or_reduce, cell_by, ShiftReduce};
+ghost use Rattle.state_table.specs.ActionParts.{action_eq};
 ghost use Rattle.state_table.specs.CellRows.{OfToken, OfProduction, first_of, cell_from, shifts_from, filled};
 ghost use Rattle.state_table.specs.SparseRows.{or_error};
 ghost use Rattle.state_table.specs.CellViews.{action_of, cells_of, precedence_of, precedences_of, production_of, state_of, shifts_of};
 
 use crate::rows::row_number;
 use crate::stidx::StIdx;
-use cfg_base::index::IndexStorage;
+use cfg_base::index::{IndexOrder, IndexStorage};
 use cfg_base::precedence::{AssocKind, Precedence};
 use cfg_base::symbol::{PIdx, TIdx};
 use cfg_numbered::yacc::NumberedGrammar;
@@ -28,6 +29,13 @@ pub enum Action<S> {
     /// The token is an error here.
     Error,
 }
+
+/// Proves that actions are equal where their kinds and their numbers are, and that a clone is the action that was cloned,
+/// where that holds for clones of a number.
+pub fn action_is_its_kind_and_number<S: IndexOrder>()
+    ensures equal { (a b : Action S) → ⟦<Action<S> as PartialEq>⟧.eq a b ≡ action_eq S.number a b }
+    ensures clone { ((x y : S) → S.is_clone x y → y ≡ x) → (a b : Action S) → ⟦<Action<S> as Clone>⟧.is_clone a b → b ≡ a }
+{}
 
 /// Returns a shift against a reduction, by the token's precedence and the production's.
 fn settle<S: IndexStorage>(

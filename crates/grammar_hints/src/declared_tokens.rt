@@ -1,7 +1,7 @@
 //! What of the tokens that `%token` declares means something else than it seems to.
 
-ghost use Rattle.std.specs.Prelude.{IfOk};
-ghost use Rattle.grammar_hints.specs.Within.{IsWithin};
+ghost use Rattle.std.specs.Prelude.{IfOk, OnOk};
+ghost use Rattle.grammar_hints.specs.Within.{IsWithin, AreWithin};
 
 use crate::hint::Hint;
 use cfg_base::span::Span;
@@ -138,7 +138,10 @@ fn push_aliases(
     text: &str,
     declared: &[Declared<'_>],
     warnings: &mut Vec<Hint>,
-) -> Result<(), AllocError> {
+) -> Result<(), AllocError>
+    requires within { AreWithin text.now warnings.old.items }
+    ensures within { OnOk result (AreWithin text.now warnings.new.items) }
+{
     'tokens: for index in 1..declared.len() {
         let (name, quoted) = (declared[index - 1], declared[index]);
         let between = text.get(name.end..quoted.offset).unwrap_or("\n");
@@ -177,7 +180,10 @@ fn push_repeated(
     text: &str,
     declared: &mut Vec<Declared<'_>>,
     warnings: &mut Vec<Hint>,
-) -> Result<(), AllocError> {
+) -> Result<(), AllocError>
+    requires within { AreWithin text.now warnings.old.items }
+    ensures within { OnOk result (AreWithin text.now warnings.new.items) }
+{
     let repeated = repeated_tokens(alloc, declared)?;
     'tokens: for index in 0..repeated.len() {
         let (_, token) = repeated[index];
@@ -191,7 +197,9 @@ fn push_repeated(
 /// Returns warnings of the tokens that a text declares: a text in double quotes behind a name, which other tools take for another
 /// spelling of it and which is a second token here, and a token that is declared twice. Each has its place, in the order of the
 /// text for either kind.
-pub fn token_warnings(alloc: Global, text: &str) -> Result<Vec<Hint>, AllocError> {
+pub fn token_warnings(alloc: Global, text: &str) -> Result<Vec<Hint>, AllocError>
+    ensures within { IfOk result (λ hints. AreWithin text.now hints.items) }
+{
     let mut warnings = Vec::new(alloc);
     let mut declared = declared_tokens(alloc, text)?;
     push_aliases(alloc, text, declared.as_slice(), &mut warnings)?;

@@ -13,7 +13,7 @@ const DECLARATIONS: &[(&str, &str)] = &[
     ("\u{feff}", "a byte order mark: save the file without it"),
     (
         "%{",
-        "no code stands before the rules: leave `%{ .. %}` out",
+        "no code stands before the rules: leave `%{ .. %}` out; `lrkit-import` makes a grammar of a Bison file",
     ),
     (
         "%union",

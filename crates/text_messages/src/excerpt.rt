@@ -1,6 +1,6 @@
 //! A line of a text with a part of it underlined.
 
-ghost use Rattle.std.specs.Prelude.{◌≤◌, length};
+ghost use Rattle.std.specs.Prelude.{◌≡◌, ◌≤◌, length, slice_range, IsCharBoundary};
 
 use crate::source::Source;
 use cfg_base::span::Span;
@@ -17,10 +17,15 @@ const COLUMNS_BEFORE: usize = 60;
 const NUMBER_COLUMNS: usize = 5;
 
 /// Returns the part of a text between two offsets, each moved to the first byte of the character that it lies in.
-pub fn part(text: &str, from: usize, to: usize) -> &str {
+pub fn part(text: &str, from: usize, to: usize) -> &str
+    ensures { IsCharBoundary text.now from → IsCharBoundary text.now to → from ≤ to → result.now ≡ slice_range text.now from to }
+{
     let first = text.floor_char_boundary(from);
     let last = text.floor_char_boundary(to);
-    text.get(first..last).unwrap_or("")
+    match text.get(first..last) {
+        Some(part) => part,
+        None => "",
+    }
 }
 
 /// Adds a text so many times.
@@ -128,28 +133,39 @@ fn push_line(
     text.push_str(if last < line.len() { "...\n" } else { "\n" })
 }
 
-/// Adds what stands below a line of which a part is underlined.
-fn push_below_line(
+/// Adds what is below a line before the offset from which it is underlined.
+fn push_blank(
     alloc: Global,
     text: &mut String,
     number: &str,
     line: &str,
     shown: (usize, usize),
-    marked: (usize, usize),
+    from: usize,
 ) -> Result<(), AllocError> {
     let (first, last) = shown;
-    let from = marked.0.max(first).min(last);
-    let to = marked.1.max(from).min(last);
     push_repeated(alloc, text, " ", NUMBER_COLUMNS.max(number.len()))?;
     text.push_str(" | ")?;
     text.push_str(if first > 0 { "   " } else { "" })?;
-    push_below(alloc, text, part(line, first, from), " ")?;
-    push_underline(alloc, text, part(line, from, to))?;
-    text.push('\n')
+    push_below(alloc, text, part(line, first, from.min(last)), " ")
+}
+
+/// Adds the underline of a part of a line, in green if messages are in color.
+fn push_colored(
+    alloc: Global,
+    text: &mut String,
+    in_color: bool,
+    marked: &str,
+) -> Result<(), AllocError> {
+    if !in_color {
+        return push_underline(alloc, text, marked);
+    }
+    text.push_str("\u{1b}[1;32m")?;
+    push_underline(alloc, text, marked)?;
+    text.push_str("\u{1b}[0m")
 }
 
 /// Adds the line that a span begins on, with its number, and below it the part of the span on it underlined.
-pub(crate) fn push_excerpt(
+fn push_excerpt(
     alloc: Global,
     text: &mut String,
     source: &Source<'_>,
@@ -164,5 +180,20 @@ pub(crate) fn push_excerpt(
     let (number, _) = source.place(span);
     let number = format!(in alloc; "{number}")?;
     push_line(alloc, text, number.as_str(), line, shown)?;
-    push_below_line(alloc, text, number.as_str(), line, shown, (from, to))
+    push_blank(alloc, text, number.as_str(), line, shown, from)?;
+    let (_, last) = shown;
+    let marked = part(line, from.min(last), to.min(last));
+    push_colored(alloc, text, source.in_color(), marked)?;
+    text.push('\n')
+}
+
+/// Returns the line that a span begins on, with its number, and below it the part of the span on it underlined.
+pub(crate) fn excerpt(
+    alloc: Global,
+    source: &Source<'_>,
+    span: Span,
+) -> Result<String, AllocError> {
+    let mut text = String::new(alloc);
+    push_excerpt(alloc, &mut text, source, span)?;
+    Ok(text)
 }

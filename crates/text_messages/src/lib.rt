@@ -32,4 +32,4 @@ mod excerpt;
 mod source;
 
 pub use excerpt::part;
-pub use source::{Severity, Source};
+pub use source::{Message, Position, Severity, Source};

@@ -1,11 +1,11 @@
 //! A text with its path, and messages about places in it.
 
-ghost use Rattle.std.specs.Prelude.{◌≡◌, ◌≤◌, ◌++◌, length, IfOk, OnOk};
+ghost use Rattle.std.specs.Prelude.{◌≡◌, ◌≤◌, false, [], ◌∷◌, ◌++◌, length, min, IfOk, OnOk};
 ghost use Rattle.std.specs.String.{string_bytes};
 ghost use Rattle.cfg_base.specs.Newlines.{newlines_of, line_start};
-ghost use Rattle.text_messages.specs.Places.{within, place_of, place_text, severity_text, heading, heading_without_place};
+ghost use Rattle.text_messages.specs.Places.{within, place_of, place_text, severity_text, colored_severity_text, word_text, heading, heading_without_place, heading_if, BeginsWith};
 
-use crate::excerpt::push_excerpt;
+use crate::excerpt::{excerpt, part};
 use cfg_base::newlinecache::NewlineCache;
 use cfg_base::span::Span;
 use std::alloc::{AllocError, Global};
@@ -24,7 +24,7 @@ pub enum Severity {
 
 impl Severity {
     /// Returns the word that a message begins with behind its place.
-    fn word(self) -> &'static str
+    pub fn word(self) -> &'static str
         ensures { result.now ≡ severity_text self }
     {
         match self {
@@ -33,14 +33,80 @@ impl Severity {
             Severity::Note => "note",
         }
     }
+
+    /// Returns that word in the color of its severity: red, magenta or cyan, and bold.
+    fn colored_word(self) -> &'static str
+        ensures { result.now ≡ colored_severity_text self }
+    {
+        match self {
+            Severity::Error => "\u{1b}[1;31merror\u{1b}[0m",
+            Severity::Warning => "\u{1b}[1;35mwarning\u{1b}[0m",
+            Severity::Note => "\u{1b}[1;36mnote\u{1b}[0m",
+        }
+    }
 }
 
-/// A text, and the path that its places are told with. Contracts see these two.
+/// A place in a text. Lines and columns count from 1.
+#[derive(Clone, Copy, Debug, PartialEq, Eq)]
+pub struct Position {
+    /// The offset in bytes, from 0.
+    pub byte: usize,
+    /// The line.
+    pub line: usize,
+    /// The column in characters.
+    pub column: usize,
+    /// The column in units of UTF-16, of which a character past U+FFFF has two.
+    pub utf16_column: usize,
+}
+
+/// A message about a text.
+#[derive(Debug, Drop)]
+pub struct Message {
+    /// How grave it is.
+    pub severity: Severity,
+    /// Its place, if it has one.
+    pub span: Option<Span>,
+    /// What it says, without an end of a line.
+    pub words: String,
+    /// What may help, in a line below.
+    pub help: Option<String>,
+    /// Lines that show it, below all else, each with its LF.
+    pub example: Option<String>,
+}
+
+impl Message {
+    /// Makes a message without help.
+    pub fn new(severity: Severity, span: Option<Span>, words: String) -> Message
+        ensures severity { result.severity ≡ severity }
+        ensures span { result.span ≡ span }
+        ensures words { result.words ≡ words }
+    {
+        let (help, example) = (None, None);
+        Message {
+            severity,
+            span,
+            words,
+            help,
+            example,
+        }
+    }
+
+    /// Adds the message to others.
+    pub fn push_to(self, messages: &mut Vec<Message>) -> Result<(), AllocError>
+        ensures { OnOk result (messages.new.items ≡ messages.old.items ++ self ∷ []) }
+    {
+        messages.push(self)?;
+        Ok(())
+    }
+}
+
+/// A text, and the path that its places are shown with. Contracts see these two, and whether messages are in color.
 #[derive(Drop)]
 pub struct Source<'a> {
     text: &'a str,
     path: &'a str,
     newlines: NewlineCache,
+    color: bool,
 }
 
 impl<'a> Model for Source<'a> {
@@ -50,22 +116,39 @@ impl<'a> Model for Source<'a> {
 
     ghost Value = { SourceValue };
 
-    ghost view = { λ s. record { text = s.text.now; path = s.path.now } };
+    ghost view = { λ s. record { text = s.text.now; path = s.path.now; color = s.color } };
 
     ghost invariant = { λ s. s.newlines ≡ newlines_of s.text.now };
 }
 
 impl<'a> Source<'a> {
-    /// Makes the source of a text, which is read once for its lines.
+    /// Makes the source of a text, which is read once for its lines. Its messages are plain.
     pub fn new(alloc: Global, text: &'a str, path: &'a str) -> Result<Source<'a>, AllocError>
-        ensures { IfOk result (λ s. s ≡ record { text = text.entry.now; path = path.entry.now }) }
+        ensures { IfOk result (λ s. s ≡ record { text = text.entry.now; path = path.entry.now; color = false }) }
     {
         let newlines = NewlineCache::from_str(alloc, text)?;
+        let color = false;
         Ok(Source {
             text,
             path,
             newlines,
+            color,
         })
+    }
+
+    /// Returns the source with messages in the colors of a terminal, or plain.
+    pub fn with_color(mut self, color: bool) -> Source<'a>
+        ensures { result ≡ record self.entry { color = color } }
+    {
+        self.color = color;
+        self
+    }
+
+    /// Returns whether messages are in color.
+    pub fn in_color(&self) -> bool
+        ensures { result ≡ self.now.color }
+    {
+        self.color
     }
 
     /// Returns the text.
@@ -102,6 +185,36 @@ impl<'a> Source<'a> {
         first
     }
 
+    /// Returns the place of an offset. One past the text's end counts as the end, and one inside a character has the columns
+    /// of that character.
+    pub fn position(&self, offset: usize) -> Position
+        ensures byte { result.byte ≡ min offset (length self.now.text) }
+        ensures line { result.line ≡ (place_of self.now.text (record { start = offset; end = offset })).0 }
+        ensures column { result.column ≡ (place_of self.now.text (record { start = offset; end = offset })).1 }
+    {
+        let span = Span::new(offset, offset);
+        let byte = self.within(span).start();
+        let (line, column) = self.place(span);
+        let ahead = part(self.text, self.line_start(span), byte);
+        Position {
+            byte,
+            line,
+            column,
+            utf16_column: column.saturating_add(wide_len(ahead)),
+        }
+    }
+
+    /// Returns the word of a severity, in color if messages are.
+    fn word(&self, severity: Severity) -> &'static str
+        ensures { result.now ≡ word_text self.now.color severity }
+    {
+        if self.color {
+            severity.colored_word()
+        } else {
+            severity.word()
+        }
+    }
+
     /// Returns where a span begins: `PATH:LINE:COLUMN`.
     fn place_text(&self, alloc: Global, span: Span) -> Result<String, AllocError>
         ensures { IfOk result (λ text. string_bytes text ≡ place_text self.now span) }
@@ -123,7 +236,7 @@ impl<'a> Source<'a> {
         ensures { IfOk result (λ text. string_bytes text ≡ heading self.now severity span message.now) }
     {
         let place = self.place_text(alloc, span)?;
-        let word = severity.word();
+        let word = self.word(severity);
         let text = format!(in alloc; "{place}: {word}: {message}\n")?;
         Ok(text)
     }
@@ -154,12 +267,12 @@ impl<'a> Source<'a> {
         ensures { OnOk result (string_bytes text.new ≡ string_bytes text.old ++ heading_without_place self.now severity message.now) }
     {
         let path = self.path;
-        let word = severity.word();
+        let word = self.word(severity);
         let told = format!(in alloc; "{path}: {word}: {message}\n")?;
         text.push_str(told.as_str())
     }
 
-    /// Adds a message: the line that tells its place, and below it the line of the text that the span begins on, with the
+    /// Adds a message: the line that shows its place, and below it the line of the text that the span begins on, with the
     /// span underlined.
     pub fn push_message(
         &self,
@@ -168,9 +281,12 @@ impl<'a> Source<'a> {
         severity: Severity,
         span: Span,
         message: &str,
-    ) -> Result<(), AllocError> {
+    ) -> Result<(), AllocError>
+        ensures heading { OnOk result (BeginsWith (string_bytes text.old ++ heading self.now severity span message.now) (string_bytes text.new)) }
+    {
+        let excerpt = excerpt(alloc, self, span)?;
         self.push_heading(alloc, text, severity, span, message)?;
-        push_excerpt(alloc, text, self, span)
+        text.push_str(excerpt.as_str())
     }
 
     /// Adds a message with a place, where it has one.
@@ -181,10 +297,65 @@ impl<'a> Source<'a> {
         severity: Severity,
         span: Option<Span>,
         message: &str,
-    ) -> Result<(), AllocError> {
+    ) -> Result<(), AllocError>
+        ensures heading { OnOk result (BeginsWith (string_bytes text.old ++ heading_if self.now severity span message.now) (string_bytes text.new)) }
+    {
         match span {
             Some(span) => self.push_message(alloc, text, severity, span, message),
             None => self.push_unplaced(alloc, text, severity, message),
         }
     }
+
+    /// Adds a message with what may help and what shows it.
+    pub fn push(
+        &self,
+        alloc: Global,
+        text: &mut String,
+        message: &Message,
+    ) -> Result<(), AllocError>
+        ensures heading { OnOk result (BeginsWith (string_bytes text.old ++ heading_if self.now message.now.severity message.now.span (string_bytes message.now.words)) (string_bytes text.new)) }
+    {
+        let below = below_of(alloc, message)?;
+        let words = message.words.as_str();
+        self.push_message_if(alloc, text, message.severity, message.span, words)?;
+        text.push_str(below.as_str())
+    }
+
+    /// Adds messages, one behind the other.
+    pub fn push_all(
+        &self,
+        alloc: Global,
+        text: &mut String,
+        messages: &[Message],
+    ) -> Result<(), AllocError> {
+        'messages: for message in messages {
+            self.push(alloc, text, message)?;
+        }
+        Ok(())
+    }
+}
+
+/// Returns how many of the characters of a text take two units of UTF-16.
+fn wide_len(text: &str) -> usize {
+    let mut count: usize = 0;
+    'bytes: for byte in text.as_bytes() {
+        if *byte >= 0xf0 {
+            count = count.saturating_add(1);
+        }
+    }
+    count
+}
+
+/// Returns the lines below a message: its help, and what shows it.
+fn below_of(alloc: Global, message: &Message) -> Result<String, AllocError> {
+    let mut below = String::new(alloc);
+    if let Some(help) = &message.help {
+        below.push_str("      = help: ")?;
+        below.push_str(help.as_str())?;
+        below.push('\n')?;
+    }
+    if let Some(example) = &message.example {
+        below.push_str(example.as_str())?;
+    }
+    Ok(below)
 }

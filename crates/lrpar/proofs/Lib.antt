@@ -43,3 +43,4 @@ pub mod Prefixes
 pub mod FullSteps
 pub mod NodesLeft
 pub mod FlatsLeft
+pub mod LineCuts

@@ -24,3 +24,4 @@ pub mod NextStates
 pub mod Branching
 pub mod Prefixes
 pub mod FullTables
+pub mod Lexers

@@ -19,7 +19,7 @@
 //!
 //! Without repairs it returns 0 or 1: a parse stops at its first error. `parser.recoverer(&offers)` has a parser with
 //! repairs. `parse_generictree`, `parse_map`, `parse_actions`, `parse_fold` and `parse_flat` make values in place of
-//! `parse_noaction`. Module `editor` of `crates/examples` has a lexer and a recoverer.
+//! `parse_noaction`. Modules `calc` and `editor` of `crates/examples` have lexers and a recoverer.
 //!
 //! `ParserData` holds a grammar, a graph and a table that were checked against it, so no call on it requires more.
 //! Its `next_tokens` returns the tokens that may come after some lexemes, such as those before an error. A parser
@@ -30,6 +30,9 @@
 //! those of `builder::RTParserBuilder`, by `specs/Parses` (`IsParse`: the result of a parse, and what follows from
 //! it).
 //!
+//! A caller's lexer is a function that makes a list of `DefaultLexeme` and `LRLexError`: `ListLexer` is the lexer of
+//! that list, and `TextLexer` that of the list and its text.
+//!
 //! Lexemes, trees, the stacks of values and the texts of errors are those of `parse_trees`, whose modules `flat`,
 //! `lex_api`, `node` and `parse_repair` are exported here.
 #![tactic(auto)]
@@ -38,11 +41,13 @@ mod apply;
 mod branches;
 pub mod builder;
 mod chains;
+pub mod default_lexeme;
 mod flat_parse;
 pub mod folded_parse;
 mod full_table;
 mod handed_out;
 pub mod laws;
+pub mod list_lexer;
 mod next_tokens;
 mod numbers;
 mod overlay;
@@ -52,7 +57,7 @@ pub mod parse_error;
 mod parse_generictree;
 mod parse_map;
 mod parse_noaction;
-mod parser;
+pub mod parser;
 pub mod parserdata;
 pub mod prefix;
 pub mod recoverer;
@@ -64,7 +69,9 @@ mod shorts;
 mod stacks;
 
 pub use builder::RTParserBuilder;
+pub use default_lexeme::{DefaultLexeme, DefaultLexerTypes, LRLexError};
 pub use folded_parse::FoldedOutcome;
+pub use list_lexer::{ListLexer, TextLexer};
 pub use parse_actions::{AStackType, Actions, GenericTreeActions};
 pub use parse_error::{LexParseError, ParseError};
 pub use parse_trees::flat::FlatTree;
@@ -73,6 +80,6 @@ pub use parse_trees::lexemes::ParseRefusal;
 pub use parse_trees::node::Node;
 pub use parse_trees::parse_repair::ParseRepair;
 pub use parse_trees::{flat, lex_api, node, parse_repair};
-pub use parserdata::{ParserData, ParserDataError};
+pub use parserdata::{Cell, ParserData, ParserDataError, Parts};
 pub use prefix::Prefix;
 pub use recoverer::{NoRecovery, Recoverer, RepairStep};

@@ -1,4 +1,4 @@
-//! Parsers over checked data.
+//! Parsers over checked data, and what the Rust crate's module of this name has.
 
 ghost use Rattle.std.specs.Prelude.{◌≡◌, ◌<◌, ℕ, [], IfOk, IfErr};
 ghost use Rattle.lr_theory.specs.Automaton.{Safe};
@@ -9,14 +9,19 @@ ghost use Rattle.lrpar.specs.Reducing.{IsTableFor};
 ghost use Rattle.parse_trees.specs.Refusals.{IsParseRefusal};
 ghost use Rattle.lrpar.specs.Outcomes.{IsOutcome, OutcomeKeeps};
 
+pub use crate::builder::RTParserBuilder;
 use crate::full_table::FullTable;
 use crate::parse::{Parsed, parse_lexemes};
+pub use crate::parse_actions::AStackType;
+pub use crate::parse_error::{LexParseError, ParseError};
 use crate::recoverer::Recoverer;
 use cfg_base::index::IndexStorage;
 use cfg_numbered::yacc::grammar::NumberedGrammar;
 use parse_trees::lex_api::Lexeme;
 use parse_trees::lexeme_list::LexemeList;
 use parse_trees::lexemes::{ParseRefusal, admit};
+pub use parse_trees::node::Node;
+pub use parse_trees::parse_repair::ParseRepair;
 use parse_trees::values::ValueStack;
 use std::alloc::Global;
 

@@ -37,4 +37,4 @@ pub mod yacc;
 pub use cfg_base::newlinecache::NewlineCache;
 pub use cfg_base::span::{Location, Span, Spanned};
 pub use cfg_base::symbol::{PIdx, RIdx, SIdx, Symbol, TIdx};
-pub use cfg_base::{header, index, markmap, newlinecache, span, symbol};
+pub use cfg_base::{header, index, markmap, newlinecache, precedence, span, steps, symbol};

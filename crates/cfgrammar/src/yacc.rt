@@ -6,8 +6,8 @@ pub mod grammar;
 pub use cfg_base::span::SpansKind;
 pub use cfg_numbered::yacc::NumberedGrammar;
 pub use cfg_read::yacc::{
-    ASTModificationError, ASTWithValidityInfo, AssocKind, KindError, Precedence, PrecedenceLevel,
-    YaccGrammarError, YaccGrammarErrorKind, YaccGrammarFailure, YaccGrammarResult,
+    ASTModificationError, ASTWithValidityInfo, AssocKind, KindError, Name, Precedence,
+    PrecedenceLevel, YaccGrammarError, YaccGrammarErrorKind, YaccGrammarFailure, YaccGrammarResult,
     YaccGrammarWarning, YaccGrammarWarningKind, YaccKind, YaccOriginalActionKind, ast, parser,
     validity,
 };

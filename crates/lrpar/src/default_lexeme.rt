@@ -18,8 +18,6 @@
 //!     Ok(ListLexer::new(items))
 //! }
 //! ```
-//!
-//! Module `calc` of `crates/examples` parses the list of such a function.
 
 use cfg_base::index::{IndexOrder, IndexStorage};
 use cfg_base::span::Span;

@@ -18,7 +18,8 @@ ghost use Rattle.state_table.specs.Tables.{HasFullRows, IsTableOf, IsTableRefusa
 ghost use Rattle.state_table.specs.declared.statetable.StateTableNewError.TheVariants as faults;
 
 use crate::cells::{Action, cell_or_error, reduced_by, reduces_by};
-use crate::conflicts::{Conflicts, of_lists};
+pub use crate::conflicts::Conflicts;
+use crate::conflicts::of_lists;
 use crate::graph_rows::{has_room, rows_of_graph};
 use crate::rows::look_up;
 use crate::spreads::{spread_at, spread_rows};

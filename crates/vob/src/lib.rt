@@ -43,7 +43,11 @@ mod shift;
 mod traits;
 pub mod word;
 
-use crate::word::Word;
+pub use crate::block::Block;
+pub use crate::error::VobError;
+pub use crate::iter::{Iter, IterSetBits, IterUnsetBits, StorageIter};
+pub use crate::raw::{RawVob, VobRecord};
+pub use crate::word::Word;
 use std::alloc::{AllocError, Global};
 use std::marker::Model;
 

@@ -6,8 +6,6 @@ mod chains;
 #[cfg(test)]
 mod foreign;
 #[cfg(test)]
-mod lexeme;
-#[cfg(test)]
 mod make;
 #[cfg(test)]
 mod next;

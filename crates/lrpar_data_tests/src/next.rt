@@ -1,11 +1,10 @@
 //! The tokens that may come next.
 
-use crate::lexeme::RowLexeme;
 use crate::make::judged;
 use crate::same::same;
 use cfg_base::index::{IndexOrder, IndexStorage};
 use cfg_numbered::yacc::grammar::NumberedGrammar;
-use lrpar::{Lexeme, ParserData, ParserDataError};
+use lrpar::{DefaultLexeme, Lexeme, ParserData, ParserDataError};
 use std::alloc::{AllocError, Global};
 use std::test::*;
 use vob::Vob;
@@ -15,14 +14,14 @@ fn lexemes_of<S: IndexOrder>(
     alloc: Global,
     grm: &NumberedGrammar<S>,
     names: &[&str],
-) -> Result<Vec<RowLexeme<S>>, AllocError> {
+) -> Result<Vec<DefaultLexeme<S>>, AllocError> {
     let mut lexemes = Vec::new(alloc);
     for index in 0..names.len() {
         let tidx = match grm.token_idx(names[index]) {
             Some(tidx) => tidx,
             None => grm.eof_token_idx(),
         };
-        lexemes.push(RowLexeme::new(tidx.0, 0, 0))?;
+        lexemes.push(DefaultLexeme::new(tidx.0, 0, 0))?;
     }
     Ok(lexemes)
 }

@@ -1,19 +1,21 @@
 //! Trees as lists of nodes.
 
-use crate::lexer::{RowLexeme, RowTypes, lexer_of};
+use crate::lexer::lexer_of;
 use crate::make::data;
 use crate::same::same;
 use crate::spell::leaf;
 use cfg_base::index::{IndexOrder, IndexStorage};
 use lrpar::flat::FlatNode;
-use lrpar::{FlatTree, ParseRefusal, ParserData, RTParserBuilder};
+use lrpar::{
+    DefaultLexeme, DefaultLexerTypes, FlatTree, ParseRefusal, ParserData, RTParserBuilder,
+};
 use std::alloc::{AllocError, Global};
 use std::test::*;
 
 /// A lexeme, or a production with its span and the number of nodes below it.
 fn node_text<S: IndexStorage>(
     alloc: Global,
-    node: FlatNode<S, RowLexeme<S>>,
+    node: FlatNode<S, DefaultLexeme<S>>,
 ) -> Result<String, AllocError> {
     match node {
         FlatNode::Term { lexeme } => leaf(alloc, lexeme),
@@ -29,7 +31,7 @@ fn node_text<S: IndexStorage>(
 /// The nodes, and the walk over them by index and depth.
 fn tree_text<S: IndexOrder>(
     alloc: Global,
-    tree: &FlatTree<S, RowLexeme<S>>,
+    tree: &FlatTree<S, DefaultLexeme<S>>,
 ) -> Result<String, AllocError> {
     let mut text = String::new(alloc);
     for node in tree.nodes() {
@@ -52,7 +54,7 @@ fn told_by<S: IndexOrder>(
     lexemes: &[(u8, u16, u16)],
 ) -> Result<String, AllocError> {
     let lexer = lexer_of::<S>(alloc, lexemes)?;
-    let parser = RTParserBuilder::<RowTypes<S>, _>::new(checked);
+    let parser = RTParserBuilder::<DefaultLexerTypes<S>, _>::new(checked);
     match &parser.parse_flat(alloc, &lexer) {
         Ok(Ok((Some(tree), _))) => tree_text(alloc, tree),
         Ok(Ok((None, _))) => format!(in alloc; "none"),

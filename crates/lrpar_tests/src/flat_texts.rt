@@ -1,19 +1,21 @@
 //! Flat trees as texts, and the children of their nodes.
 
-use crate::lexer::{RowLexeme, RowTypes, lexer_of};
+use crate::lexer::lexer_of;
 use crate::make::data;
 use crate::same::same;
 use crate::shown::flat_shown;
 use cfg_numbered::yacc::grammar::NumberedGrammar;
 use lrpar::flat::Visit;
-use lrpar::{FlatTree, ParseRefusal, ParserData, RTParserBuilder};
+use lrpar::{
+    DefaultLexeme, DefaultLexerTypes, FlatTree, ParseRefusal, ParserData, RTParserBuilder,
+};
 use std::alloc::{AllocError, Global};
 use std::test::*;
 
 /// The children of a node, none where there is no such node.
 fn children_of(
     alloc: Global,
-    tree: &FlatTree<u8, RowLexeme<u8>>,
+    tree: &FlatTree<u8, DefaultLexeme<u8>>,
     at: Visit,
 ) -> Result<Vec<Visit>, AllocError> {
     let count = tree.nodes().len();
@@ -29,7 +31,7 @@ fn tree_told(
     alloc: Global,
     grm: &NumberedGrammar<u8>,
     input: &str,
-    tree: &FlatTree<u8, RowLexeme<u8>>,
+    tree: &FlatTree<u8, DefaultLexeme<u8>>,
     nodes: &[Visit],
 ) -> Result<String, AllocError> {
     let mut text = flat_shown(alloc, grm, input, tree)?;
@@ -49,7 +51,7 @@ fn told(
     nodes: &[Visit],
 ) -> Result<String, AllocError> {
     let lexer = lexer_of::<u8>(alloc, lexemes)?;
-    let parser = RTParserBuilder::<RowTypes<u8>, _>::new(data);
+    let parser = RTParserBuilder::<DefaultLexerTypes<u8>, _>::new(data);
     match &parser.parse_flat(alloc, &lexer) {
         Ok(Ok((Some(tree), _))) => tree_told(alloc, data.grm(), input, tree, nodes),
         Err(ParseRefusal::Memory(e)) => Err(*e),

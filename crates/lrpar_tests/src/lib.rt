@@ -1,7 +1,9 @@
-//! Tests of `lrpar`: what lines come to, with repairs and without, by each call that parses; which lexemes are refused; trees as
-//! lists and as texts; the texts of errors.
+//! Tests of `lrpar`: what lines come to, with repairs and without, by each call that parses; which lexemes are refused; how often
+//! a parse asks; trees as lists and as texts; the texts of errors.
 #![tactic(auto)]
 
+#[cfg(test)]
+mod asked;
 #[cfg(test)]
 mod flat;
 #[cfg(test)]
@@ -18,6 +20,8 @@ mod nodes;
 mod outcomes;
 #[cfg(test)]
 mod parses;
+#[cfg(test)]
+mod paths;
 #[cfg(test)]
 mod repairs;
 #[cfg(test)]

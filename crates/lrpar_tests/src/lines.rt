@@ -2,10 +2,9 @@
 
 ghost use Rattle.std.specs.Prelude.{IfOk};
 
-use crate::lexer::RowLexeme;
 use cfg_base::index::{IndexOrder, IndexStorage};
 use cfg_base::symbol::TIdx;
-use lrpar::{Recoverer, RepairStep};
+use lrpar::{DefaultLexeme, Recoverer, RepairStep};
 use lrtable::StIdx;
 use std::alloc::{AllocError, Global};
 
@@ -15,7 +14,7 @@ pub struct Lines<S> {
     sequences: Vec<Vec<RepairStep<S>>>,
 }
 
-impl<S: IndexOrder> Recoverer<S, RowLexeme<S>> for Lines<S> {
+impl<S: IndexOrder> Recoverer<S, DefaultLexeme<S>> for Lines<S> {
     ghost answers = { λ lines state index lexeme offered. Unit {0} };
 
     fn sequences(
@@ -23,7 +22,7 @@ impl<S: IndexOrder> Recoverer<S, RowLexeme<S>> for Lines<S> {
         alloc: Global,
         _stidx: StIdx<S>,
         _laidx: usize,
-        _lexeme: RowLexeme<S>,
+        _lexeme: DefaultLexeme<S>,
     ) -> Result<Vec<Vec<RepairStep<S>>>, AllocError>
         ensures { IfOk result (λ r. Unit {0}) }
     {

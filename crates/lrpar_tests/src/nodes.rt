@@ -1,20 +1,23 @@
 //! A node as a text, and the node of a flat tree.
 
-use crate::lexer::{RowLexeme, RowLexer, RowTypes, lexer_of};
+use crate::lexer::lexer_of;
 use crate::make::data;
 use crate::same::same;
 use crate::shown::pair_shown;
 use cfg_base::symbol::RIdx;
-use lrpar::{Lexeme, NoRecovery, Node, ParseRefusal, ParserData, RTParserBuilder};
+use lrpar::{
+    DefaultLexeme, DefaultLexerTypes, Lexeme, ListLexer, NoRecovery, Node, ParseRefusal,
+    ParserData, RTParserBuilder,
+};
 use std::alloc::Global;
 use std::test::*;
 
 #[test]
 fn nodes_are_shown(rt: HostRuntime) -> Result<(), Fail> {
     let data = data::<u8>(rt.alloc(), "%start S %% S: 'a' 'b';")?;
-    let lexemes: (RowLexeme<u8>, RowLexeme<u8>) = (
-        RowLexeme::new(0, 0, 1),
-        RowLexeme::new(1, 1, 2),
+    let lexemes: (DefaultLexeme<u8>, DefaultLexeme<u8>) = (
+        DefaultLexeme::new(0, 0, 1),
+        DefaultLexeme::new(1, 1, 2),
     );
     let text = pair_shown(rt.alloc(), data.grm(), "x\u{E9}", RIdx(1), lexemes);
     drop(data);
@@ -25,9 +28,9 @@ fn nodes_are_shown(rt: HostRuntime) -> Result<(), Fail> {
 /// Whether the generic parse gives this node.
 fn is_parsed(
     alloc: Global,
-    parser: &RTParserBuilder<'_, RowTypes<u8>, NoRecovery>,
-    lexer: &RowLexer<u8>,
-    node: &Node<RowLexeme<u8>, u8>,
+    parser: &RTParserBuilder<'_, DefaultLexerTypes<u8>, NoRecovery>,
+    lexer: &ListLexer<DefaultLexerTypes<u8>>,
+    node: &Node<DefaultLexeme<u8>, u8>,
 ) -> Result<bool, Fail> {
     match &parser.parse_generictree(alloc, lexer) {
         Ok((Some(other), _)) => Ok(node.equals(alloc, other)?),
@@ -43,7 +46,7 @@ fn gives_one_node(
     lexemes: &[(u8, u16, u16)],
 ) -> Result<bool, Fail> {
     let lexer = lexer_of::<u8>(alloc, lexemes)?;
-    let parser = RTParserBuilder::<RowTypes<u8>, _>::new(data);
+    let parser = RTParserBuilder::<DefaultLexerTypes<u8>, _>::new(data);
     match &parser.parse_flat(alloc, &lexer) {
         Ok(Ok((Some(tree), _))) => {
             let node = tree.to_node(alloc, data.grm())?;

@@ -1,16 +1,15 @@
 //! What the calls that answer a list of errors come to, as texts.
 
-use crate::lexer::{RowLexeme, RowTypes};
 use crate::spell::{leaf, push_repair};
 use cfg_base::index::IndexOrder;
-use lrpar::{LexParseError, Lexeme, ParseError, ParseRefusal};
+use lrpar::{DefaultLexeme, DefaultLexerTypes, LexParseError, Lexeme, ParseError, ParseRefusal};
 use std::alloc::{AllocError, Global};
 
 /// An error of a parse: its lexeme, whether that was made up, and the listed sequences.
 fn push_parse_error<S: IndexOrder>(
     alloc: Global,
     text: &mut String,
-    error: &ParseError<RowLexeme<S>, S>,
+    error: &ParseError<DefaultLexeme<S>, S>,
 ) -> Result<(), AllocError> {
     text.push_str("; error at ")?;
     text.push_str(leaf(alloc, *error.lexeme())?.as_str())?;
@@ -30,7 +29,7 @@ fn push_parse_error<S: IndexOrder>(
 fn push_error<S: IndexOrder>(
     alloc: Global,
     text: &mut String,
-    error: &LexParseError<RowTypes<S>>,
+    error: &LexParseError<DefaultLexerTypes<S>>,
 ) -> Result<(), AllocError> {
     match error {
         LexParseError::LexError(fault) => {
@@ -45,7 +44,7 @@ fn push_error<S: IndexOrder>(
 pub fn push_errors<S: IndexOrder>(
     alloc: Global,
     text: &mut String,
-    errors: &[LexParseError<RowTypes<S>>],
+    errors: &[LexParseError<DefaultLexerTypes<S>>],
 ) -> Result<(), AllocError> {
     for error in errors {
         push_error(alloc, text, error)?;
@@ -65,7 +64,7 @@ pub fn refusal(alloc: Global, refusal: &ParseRefusal) -> Result<String, AllocErr
 /// The value, or that there is none, and the errors.
 pub fn told<S: IndexOrder>(
     alloc: Global,
-    outcome: &Result<(Option<String>, Vec<LexParseError<RowTypes<S>>>), ParseRefusal>,
+    outcome: &Result<(Option<String>, Vec<LexParseError<DefaultLexerTypes<S>>>), ParseRefusal>,
 ) -> Result<String, AllocError> {
     match outcome {
         Err(e) => refusal(alloc, e),
@@ -83,7 +82,7 @@ pub fn told<S: IndexOrder>(
 /// The errors.
 pub fn errors_told<S: IndexOrder>(
     alloc: Global,
-    outcome: &Result<Vec<LexParseError<RowTypes<S>>>, ParseRefusal>,
+    outcome: &Result<Vec<LexParseError<DefaultLexerTypes<S>>>, ParseRefusal>,
 ) -> Result<String, AllocError> {
     match outcome {
         Err(e) => refusal(alloc, e),

@@ -1,6 +1,6 @@
 //! Lines with repairs.
 
-use crate::lexer::{RowLexeme, RowTypes, lexer_of};
+use crate::lexer::lexer_of;
 use crate::lines::{Lines, lines_of};
 use crate::make::data;
 use crate::same::same;
@@ -8,7 +8,7 @@ use crate::spell::{branch, leaf, told};
 use cfg_base::index::IndexOrder;
 use cfg_base::span::Span;
 use cfg_base::symbol::{PIdx, RIdx};
-use lrpar::{ParserData, RTParserBuilder};
+use lrpar::{DefaultLexeme, DefaultLexerTypes, ParserData, RTParserBuilder};
 use std::alloc::{AllocError, Global};
 use std::test::*;
 
@@ -20,8 +20,8 @@ fn told_by<S: IndexOrder>(
     lines: &Lines<S>,
 ) -> Result<String, AllocError> {
     let lexer = lexer_of::<S>(alloc, lexemes)?;
-    let parser = RTParserBuilder::<RowTypes<S>, _>::new(checked).recoverer(lines);
-    let fterm = |alloc: Global, lexeme: RowLexeme<S>| leaf(alloc, lexeme);
+    let parser = RTParserBuilder::<DefaultLexerTypes<S>, _>::new(checked).recoverer(lines);
+    let fterm = |alloc: Global, lexeme: DefaultLexeme<S>| leaf(alloc, lexeme);
     let fnonterm = |alloc: Global, pidx: PIdx<S>, ridx: RIdx<S>, span: Span, args: Vec<String>| {
         branch(alloc, pidx, ridx, span, args)
     };

@@ -1,16 +1,20 @@
 //! Values and errors of parses as texts.
 
-use crate::lexer::{RowError, RowLexeme};
 use cfg_base::index::IndexStorage;
 use cfg_base::span::Span;
 use cfg_base::symbol::{PIdx, RIdx};
-use lrpar::{FoldedOutcome, Lexeme, ParseError, ParseRefusal, ParseRepair};
+use lrpar::{
+    DefaultLexeme, FoldedOutcome, LRLexError, Lexeme, ParseError, ParseRefusal, ParseRepair,
+};
 use std::alloc::{AllocError, Global};
 use std::test::*;
 
 /// A lexeme as its token and its start.
-pub fn leaf<S: IndexStorage>(alloc: Global, lexeme: RowLexeme<S>) -> Result<String, AllocError> {
-    let token = lexeme.token.to_usize();
+pub fn leaf<S: IndexStorage>(
+    alloc: Global,
+    lexeme: DefaultLexeme<S>,
+) -> Result<String, AllocError> {
+    let token = lexeme.tok_id.to_usize();
     let start = lexeme.span.start();
     format!(in alloc; "{token}@{start}")
 }
@@ -40,7 +44,7 @@ pub fn branch<S: IndexStorage>(
 pub fn push_repair<S: IndexStorage>(
     alloc: Global,
     text: &mut String,
-    repair: ParseRepair<RowLexeme<S>, S>,
+    repair: ParseRepair<DefaultLexeme<S>, S>,
 ) -> Result<(), AllocError> {
     match repair {
         ParseRepair::Insert(tidx) => {
@@ -62,7 +66,7 @@ pub fn push_repair<S: IndexStorage>(
 fn push_error<S: IndexStorage>(
     alloc: Global,
     text: &mut String,
-    error: &ParseError<RowLexeme<S>, S>,
+    error: &ParseError<DefaultLexeme<S>, S>,
 ) -> Result<(), AllocError> {
     text.push_str("; error at ")?;
     text.push_str(leaf(alloc, error.lexeme)?.as_str())?;
@@ -83,7 +87,7 @@ fn push_error<S: IndexStorage>(
 /// What a parse comes to.
 pub fn told<S: IndexStorage>(
     alloc: Global,
-    outcome: Result<FoldedOutcome<S, RowLexeme<S>, RowError, String>, ParseRefusal>,
+    outcome: Result<FoldedOutcome<S, DefaultLexeme<S>, LRLexError, String>, ParseRefusal>,
 ) -> Result<String, AllocError> {
     match outcome {
         Err(ParseRefusal::Memory(e)) => Err(e),

@@ -1,10 +1,9 @@
 //! Trees by rules as texts.
 
-use crate::lexer::{RowLexeme, RowTypes};
 use crate::outcomes::{push_errors, refusal};
 use crate::spell::leaf;
 use cfg_base::index::IndexOrder;
-use lrpar::{LexParseError, Node, ParseRefusal};
+use lrpar::{DefaultLexeme, DefaultLexerTypes, LexParseError, Node, ParseRefusal};
 use std::alloc::{AllocError, Global};
 
 /// The most nodes of a tree that is told.
@@ -14,8 +13,8 @@ const NODES: usize = 100;
 fn push_node<'a, S: IndexOrder>(
     alloc: Global,
     text: &mut String,
-    node: &'a Node<RowLexeme<S>, S>,
-    waiting: &mut Vec<&'a Node<RowLexeme<S>, S>>,
+    node: &'a Node<DefaultLexeme<S>, S>,
+    waiting: &mut Vec<&'a Node<DefaultLexeme<S>, S>>,
 ) -> Result<(), AllocError> {
     match node {
         Node::Term { lexeme } => text.push_str(leaf(alloc, *lexeme)?.as_str()),
@@ -33,7 +32,7 @@ fn push_node<'a, S: IndexOrder>(
 /// The nodes of a tree, each before those below it.
 pub fn tree_text<S: IndexOrder>(
     alloc: Global,
-    tree: &Node<RowLexeme<S>, S>,
+    tree: &Node<DefaultLexeme<S>, S>,
 ) -> Result<String, AllocError> {
     let mut text = String::new(alloc);
     let mut waiting = Vec::new(alloc);
@@ -50,8 +49,8 @@ pub fn tree_text<S: IndexOrder>(
 
 type Outcome<S> = Result<
     (
-        Option<Node<RowLexeme<S>, S>>,
-        Vec<LexParseError<RowTypes<S>>>,
+        Option<Node<DefaultLexeme<S>, S>>,
+        Vec<LexParseError<DefaultLexerTypes<S>>>,
     ),
     ParseRefusal,
 >;

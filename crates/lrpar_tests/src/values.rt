@@ -1,20 +1,20 @@
 //! What lines come to, by each call that parses.
 
-use crate::lexer::{NO_TOKEN, RowLexeme, RowLexer, RowTypes, lexer_of};
+use crate::lexer::{NO_TOKEN, lexer_of};
 use crate::lines::lines_of;
 use crate::make::data;
 use crate::same::same;
 use crate::ways::{acted, mapped, treed, treed_by_actions, unvalued};
 use cfg_base::index::IndexOrder;
-use lrpar::{ParserData, RTParserBuilder, Recoverer};
+use lrpar::{DefaultLexeme, DefaultLexerTypes, ListLexer, ParserData, RTParserBuilder, Recoverer};
 use std::alloc::{AllocError, Global};
 use std::test::*;
 
 /// A line of text for each call: by functions of rules, by actions, as a tree, as a tree by actions, by errors alone.
-fn each_way<S: IndexOrder, R: Recoverer<S, RowLexeme<S>>>(
+fn each_way<S: IndexOrder, R: Recoverer<S, DefaultLexeme<S>>>(
     alloc: Global,
-    parser: &RTParserBuilder<'_, RowTypes<S>, R>,
-    lexer: &RowLexer<S>,
+    parser: &RTParserBuilder<'_, DefaultLexerTypes<S>, R>,
+    lexer: &ListLexer<DefaultLexerTypes<S>>,
 ) -> Result<String, AllocError> {
     let mut text = mapped(alloc, parser, lexer)?;
     text.push('\n')?;
@@ -36,7 +36,7 @@ fn run<S: IndexOrder>(
     letters: Option<&str>,
 ) -> Result<String, AllocError> {
     let lexer = lexer_of::<S>(alloc, lexemes)?;
-    let parser = RTParserBuilder::<RowTypes<S>, _>::new(data);
+    let parser = RTParserBuilder::<DefaultLexerTypes<S>, _>::new(data);
     match letters {
         None => each_way(alloc, &parser, &lexer),
         Some(letters) => {

@@ -2,14 +2,16 @@
 
 ghost use Rattle.std.specs.Prelude.{IfOk};
 
-use crate::lexer::{RowLexeme, RowLexer, RowTypes};
 use crate::outcomes::{errors_told, told};
 use crate::spell::leaf;
 use crate::trees::tree_told;
 use cfg_base::index::{IndexOrder, IndexStorage};
 use cfg_base::span::Span;
 use cfg_base::symbol::{PIdx, RIdx};
-use lrpar::{AStackType, Actions, GenericTreeActions, RTParserBuilder, Recoverer};
+use lrpar::{
+    AStackType, Actions, DefaultLexeme, DefaultLexerTypes, GenericTreeActions, ListLexer,
+    RTParserBuilder, Recoverer,
+};
 use std::alloc::{AllocError, Global};
 
 /// The arguments' texts in their order, and behind them the rule and their count.
@@ -33,7 +35,7 @@ fn postfix<S: IndexStorage>(
 fn push_arg<S: IndexStorage>(
     alloc: Global,
     text: &mut String,
-    arg: &AStackType<RowLexeme<S>, String>,
+    arg: &AStackType<DefaultLexeme<S>, String>,
 ) -> Result<(), AllocError> {
     match arg {
         AStackType::ActionType(answer) => text.push_str(answer.as_str())?,
@@ -48,7 +50,7 @@ fn postfix_action<S: IndexStorage>(
     pidx: PIdx<S>,
     ridx: RIdx<S>,
     span: Span,
-    args: &[AStackType<RowLexeme<S>, String>],
+    args: &[AStackType<DefaultLexeme<S>, String>],
 ) -> Result<String, AllocError> {
     let production = pidx.0.to_usize();
     let rule = ridx.0.to_usize();
@@ -66,7 +68,8 @@ fn postfix_action<S: IndexStorage>(
 /// Answers texts.
 pub struct PostfixActions;
 
-impl<S: IndexOrder> Actions<RowTypes<S>, RowLexer<S>> for PostfixActions {
+impl<S: IndexOrder> Actions<DefaultLexerTypes<S>, ListLexer<DefaultLexerTypes<S>>>
+    for PostfixActions {
     type ActionT = String;
 
     ghost answers = { λ actions lexer p r span vs v. Unit {0} };
@@ -76,9 +79,9 @@ impl<S: IndexOrder> Actions<RowTypes<S>, RowLexer<S>> for PostfixActions {
         alloc: Global,
         pidx: PIdx<S>,
         ridx: RIdx<S>,
-        _lexer: &RowLexer<S>,
+        _lexer: &ListLexer<DefaultLexerTypes<S>>,
         span: Span,
-        args: Vec<AStackType<RowLexeme<S>, String>>,
+        args: Vec<AStackType<DefaultLexeme<S>, String>>,
     ) -> Result<String, AllocError>
         ensures { IfOk result (λ v. Unit {0}) }
     {
@@ -88,15 +91,15 @@ impl<S: IndexOrder> Actions<RowTypes<S>, RowLexer<S>> for PostfixActions {
     }
 }
 
-type Parser<'a, S, R> = RTParserBuilder<'a, RowTypes<S>, R>;
+type Parser<'a, S, R> = RTParserBuilder<'a, DefaultLexerTypes<S>, R>;
 
 /// By functions of rules.
-pub fn mapped<S: IndexOrder, R: Recoverer<S, RowLexeme<S>>>(
+pub fn mapped<S: IndexOrder, R: Recoverer<S, DefaultLexeme<S>>>(
     alloc: Global,
     parser: &Parser<'_, S, R>,
-    lexer: &RowLexer<S>,
+    lexer: &ListLexer<DefaultLexerTypes<S>>,
 ) -> Result<String, AllocError> {
-    let fterm = |alloc: Global, lexeme: RowLexeme<S>| leaf(alloc, lexeme);
+    let fterm = |alloc: Global, lexeme: DefaultLexeme<S>| leaf(alloc, lexeme);
     let fnonterm = |alloc: Global, ridx: RIdx<S>, args: Vec<String>| {
         let text = postfix(alloc, ridx, args.as_slice());
         drop(args);
@@ -109,10 +112,10 @@ pub fn mapped<S: IndexOrder, R: Recoverer<S, RowLexeme<S>>>(
 }
 
 /// By actions.
-pub fn acted<S: IndexOrder, R: Recoverer<S, RowLexeme<S>>>(
+pub fn acted<S: IndexOrder, R: Recoverer<S, DefaultLexeme<S>>>(
     alloc: Global,
     parser: &Parser<'_, S, R>,
-    lexer: &RowLexer<S>,
+    lexer: &ListLexer<DefaultLexerTypes<S>>,
 ) -> Result<String, AllocError> {
     let outcome = parser.parse_actions(alloc, lexer, &PostfixActions);
     let text = told(alloc, &outcome);
@@ -121,10 +124,10 @@ pub fn acted<S: IndexOrder, R: Recoverer<S, RowLexeme<S>>>(
 }
 
 /// As a tree by rules.
-pub fn treed<S: IndexOrder, R: Recoverer<S, RowLexeme<S>>>(
+pub fn treed<S: IndexOrder, R: Recoverer<S, DefaultLexeme<S>>>(
     alloc: Global,
     parser: &Parser<'_, S, R>,
-    lexer: &RowLexer<S>,
+    lexer: &ListLexer<DefaultLexerTypes<S>>,
 ) -> Result<String, AllocError> {
     let outcome = parser.parse_generictree(alloc, lexer);
     let text = tree_told(alloc, &outcome);
@@ -133,10 +136,10 @@ pub fn treed<S: IndexOrder, R: Recoverer<S, RowLexeme<S>>>(
 }
 
 /// As a tree by rules, which actions make.
-pub fn treed_by_actions<S: IndexOrder, R: Recoverer<S, RowLexeme<S>>>(
+pub fn treed_by_actions<S: IndexOrder, R: Recoverer<S, DefaultLexeme<S>>>(
     alloc: Global,
     parser: &Parser<'_, S, R>,
-    lexer: &RowLexer<S>,
+    lexer: &ListLexer<DefaultLexerTypes<S>>,
 ) -> Result<String, AllocError> {
     let outcome = parser.parse_actions(alloc, lexer, &GenericTreeActions);
     let text = tree_told(alloc, &outcome);
@@ -145,10 +148,10 @@ pub fn treed_by_actions<S: IndexOrder, R: Recoverer<S, RowLexeme<S>>>(
 }
 
 /// By its errors alone.
-pub fn unvalued<S: IndexOrder, R: Recoverer<S, RowLexeme<S>>>(
+pub fn unvalued<S: IndexOrder, R: Recoverer<S, DefaultLexeme<S>>>(
     alloc: Global,
     parser: &Parser<'_, S, R>,
-    lexer: &RowLexer<S>,
+    lexer: &ListLexer<DefaultLexerTypes<S>>,
 ) -> Result<String, AllocError> {
     let outcome = parser.parse_noaction(alloc, lexer);
     let text = errors_told(alloc, &outcome);

@@ -55,7 +55,7 @@ mod rooms;
 mod rule_rows;
 mod states;
 
-pub use grammar_table::{FromYaccError, Minimiser, from_yacc};
+pub use grammar_table::{FromYaccError, Minimiser, from_yacc, minimiser_is_its_value};
 pub use itemset::Itemset;
 pub use state_table::{
     Action, Conflicts, CoreReducesIterator, StIdx, StIdxs, StateActionsIterator, StateGraph,

@@ -1,6 +1,6 @@
 //! Lines through kits.
 
-use crate::lexer::{RowLexeme, RowLexer, RowTypes, lexer_of};
+use crate::lexer::lexer_of;
 use crate::same::same;
 use crate::spell::{branch, by_rule, flat_told, leaf, mapped_told, told};
 use crate::texts::any_of;
@@ -8,7 +8,7 @@ use cfg_base::index::IndexOrder;
 use cfg_base::span::Span;
 use cfg_base::symbol::{PIdx, RIdx};
 use cfg_read::yacc::{YaccKind, YaccOriginalActionKind};
-use lrpar::NoRecovery;
+use lrpar::{DefaultLexeme, DefaultLexerTypes, ListLexer, NoRecovery};
 use parser_kit::{KitError, ParserKit};
 use std::alloc::{AllocError, Global};
 use std::test::*;
@@ -19,13 +19,13 @@ const TREE: YaccKind = YaccKind::Original(YaccOriginalActionKind::GenericParseTr
 fn folded<S: IndexOrder>(
     alloc: Global,
     kit: &ParserKit<S>,
-    lexer: &RowLexer<S>,
+    lexer: &ListLexer<DefaultLexerTypes<S>>,
 ) -> Result<String, AllocError> {
-    let fterm = |alloc: Global, lexeme: RowLexeme<S>| leaf(alloc, lexeme);
+    let fterm = |alloc: Global, lexeme: DefaultLexeme<S>| leaf(alloc, lexeme);
     let fnonterm = |alloc: Global, pidx: PIdx<S>, ridx: RIdx<S>, span: Span, args: Vec<String>| {
         branch(alloc, pidx, ridx, span, args)
     };
-    let outcome = kit.parse_fold::<RowTypes<S>, _, _, _, _, _>(
+    let outcome = kit.parse_fold::<DefaultLexerTypes<S>, _, _, _, _, _>(
         alloc,
         lexer,
         &NoRecovery,
@@ -39,11 +39,11 @@ fn folded<S: IndexOrder>(
 fn mapped<S: IndexOrder>(
     alloc: Global,
     kit: &ParserKit<S>,
-    lexer: &RowLexer<S>,
+    lexer: &ListLexer<DefaultLexerTypes<S>>,
 ) -> Result<String, AllocError> {
-    let fterm = |alloc: Global, lexeme: RowLexeme<S>| leaf(alloc, lexeme);
+    let fterm = |alloc: Global, lexeme: DefaultLexeme<S>| leaf(alloc, lexeme);
     let fnonterm = |alloc: Global, ridx: RIdx<S>, args: Vec<String>| by_rule(alloc, ridx, args);
-    let outcome = kit.parse::<RowTypes<S>, _, _, _, _, _>(
+    let outcome = kit.parse::<DefaultLexerTypes<S>, _, _, _, _, _>(
         alloc,
         lexer,
         &NoRecovery,
@@ -64,7 +64,7 @@ fn parsed_by<S: IndexOrder>(
     text.push_str(" / ")?;
     text.push_str(mapped(alloc, kit, &lexer)?.as_str())?;
     text.push_str(" / ")?;
-    let outcome = kit.parse_flat::<RowTypes<S>, _, _>(alloc, &lexer, &NoRecovery);
+    let outcome = kit.parse_flat::<DefaultLexerTypes<S>, _, _>(alloc, &lexer, &NoRecovery);
     text.push_str(flat_told(alloc, outcome)?.as_str())?;
     Ok(text)
 }

@@ -1,6 +1,6 @@
 //! Lines whose lexemes as repaired are parsed again, without repairs.
 
-use crate::lexer::{RowLexeme, RowLexer, RowTypes, lexer_of};
+use crate::lexer::lexer_of;
 use crate::lines::lines_of;
 use crate::same::same;
 use crate::spell::{branch, leaf, told};
@@ -8,7 +8,7 @@ use cfg_base::index::IndexOrder;
 use cfg_base::span::Span;
 use cfg_base::symbol::{PIdx, RIdx};
 use cfg_read::yacc::{YaccKind, YaccOriginalActionKind};
-use lrpar::{NoRecovery, Recoverer};
+use lrpar::{DefaultLexeme, DefaultLexerTypes, ListLexer, NoRecovery, Recoverer};
 use parser_kit::{KitError, ParserKit};
 use std::alloc::{AllocError, Global};
 use std::test::*;
@@ -16,17 +16,17 @@ use std::test::*;
 const TREE: YaccKind = YaccKind::Original(YaccOriginalActionKind::GenericParseTree);
 
 /// What the lexemes fold to where this recoverer is asked at each error.
-fn folded_by<S: IndexOrder, R: Recoverer<S, RowLexeme<S>>>(
+fn folded_by<S: IndexOrder, R: Recoverer<S, DefaultLexeme<S>>>(
     alloc: Global,
     kit: &ParserKit<S>,
-    lexer: &RowLexer<S>,
+    lexer: &ListLexer<DefaultLexerTypes<S>>,
     recoverer: &R,
 ) -> Result<String, AllocError> {
-    let fterm = |alloc: Global, lexeme: RowLexeme<S>| leaf(alloc, lexeme);
+    let fterm = |alloc: Global, lexeme: DefaultLexeme<S>| leaf(alloc, lexeme);
     let fnonterm = |alloc: Global, pidx: PIdx<S>, ridx: RIdx<S>, span: Span, args: Vec<String>| {
         branch(alloc, pidx, ridx, span, args)
     };
-    let outcome = kit.parse_fold::<RowTypes<S>, _, _, _, _, _>(
+    let outcome = kit.parse_fold::<DefaultLexerTypes<S>, _, _, _, _, _>(
         alloc, lexer, recoverer, &fterm, &fnonterm,
     );
     told(alloc, outcome)

@@ -1,18 +1,21 @@
 //! Values and errors of parses as texts.
 
-use crate::lexer::{RowError, RowLexeme, RowTypes};
 use cfg_base::index::{IndexOrder, IndexStorage};
 use cfg_base::span::Span;
 use cfg_base::symbol::{PIdx, RIdx};
 use lrpar::{
-    FlatTree, FoldedOutcome, LexParseError, Lexeme, ParseError, ParseRefusal, ParseRepair,
+    DefaultLexeme, DefaultLexerTypes, FlatTree, FoldedOutcome, LRLexError, LexParseError, Lexeme,
+    ParseError, ParseRefusal, ParseRepair,
 };
 use std::alloc::{AllocError, Global};
 use std::test::*;
 
 /// A lexeme as its token and its start.
-pub fn leaf<S: IndexStorage>(alloc: Global, lexeme: RowLexeme<S>) -> Result<String, AllocError> {
-    let token = lexeme.token.to_usize();
+pub fn leaf<S: IndexStorage>(
+    alloc: Global,
+    lexeme: DefaultLexeme<S>,
+) -> Result<String, AllocError> {
+    let token = lexeme.tok_id.to_usize();
     let start = lexeme.span.start();
     format!(in alloc; "{token}@{start}")
 }
@@ -42,7 +45,7 @@ pub fn branch<S: IndexStorage>(
 fn push_repair<S: IndexStorage>(
     alloc: Global,
     text: &mut String,
-    repair: ParseRepair<RowLexeme<S>, S>,
+    repair: ParseRepair<DefaultLexeme<S>, S>,
 ) -> Result<(), AllocError> {
     match repair {
         ParseRepair::Insert(tidx) => {
@@ -64,7 +67,7 @@ fn push_repair<S: IndexStorage>(
 fn push_error<S: IndexStorage>(
     alloc: Global,
     text: &mut String,
-    error: &ParseError<RowLexeme<S>, S>,
+    error: &ParseError<DefaultLexeme<S>, S>,
 ) -> Result<(), AllocError> {
     text.push_str("; error at ")?;
     text.push_str(leaf(alloc, error.lexeme)?.as_str())?;
@@ -83,7 +86,7 @@ fn push_error<S: IndexStorage>(
 /// What a parse comes to.
 pub fn told<S: IndexStorage>(
     alloc: Global,
-    outcome: Result<FoldedOutcome<S, RowLexeme<S>, RowError, String>, ParseRefusal>,
+    outcome: Result<FoldedOutcome<S, DefaultLexeme<S>, LRLexError, String>, ParseRefusal>,
 ) -> Result<String, AllocError> {
     match outcome {
         Err(ParseRefusal::Memory(e)) => Err(e),
@@ -122,7 +125,7 @@ pub fn by_rule<S: IndexStorage>(
 /// What a parse by rule comes to: its value, and how many errors there are.
 pub fn mapped_told<S: IndexOrder>(
     alloc: Global,
-    outcome: Result<(Option<String>, Vec<LexParseError<RowTypes<S>>>), ParseRefusal>,
+    outcome: Result<(Option<String>, Vec<LexParseError<DefaultLexerTypes<S>>>), ParseRefusal>,
 ) -> Result<String, AllocError> {
     match &outcome {
         Err(ParseRefusal::Memory(e)) => Err(*e),
@@ -142,10 +145,10 @@ pub fn flat_told<S: IndexOrder>(
     outcome: Result<
         Result<
             (
-                Option<FlatTree<S, RowLexeme<S>>>,
-                Vec<ParseError<RowLexeme<S>, S>>,
+                Option<FlatTree<S, DefaultLexeme<S>>>,
+                Vec<ParseError<DefaultLexeme<S>, S>>,
             ),
-            RowError,
+            LRLexError,
         >,
         ParseRefusal,
     >,

@@ -4,14 +4,16 @@
 ghost use Rattle.std.specs.Prelude.{◌≡◌, IsTrue, IfOk};
 ghost use Rattle.parse_trees.specs.Shapes.{lexeme, over, nothing, along, shape_of, HasText};
 
-use crate::lexer::{RowLexeme, RowTypes, lexer_of};
+use crate::lexer::lexer_of;
 use crate::same::same;
 use crate::spell::mapped_told;
 use cfg_base::index::{IndexOrder, IndexStorage};
 use cfg_base::symbol::{RIdx, TIdx};
 use cfg_numbered::yacc::NumberedGrammar;
 use cfgrammar::yacc::{YaccGrammar, YaccGrammarMakeError};
-use lrpar::{Lexeme, NoRecovery, Node, ParserData, ParserDataError};
+use lrpar::{
+    DefaultLexeme, DefaultLexerTypes, Lexeme, NoRecovery, Node, ParserData, ParserDataError,
+};
 use lrtable::{FromYaccError, Minimiser, StateGraph, StateTable, from_yacc};
 use parser_kit::{GrammarKit, GrammarKitError};
 use std::alloc::{AllocError, Global};
@@ -50,9 +52,9 @@ fn kit_of<S: IndexStorage>(alloc: Global, text: &str) -> Result<GrammarKit<S>, F
 fn named_leaf<S: IndexStorage>(
     alloc: Global,
     grm: &NumberedGrammar<S>,
-    lexeme: RowLexeme<S>,
+    lexeme: DefaultLexeme<S>,
 ) -> Result<String, AllocError> {
-    let token = TIdx(lexeme.token);
+    let token = TIdx(lexeme.tok_id);
     let name = if grm.has_token(token) {
         grm.token_name(token).unwrap_or("end")
     } else {
@@ -89,11 +91,11 @@ fn named<S: IndexOrder>(alloc: Global, kit: &GrammarKit<S>) -> Result<String, Al
     let lexemes = [(2, 0, 1), (1, 1, 1), (2, 2, 1), (0, 3, 1), (2, 4, 1)];
     let lexer = lexer_of::<S>(alloc, &lexemes)?;
     let grm = kit.grm();
-    let fterm = |alloc: Global, lexeme: RowLexeme<S>| named_leaf(alloc, grm, lexeme);
+    let fterm = |alloc: Global, lexeme: DefaultLexeme<S>| named_leaf(alloc, grm, lexeme);
     let fnonterm = |alloc: Global, ridx: RIdx<S>, args: Vec<String>| named_branch(
         alloc, grm, ridx, args,
     );
-    let outcome = kit.parse_map::<RowTypes<S>, _, _, _, _, _>(
+    let outcome = kit.parse_map::<DefaultLexerTypes<S>, _, _, _, _, _>(
         alloc,
         &lexer,
         &NoRecovery,
@@ -188,10 +190,10 @@ fn sum_shown<S: IndexStorage, L: Lexeme<S>>(
 fn a_sum_is_shown(rt: HostRuntime) -> Result<(), Fail> {
     let text = "%grmtools{yacckind: Original(NoAction)} %start E %% E: T '+' E | T; T: 'ID';";
     let kit = kit_of::<u8>(rt.alloc(), text)?;
-    let lexemes: (RowLexeme<u8>, RowLexeme<u8>, RowLexeme<u8>) = (
-        RowLexeme::new(1, 0, 1),
-        RowLexeme::new(0, 1, 1),
-        RowLexeme::new(1, 2, 1),
+    let lexemes: (DefaultLexeme<u8>, DefaultLexeme<u8>, DefaultLexeme<u8>) = (
+        DefaultLexeme::new(1, 0, 1),
+        DefaultLexeme::new(0, 1, 1),
+        DefaultLexeme::new(1, 2, 1),
     );
     let shown = sum_shown(rt.alloc(), kit.grm(), "a+b", (RIdx(1), RIdx(2)), lexemes);
     drop(kit);

@@ -1,5 +1,5 @@
 -- A text munches in one way, and its parts follow one another.
-use Rattle.std.proofs.Common.{◌≡◌, ℕ, ◌+◌, ◌≤◌, List, ◌∷◌, length, drop, Bool, true, false, if◌then◌else◌, Option, None, Some, option_map, slice_get, refl, sym, ap, ap₂, ◌∙◌, subst, arith, length-drop, zero-add}
+use Rattle.std.proofs.Common.{◌≡◌, ℕ, zero, suc, All, ◌+◌, ◌≤◌, List, ◌∷◌, length, drop, Bool, true, false, if◌then◌else◌, Option, None, Some, option_map, slice_get, refl, sym, ap, ap₂, ◌∙◌, subst, arith, length-drop, zero-add}
 use Rattle.regex.specs.Patterns.{Re, Match, find_str, span}
 use Rattle.regex.proofs.SearchLemmas.{leftmost_within}
 use Rattle.maximal_munch.specs.RuleValues.{RuleSetValue, RuleValue, Stack, target_at, moved, is_active_at}
@@ -70,3 +70,19 @@ module _ (v : RuleSetValue) where
 
   pub parts_follow : (text : List ℕ) (ps : List Part) (e : Ending) → Munches v text ps e → Follow 0 ps (end_of (length text) e)
   parts_follow text ps e m = subst (λ n. Follow 0 ps (end_of n e)) (zero-add (length text)) (follows m)
+
+  all_cons : (P : Part → Type 0) (x : Part) (xs : List Part) → P x → All P xs → All P (x ∷ xs)
+  all_cons P x xs h t zero d lt = h
+  all_cons P x xs h t (suc k) d lt = t k d (omega arith)
+
+  lie_within : {at : ℕ} {rest : List ℕ} {s : Stack} {ps : List Part} {e : Ending} → MunchesFrom v at rest s ps e → All (λ p. p.start + p.len ≤ at + length rest) ps
+  lie_within ends = λ k d lt. absurd (omega arith)
+  lie_within (stuck some h) = λ k d lt. absurd (omega arith)
+  lie_within (bottom k n some l m) = λ k d lt. absurd (omega arith)
+  lie_within {at} {rest} {s} (part {parts = ps} {e = e} k n t some l m r) =
+      let fits = either_within (is_active_at v s.current k) (rule_len rest (slice_get v.rules k)) (length rest) (rule_within rest (slice_get v.rules k)) in
+      let same : at + n + length (drop n rest) ≡ at + length rest = omega (arith, length-drop n rest, l.has, fits) in
+      all_cons (λ p. p.start + p.len ≤ at + length rest) (part_at k at n) ps (omega (arith, l.has, fits)) (subst (λ end. All (λ p. p.start + p.len ≤ end) ps) same (lie_within r))
+
+  pub parts_lie_within : (text : List ℕ) (ps : List Part) (e : Ending) → Munches v text ps e → All (λ p. p.start + p.len ≤ length text) ps
+  parts_lie_within text ps e m = subst (λ n. All (λ p. p.start + p.len ≤ n) ps) (zero-add (length text)) (lie_within m)

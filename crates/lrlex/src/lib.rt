@@ -28,6 +28,7 @@
 
 mod bound;
 mod expression;
+pub mod laws;
 mod lexeme;
 mod lexer;
 mod rules;

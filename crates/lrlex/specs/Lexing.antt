@@ -96,7 +96,6 @@ lexeme_at t p = record { token = t.0; span = record { start = p.start; end = p.s
 abbrev pub last_items : {S : Type 0} → Ending → List (Result (DefaultLexeme S) LRLexError)
 last_items endings.Finished = []
 last_items (endings.NoMatch at) = Err (error_at kinds.NoMatch at) ∷ []
-last_items (endings.NothingBelow at) = Err (error_at kinds.NothingBelow at) ∷ []
 
 -- the part of a rule with this meaning, in front of these items: nothing, a lexeme, or an error that is the last item
 abbrev pub put_part : {S : Type 0} → Meaning S → Part → List (Result (DefaultLexeme S) LRLexError) → List (Result (DefaultLexeme S) LRLexError)

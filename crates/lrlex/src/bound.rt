@@ -247,7 +247,6 @@ fn push_items<S: IndexStorage>(
     match ending {
         Ending::Finished => {}
         Ending::NoMatch(at) => items.push(Err(error_at(LexErrorKind::NoMatch, at)))?,
-        Ending::NothingBelow(at) => items.push(Err(error_at(LexErrorKind::NothingBelow, at)))?,
     }
     Ok(())
 }

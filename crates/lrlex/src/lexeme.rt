@@ -82,8 +82,6 @@ impl<S: IndexOrder> Lexeme<S> for DefaultLexeme<S> {
 pub enum LexErrorKind {
     /// No rule that is active matches.
     NoMatch,
-    /// The rule that matches takes off the last start condition.
-    NothingBelow,
     /// The name of the rule that matches is no token's.
     UnknownName,
 }

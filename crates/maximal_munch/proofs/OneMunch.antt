@@ -3,41 +3,26 @@ use Rattle.std.proofs.Common.{◌≡◌, ℕ, zero, suc, All, ◌+◌, ◌≤◌
 use Rattle.regex.specs.Patterns.{Re, Match, find_str, span}
 use Rattle.regex.proofs.SearchLemmas.{leftmost_within}
 use Rattle.maximal_munch.specs.RuleValues.{RuleSetValue, RuleValue, Stack, target_at, moved, is_active_at}
-use Rattle.maximal_munch.specs.Munching.{MunchesFrom, Munches, Follow, IsLongest, front_len, match_len, rule_len, end_of, part_at, ends, stuck, bottom, part}
+use Rattle.maximal_munch.specs.Munching.{MunchesFrom, Munches, Follow, IsLongest, front_len, match_len, rule_len, end_of, part_at, ends, stuck, part}
 use Rattle.maximal_munch.specs.declared.munching.Part.{Part}
 use Rattle.maximal_munch.specs.declared.munching.Ending.{Ending}
 use Rattle.maximal_munch.proofs.BestSoFar.{one_length, one_rule}
 
 module _ (v : RuleSetValue) where
-  -- where rule k goes, rule k' goes
-  one_stack : {f : ℕ → ℕ} {k n k' n' : ℕ} (s : Stack) (o o' : Option Stack) → IsLongest f k n → IsLongest f k' n' → moved (target_at v k) s ≡ o → moved (target_at v k') s ≡ o' → o ≡ o'
-  one_stack s o o' a b e e' = sym e ∙ ap (λ k. moved (target_at v k) s) (one_rule a b) ∙ e'
-
-  some_some : {s t : Stack} → Some s ≡ Some t → s ≡ t
-  some_some e = cc
-
   pub one_way : {at : ℕ} {rest : List ℕ} {s : Stack} {ps qs : List Part} {d e : Ending} → MunchesFrom v at rest s ps d → MunchesFrom v at rest s qs e → (ps ≡ qs) × (d ≡ e)
   one_way ends ends = (refl, refl)
   one_way ends (stuck some h) = absurd (omega arith)
-  one_way ends (bottom k n some l m) = absurd (omega arith)
-  one_way ends (part k n t some l m r) = absurd (omega arith)
+  one_way ends (part k n some l r) = absurd (omega arith)
   one_way (stuck some h) ends = absurd (omega arith)
   one_way (stuck some h) (stuck some' h') = (refl, refl)
-  one_way (stuck some h) (bottom k n some' l m) = absurd (let z = h k in let p = l.nonempty in let q = l.has in omega arith)
-  one_way (stuck some h) (part k n t some' l m r) = absurd (let z = h k in let p = l.nonempty in let q = l.has in omega arith)
-  one_way (bottom k n some l m) ends = absurd (omega arith)
-  one_way (bottom k n some l m) (stuck some' h) = absurd (let z = h k in let p = l.nonempty in let q = l.has in omega arith)
-  one_way (bottom k n some l m) (bottom k' n' some' l' m') = (refl, refl)
-  one_way (bottom k n some l m) (part k' n' t some' l' m' r) = absurd (let e = one_stack _ _ _ l l' m m' in cc)
-  one_way (part k n t some l m r) ends = absurd (omega arith)
-  one_way (part k n t some l m r) (stuck some' h) = absurd (let z = h k in let p = l.nonempty in let q = l.has in omega arith)
-  one_way (part k n t some l m r) (bottom k' n' some' l' m') = absurd (let e = one_stack _ _ _ l l' m m' in cc)
-  one_way {at} {rest} {s} (part {parts = ps} k n t some l m r) (part {parts = qs} {e = e} k' n' t' some' l' m' r') =
+  one_way (stuck some h) (part k n some' l r) = absurd (let z = h k in let p = l.nonempty in let q = l.has in omega arith)
+  one_way (part k n some l r) ends = absurd (omega arith)
+  one_way (part k n some l r) (stuck some' h) = absurd (let z = h k in let p = l.nonempty in let q = l.has in omega arith)
+  one_way {at} {rest} {s} (part {parts = ps} k n some l r) (part {parts = qs} {e = e} k' n' some' l' r') =
       let same_n : n ≡ n' = one_length l l' in
       let same_k : k ≡ k' = one_rule l l' in
-      let same_t : t ≡ t' = some_some (one_stack _ _ _ l l' m m') in
-      let there : MunchesFrom v (at + n) (drop n rest) t qs e = subst (λ u. MunchesFrom v (at + n) (drop n rest) u qs e) (sym same_t)
-      (subst (λ x. MunchesFrom v (at + x) (drop x rest) t' qs e) (sym same_n) r') in
+      let by_n = subst (λ x. MunchesFrom v (at + x) (drop x rest) (moved (target_at v k') s) qs e) (sym same_n) r' in
+      let there : MunchesFrom v (at + n) (drop n rest) (moved (target_at v k) s) qs e = subst (λ x. MunchesFrom v (at + n) (drop n rest) (moved (target_at v x) s) qs e) (sym same_k) by_n in
       let more = one_way r there in
       (ap₂ ◌∷◌ (ap₂ (λ x y. part_at x at y) same_k same_n) more.0, more.1)
 
@@ -62,8 +47,7 @@ module _ (v : RuleSetValue) where
   pub follows : {at : ℕ} {rest : List ℕ} {s : Stack} {ps : List Part} {e : Ending} → MunchesFrom v at rest s ps e → Follow at ps (end_of (at + length rest) e)
   follows ends = omega arith
   follows (stuck some h) = refl
-  follows (bottom k n some l m) = refl
-  follows {at} {rest} {s} (part {parts = ps} {e = e} k n t some l m r) =
+  follows {at} {rest} {s} (part {parts = ps} {e = e} k n some l r) =
       let fits = either_within (is_active_at v s.current k) (rule_len rest (slice_get v.rules k)) (length rest) (rule_within rest (slice_get v.rules k)) in
       let same : at + n + length (drop n rest) ≡ at + length rest = omega (arith, length-drop n rest, l.has, fits) in
       (refl, l.nonempty, subst (λ end. Follow (at + n) ps (end_of end e)) same (follows r))
@@ -78,8 +62,7 @@ module _ (v : RuleSetValue) where
   lie_within : {at : ℕ} {rest : List ℕ} {s : Stack} {ps : List Part} {e : Ending} → MunchesFrom v at rest s ps e → All (λ p. p.start + p.len ≤ at + length rest) ps
   lie_within ends = λ k d lt. absurd (omega arith)
   lie_within (stuck some h) = λ k d lt. absurd (omega arith)
-  lie_within (bottom k n some l m) = λ k d lt. absurd (omega arith)
-  lie_within {at} {rest} {s} (part {parts = ps} {e = e} k n t some l m r) =
+  lie_within {at} {rest} {s} (part {parts = ps} {e = e} k n some l r) =
       let fits = either_within (is_active_at v s.current k) (rule_len rest (slice_get v.rules k)) (length rest) (rule_within rest (slice_get v.rules k)) in
       let same : at + n + length (drop n rest) ≡ at + length rest = omega (arith, length-drop n rest, l.has, fits) in
       all_cons (λ p. p.start + p.len ≤ at + length rest) (part_at k at n) ps (omega (arith, l.has, fits)) (subst (λ end. All (λ p. p.start + p.len ≤ end) ps) same (lie_within r))

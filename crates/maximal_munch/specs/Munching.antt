@@ -1,10 +1,10 @@
 -- Maximal munch: at each offset the longest match of the active rules, and of these that of the first rule.
 use Rattle.std.specs.Prelude.{◌≡◌, ℕ, ◌+◌, ◌<◌, ◌≤◌, ◌==◌, if◌then◌else◌, List, [], ◌∷◌, length, drop, Option, None, Some, option_map, slice_get}
 use Rattle.regex.specs.Patterns.{Re, find_str, span}
-use Rattle.maximal_munch.specs.RuleValues.{RuleSetValue, RuleValue, Stack, is_active_at, target_at, moved}
+use Rattle.maximal_munch.specs.RuleValues.{RuleSetValue, RuleValue, Stack, start, is_active_at, target_at, moved}
 use Rattle.maximal_munch.specs.declared.munching.Part.{Part}
 use Rattle.maximal_munch.specs.declared.munching.Ending.{Ending}
-use Rattle.maximal_munch.specs.declared.munching.Ending.TheVariants.{Finished, NoMatch, NothingBelow}
+use Rattle.maximal_munch.specs.declared.munching.Ending.TheVariants.{Finished, NoMatch}
 
 -- the bytes of what was found at the front; 0 where nothing was found, or only further on
 abbrev pub front_len : Option (ℕ × ℕ) → ℕ
@@ -48,14 +48,8 @@ part_at k at n = record { rule = k; start = at; len = n }
 pub data MunchesFrom (v : RuleSetValue) : ℕ → List ℕ → Stack → List Part → Ending → Type 0 where
   ends : {at : ℕ} {s : Stack} → MunchesFrom v at [] s [] Finished
   stuck : {at : ℕ} {rest : List ℕ} {s : Stack} → 0 < length rest → IsStuck (len_at v s.current rest) → MunchesFrom v at rest s [] (NoMatch at)
-  bottom : {at : ℕ} {rest : List ℕ} {s : Stack} (k n : ℕ) → 0 < length rest → IsLongest (len_at v s.current rest) k n → moved (target_at v k) s ≡ None →
-      MunchesFrom v at rest s [] (NothingBelow at)
-  part : {at : ℕ} {rest : List ℕ} {s : Stack} {parts : List Part} {e : Ending} (k n : ℕ) (t : Stack) → 0 < length rest → IsLongest (len_at v s.current rest) k n →
-      moved (target_at v k) s ≡ Some t → MunchesFrom v (at + n) (drop n rest) t parts e → MunchesFrom v at rest s (part_at k at n ∷ parts) e
-
--- lexing begins in condition 0, with none below
-abbrev pub start : Stack
-start = record { current = 0; below = [] }
+  part : {at : ℕ} {rest : List ℕ} {s : Stack} {parts : List Part} {e : Ending} (k n : ℕ) → 0 < length rest → IsLongest (len_at v s.current rest) k n →
+      MunchesFrom v (at + n) (drop n rest) (moved (target_at v k) s) parts e → MunchesFrom v at rest s (part_at k at n ∷ parts) e
 
 -- the text has these parts, and its lexing ends so
 abbrev pub Munches : RuleSetValue → List ℕ → List Part → Ending → Type 0
@@ -65,7 +59,6 @@ Munches v text = MunchesFrom v 0 text start
 abbrev pub end_of : ℕ → Ending → ℕ
 end_of len Finished = len
 end_of len (NoMatch at) = at
-end_of len (NothingBelow at) = at
 
 -- each part begins where the one before it ends, has a byte, and the last one ends here
 abbrev pub Follow : ℕ → List Part → ℕ → Type 0

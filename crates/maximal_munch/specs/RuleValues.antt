@@ -53,15 +53,20 @@ pub record Stack : Type 0 where
   pub current : ℕ
   pub below : List ℕ
 
-abbrev pub popped : List ℕ → Option Stack
-popped [] = None
-popped (c ∷ cs) = Some (record { current = c; below = cs })
+-- lexing begins in condition 0, with none below
+abbrev pub start : Stack
+start = record { current = 0; below = [] }
 
--- the stack after a rule has matched; none where nothing is below the condition that is taken off
-abbrev pub moved : Target → Stack → Option Stack
-moved Stay s = Some s
-moved (Replace c) s = Some (record { current = c; below = s.below })
-moved (Push c) s = Some (record { current = c; below = s.current ∷ s.below })
+-- the stack of the conditions below; that of the start where there are none
+abbrev pub popped : List ℕ → Stack
+popped [] = start
+popped (c ∷ cs) = record { current = c; below = cs }
+
+-- the stack after a rule has matched
+abbrev pub moved : Target → Stack → Stack
+moved Stay s = s
+moved (Replace c) s = record { current = c; below = [] }
+moved (Push c) s = record { current = c; below = s.current ∷ s.below }
 moved Pop s = popped s.below
 
 -- the stack, where the last of the list is the next condition

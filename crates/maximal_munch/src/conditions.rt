@@ -1,6 +1,6 @@
 //! The stack of start conditions.
 
-ghost use Rattle.std.specs.Prelude.{◌≡◌, IfOk, Some, None, if◌then◌else◌};
+ghost use Rattle.std.specs.Prelude.{◌≡◌, OnOk};
 ghost use Rattle.maximal_munch.specs.RuleValues.{moved, stack_of};
 
 use crate::rules::Target;
@@ -14,28 +14,29 @@ pub(crate) struct Conditions {
 }
 
 impl Conditions {
-    /// Does what a rule's target says, and returns whether it could.
-    pub(crate) fn follow(&mut self, target: Target) -> Result<bool, AllocError>
-        ensures { IfOk result (λ done. moved target (stack_of self.old) ≡ (if done then Some (stack_of self.new) else None)) }
+    /// Does what a rule's target says.
+    pub(crate) fn follow(&mut self, target: Target) -> Result<(), AllocError>
+        ensures { OnOk result (stack_of self.new ≡ moved target (stack_of self.old)) }
     {
         match target {
-            Target::Stay => Ok(true),
+            Target::Stay => {}
             Target::Replace(condition) => {
+                self.below.clear();
                 self.current = condition;
-                Ok(true)
             }
             Target::Push(condition) => {
                 self.below.push(self.current)?;
                 self.current = condition;
-                Ok(true)
             }
             Target::Pop => match self.below.pop() {
                 Some(condition) => {
                     self.current = condition;
-                    Ok(true)
                 }
-                None => Ok(false),
+                None => {
+                    self.current = 0;
+                }
             },
         }
+        Ok(())
     }
 }

@@ -29,8 +29,6 @@ pub enum Ending {
     Finished,
     /// At this byte offset, where no rule that is active matches.
     NoMatch(usize),
-    /// At this byte offset, where the rule's match would take off the last start condition.
-    NothingBelow(usize),
 }
 
 /// The parts of a text, in order, and where its lexing ends.
@@ -83,9 +81,7 @@ fn push_parts(
         if best.len == 0 {
             return Ok(Ending::NoMatch(offset));
         }
-        if !conditions.follow(rules.target(best.rule))? {
-            return Ok(Ending::NothingBelow(offset));
-        }
+        conditions.follow(rules.target(best.rule))?;
         parts.push(Part {
             rule: best.rule,
             start: offset,

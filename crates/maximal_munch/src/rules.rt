@@ -12,11 +12,11 @@ use std::alloc::{AllocError, Global};
 pub enum Target {
     /// Nothing.
     Stay,
-    /// This condition takes the place of the one at the top.
+    /// This condition takes the place of all of the stack.
     Replace(usize),
     /// This condition is put on the top.
     Push(usize),
-    /// The one at the top is taken off. Where none is below it, lexing ends.
+    /// The one at the top is taken off. Where none is below it, condition 0 takes its place.
     Pop,
 }
 

@@ -1,7 +1,7 @@
 use Rattle.std.proofs.Common.{◌<◌, length, sym, ◌∙◌, rules, arith}
 use Rattle.std.proofs.lemmas.Bool.{eqb-true, eqb-false}
 use Rattle.maximal_munch.specs.RuleValues.{rule_set_of, stack_of}
-use Rattle.maximal_munch.proofs.MunchSteps.{stop_stuck, stop_bottom, stop_end, go_on}
+use Rattle.maximal_munch.proofs.MunchSteps.{stop_stuck, stop_end, go_on}
 use Rattle.maximal_munch.proofs.munching.push_parts.Goals as goal
 
 pub best_match-best-requires : goal.best_match-best-requires
@@ -15,15 +15,6 @@ returns-then-best-eq0 c =
     stop_stuck (rule_set_of c.args.rules.now) c.args.text.now l.parts.items l.offset l.rest.now (stack_of l.conditions) l.invariant.2
     best.result.rule best.result.len some best.ensures.best c.if-best-eq0.true
 
-pub returns-then-not-branch : goal.returns-then-not-branch
-returns-then-not-branch c =
-    let l = c.text in
-    let best = c.best_match-best in
-    let some : 0 < length l.rest.now = omega (arith, eqb-false (length l.rest.now) 0 (sym c.is_empty.ensures ∙ c.text-test.true)) in
-    stop_bottom (rule_set_of c.args.rules.now) c.args.text.now l.parts.items l.offset l.rest.now (stack_of l.conditions) l.invariant.2
-    best.result.rule best.result.len some best.ensures.best c.target.result (stack_of c.follow.new.self) c.in_ok-follow.field-0
-    (omega (arith, c.if-best-eq0.false)) c.target.ensures c.in_ok-follow.ensures c.if-not-branch.true
-
 pub text-preserved : goal.text-preserved
 text-preserved c =
     let l = c.text in
@@ -32,8 +23,8 @@ text-preserved c =
       search rules,
       best.ensures.same ∙ l.invariant.1,
       go_on (rule_set_of c.args.rules.now) c.args.text.now l.parts.items l.offset l.rest.now (stack_of l.conditions) l.invariant.2
-          best.result.rule best.result.len some best.ensures.best c.target.result (stack_of c.follow.new.self) c.in_ok-follow.field-0
-          (omega (arith, c.if-best-eq0.false)) c.target.ensures c.in_ok-follow.ensures c.if-not-branch.false
+          best.result.rule best.result.len some best.ensures.best (omega (arith, c.if-best-eq0.false))
+          c.target.result (stack_of c.follow.new.self) c.target.ensures c.in_ok-follow.ensures
           c.push.new.self.items c.range_from-rest.result.now c.in_ok-push.ensures.items c.range_from-rest.ensures.value,
       omega (arith, c.range_from-rest.ensures.len, l.invariant.3),
     )

@@ -1,0 +1,3 @@
+pub mod LexemeTexts
+pub mod Expressions
+pub mod Lexing

@@ -1,0 +1,4 @@
+pub mod BestSoFar
+pub mod AskedRules
+pub mod MunchSteps
+pub mod OneMunch

@@ -1,0 +1,2 @@
+pub mod RuleValues
+pub mod Munching

@@ -1,6 +1,6 @@
-use Rattle.parser_kit.proofs.Searches.{looked_more}
-use Rattle.parser_kit.specs.Searching.{IsLookedAt}
-use Rattle.parser_kit.proofs.productive.Search.look_at_all.Goals as goal
+use Rattle.cfg_sets.proofs.Searches.{looked_more}
+use Rattle.cfg_sets.specs.Searching.{IsLookedAt}
+use Rattle.cfg_sets.proofs.productive.Search.look_at_all.Goals as goal
 
 pub prods-preserved : goal.prods-preserved
 prods-preserved g c =

@@ -8,13 +8,13 @@ ghost use Rattle.std.specs.Prelude.{◌≡◌, ℕ, ◌<◌, ◌≤◌, [], ◌�
 ghost use Rattle.vob.specs.Sets.{is_set};
 ghost use Rattle.cfg_numbered.specs.Symbols.{sym_of};
 ghost use Rattle.cfg_sets.specs.WorkLists.{HasList, ListsNaming};
-ghost use Rattle.parser_kit.specs.Productive.{EachProductive, Tells};
-ghost use Rattle.parser_kit.specs.Searching.{AllFoundFrom, IsLookedAt, IsSearch, LooksAt, NamesUnfound, TellsHeld, TellsHold, room};
+ghost use Rattle.cfg_sets.specs.Productive.{EachProductive, Tells};
+ghost use Rattle.cfg_sets.specs.Searching.{AllFoundFrom, IsLookedAt, IsSearch, LooksAt, NamesUnfound, TellsHeld, TellsHold, room};
 
+use crate::naming::Naming;
 use cfg_base::index::IndexStorage;
 use cfg_base::symbol::{PIdx, Symbol};
 use cfg_numbered::yacc::NumberedGrammar;
-use cfg_sets::naming::Naming;
 use cfg_theory::rules::productive_tables_are_exact;
 use std::alloc::{AllocError, Global};
 use vob::Vob;

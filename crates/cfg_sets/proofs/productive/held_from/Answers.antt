@@ -4,9 +4,9 @@ use Rattle.cfg_theory.specs.Grammar.{Sym, body_of}
 use Rattle.cfg_numbered.specs.Symbols.{sym_of}
 use Rattle.cfg_sets.proofs.FollowSteps.{get_some}
 use Rattle.cfg_sets.proofs.WorkSteps.{has_lists}
-use Rattle.parser_kit.proofs.Searches.{names_unfound, found_more, found_all}
-use Rattle.parser_kit.specs.Searching.{TellsHeld}
-use Rattle.parser_kit.proofs.productive.held_from.Goals as goal
+use Rattle.cfg_sets.proofs.Searches.{names_unfound, found_more, found_all}
+use Rattle.cfg_sets.specs.Searching.{TellsHeld}
+use Rattle.cfg_sets.proofs.productive.held_from.Goals as goal
 
 pub is_held-requires : goal.is_held-requires
 is_held-requires g c =

@@ -1,8 +1,8 @@
 use Rattle.std.proofs.Common.{◌<◌, List, ℕ, length, get_or, refl, sym, subst, arith}
 use Rattle.cfg_sets.proofs.WorkSteps.{in_range, next_one}
-use Rattle.parser_kit.proofs.Searches.{taken, still, stands_no}
-use Rattle.parser_kit.specs.Searching.{IsLookedAt}
-use Rattle.parser_kit.proofs.productive.Search.look_at_named.Goals as goal
+use Rattle.cfg_sets.proofs.Searches.{taken, still, stands_no}
+use Rattle.cfg_sets.specs.Searching.{IsLookedAt}
+use Rattle.cfg_sets.proofs.productive.Search.look_at_named.Goals as goal
 
 pub prods-init : goal.prods-init
 prods-init g c =

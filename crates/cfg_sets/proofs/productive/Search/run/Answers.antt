@@ -1,6 +1,6 @@
 use Rattle.std.proofs.Common.{refl}
-use Rattle.parser_kit.proofs.Searches.{popped}
-use Rattle.parser_kit.proofs.productive.Search.run.Goals as goal
+use Rattle.cfg_sets.proofs.Searches.{popped}
+use Rattle.cfg_sets.proofs.productive.Search.run.Goals as goal
 
 pub look_at_named-requires-clause-rule : goal.look_at_named-requires-clause-rule
 look_at_named-requires-clause-rule g c =

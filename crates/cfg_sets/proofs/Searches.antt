@@ -14,9 +14,9 @@ use Rattle.cfg_theory.specs.Grammar.{Sym, rule, token, Grammar, WellFormed, IsNe
 use Rattle.cfg_theory.specs.Productive.{RulesIn, ProductiveIsExact, ProductiveTablesAreExact}
 use Rattle.cfg_theory.proofs.Derivation.{derives_rule}
 use Rattle.cfg_theory.proofs.Productive.{list_of}
-use Rattle.parser_kit.specs.Productive.{EachProductive, Tells}
-use Rattle.parser_kit.specs.Searching.{AllFoundFrom, IsLookedAt, IsSearch, KeepsLooks, LooksAt, NamesUnfound, TellsHeld, TellsHold}
-use Rattle.parser_kit.specs.declared.productive.Search.{Search}
+use Rattle.cfg_sets.specs.Productive.{EachProductive, Tells}
+use Rattle.cfg_sets.specs.Searching.{AllFoundFrom, IsLookedAt, IsSearch, KeepsLooks, LooksAt, NamesUnfound, TellsHeld, TellsHold}
+use Rattle.cfg_sets.specs.declared.productive.Search.{Search}
 
 -- ---- symbols of a production
 

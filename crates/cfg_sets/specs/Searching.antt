@@ -5,7 +5,7 @@ use Rattle.vob.specs.Sets.{is_set, missing}
 use Rattle.cfg_sets.specs.WorkLists.{NamesOne}
 use Rattle.cfg_theory.specs.Derivation.{IsProductive}
 use Rattle.cfg_theory.specs.Grammar.{Sym, rule, token, Grammar, head_of, IsNext}
-use Rattle.parser_kit.specs.declared.productive.Search.{Search}
+use Rattle.cfg_sets.specs.declared.productive.Search.{Search}
 
 -- whether a symbol is a rule that isn't found
 abbrev pub TellsHeld : List Bool → Sym → Bool → Type 0

@@ -1,6 +1,6 @@
 use Rattle.std.proofs.Common.{ℕ, ◌<◌, length}
-use Rattle.parser_kit.specs.Searching.{IsLookedAt, IsSearch, room}
-use Rattle.parser_kit.proofs.productive.Search.run.Given as goal
+use Rattle.cfg_sets.specs.Searching.{IsLookedAt, IsSearch, room}
+use Rattle.cfg_sets.proofs.productive.Search.run.Given as goal
 
 abbrev pub invariant-takings : goal.invariant-takings
 invariant-takings g l = record {

@@ -1,6 +1,6 @@
 use Rattle.std.proofs.Common.{refl, sym, ◌∙◌}
-use Rattle.parser_kit.proofs.Searches.{found_new, found_again, set_to}
-use Rattle.parser_kit.proofs.productive.Search.find.Goals as goal
+use Rattle.cfg_sets.proofs.Searches.{found_new, found_again, set_to}
+use Rattle.cfg_sets.proofs.productive.Search.find.Goals as goal
 
 pub returns-in_ok-push : goal.returns-in_ok-push
 returns-in_ok-push g c =

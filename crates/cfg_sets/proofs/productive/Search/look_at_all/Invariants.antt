@@ -1,6 +1,6 @@
 use Rattle.std.proofs.Common.{ℕ, ◌<◌}
-use Rattle.parser_kit.specs.Searching.{IsLookedAt, IsSearch}
-use Rattle.parser_kit.proofs.productive.Search.look_at_all.Given as goal
+use Rattle.cfg_sets.specs.Searching.{IsLookedAt, IsSearch}
+use Rattle.cfg_sets.proofs.productive.Search.look_at_all.Given as goal
 
 abbrev pub invariant-prods : goal.invariant-prods
 invariant-prods g l = record {

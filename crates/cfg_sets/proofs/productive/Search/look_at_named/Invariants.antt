@@ -1,7 +1,7 @@
 use Rattle.std.proofs.Common.{ℕ, ◌<◌, ◌≤◌, ◌⊎◌, length}
 use Rattle.cfg_sets.specs.WorkLists.{StandsFrom}
-use Rattle.parser_kit.specs.Searching.{IsLookedAt, IsSearch, room}
-use Rattle.parser_kit.proofs.productive.Search.look_at_named.Given as goal
+use Rattle.cfg_sets.specs.Searching.{IsLookedAt, IsSearch, room}
+use Rattle.cfg_sets.proofs.productive.Search.look_at_named.Given as goal
 
 abbrev pub invariant-prods : goal.invariant-prods
 invariant-prods g l = record {

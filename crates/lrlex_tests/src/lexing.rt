@@ -178,7 +178,7 @@ fn put_item(
         Ok(lexeme) => {
             let start = lexeme.span.start();
             let end = lexeme.span.end();
-            format!(in alloc; "{}[{start},{end}] ", lexeme.token)?
+            format!(in alloc; "{}[{start},{end}] ", lexeme.tok_id)?
         }
         Err(error) => {
             let mark = match error.kind {

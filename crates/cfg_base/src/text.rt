@@ -5,7 +5,7 @@ ghost use Rattle.std.specs.List.{prefix_len};
 ghost use Rattle.cfg_base.specs.Text.{is_white, is_letter, is_digit, is_in_line, run_end, line_end, is_comment_end, comment_end, gap_at, FitsGap};
 
 /// The part of a gap at an offset.
-#[derive(Clone, Copy, Debug, PartialEq, Eq)]
+#[derive(Clone, Copy, PartialEq, Eq)]
 pub enum GapPart {
     /// One white byte or one comment, which ends before this offset.
     Part(usize),

@@ -9,7 +9,7 @@ use cfg_base::text::{GapPart, gap_at};
 use std::alloc::{AllocError, Global};
 
 /// A token of a `%token` list.
-#[derive(Clone, Copy, Debug, PartialEq, Eq, PartialOrd, Ord)]
+#[derive(Clone, Copy, PartialEq, Eq, PartialOrd, Ord)]
 struct Declared<'a> {
     name: &'a str,
     /// Where it begins, its quote included.

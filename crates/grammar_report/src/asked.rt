@@ -3,6 +3,7 @@
 /// A file of lines of token names.
 #[derive(Clone, Copy)]
 pub struct LineFile<'a> {
+    /// What the file holds.
     pub text: &'a str,
     /// The path that places are told with.
     pub path: &'a str,

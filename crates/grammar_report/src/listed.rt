@@ -7,7 +7,7 @@ use lrtable::{Conflicts, StIdx};
 use std::alloc::{AllocError, Global};
 
 /// A listed conflict: a reduction against a shift, or against another reduction.
-#[derive(Clone, Copy, Debug, PartialEq, Eq, PartialOrd, Ord)]
+#[derive(Clone, Copy, PartialEq, Eq, PartialOrd, Ord)]
 pub(crate) struct Listed {
     pub pidx: PIdx<u32>,
     /// The other production of a pair.

@@ -17,7 +17,9 @@ pub enum Outcome {
 /// A report on a grammar's text.
 #[derive(Debug, Drop)]
 pub struct Report {
+    /// The text to print.
     pub text: String,
+    /// What decides the status.
     pub outcome: Outcome,
 }
 

@@ -8,7 +8,7 @@ use parser_kit::ParserKit;
 use std::alloc::{AllocError, Global};
 
 /// What is chosen, in the order in which it is told.
-#[derive(Clone, Copy, Debug, PartialEq, Eq, PartialOrd, Ord)]
+#[derive(Clone, Copy, PartialEq, Eq, PartialOrd, Ord)]
 enum Choice {
     Reduce,
     Shift,
@@ -16,7 +16,7 @@ enum Choice {
 }
 
 /// What is chosen where a production may be reduced before a token that may be shifted.
-#[derive(Clone, Copy, Debug, PartialEq, Eq, PartialOrd, Ord)]
+#[derive(Clone, Copy, PartialEq, Eq, PartialOrd, Ord)]
 pub(crate) struct Pair {
     pub pidx: PIdx<u32>,
     choice: Choice,

@@ -11,7 +11,9 @@ use thiserror::Error;
 /// An input of the program.
 #[derive(Clone, Copy, Debug, PartialEq, Eq)]
 pub enum Input {
+    /// The grammar's file.
     Grammar,
+    /// The file of lines whose next tokens are asked for.
     Lines,
 }
 
@@ -24,6 +26,7 @@ pub enum CheckFault {
     /// The input can't be opened, or a read fails.
     #[error("{1}")]
     Read(Input, String),
+    /// The input has more than 64 MiB.
     #[error("more than 67108864 bytes")]
     TooLong(Input),
     /// A write failed, or took nothing of a text that isn't empty.
@@ -32,6 +35,7 @@ pub enum CheckFault {
     /// The reader of the pipe that is written to is gone.
     #[error("closed pipe")]
     Closed,
+    /// The request for memory that was refused.
     #[error("out of memory")]
     Memory(AllocError),
 }

@@ -144,7 +144,7 @@ impl<S: IndexStorage> Display for ParserDataError<S> {
 impl<S: IndexStorage> Error for ParserDataError<S> {}
 
 /// The result of a check.
-#[derive(Clone, Copy, Debug, PartialEq, Eq)]
+#[derive(Clone, Copy, PartialEq, Eq)]
 enum Verdict<S> {
     Checked(bool),
     Unsafe(Misfit<S>),

@@ -17,7 +17,7 @@ use state_table::{StIdx, StateTable};
 use std::alloc::{AllocError, Global};
 
 /// The reductions of at most one symbol that a state makes: none, by one production of one symbol alone, or others.
-#[derive(Clone, Copy, Debug, PartialEq, Eq)]
+#[derive(Clone, Copy, PartialEq, Eq)]
 pub(crate) enum Short<S> {
     Nothing,
     Unit(PIdx<S>),

@@ -320,19 +320,6 @@ impl<'a> Source<'a> {
         self.push_message_if(alloc, text, message.severity, message.span, words)?;
         text.push_str(below.as_str())
     }
-
-    /// Adds messages, one behind the other.
-    pub fn push_all(
-        &self,
-        alloc: Global,
-        text: &mut String,
-        messages: &[Message],
-    ) -> Result<(), AllocError> {
-        'messages: for message in messages {
-            self.push(alloc, text, message)?;
-        }
-        Ok(())
-    }
 }
 
 /// Returns how many of the characters of a text take two units of UTF-16.

@@ -1,7 +1,7 @@
 //! Where code, quotes, comments, names and numbers end.
 
 /// What the bytes of code are part of.
-#[derive(Clone, Copy, Debug, PartialEq, Eq)]
+#[derive(Clone, Copy, PartialEq, Eq)]
 enum Inside {
     Code,
     /// A string or a character, by its quote.

@@ -7,7 +7,7 @@ use crate::words::{Word, word_of};
 use std::alloc::Global;
 
 /// What a token is for, and so what becomes of it.
-#[derive(Clone, Copy, Debug, PartialEq, Eq)]
+#[derive(Clone, Copy, PartialEq, Eq)]
 pub(crate) enum Role {
     /// It stays.
     Keep,
@@ -46,7 +46,7 @@ pub(crate) enum Role {
 }
 
 /// What a token is for, and what is put behind it.
-#[derive(Clone, Copy, Debug)]
+#[derive(Clone, Copy)]
 pub(crate) struct Part {
     pub role: Role,
     /// The index of the token of a `%prec` that is put behind this token.
@@ -74,7 +74,7 @@ pub(crate) struct Parts {
 }
 
 /// What the next token may belong to.
-#[derive(Clone, Copy, Debug, PartialEq, Eq)]
+#[derive(Clone, Copy, PartialEq, Eq)]
 enum Context {
     Nothing,
     Tokens,

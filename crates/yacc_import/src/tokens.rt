@@ -8,7 +8,7 @@ use crate::errors::{Fault, ImportError};
 use std::alloc::Global;
 
 /// What a token is.
-#[derive(Clone, Copy, Debug, PartialEq, Eq)]
+#[derive(Clone, Copy, PartialEq, Eq)]
 pub(crate) enum Kind {
     /// `%%`
     Section,
@@ -42,7 +42,7 @@ pub(crate) enum Kind {
 }
 
 /// A token, from the byte offset `start` up to `end`.
-#[derive(Clone, Copy, Debug)]
+#[derive(Clone, Copy)]
 pub(crate) struct Token {
     pub kind: Kind,
     pub start: usize,

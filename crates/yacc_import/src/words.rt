@@ -1,7 +1,7 @@
 //! The directives of Bison.
 
 /// What a directive is.
-#[derive(Clone, Copy, Debug, PartialEq, Eq)]
+#[derive(Clone, Copy, PartialEq, Eq)]
 pub(crate) enum Word {
     Token,
     /// `%term`, an old word for `%token`.

@@ -48,7 +48,7 @@ fn text_len(bytes: &[u8]) -> usize
 }
 
 /// What begins at an offset, by its first character.
-#[derive(Clone, Copy, Debug, PartialEq, Eq)]
+#[derive(Clone, Copy, PartialEq, Eq)]
 pub enum TokenKind {
     /// `A` to `Z` or `a` to `z`.
     Letter,
@@ -113,7 +113,7 @@ impl TokenKind {
 }
 
 /// The shape of the path at an offset.
-#[derive(Clone, Copy, Debug, PartialEq, Eq)]
+#[derive(Clone, Copy, PartialEq, Eq)]
 pub enum PathShape {
     /// One word, which ends here.
     Alone(usize),
@@ -126,7 +126,7 @@ pub enum PathShape {
 }
 
 /// Reads a text, at offsets that its calls are given.
-#[derive(Clone, Copy, Debug)]
+#[derive(Clone, Copy)]
 pub struct Scanner<'a> {
     /// The whole text, from its first byte, so that offsets are those of the file.
     pub text: &'a str,

@@ -21,7 +21,7 @@ use std::alloc::{AllocError, AllocFailed, Global};
 const MOST_DEPTH: usize = 64;
 
 /// Why reading stops.
-#[derive(Debug, Drop)]
+#[derive(Drop)]
 pub enum Fault {
     /// The request for memory that was refused.
     Memory(AllocError),
@@ -46,7 +46,7 @@ impl<T: Drop> From<AllocFailed<T>> for Fault {
 }
 
 /// A key in lower case, its span, and its value.
-#[derive(Debug, Drop)]
+#[derive(Drop)]
 pub struct Pair {
     /// The key's word in lower case; of `!key` without the `!`.
     pub key: String,

@@ -221,7 +221,7 @@ impl fmt::Debug for Name {
 }
 
 /// The names of a text, each once, in the order of their first appearances.
-#[derive(Debug, Drop)]
+#[derive(Drop)]
 pub(crate) struct NameSet {
     names: IndexSet<Name>,
 }

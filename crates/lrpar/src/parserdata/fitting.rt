@@ -18,14 +18,14 @@ pub enum Cell<S> {
 }
 
 /// A cell at which a graph and a table don't fit a grammar.
-#[derive(Clone, Copy, Debug, PartialEq, Eq)]
+#[derive(Clone, Copy, PartialEq, Eq)]
 pub(crate) struct Misfit<S> {
     pub state: StIdx<S>,
     pub cell: Cell<S>,
 }
 
 /// An item past dot zero, by its production and the dot one less.
-#[derive(Clone, Copy, Debug, PartialEq, Eq)]
+#[derive(Clone, Copy, PartialEq, Eq)]
 pub(crate) struct PastItem<S> {
     pub pidx: PIdx<S>,
     pub before: SIdx<S>,

@@ -7,7 +7,7 @@ ghost use Rattle.cfg_read.specs.Declarations.{declaration_named, knows};
 use crate::yacc::{AssocKind, YaccKind};
 
 /// A declaration, without the text behind its word.
-#[derive(Clone, Copy, Debug, PartialEq, Eq)]
+#[derive(Clone, Copy, PartialEq, Eq)]
 pub enum Declaration {
     /// `%token`, with tokens up to the next declaration.
     Token,
@@ -24,7 +24,7 @@ pub enum Declaration {
 }
 
 /// A declaration of names or tokens up to the line's end.
-#[derive(Clone, Copy, Debug, PartialEq, Eq)]
+#[derive(Clone, Copy, PartialEq, Eq)]
 pub enum LineList {
     /// `%left`, `%right` or `%nonassoc`, which make one level of precedence a line.
     Level(AssocKind),
@@ -37,7 +37,7 @@ pub enum LineList {
 }
 
 /// A declaration of a number of conflicts.
-#[derive(Clone, Copy, Debug, PartialEq, Eq)]
+#[derive(Clone, Copy, PartialEq, Eq)]
 pub enum Count {
     /// `%expect`: the number of shift/reduce conflicts.
     Expect,
@@ -46,7 +46,7 @@ pub enum Count {
 }
 
 /// A declaration of the rest of the line.
-#[derive(Clone, Copy, Debug, PartialEq, Eq)]
+#[derive(Clone, Copy, PartialEq, Eq)]
 pub enum LineText {
     /// `%actiontype`, in original Yacc grammars alone: the type of all actions' values.
     ActionType,

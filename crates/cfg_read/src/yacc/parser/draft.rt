@@ -14,7 +14,7 @@ use std::mem;
 const FEW: usize = 64;
 
 /// An alternative as far as it is read.
-#[derive(Debug, Drop)]
+#[derive(Drop)]
 pub(crate) struct Draft {
     pub(crate) symbols: Vec<Symbol>,
     /// Whether `%empty` was read.

@@ -16,7 +16,7 @@ use cfg_base::text::GapPart;
 use std::rc::RcStr;
 
 /// What is at an offset, and where it ends.
-#[derive(Clone, Copy, Debug, PartialEq, Eq)]
+#[derive(Clone, Copy, PartialEq, Eq)]
 pub(crate) enum TokenKind {
     End,
     /// A name, up to here.
@@ -44,7 +44,7 @@ pub(crate) enum TokenKind {
 }
 
 /// The string at an offset.
-#[derive(Clone, Copy, Debug, PartialEq, Eq)]
+#[derive(Clone, Copy, PartialEq, Eq)]
 pub(crate) enum StringKind {
     /// Its second quote is here.
     Closed(usize),
@@ -53,7 +53,7 @@ pub(crate) enum StringKind {
 }
 
 /// A text and its kind. Offsets are in bytes; past the text's end nothing is found.
-#[derive(Clone, Copy, Debug)]
+#[derive(Clone, Copy)]
 pub(crate) struct Scanner<'a> {
     pub(crate) text: &'a str,
     /// The text once more, for names that share it.

@@ -161,7 +161,7 @@ impl Alternative {
 }
 
 /// One heading of a rule with its alternatives.
-#[derive(Debug, Drop)]
+#[derive(Drop)]
 pub struct Rule {
     /// The rule's name, which several headings may share.
     pub name: Name,
@@ -174,7 +174,7 @@ pub struct Rule {
 }
 
 /// One precedence line.
-#[derive(Debug, Drop)]
+#[derive(Drop)]
 pub struct Level {
     /// The declaration's word: `%left`, `%right` or `%nonassoc`.
     pub kind: AssocKind,
@@ -183,14 +183,14 @@ pub struct Level {
 }
 
 /// The names and tokens of one line of `%avoid_insert`, `%implicit_tokens` or `%expect-unused`.
-#[derive(Debug, Drop)]
+#[derive(Drop)]
 pub struct Line {
     /// In order; a name without quotes is a rule or a token.
     pub items: Vec<Symbol>,
 }
 
 /// The number of `%expect` or `%expect-rr`.
-#[derive(Debug, Drop)]
+#[derive(Drop)]
 pub struct Number {
     /// The number, up to `usize::MAX`.
     pub value: usize,
@@ -199,7 +199,7 @@ pub struct Number {
 }
 
 /// The printed text of a token.
-#[derive(Debug, Drop)]
+#[derive(Drop)]
 pub struct Epp {
     /// The token, quoted or not.
     pub token: Word,
@@ -208,7 +208,7 @@ pub struct Epp {
 }
 
 /// The parameter of `%parse-param`.
-#[derive(Debug, Drop)]
+#[derive(Drop)]
 pub struct Param {
     /// The trimmed text before the colon.
     pub name: Word,
@@ -217,7 +217,7 @@ pub struct Param {
 }
 
 /// What a text says, each kind of thing in the order of the text.
-#[derive(Debug, Drop)]
+#[derive(Drop)]
 pub struct Syntax {
     /// The rule's name of each `%start`; a valid text has at most one.
     pub starts: Vec<Word>,

@@ -19,7 +19,7 @@ use indexmap::IndexSet;
 use std::alloc::{AllocError, Global};
 
 /// What may occur once.
-#[derive(Clone, Copy, Debug, PartialEq, Eq)]
+#[derive(Clone, Copy, PartialEq, Eq)]
 enum Repeated {
     Precedence,
     Epp,

@@ -24,7 +24,7 @@ use indexmap::IndexMap;
 use std::alloc::{AllocError, Global};
 
 /// What an unknown name should have been.
-#[derive(Clone, Copy, Debug, PartialEq, Eq)]
+#[derive(Clone, Copy, PartialEq, Eq)]
 enum Unknown {
     StartRule,
     Rule,

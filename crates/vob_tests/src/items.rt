@@ -1,168 +1,93 @@
-//! Items set, added and removed one by one, and the room for them.
+//! Lists as they are made, the room for them, and their items.
 
-use crate::common::{every, same, set_in, shows};
+use crate::common::{Items, holds, list_of, same, set_in, view_of};
 use std::alloc::{AllocError, Global};
-use std::process::Abort;
+use std::iter::DoubleEndedIterator;
 use std::test::Fail;
 use vob::error::VobError;
 use vob::{Vob, vob};
+
+/// Returns the indices that are set, and those that are not, each to the end.
+fn walks(three: &Vob) -> ([Option<usize>; 3], [Option<usize>; 2]) {
+    let (mut set, mut unset) = (three.iter_set_bits(..), three.iter_unset_bits(..));
+    let found = [set.next(), set.next(), set.next()];
+    (found, [unset.next(), unset.next()])
+}
 
 #[test]
 fn one_item_is_set(rt: HostRuntime) -> Result<(), Fail> {
     let mut three = vob!(rt.alloc(); false, true, false)?;
     assert!(rt; three.len() == 3);
     same(&rt, "changed", three.set(2, true), true);
-    last_two_are_set(&rt, &three);
-    first_is_unset(&rt, &three);
+    let wanted = ([Some(1), Some(2), None], [Some(0), None]);
+    same(&rt, "walks", walks(&three), wanted);
     Ok(())
 }
 
-fn last_two_are_set(rt: &impl Abort, three: &Vob) {
-    let mut set = three.iter_set_bits(..);
-    same(rt, "first", set.next(), Some(1));
-    same(rt, "second", set.next(), Some(2));
-    same(rt, "end", set.next(), None);
-}
+// Whether a list is empty, its capacity, its first and last item, and the number of its blocks.
+type Made = (bool, usize, Option<bool>, Option<bool>, usize);
 
-fn first_is_unset(rt: &impl Abort, three: &Vob) {
-    let mut unset = three.iter_unset_bits(..);
-    same(rt, "unset", unset.next(), Some(0));
-    same(rt, "end", unset.next(), None);
-}
-
-#[test]
-fn lists_grow_and_shrink(rt: HostRuntime) -> Result<(), VobError> {
-    let mut list: Vob<u8> = Vob::new_with_storage_type(rt.alloc(), 9)?;
-    same(&rt, "room", list.capacity(), 16);
-    same(&rt, "empty", list.is_empty(), true);
-    list_grows(&rt, &mut list)?;
-    list.resize(2, false)?;
-    same(&rt, "two", list.get_storage(), [0x01].as_slice());
-    one_item_is_left(&rt, &mut list);
-    none_is_left(&rt, &mut list);
-    Ok(())
-}
-
-fn list_grows(rt: &impl Abort, list: &mut Vob<u8>) -> Result<(), VobError> {
-    list.extend_from_slice([true, false, true].as_slice())?;
-    list.push(true)?;
-    same(rt, "added", list.pop(), Some(true));
-    list.resize(20, true)?;
-    same(rt, "set", set_in(list), 19);
-    same(
-        rt,
-        "twenty",
-        list.get_storage(),
-        [0xfd, 0xff, 0x0f].as_slice(),
-    );
-    Ok(())
-}
-
-fn one_item_is_left(rt: &impl Abort, list: &mut Vob<u8>) {
-    list.truncate(1);
-    list.shrink_to_fit();
-    shows(rt, "one", list, [true].as_slice());
-}
-
-fn none_is_left(rt: &impl Abort, list: &mut Vob<u8>) {
-    list.clear();
-    same(rt, "empty", list.is_empty(), true);
-    same(rt, "none", list.pop(), None);
-}
-
-#[test]
-fn items_are_changed_one_by_one(rt: HostRuntime) -> Result<(), VobError> {
-    let mut list: Vob<u8> = Vob::from_elem_with_storage_type(rt.alloc(), false, 9)?;
-    items_are_set(&rt, &mut list);
-    same(&rt, "set", list.get_storage(), [0x01, 0x01].as_slice());
-    list.push(true)?;
-    same(&rt, "added", list.get_storage(), [0x01, 0x03].as_slice());
-    list.resize(12, true)?;
-    same(&rt, "twelve", list.get_storage(), [0x01, 0x0f].as_slice());
-    last_items_are_removed(&rt, &mut list);
-    three_are_left(&rt, &mut list)?;
-    list.clear();
-    same(&rt, "none", list.pop(), None);
-    Ok(())
-}
-
-fn items_are_set(rt: &impl Abort, list: &mut Vob<u8>) {
-    assert!(rt; list.len() == 9);
-    same(rt, "changed", list.set(8, true), true);
-    same(rt, "unchanged", list.set_unchecked(8, true), false);
-    same(rt, "changed again", list.set_unchecked(0, true), true);
-}
-
-fn last_items_are_removed(rt: &impl Abort, list: &mut Vob<u8>) {
-    same(rt, "last", list.pop(), Some(true));
-    list.truncate(9);
-    same(rt, "nine", list.get_storage(), [0x01, 0x01].as_slice());
-}
-
-fn three_are_left(rt: &impl Abort, list: &mut Vob<u8>) -> Result<(), AllocError> {
-    list.resize(3, true)?;
-    list.shrink_to_fit();
-    same(rt, "three", list.get_storage(), [0x01].as_slice());
-    Ok(())
+fn facts(list: &mut Vob) -> Made {
+    let (first, last) = (list.get(0), list.pop());
+    let blocks = list.get_storage().len();
+    (list.is_empty(), list.capacity(), first, last, blocks)
 }
 
 #[test]
 fn a_new_list_is_empty(rt: HostRuntime) -> Result<(), Fail> {
     let mut list = Vob::new(rt.alloc());
-    same(&rt, "empty", list.is_empty(), true);
-    same(&rt, "room", list.capacity(), 0);
-    same(&rt, "first", list.get(0), None);
-    same(&rt, "last", list.pop(), None);
-    same(&rt, "blocks", list.get_storage().len(), 0);
+    same(&rt, "new", facts(&mut list), (true, 0, None, None, 0));
     list.push(true)?;
-    shows(&rt, "one", &list, [true].as_slice());
+    same(&rt, "one", view_of(&list), (1, 1, Some(1), Some(1)));
     Ok(())
 }
 
+// The room that is asked for, and that there is.
 #[test]
 fn room_is_made_at_once(rt: HostRuntime) -> Result<(), Fail> {
-    same(
-        &rt,
-        "none",
-        Vob::with_capacity(rt.alloc(), 0)?.capacity(),
-        0,
-    );
-    let mut list = Vob::with_capacity(rt.alloc(), 65)?;
-    same(&rt, "empty", list.is_empty(), true);
-    same(&rt, "first", list.get(0), None);
-    same(&rt, "room", list.capacity(), 128);
-    list.resize(128, true)?;
-    same(&rt, "room of all", list.capacity(), 128);
-    same(&rt, "set", set_in(&list), 128);
+    for (asked, room) in [(0, 0), (65, 128)] {
+        let mut list = Vob::with_capacity(rt.alloc(), asked)?;
+        same(&rt, "empty", facts(&mut list), (true, room, None, None, 0));
+        list.resize(room, true)?;
+        let found = (list.capacity(), set_in(&list));
+        same(&rt, "room of all", found, (room, room));
+    }
     Ok(())
 }
 
-#[test]
-fn items_are_read_unchecked(rt: HostRuntime) -> Result<(), Fail> {
-    let list: Vob<u8> = every(rt.alloc(), 7, 150)?;
-    assert!(rt; list.len() == 150);
-    'each: for index in 0..150usize {
-        assert!(rt; list.get_unchecked(index) == (index % 7 == 0), "{index}");
+/// Returns whether the items of a list are those of the sevenths, read unchecked.
+fn are_sevenths(list: &Vob<u8>) -> bool {
+    'each: for index in 0..list.len() {
+        if list.get_unchecked(index) != (index % 7 == 0) {
+            return false;
+        }
     }
+    true
+}
+
+#[test]
+fn items_are_read_unchecked(rt: HostRuntime) -> Result<(), VobError> {
+    let list: Vob<u8> = list_of(rt.alloc(), Items::Sevenths, 0, 150)?;
+    let found = (list.len(), are_sevenths(&list));
+    same(&rt, "150 items", found, (150, true));
     Ok(())
 }
 
 // Each of these takes no memory, so it must pass even where each allocation fails.
 #[test]
-fn lists_without_items_take_no_memory(rt: HostRuntime) -> Result<(), Fail> {
+fn lists_without_items_take_no_memory(rt: HostRuntime) -> Result<(), AllocError> {
     let none: Vob = Vob::from_elem(rt.alloc(), true, 0)?;
-    same(&rt, "copy", none == none.clone()?, true);
-    same(&rt, "record", none.to_record()?.len, 0);
-    same(&rt, "combined", combined_with_itself(&none)?, [0, 0, 0]);
+    let found = copies(&none);
+    drop(none);
+    same(&rt, "copies", found?, (true, 0));
     same(&rt, "made", made_without_items(rt.alloc())?, true);
     Ok(())
 }
 
-/// Returns how many items a list and itself have together, in common and apart.
-fn combined_with_itself(none: &Vob) -> Result<[usize; 3], AllocError> {
-    let both = (none & none)?.len();
-    let either = (none | none)?.len();
-    Ok([both, either, (none ^ none)?.len()])
+/// Returns whether a copy of a list is equal to it, and the length of its record.
+fn copies(none: &Vob) -> Result<(bool, usize), AllocError> {
+    let is_equal = *none == none.clone()?;
+    Ok((is_equal, none.to_record()?.len))
 }
 
 /// Returns whether two lists without items are equal.
@@ -171,15 +96,39 @@ fn made_without_items(alloc: Global) -> Result<bool, AllocError> {
     Ok(made == Vob::from_elem_with_storage_type(alloc, true, 0)?)
 }
 
-// Where the allocator refuses fewer blocks, the first call leaves the room as it is, and the second one gives it back.
 #[test]
-fn room_is_given_back(rt: HostRuntime) -> Result<(), Fail> {
-    let mut list: Vob<u8> = Vob::new_with_storage_type(rt.alloc(), 900)?;
-    list.resize(9, true)?;
-    same(&rt, "room", list.capacity() >= 900, true);
-    list.shrink_to_fit();
-    list.shrink_to_fit();
-    same(&rt, "least room", list.capacity(), 16);
-    shows(&rt, "nine", &list, [true; 9].as_slice());
+fn lists_are_compared_and_copied(rt: HostRuntime) -> Result<(), Fail> {
+    let mut list = vob!(rt.alloc(); true, false, true, false)?;
+    list.negate();
+    same(&rt, "negated", view_of(&list), (4, 2, Some(10), Some(10)));
+    list.set_all(true);
+    let found = comparisons(&list, rt.alloc());
+    same(&rt, "set", view_of(&list), (4, 4, Some(15), Some(15)));
+    same(&rt, "compared", found?, [true, true, true]);
+    assert!(rt; list.len() == 4);
+    assert!(rt; list[3]);
+    Ok(())
+}
+
+/// Returns whether a list is four items that are set, is no other list, and is its copy.
+fn comparisons(list: &Vob, alloc: Global) -> Result<[bool; 3], VobError> {
+    let four = *list == vob!(alloc; true; 4)?;
+    let other = *list != vob!(alloc; true, false, true, false)?;
+    Ok([four, other, list.clone()? == *list])
+}
+
+/// Returns the last two items, the first one, and how many are between.
+fn ends(list: &Vob) -> ([Option<bool>; 3], usize) {
+    let mut walk = list.iter();
+    let found = [walk.next_back(), walk.next_back(), walk.next()];
+    (found, walk.count())
+}
+
+#[test]
+fn items_come_from_both_ends(rt: HostRuntime) -> Result<(), VobError> {
+    let list: Vob = list_of(rt.alloc(), Items::Mixed, 0, 70)?;
+    let found = (ends(&list), holds(&list, Items::Mixed, 0, 70));
+    let wanted = [Some(true), Some(false), Some(true)];
+    same(&rt, "ends", found, ((wanted, 67), true));
     Ok(())
 }

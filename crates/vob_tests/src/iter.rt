@@ -1,46 +1,43 @@
 //! Iterators from both ends.
 
-use crate::common::{nine_bytes, same, set_in, unset_in};
+use crate::common::{full, same, set_in, unset_in};
 use std::iter::DoubleEndedIterator;
-use std::process::Abort;
 use std::test::Fail;
 use vob::Vob;
 
 #[test]
 fn nine_bits_in_two_bytes(rt: HostRuntime) -> Result<(), Fail> {
-    let nine = nine_bytes(rt.alloc())?;
-    same(&rt, "blocks", nine.get_storage(), [0xff, 0x01].as_slice());
-    last_two_are_walked_over(&rt, &nine);
-    set_bits_are_counted(&rt, &nine);
-    nothing_is_told_of_a_walk(&rt, &nine);
-    blocks_are_walked_over(&rt, &nine);
+    let nine = full(rt.alloc(), 9)?;
+    let (ends, up_to_eight) = (last_two(&nine), nine.iter_set_bits(..=8).next_back());
+    let (counts, hints, blocks) = (counts(&nine), hints(&nine), blocks(&nine));
+    drop(nine);
+    same(&rt, "ends", ends, [Some(8), Some(7), None, None]);
+    same(&rt, "up to 8", up_to_eight, Some(8));
+    same(&rt, "counts", counts, [0, 9, 0, 2]);
+    same(&rt, "hints", hints, [(0, None), (9, Some(9))]);
+    same(&rt, "blocks", blocks, [Some(0xff), Some(0x01), None]);
     Ok(())
 }
 
-fn last_two_are_walked_over(rt: &impl Abort, nine: &Vob<u8>) {
+/// Walks over the last two items from both ends, and past these.
+fn last_two(nine: &Vob<u8>) -> [Option<usize>; 4] {
     let mut walk = nine.iter_set_bits(7..20);
-    same(rt, "last", walk.next_back(), Some(8));
-    same(rt, "first", walk.next(), Some(7));
-    same(rt, "end", walk.next(), None);
-    same(rt, "end from behind", walk.next_back(), None);
+    [walk.next_back(), walk.next(), walk.next(), walk.next_back()]
 }
 
-fn set_bits_are_counted(rt: &impl Abort, nine: &Vob<u8>) {
-    same(rt, "none", nine.iter_set_bits(5..2).count(), 0);
-    same(rt, "set", set_in(nine), 9);
-    same(rt, "unset", unset_in(nine), 0);
-    same(rt, "up to 8", nine.iter_set_bits(..=8).next_back(), Some(8));
+/// Counts the items that are set in no range and in all, those that are unset, and the blocks.
+fn counts(nine: &Vob<u8>) -> [usize; 4] {
+    let in_none = nine.iter_set_bits(5..2).count();
+    let blocks = nine.iter_storage().count();
+    [in_none, set_in(nine), unset_in(nine), blocks]
 }
 
-fn nothing_is_told_of_a_walk(rt: &impl Abort, nine: &Vob<u8>) {
-    same(rt, "set", nine.iter_set_bits(..).size_hint(), (0, None));
-    same(rt, "items", nine.iter().size_hint(), (9, Some(9)));
+/// Returns what iterators say of how much is left: those of indices say nothing.
+fn hints(nine: &Vob<u8>) -> [(usize, Option<usize>); 2] {
+    [nine.iter_set_bits(..).size_hint(), nine.iter().size_hint()]
 }
 
-fn blocks_are_walked_over(rt: &impl Abort, nine: &Vob<u8>) {
+fn blocks(nine: &Vob<u8>) -> [Option<u8>; 3] {
     let mut blocks = nine.iter_storage();
-    same(rt, "first block", blocks.next(), Some(0xff));
-    same(rt, "second block", blocks.next(), Some(0x01));
-    same(rt, "end", blocks.next(), None);
-    same(rt, "blocks", nine.iter_storage().count(), 2);
+    [blocks.next(), blocks.next(), blocks.next()]
 }

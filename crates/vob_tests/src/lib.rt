@@ -16,4 +16,6 @@ mod raw;
 #[cfg(test)]
 mod sets;
 #[cfg(test)]
+mod steps;
+#[cfg(test)]
 mod traits;

@@ -1,53 +1,68 @@
 //! Raw storage and records.
 
-use crate::common::{nine_bytes, same, shows};
-use std::process::Abort;
+use crate::common::{full, same};
+use std::alloc::{AllocError, Global};
 use std::test::Fail;
 use vob::error::VobError;
 use vob::raw::{RawVob, VobRecord};
 use vob::{Vob, vob};
 
-#[test]
-fn raw_blocks_are_tested(rt: HostRuntime) -> Result<(), Fail> {
-    let mut raw = nine_bytes(rt.alloc())?.into_raw();
-    assert!(rt; raw.blocks.len() == 2);
-    raw.blocks[1] = 0x03;
-    let raw = unused_bit_is_refused(&rt, raw);
-    same(
-        &rt,
-        "refused",
-        raw.blocks.as_slice(),
-        [0xff, 0x03].as_slice(),
-    );
-    same(&rt, "length", raw.len, 9);
-    same(&rt, "blocks", raw.blocks.len(), raw.len.div_ceil(8));
-    let list = masked_is_taken(&rt, raw);
-    shows(&rt, "masked", &list, [true; 9].as_slice());
-    block_too_many_is_refused(&rt, list);
+fn write(raw: &mut RawVob<u8>, len: usize, blocks: &[u8]) -> Result<(), AllocError> {
+    raw.blocks.clear();
+    raw.set_len(len);
+    'each: for block in blocks {
+        raw.get_storage_mut().push(*block)?;
+    }
     Ok(())
 }
 
-fn unused_bit_is_refused(rt: &impl Abort, raw: RawVob<u8>) -> RawVob<u8> {
-    let Err(raw) = raw.into_vob() else {
-        panic!(rt; "an unused bit was taken")
-    };
-    raw
+/// Writes a length and blocks over those of another list.
+fn raw_of(alloc: Global, len: usize, blocks: &[u8]) -> Result<RawVob<u8>, AllocError> {
+    let mut raw = full(alloc, 9)?.into_raw();
+    write(&mut raw, len, blocks)?;
+    Ok(raw)
 }
 
-fn masked_is_taken(rt: &impl Abort, raw: RawVob<u8>) -> Vob<u8> {
-    let Ok(list) = masked(raw).into_vob() else {
-        panic!(rt; "masked blocks were refused")
-    };
-    list
+/// Makes a list of raw storage, and returns whether it was taken, and whether the length and the blocks are these then.
+fn outcome(raw: RawVob<u8>, len: usize, blocks: &[u8]) -> (bool, bool) {
+    match raw.into_vob() {
+        Ok(list) => (true, list.len() == len && list.get_storage() == blocks),
+        Err(raw) => (false, raw.len == len && raw.blocks.as_slice() == blocks),
+    }
 }
 
-fn block_too_many_is_refused(rt: &impl Abort, list: Vob<u8>) {
-    let mut raw = list.into_raw();
-    raw.set_len(8);
-    let Err(raw) = raw.into_vob() else {
-        panic!(rt; "a block too many was taken")
-    };
-    same(rt, "length", raw.len, 8);
+// Lengths, blocks and whether they make a list. Unused bits and a block too many are refused.
+const RAW: &[(usize, &[u8], bool)] = &[
+    (9, &[0xff, 0x03], false),
+    (9, &[0xff, 0x01], true),
+    (8, &[0xff, 0x01], false),
+    (20, &[0xff, 0x01, 0xff], false),
+    (20, &[0xff, 0x01, 0x0a], true),
+];
+
+#[test]
+fn raw_blocks_are_tested(rt: HostRuntime) -> Result<(), Fail> {
+    for (len, blocks, is_taken) in RAW {
+        let raw = raw_of(rt.alloc(), *len, blocks)?;
+        let found = outcome(raw, *len, blocks);
+        same(&rt, "taken and unchanged", found, (*is_taken, true));
+    }
+    Ok(())
+}
+
+#[test]
+fn unused_bits_are_masked(rt: HostRuntime) -> Result<(), Fail> {
+    let raw = full(rt.alloc(), 9)?.into_raw();
+    let nine = [0xff, 0x01];
+    same(&rt, "nine", outcome(raw, 9, nine.as_slice()), (true, true));
+    let raw = masked(raw_of(rt.alloc(), 9, [0xff, 0x03].as_slice())?);
+    same(
+        &rt,
+        "masked",
+        outcome(raw, 9, nine.as_slice()),
+        (true, true),
+    );
+    Ok(())
 }
 
 fn masked(mut raw: RawVob<u8>) -> RawVob<u8> {
@@ -60,44 +75,24 @@ fn masked(mut raw: RawVob<u8>) -> RawVob<u8> {
 
 #[test]
 fn records_are_tested(rt: HostRuntime) -> Result<(), VobError> {
-    let list = vob!(rt.alloc(); true, false, true)?;
-    let record = list.to_record()?;
-    same(&rt, "length", record.len, 3);
-    same(&rt, "blocks", record.vec.as_slice(), [5usize].as_slice());
-    record_is_taken(&rt, record);
-    let bad = VobRecord {
-        len: 2,
-        vec: vec![in rt.alloc(); 5usize]?,
-    };
-    same(&rt, "bad", Vob::from_record(bad).is_err(), true);
+    let record = record(rt.alloc())?;
+    let found = (record.len, record.vec.as_slice());
+    same(&rt, "record", found, (3, [5usize].as_slice()));
+    same(&rt, "good", list_of(record), Some((3, Some(5))));
+    let vec = vec![in rt.alloc(); 5usize]?;
+    same(&rt, "bad", list_of(VobRecord { len: 2, vec }), None);
     Ok(())
 }
 
-fn record_is_taken(rt: &impl Abort, record: VobRecord) {
-    let Ok(again) = Vob::from_record(record) else {
-        panic!(rt; "a good record was refused")
-    };
-    shows(rt, "again", &again, [true, false, true].as_slice());
+fn record(alloc: Global) -> Result<VobRecord, VobError> {
+    let list = vob!(alloc; true, false, true)?;
+    Ok(list.to_record()?)
 }
 
-#[test]
-fn lent_blocks_are_written(rt: HostRuntime) -> Result<(), Fail> {
-    let mut raw = nine_bytes(rt.alloc())?.into_raw();
-    raw.get_storage_mut().push(0xff)?;
-    raw.set_len(20);
-    let mut raw = unused_bit_is_refused(&rt, raw);
-    let blocks = raw.get_storage_mut();
-    assert!(rt; blocks.len() == 3);
-    blocks[2] = 0x0a;
-    let Ok(list) = raw.into_vob() else {
-        panic!(rt; "good blocks were refused")
-    };
-    same(&rt, "length", list.len(), 20);
-    same(
-        &rt,
-        "blocks",
-        list.get_storage(),
-        [0xff, 0x01, 0x0a].as_slice(),
-    );
-    Ok(())
+/// Returns the length and the first block of the list of a record, if it makes one.
+fn list_of(record: VobRecord) -> Option<(usize, Option<usize>)> {
+    match Vob::from_record(record) {
+        Ok(list) => Some((list.len(), list.get_storage().first().copied())),
+        Err(_refused) => None,
+    }
 }

@@ -1,137 +1,180 @@
-//! Operators and printed forms.
+//! Operators, and the methods that do as they do.
 
 ghost use Rattle.std.specs.Prelude.{◌≡◌, length};
 
-use crate::common::{every, same, set_in, shows};
+use crate::common::{Items, holds, list_of, same, set_in};
 use std::alloc::{AllocError, Global};
 use std::process::Abort;
-use std::test::Fail;
-use vob::Vob;
-use vob::block::Block;
 use vob::error::VobError;
+use vob::{Vob, Word};
 
-const LEFT: &[bool] = &[true, true, false, false];
-
-const RIGHT: &[bool] = &[true, false, true, false];
-
-const BOTH: &[bool] = &[true, false, false, false];
-
-const EITHER: &[bool] = &[true, true, true, false];
-
-const ONE_OF_THEM: &[bool] = &[false, true, true, false];
-
-fn left_and_right(alloc: Global) -> Result<(Vob, Vob), VobError> {
-    let left = Vob::from_slice(alloc, LEFT)?;
-    let right = Vob::from_slice(alloc, RIGHT)?;
-    Ok((left, right))
+#[derive(Clone, Copy)]
+enum Operator {
+    And,
+    Or,
+    Xor,
 }
 
-#[test]
-fn a_list_takes_and(rt: HostRuntime) -> Result<(), Fail> {
-    let (mut list, right) = left_and_right(rt.alloc())?;
-    assert!(rt; list.len() == right.len());
-    list &= &right;
-    shows(&rt, "assigned", &list, BOTH);
-    shows(&rt, "right", &right, RIGHT);
-    let (left, right) = left_and_right(rt.alloc())?;
-    assert!(rt; left.len() == right.len());
-    shows(&rt, "made", &(left & &right), BOTH);
-    shows(&rt, "right again", &right, RIGHT);
-    Ok(())
+/// How an operator is called.
+#[derive(Clone, Copy)]
+enum Way {
+    Borrowed,
+    Owned,
+    Assigned,
+    Method,
 }
 
-#[test]
-fn a_list_takes_or(rt: HostRuntime) -> Result<(), Fail> {
-    let (mut list, right) = left_and_right(rt.alloc())?;
-    assert!(rt; list.len() == right.len());
-    list |= &right;
-    shows(&rt, "assigned", &list, EITHER);
-    shows(&rt, "right", &right, RIGHT);
-    let (left, right) = left_and_right(rt.alloc())?;
-    assert!(rt; left.len() == right.len());
-    shows(&rt, "made", &(left | &right), EITHER);
-    shows(&rt, "right again", &right, RIGHT);
-    Ok(())
+fn of_borrowed<T: Word>(
+    operator: Operator,
+    list: &Vob<T>,
+    other: &Vob<T>,
+) -> Result<Vob<T>, AllocError>
+    requires { length list.now.bits ≡ length other.now.bits }
+{
+    match operator {
+        Operator::And => list & other,
+        Operator::Or => list | other,
+        Operator::Xor => list ^ other,
+    }
 }
 
-#[test]
-fn a_list_takes_xor(rt: HostRuntime) -> Result<(), Fail> {
-    let (mut list, right) = left_and_right(rt.alloc())?;
-    assert!(rt; list.len() == right.len());
-    list ^= &right;
-    shows(&rt, "assigned", &list, ONE_OF_THEM);
-    shows(&rt, "right", &right, RIGHT);
-    let (left, right) = left_and_right(rt.alloc())?;
-    assert!(rt; left.len() == right.len());
-    shows(&rt, "made", &(left ^ &right), ONE_OF_THEM);
-    shows(&rt, "right again", &right, RIGHT);
-    Ok(())
+fn of_owned<T: Word>(operator: Operator, list: Vob<T>, other: &Vob<T>) -> Vob<T>
+    requires { length list.bits ≡ length other.now.bits }
+{
+    match operator {
+        Operator::And => list & other,
+        Operator::Or => list | other,
+        Operator::Xor => list ^ other,
+    }
 }
 
-// What two and three divide six divides: 75 indices, 50 and 25.
-fn over_blocks<T: Block>(
+fn assign<T: Word>(operator: Operator, list: &mut Vob<T>, other: &Vob<T>)
+    requires { length list.old.bits ≡ length other.now.bits }
+{
+    match operator {
+        Operator::And => *list &= other,
+        Operator::Or => *list |= other,
+        Operator::Xor => *list ^= other,
+    }
+}
+
+/// Returns whether the list was changed.
+fn change<T: Word>(operator: Operator, list: &mut Vob<T>, other: &Vob<T>) -> bool
+    requires { length list.old.bits ≡ length other.now.bits }
+{
+    match operator {
+        Operator::And => list.and(other),
+        Operator::Or => list.or(other),
+        Operator::Xor => list.xor(other),
+    }
+}
+
+fn by_way<T: Word>(
+    operator: Operator,
+    way: Way,
+    mut list: Vob<T>,
+    other: &Vob<T>,
+) -> Result<Vob<T>, AllocError>
+    requires { length list.bits ≡ length other.now.bits }
+{
+    match way {
+        Way::Borrowed => of_borrowed(operator, &list, other),
+        Way::Owned => Ok(of_owned(operator, list, other)),
+        Way::Assigned => {
+            assign(operator, &mut list, other);
+            Ok(list)
+        }
+        Way::Method => {
+            change(operator, &mut list, other);
+            Ok(list)
+        }
+    }
+}
+
+fn items_of(operator: Operator) -> Items {
+    match operator {
+        Operator::And => Items::Sixths,
+        Operator::Or => Items::SecondsOrThirds,
+        Operator::Xor => Items::EitherAlone,
+    }
+}
+
+// The list's seconds with another's thirds: how many items are set then, whether they are right, and whether the other is as before.
+type Operated = (usize, bool, bool);
+
+fn seconds_with_thirds<T: Word>(
+    alloc: Global,
+    operator: Operator,
+    way: Way,
+    len: usize,
+) -> Result<Operated, VobError> {
+    let thirds = list_of::<T>(alloc, Items::Thirds, 0, len)?;
+    let list = list_of::<T>(alloc, Items::Seconds, 0, len)?;
+    if list.len() != thirds.len() {
+        return Ok((0, false, false));
+    }
+    let found = by_way(operator, way, list, &thirds)?;
+    let is_right = holds(&found, items_of(operator), 0, len);
+    let is_as_before = holds(&thirds, Items::Thirds, 0, len);
+    Ok((set_in(&found), is_right, is_as_before))
+}
+
+const WAYS: &[Way] = &[Way::Borrowed, Way::Owned, Way::Assigned, Way::Method];
+
+fn by_all_ways<T: Word>(
     rt: &impl Abort,
     alloc: Global,
-) -> Result<(usize, usize, usize), VobError> {
-    let thirds: Vob<T> = every(alloc, 3, 150)?;
-    let mut list: Vob<T> = every(alloc, 2, 150)?;
-    assert!(rt; list.len() == thirds.len());
-    list |= &thirds;
-    let either = set_in(&list);
-    assert!(rt; list.len() == thirds.len());
-    let list = list ^ &thirds;
-    let one = set_in(&list);
-    assert!(rt; list.len() == thirds.len());
-    Ok((either, one, set_in(&(list & &thirds))))
+    operator: Operator,
+    len: usize,
+    count: usize,
+) -> Result<(), VobError> {
+    for way in WAYS {
+        let found = seconds_with_thirds::<T>(alloc, operator, *way, len)?;
+        same(rt, "items", found, (count, true, true));
+    }
+    Ok(())
 }
 
-fn six_divides<T: Block>(rt: &impl Abort, alloc: Global) -> Result<bool, VobError> {
-    let thirds: Vob<T> = every(alloc, 3, 150)?;
-    let sixths: Vob<T> = every(alloc, 6, 150)?;
-    let mut list: Vob<T> = every(alloc, 2, 150)?;
-    assert!(rt; list.len() == thirds.len());
-    list &= &thirds;
-    Ok(list == sixths)
+type Counts = &'static [(Operator, usize, usize)];
+
+fn for_each_block(rt: &impl Abort, alloc: Global, counts: Counts) -> Result<(), VobError> {
+    for (operator, len, count) in counts {
+        by_all_ways::<u8>(rt, alloc, *operator, *len, *count)?;
+        by_all_ways::<u16>(rt, alloc, *operator, *len, *count)?;
+        by_all_ways::<u32>(rt, alloc, *operator, *len, *count)?;
+        by_all_ways::<u64>(rt, alloc, *operator, *len, *count)?;
+        by_all_ways::<u128>(rt, alloc, *operator, *len, *count)?;
+        by_all_ways::<usize>(rt, alloc, *operator, *len, *count)?;
+    }
+    Ok(())
 }
+
+// How many items are set in lists of these lengths.
+const COUNTS: Counts = &[
+    (Operator::And, 4, 1),
+    (Operator::Or, 4, 3),
+    (Operator::Xor, 4, 2),
+    (Operator::And, 150, 25),
+    (Operator::Or, 150, 100),
+    (Operator::Xor, 150, 75),
+    (Operator::And, 3_000, 500),
+    (Operator::Or, 3_000, 2_000),
+    (Operator::Xor, 3_000, 1_500),
+];
 
 #[test]
-fn operators_go_over_blocks(rt: HostRuntime) -> Result<(), Fail> {
-    let alloc = rt.alloc();
-    let counts = (100, 50, 0);
-    same(&rt, "u8", over_blocks::<u8>(&rt, alloc)?, counts);
-    same(&rt, "u64", over_blocks::<u64>(&rt, alloc)?, counts);
-    same(&rt, "u128", over_blocks::<u128>(&rt, alloc)?, counts);
-    same(&rt, "u16", six_divides::<u16>(&rt, alloc)?, true);
-    same(&rt, "u32", six_divides::<u32>(&rt, alloc)?, true);
-    same(&rt, "usize", six_divides::<usize>(&rt, alloc)?, true);
-    Ok(())
+fn operators_go_over_blocks(rt: HostRuntime) -> Result<(), VobError> {
+    for_each_block(&rt, rt.alloc(), COUNTS)
 }
 
+const NONE: Counts = &[
+    (Operator::And, 0, 0),
+    (Operator::Or, 0, 0),
+    (Operator::Xor, 0, 0),
+];
+
+// These take no memory, so they must pass even where each allocation fails.
 #[test]
-fn long_lists_are_combined(rt: HostRuntime) -> Result<(), Fail> {
-    let thirds: Vob = every(rt.alloc(), 3, 3_000)?;
-    let seconds: Vob = every(rt.alloc(), 2, 3_000)?;
-    assert!(rt; thirds.len() == seconds.len());
-    combinations_are_counted(&rt, &thirds, &seconds)?;
-    Ok(())
-}
-
-fn combinations_are_counted(rt: &impl Abort, a: &Vob, b: &Vob) -> Result<(), AllocError>
-    requires { length a.now.bits ≡ length b.now.bits }
-{
-    same(rt, "both", set_in(&(a & b)?), 500);
-    same(rt, "either", set_in(&(a | b)?), 2_000);
-    same(rt, "one", set_in(&(a ^ b)?), 1_500);
-    Ok(())
-}
-
-const BITS: &[bool] = &[true, false, true, false, false, false, false, false];
-
-#[test]
-fn bytes_come_from_the_top(rt: HostRuntime) -> Result<(), Fail> {
-    let list = Vob::from_bytes(rt.alloc(), &[0xa0])?;
-    shows(&rt, "bits", &list, BITS);
-    let text = format!(in rt.alloc(); "{list:?}")?;
-    same(&rt, "text", text.as_str(), "Vob[10100000]");
-    Ok(())
+fn lists_without_items_are_combined(rt: HostRuntime) -> Result<(), VobError> {
+    for_each_block(&rt, rt.alloc(), NONE)
 }

@@ -1,2 +1,1 @@
-pub mod LineCuts
 mod OneMore

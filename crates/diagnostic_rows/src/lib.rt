@@ -17,9 +17,7 @@ mod answer;
 mod conflicts;
 mod errors;
 mod fitting;
-mod lexemes;
 mod lines;
-mod over_text;
 mod repairs;
 mod spans;
 

@@ -3,23 +3,23 @@
 ghost use Rattle.std.specs.Prelude.{◌≡◌, IfSome};
 
 use crate::fitting::error_fits;
-use crate::lexemes::{RowError, RowLexeme, RowTypes};
 use crate::lines::push_lines;
-use crate::over_text::TextLexer;
 use crate::spans::{push_unknown, span_of};
 use cfg_base::span::Span;
 use cfg_base::symbol::TIdx;
-use lrpar::{LexParseError, ParseError, ParseRepair};
+use lrpar::{
+    DefaultLexeme, DefaultLexerTypes, LRLexError, LexParseError, ParseError, ParseRepair, TextLexer,
+};
 use lrtable::StIdx;
 use std::alloc::{AllocError, Global};
 
-type RowRepair = ParseRepair<RowLexeme<u8>, u8>;
+type RowRepair = ParseRepair<DefaultLexeme<u8>, u8>;
 
-type RowsError = LexParseError<RowTypes>;
+type RowsError = LexParseError<DefaultLexerTypes<u8>>;
 
-fn lexeme_at(span: Span) -> RowLexeme<u8> {
-    RowLexeme {
-        token: 0,
+fn lexeme_at(span: Span) -> DefaultLexeme<u8> {
+    DefaultLexeme {
+        tok_id: 0,
         span,
         faulty: false,
     }
@@ -71,7 +71,7 @@ fn push_error(
     if !error_fits(text, error) {
         return out.push_str("it doesn't fit\n");
     }
-    let lexer = TextLexer::new(alloc, text)?;
+    let lexer = TextLexer::<DefaultLexerTypes<u8>>::new(alloc, text, Vec::new(alloc))?;
     let epp = |tidx: TIdx<u8>| match tidx.0 {
         0 => Some("y"),
         1 => Some("z"),
@@ -111,7 +111,7 @@ pub fn push_lexing(
             alloc,
             out,
             text,
-            &LexParseError::LexError(RowError { span }),
+            &LexParseError::LexError(LRLexError { span }),
         ),
         None => push_unknown(out),
     }

@@ -9,29 +9,29 @@ use Rattle.lrpar.specs.Checked.{ParserValue}
 use Rattle.parse_trees.specs.Stacks.{span_of_places}
 use Rattle.lrpar.specs.declared.parse_actions.AStackType.{AStackType}
 use Rattle.lrpar.specs.declared.parse_actions.AStackType.TheVariants as args
-use Rattle.examples.specs.declared.calc.word.Word.{Word}
-use Rattle.examples.specs.declared.calc.lexer.NoWord.{NoWord}
+use Rattle.lrpar.specs.declared.default_lexeme.DefaultLexeme.{DefaultLexeme}
+use Rattle.lrpar.specs.declared.default_lexeme.LRLexError.{LRLexError}
 
--- what a word stands for
-abbrev pub number_of : Word → ℕ
-number_of x = x.number
+-- what a word of a line stands for: the digit at its start, whose byte is 48 for zero
+abbrev pub number_of : List ℕ → DefaultLexeme ℕ → ℕ
+number_of line x = get_or line x.span.start 48 - 48
 
 -- what an argument of an action stands for: a word's number, or what was answered
-abbrev pub number_in : AStackType Word ℕ → ℕ
-number_in (args.ActionType v) = v
-number_in (args.Lexeme x) = number_of x
+abbrev pub number_in : List ℕ → AStackType (DefaultLexeme ℕ) ℕ → ℕ
+number_in line (args.ActionType v) = v
+number_in line (args.Lexeme x) = number_of line x
 
 -- the production 0 subtracts its third symbol's value of the first one's; another one has the value of its first symbol
 abbrev pub difference : ℕ → List ℕ → ℕ
 difference p values = if nat_eq p 0 then get_or values 0 0 - get_or values 2 0 else get_or values 0 0
 
 -- the value of a tree, from the leaves up
-abbrev pub value : Grammar → Tree Word → ℕ
-value G t = fold G number_of (λ p r at values. difference p values) (λ x. span_of_places x.span) no_span t
+abbrev pub value : Grammar → List ℕ → Tree (DefaultLexeme ℕ) → ℕ
+value G line t = fold G (number_of line) (λ p r at values. difference p values) (λ x. span_of_places x.span) no_span t
 
 -- where the table lacks no action, words that have a tree come to its value
-abbrev pub Evaluates : ParserValue → List (Result Word NoWord) → Option ℕ → Type 0
-Evaluates d items found =
+abbrev pub Evaluates : ParserValue → List ℕ → List (Result (DefaultLexeme ℕ) LRLexError) → Option ℕ → Type 0
+Evaluates d line items found =
     Closed d.grammar.grammar (automaton_of d.graph d.table) → Complete d.grammar.grammar (automaton_of d.graph d.table) →
-    (words : List Word) (t : Tree Word) → items ≡ map Ok words → IsDerivation d.grammar.grammar (λ x. x.token) (start_symbol d.grammar.grammar) words t →
-    found ≡ Some (value d.grammar.grammar t)
+    (words : List (DefaultLexeme ℕ)) (t : Tree (DefaultLexeme ℕ)) → items ≡ map Ok words → IsDerivation d.grammar.grammar (λ x. x.tok_id) (start_symbol d.grammar.grammar) words t →
+    found ≡ Some (value d.grammar.grammar line t)

@@ -36,17 +36,34 @@ fn judged(
     Ok((graph, table, clear))
 }
 
+/// Returns the states of a graph, the conflicts of its table, and whether the grammar is LR(1).
+fn listed(
+    alloc: Global,
+    grm: &NumberedGrammar<u32>,
+    graph: &StateGraph<u32>,
+    table: &StateTable<u32>,
+    clear: bool,
+) -> Result<String, AllocError>
+    requires graph { IsGraphOf grm.now.grammar graph.now }
+    requires range { IfSome table.now.conflicts (ConflictsInRange grm.now) }
+{
+    let mut out = graph.pp_core_states(alloc, grm)?;
+    match table.conflicts() {
+        Some(conflicts) => out.push_str(conflicts.pp(alloc, grm)?.as_str())?,
+        None => out.push_str("No conflicts\n")?,
+    }
+    out.push_str(if clear { "LR(1)\n" } else { "Not LR(1)\n" })?;
+    Ok(out)
+}
+
 /// Returns the states of a grammar's table, what conflicts in it, and whether it is LR(1), or why it has none.
 fn told_of(alloc: Global, grm: &NumberedGrammar<u32>) -> Result<String, AllocError> {
     match judged(alloc, grm) {
         Ok((graph, table, clear)) => {
-            let mut out = graph.pp_core_states(alloc, grm)?;
-            match table.conflicts() {
-                Some(conflicts) => out.push_str(conflicts.pp(alloc, grm)?.as_str())?,
-                None => out.push_str("No conflicts\n")?,
-            }
-            out.push_str(if clear { "LR(1)\n" } else { "Not LR(1)\n" })?;
-            Ok(out)
+            let told = listed(alloc, grm, &graph, &table, clear);
+            drop(table);
+            drop(graph);
+            told
         }
         Err(FromYaccError::Memory(e)) => Err(e),
         Err(refusal) => format!(in alloc; "{refusal}\n"),
@@ -55,7 +72,11 @@ fn told_of(alloc: Global, grm: &NumberedGrammar<u32>) -> Result<String, AllocErr
 
 fn told(alloc: Global, text: &str) -> Result<String, AllocError> {
     match YaccGrammar::new(alloc, TREE, text) {
-        Ok(grm) => told_of(alloc, &grm),
+        Ok(grm) => {
+            let told = told_of(alloc, &grm);
+            drop(grm);
+            told
+        }
         Err(YaccGrammarMakeError::Memory(e)) => Err(e),
         Err(refusal) => format!(in alloc; "{refusal}\n"),
     }

@@ -6,12 +6,13 @@
 //! `Recoverer::sequences` requires, by the edits that steps are. A view of steps that loses the token of an
 //! insertion, or passes on sequences in another order, would break it.
 mod lexer;
-mod make;
 mod offers;
 mod shown;
 
-use crate::editor::lexer::{ByteTypes, lexer_of};
-use lrpar::{LexParseError, ParseRefusal, ParserData, RTParserBuilder};
+use crate::editor::lexer::lexer_of;
+use crate::parser_data;
+use cfg_numbered::yacc::NumberedGrammar;
+use lrpar::{DefaultLexerTypes, LexParseError, ParseRefusal, ParserData, RTParserBuilder};
 use lrpar_diagnostics::SpannedDiagnosticFormatter;
 use std::alloc::{AllocError, Global};
 
@@ -19,19 +20,33 @@ const GRAMMAR: &str = "%start S %% S: L | S L; L: E ';'; E: T | E '+' T; T: 'n' 
 
 const TEXT: &str = "(n+n;\nn+;\nn n;\nn";
 
-/// Errors of the text underlined, one below the other.
-fn all_shown(
+/// Adds the errors underlined, one below the other.
+fn push_shown(
     alloc: Global,
-    data: &ParserData<u32>,
-    errors: &[LexParseError<ByteTypes<u32>>],
-) -> Result<String, AllocError> {
-    let formatter = SpannedDiagnosticFormatter::new(alloc, TEXT, "sums")?;
-    let mut out = String::new(alloc);
+    grm: &NumberedGrammar<u32>,
+    formatter: &SpannedDiagnosticFormatter,
+    errors: &[LexParseError<DefaultLexerTypes<u32>>],
+    out: &mut String,
+) -> Result<(), AllocError> {
     for error in errors {
-        let text = shown::underlined(alloc, data.grm(), &formatter, error)?;
+        let text = shown::underlined(alloc, grm, formatter, error)?;
         out.push_str(text.as_str())?;
         out.push('\n')?;
     }
+    Ok(())
+}
+
+/// Returns errors of the text underlined.
+fn all_shown(
+    alloc: Global,
+    data: &ParserData<u32>,
+    errors: &[LexParseError<DefaultLexerTypes<u32>>],
+) -> Result<String, AllocError> {
+    let formatter = SpannedDiagnosticFormatter::new(alloc, TEXT, "sums")?;
+    let mut out = String::new(alloc);
+    let pushed = push_shown(alloc, data.grm(), &formatter, errors, &mut out);
+    drop(formatter);
+    pushed?;
     Ok(out)
 }
 
@@ -41,9 +56,15 @@ fn told(alloc: Global, data: &ParserData<u32>) -> Result<String, AllocError> {
     let offers = offers::AnyToken {
         count: data.grm().eof_token_idx().0,
     };
-    let parser = RTParserBuilder::<ByteTypes<u32>, _>::new(data).recoverer(&offers);
-    match parser.parse_noaction(alloc, &lexer) {
-        Ok(errors) => all_shown(alloc, data, errors.as_slice()),
+    let parser = RTParserBuilder::<DefaultLexerTypes<u32>, _>::new(data).recoverer(&offers);
+    let parsed = parser.parse_noaction(alloc, &lexer);
+    drop(lexer);
+    match parsed {
+        Ok(errors) => {
+            let shown = all_shown(alloc, data, errors.as_slice());
+            drop(errors);
+            shown
+        }
         Err(ParseRefusal::Memory(e)) => Err(e),
         Err(_) => String::from_str(alloc, "refused\n"),
     }
@@ -51,7 +72,7 @@ fn told(alloc: Global, data: &ParserData<u32>) -> Result<String, AllocError> {
 
 /// Returns the errors of the text as an editor shows them.
 pub fn output(alloc: Global) -> Result<String, AllocError> {
-    match make::data(alloc, GRAMMAR)? {
+    match parser_data::data(alloc, GRAMMAR)? {
         Some(data) => {
             let told = told(alloc, &data);
             drop(data);

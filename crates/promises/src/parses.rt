@@ -15,15 +15,20 @@ ghost use Rattle.parse_trees.specs.Lex.{span_by, token_by};
 ghost use Rattle.cfg_read.specs.declared.yacc.YaccKind.{YaccKind};
 ghost use Rattle.parser_kit.specs.Kit.{IsKitOf, KitValue};
 ghost use Rattle.parser_kit.specs.KitParses.{IsKitParse, ItemsFollowSentences, LeavesNoTrace, ParseAlike};
+ghost use Rattle.parser_kit.specs.SeenLexemes.{ParseSeenAlike};
 ghost use Rattle.word_lines.specs.Lexing.{items_of, lex_of};
+ghost use Rattle.word_lines.specs.declared.lexeme.WordLexError.{WordLexError as LexFault};
 ghost use Rattle.lrkit.specs.Output.{Word, id, made_up};
 
 use cfg_base::index::IndexStorage;
+use cfg_theory::grammar::well_formed_has_start;
 use cfgrammar::yacc::from_ast::trees_without_precedences_make_grammars_without;
-use lrpar::{FlatTree, Lexer, LexerTypes, ParseError, ParseRefusal, Recoverer};
+use lrpar::{FlatTree, Lexeme, Lexer, LexerTypes, ParseError, ParseRefusal, Recoverer};
 use lrtable::laws::precedences_are_kept;
 use parser_kit::ParserKit;
-use parser_kit::laws::{kits_of_texts_are_one, kits_of_texts_parse_alike};
+use parser_kit::laws::{
+    kits_of_texts_are_one, kits_of_texts_parse_alike, kits_with_own_lexemes_parse_alike,
+};
 use std::alloc::Global;
 use word_lines::{WordLexError, WordLexeme};
 
@@ -60,7 +65,7 @@ pub fn trees_derive_the_lexemes_as_repaired<
 
 /// Where the text declares no precedence and no conflict is listed, lexemes come through without errors exactly where they
 /// are a sentence, and then with their only tree.
-/// Shown by `a_grammar_has_its_machine` of `lr_theory`; `deep_runs`; refused: `reduce_without_lookahead`.
+/// Shown by `a_grammar_has_its_machine` of `lr_theory`; `examples` (`deep_runs`); refused: `reduce_without_lookahead`.
 pub fn sentences_get_their_only_tree<
     S: IndexStorage,
     T: LexerTypes<StorageT = S>,
@@ -89,7 +94,8 @@ pub fn sentences_get_their_only_tree<
     kit.parse_flat::<T, X, R>(alloc, lexer, recoverer)
 }
 
-/// There each least sentence of the start rule, by any costs of tokens, comes through without errors.
+/// There each least sentence of the start symbol, by any costs of tokens, comes through without errors, and so does each of the
+/// rule `^`, which `start_rule_idx` returns.
 /// Shown by `examples` (`shortest`); refused: `least_by_any_production`.
 pub fn least_sentences_come_through<
     S: IndexStorage,
@@ -111,11 +117,14 @@ pub fn least_sentences_come_through<
     >,
     ParseRefusal,
 >
-    ensures { kit.now.kept.ast.precedences ≡ [] → IsNone kit.now.parser.table.conflicts → (A : ℕ) (cost : ℕ → ℕ) (lexemes : List T.LexemeT) → start_symbol kit.now.parser.grammar.grammar ≡ rule A → AreItems (X.lexed lexer.now) lexemes →
+    ensures start_symbol { kit.now.kept.ast.precedences ≡ [] → IsNone kit.now.parser.table.conflicts → (A : ℕ) (cost : ℕ → ℕ) (lexemes : List T.LexemeT) → start_symbol kit.now.parser.grammar.grammar ≡ rule A → AreItems (X.lexed lexer.now) lexemes →
         IsCheapest kit.now.parser.grammar.grammar cost A (map (token_by T.LexemeT.lex) lexemes) → IfOk result (λ r. IfOk r (λ p. p.1.items ≡ [])) }
+    ensures start_rule { kit.now.kept.ast.precedences ≡ [] → IsNone kit.now.parser.table.conflicts → (cost : ℕ → ℕ) (lexemes : List T.LexemeT) → AreItems (X.lexed lexer.now) lexemes →
+        IsCheapest kit.now.parser.grammar.grammar cost 0 (map (token_by T.LexemeT.lex) lexemes) → IfOk result (λ r. IfOk r (λ p. p.1.items ≡ [])) }
 {
     trees_without_precedences_make_grammars_without();
     precedences_are_kept();
+    well_formed_has_start();
     kit.stays_kit();
     kit.parse_flat::<T, X, R>(alloc, lexer, recoverer)
 }
@@ -165,14 +174,27 @@ pub fn kits_of_a_text_answer_alike<S, U, L, E>()
 
 /// A kit with numbers of 8 bits and one with numbers of 32 bits of one text, kind and cap, each over the words of a line that
 /// its own lexer makes, tell the same errors and give the same tree or none, where the same repairs are handed in at each error.
+/// So do they over any `WordLexeme<u8>` and `WordLexeme<u32>` of the same tokens, places and marks, where any repairs that
+/// insert no token past 255 are handed in by the error's state, index and lexeme.
 /// Shown by `table_rows`, by three index types; refused: `mutants/promises`.
 pub fn kits_of_8_and_of_32_bits_answer_alike()
-    ensures { (cap : ℕ) (kind : YaccKind) (text line : List ℕ) (repairs : List (List Edit)) (k l : KitValue) (tree other_tree : Option (Tree Word)) (errors others : List (ParseError Word ℕ)) →
+    ensures words { (cap : ℕ) (kind : YaccKind) (text line : List ℕ) (repairs : List (List Edit)) (k l : KitValue) (tree other_tree : Option (Tree Word)) (errors others : List (ParseError Word ℕ)) →
         IsKitOf 255 kind text cap k → IsKitOf 4294967295 kind text cap l →
         IsKitParse id (lex_of id) made_up k.parser (λ state index lexeme offered. offered ≡ repairs) (items_of id k.parser.grammar line) (λ t. t ≡ tree) errors →
         IsKitParse id (lex_of id) made_up l.parser (λ state index lexeme offered. offered ≡ repairs) (items_of id l.parser.grammar line) (λ t. t ≡ other_tree) others →
         (map (told_of id) errors ≡ map (told_of id) others) × (tree ≡ other_tree) }
+    ensures own_lexemes { (cap : ℕ) (kind : YaccKind) (text : List ℕ) (k l : KitValue) → IsKitOf 255 kind text cap k → IsKitOf 4294967295 kind text cap l →
+        ParseSeenAlike id id ⟦<WordLexeme<u8> as Lexeme<u8>>⟧.lex ⟦<WordLexeme<u32> as Lexeme<u32>>⟧.lex LexFault LexFault
+        ⟦<WordLexeme<u8> as Lexeme<u8>>⟧.faulty_of ⟦<WordLexeme<u32> as Lexeme<u32>>⟧.faulty_of 255 k.parser l.parser }
 {
     kits_of_texts_are_one();
     kits_of_texts_parse_alike::<u8, u32, WordLexeme<u8>, WordLexError>();
+    kits_with_own_lexemes_parse_alike::<
+        u8,
+        u32,
+        WordLexeme<u8>,
+        WordLexeme<u32>,
+        WordLexError,
+        WordLexError,
+    >();
 }

@@ -5,9 +5,8 @@ ghost use Rattle.lr_theory.specs.Repair.{insert};
 ghost use Rattle.parse_trees.specs.Edits.{sequences_of};
 ghost use Rattle.examples.specs.Offers.{any_token};
 
-use crate::editor::lexer::ByteLexeme;
 use cfg_base::symbol::TIdx;
-use lrpar::{Recoverer, RepairStep};
+use lrpar::{DefaultLexeme, Recoverer, RepairStep};
 use lrtable::StIdx;
 use std::alloc::{AllocError, Global};
 
@@ -18,7 +17,7 @@ pub struct AnyToken {
     pub count: u32,
 }
 
-impl Recoverer<u32, ByteLexeme<u32>> for AnyToken {
+impl Recoverer<u32, DefaultLexeme<u32>> for AnyToken {
     ghost use Rattle.examples.specs.Offers.{any_token};
 
     ghost answers = { λ any state index lexeme offered. offered ≡ any_token any.count };
@@ -28,7 +27,7 @@ impl Recoverer<u32, ByteLexeme<u32>> for AnyToken {
         alloc: Global,
         _stidx: StIdx<u32>,
         _laidx: usize,
-        _lexeme: ByteLexeme<u32>,
+        _lexeme: DefaultLexeme<u32>,
     ) -> Result<Vec<Vec<RepairStep<u32>>>, AllocError>
         ensures { IfOk result (λ r. sequences_of (λ t. t) r.items ≡ any_token self.now.count) }
     {

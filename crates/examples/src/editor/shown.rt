@@ -1,9 +1,10 @@
 //! Errors as they are shown.
 
-use crate::editor::lexer::{ByteLexeme, ByteTypes};
 use cfg_base::symbol::TIdx;
 use cfg_numbered::yacc::NumberedGrammar;
-use lrpar::{LexError, LexParseError, Lexeme, ParseError, ParseRepair};
+use lrpar::{
+    DefaultLexeme, DefaultLexerTypes, LexError, LexParseError, Lexeme, ParseError, ParseRepair,
+};
 use lrpar_diagnostics::SpannedDiagnosticFormatter;
 use std::alloc::{AllocError, Global};
 
@@ -18,7 +19,7 @@ fn name_of(grm: &NumberedGrammar<u32>, tidx: TIdx<u32>) -> &str {
 fn advice(
     alloc: Global,
     grm: &NumberedGrammar<u32>,
-    error: &ParseError<ByteLexeme<u32>, u32>,
+    error: &ParseError<DefaultLexeme<u32>, u32>,
 ) -> Result<String, AllocError> {
     let mut text = String::from_str(alloc, "Insert")?;
     for repairs in error.repairs.as_slice() {
@@ -35,7 +36,7 @@ pub fn underlined(
     alloc: Global,
     grm: &NumberedGrammar<u32>,
     formatter: &SpannedDiagnosticFormatter,
-    error: &LexParseError<ByteTypes<u32>>,
+    error: &LexParseError<DefaultLexerTypes<u32>>,
 ) -> Result<String, AllocError> {
     match error {
         LexParseError::LexError(e) => {

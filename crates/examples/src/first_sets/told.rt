@@ -64,32 +64,77 @@ fn push_follows<S: IndexStorage>(
     Ok(())
 }
 
+/// Adds a line with the sets of a rule.
+fn push_rule<S: IndexStorage>(
+    grm: &NumberedGrammar<S>,
+    firsts: &YaccFirsts<S>,
+    sets: &YaccFollows<S>,
+    ridx: RIdx<S>,
+    out: &mut String,
+) -> Result<(), AllocError>
+    requires rule { S.number ridx.0 < grm.now.grammar.rules }
+    requires firsts { AreFirsts grm.now.grammar firsts.now }
+    requires sets { AreFollows grm.now.grammar sets.now }
+{
+    out.push_str(grm.rule_name_str(ridx))?;
+    if is_nullable(grm, firsts, ridx) {
+        out.push_str(" is nullable,")?;
+    }
+    out.push_str(" begins with")?;
+    push_firsts(grm, firsts, ridx, out)?;
+    out.push_str(", comes before")?;
+    push_follows(grm, sets, ridx, out)?;
+    out.push_str("\n")
+}
+
+/// Adds a line for each rule.
+fn push_rules<S: IndexStorage>(
+    grm: &NumberedGrammar<S>,
+    firsts: &YaccFirsts<S>,
+    sets: &YaccFollows<S>,
+    out: &mut String,
+) -> Result<(), AllocError>
+    requires firsts { AreFirsts grm.now.grammar firsts.now }
+    requires sets { AreFollows grm.now.grammar sets.now }
+{
+    for number in 0..usize::from(grm.rules_len()) {
+        push_rule(grm, firsts, sets, grm.rule_at(number), out)?;
+    }
+    Ok(())
+}
+
 /// Returns the sets of each rule, the added start rule `^` among them.
 fn sets_told<S: IndexStorage>(alloc: Global, grm: &YaccGrammar<S>) -> Result<String, AllocError> {
-    let firsts = grm.firsts(alloc)?;
-    let sets = grm.follows(alloc)?;
     let mut out = String::new(alloc);
-    for number in 0..usize::from(grm.rules_len()) {
-        let ridx = grm.rule_at(number);
-        out.push_str(grm.rule_name_str(ridx))?;
-        if is_nullable(grm, &firsts, ridx) {
-            out.push_str(" is nullable,")?;
+    let firsts = grm.firsts(alloc)?;
+    let sets = match grm.follows(alloc) {
+        Ok(sets) => sets,
+        Err(e) => {
+            drop(firsts);
+            return Err(e);
         }
-        out.push_str(" begins with")?;
-        push_firsts(grm, &firsts, ridx, &mut out)?;
-        out.push_str(", comes before")?;
-        push_follows(grm, &sets, ridx, &mut out)?;
-        out.push_str("\n")?;
-    }
+    };
+    let pushed = push_rules(grm, &firsts, &sets, &mut out);
+    drop(sets);
+    drop(firsts);
+    pushed?;
     Ok(out)
 }
 
 /// Returns the sets of a text's grammar, or why it has none.
 pub fn told(alloc: Global, text: &str) -> Result<String, AllocError> {
     match YaccGrammar::<u32>::new(alloc, TREE, text) {
-        Ok(grm) => sets_told(alloc, &grm),
+        Ok(grm) => {
+            let told = sets_told(alloc, &grm);
+            drop(grm);
+            told
+        }
         Err(YaccGrammarMakeError::Memory(e)) => Err(e),
-        Err(YaccGrammarMakeError::Invalid(errors)) => lines_of(alloc, text, &errors),
+        Err(YaccGrammarMakeError::Invalid(errors)) => {
+            let told = lines_of(alloc, text, &errors);
+            drop(errors);
+            told
+        }
         Err(refusal) => format!(in alloc; "{refusal}\n"),
     }
 }

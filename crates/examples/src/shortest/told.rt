@@ -60,9 +60,17 @@ fn lists_told<S: IndexStorage>(alloc: Global, grm: &YaccGrammar<S>) -> Result<St
 /// Returns the lists of a text's grammar, or why it has none.
 pub fn told(alloc: Global, text: &str) -> Result<String, AllocError> {
     match YaccGrammar::<u32>::new(alloc, TREE, text) {
-        Ok(grm) => lists_told(alloc, &grm),
+        Ok(grm) => {
+            let told = lists_told(alloc, &grm);
+            drop(grm);
+            told
+        }
         Err(YaccGrammarMakeError::Memory(e)) => Err(e),
-        Err(YaccGrammarMakeError::Invalid(errors)) => lines_of(alloc, text, &errors),
+        Err(YaccGrammarMakeError::Invalid(errors)) => {
+            let told = lines_of(alloc, text, &errors);
+            drop(errors);
+            told
+        }
         Err(refusal) => format!(in alloc; "{refusal}\n"),
     }
 }

@@ -1,6 +1,6 @@
 use Rattle.std.proofs.Common.{◌≡◌, ◌≤◌, length}
-use Rattle.example_bits.proofs.Joins.{Joined}
-use Rattle.example_bits.proofs.joined.Given as goal
+use Rattle.examples.proofs.Joins.{Joined}
+use Rattle.examples.proofs.bits.joined.Given as goal
 
 -- what was joined so far, with its answers
 abbrev pub invariant-loop-other : goal.invariant-loop-other

@@ -1,12 +1,15 @@
-//! What calls on a grammar answer of a long chain of rules, each of which is the next one.
+//! What calls on a grammar return for a long chain of rules, each of which is the next one.
 
-use crate::make::grammar;
-use cfgrammar::yacc::{SentenceError, YaccGrammar};
+ghost use Rattle.std.specs.Prelude.{◌<◌};
+
+use crate::parser_data::grammar;
+use cfgrammar::RIdx;
+use cfgrammar::yacc::{SentenceError, SentenceGenerator, YaccGrammar};
 use std::alloc::{AllocError, Global};
 
 const RULES: u32 = 100_000;
 
-/// The text of the chain, whose last rule is a token.
+/// Returns the text of the chain, whose last rule is a token.
 fn text_of(alloc: Global) -> Result<String, AllocError> {
     let mut text = String::from_str(alloc, "%start r0 %%")?;
     for number in 0..RULES {
@@ -17,7 +20,7 @@ fn text_of(alloc: Global) -> Result<String, AllocError> {
     Ok(text)
 }
 
-/// Tells whether the first rule reaches the last one, and the other way round.
+/// Adds whether the first rule reaches the last one, and the other way round.
 fn push_paths(alloc: Global, out: &mut String, grm: &YaccGrammar<u32>) -> Result<(), AllocError> {
     let Some(first) = grm.rule_idx("r0") else {
         return out.push_str("no first rule\n");
@@ -30,7 +33,7 @@ fn push_paths(alloc: Global, out: &mut String, grm: &YaccGrammar<u32>) -> Result
     out.push_str(format!(in alloc; "path: {there}, back: {back}\n")?.as_str())
 }
 
-/// Tells that the sets of all rules are made.
+/// Adds that the sets of all rules are made.
 fn push_sets(alloc: Global, out: &mut String, grm: &YaccGrammar<u32>) -> Result<(), AllocError> {
     let firsts = grm.firsts(alloc)?;
     drop(firsts);
@@ -39,19 +42,22 @@ fn push_sets(alloc: Global, out: &mut String, grm: &YaccGrammar<u32>) -> Result<
     out.push_str("sets: made\n")
 }
 
-/// Tells the least and the greatest cost of the first rule, and the length of its first cheapest token list.
-fn push_costs(alloc: Global, out: &mut String, grm: &YaccGrammar<u32>) -> Result<(), AllocError> {
-    let Some(first) = grm.rule_idx("r0") else {
-        return out.push_str("no first rule\n");
-    };
-    let sentences = grm.sentence_generator(alloc, |_token| 1)?;
-    let Ok(least) = sentences.min_sentence_cost(first) else {
+/// Adds the least and the greatest cost of a rule, and the length of its first cheapest token list.
+fn push_rule_costs(
+    alloc: Global,
+    out: &mut String,
+    sentences: &SentenceGenerator<'_, u32>,
+    ridx: RIdx<u32>,
+) -> Result<(), AllocError>
+    requires { ridx.0 < sentences.now.grammar.rules }
+{
+    let Ok(least) = sentences.min_sentence_cost(ridx) else {
         return out.push_str("no least cost\n");
     };
-    let Ok(Some(greatest)) = sentences.max_sentence_cost(first) else {
+    let Ok(Some(greatest)) = sentences.max_sentence_cost(ridx) else {
         return out.push_str("no greatest cost\n");
     };
-    match sentences.min_sentence(alloc, first) {
+    match sentences.min_sentence(alloc, ridx) {
         Ok(list) => {
             let tokens = list.len();
             out.push_str(format!(in alloc;
@@ -63,24 +69,34 @@ fn push_costs(alloc: Global, out: &mut String, grm: &YaccGrammar<u32>) -> Result
     }
 }
 
-/// Tells what each call answers.
-fn push_chain(alloc: Global, out: &mut String, grm: &YaccGrammar<u32>) -> Result<(), AllocError> {
+/// Adds the costs and a sentence of the first rule.
+fn push_costs(alloc: Global, out: &mut String, grm: &YaccGrammar<u32>) -> Result<(), AllocError> {
+    let Some(first) = grm.rule_idx("r0") else {
+        return out.push_str("no first rule\n");
+    };
+    let sentences = grm.sentence_generator(alloc, |_token| 1)?;
+    let pushed = push_rule_costs(alloc, out, &sentences, first);
+    drop(sentences);
+    pushed
+}
+
+/// Adds what each call answers.
+fn push_answers(alloc: Global, out: &mut String, grm: &YaccGrammar<u32>) -> Result<(), AllocError> {
     push_paths(alloc, out, grm)?;
     push_sets(alloc, out, grm)?;
     push_costs(alloc, out, grm)
 }
 
-/// Tells what the chain comes to.
-pub fn tell(alloc: Global) -> Result<String, AllocError> {
-    let mut out = String::from_str(alloc, "a chain of rules\n")?;
+/// Adds what the chain comes to.
+pub fn push_chain(alloc: Global, out: &mut String) -> Result<(), AllocError> {
+    out.push_str("a chain of rules\n")?;
     let text = text_of(alloc)?;
     match grammar(alloc, text.as_str())? {
         Some(grm) => {
-            let pushed = push_chain(alloc, &mut out, &grm);
+            let pushed = push_answers(alloc, out, &grm);
             drop(grm);
-            pushed?;
+            pushed
         }
-        None => out.push_str("no grammar\n")?,
+        None => out.push_str("no grammar\n"),
     }
-    Ok(out)
 }

@@ -2,15 +2,12 @@
 //!
 //! The clause `seldom` of `joined` is proved by the law `vob::laws::or_changes_seldom` from the clauses `bits` and `changed`
 //! of `Vob::or`. An `or` that answers true where nothing changed, or one that drops an item of the set, would break it.
-#![tactic(auto)]
-
 ghost use Rattle.std.specs.Prelude.{◌≡◌, ◌<◌, ◌≤◌, length, All, IfOk};
 
 use std::alloc::{AllocError, Global};
-use std::io;
 use vob::{Vob, laws};
 
-/// The set of one number below ten.
+/// Returns the set of one number below ten.
 fn set_of(alloc: Global, number: usize) -> Result<Vob, AllocError>
     requires { number < 10 }
     ensures { IfOk result (λ set. length set.bits ≡ 10) }
@@ -37,8 +34,8 @@ fn joined(set: &mut Vob, others: &[Vob]) -> usize
     count
 }
 
-fn main(rt: HostRuntime) -> io::Result<()> {
-    let alloc = rt.alloc();
+/// Returns how many of some joins changed a set, and what it holds then.
+pub fn output(alloc: Global) -> Result<String, AllocError> {
     let mut set = set_of(alloc, 3)?;
     let others = [
         set_of(alloc, 7)?,
@@ -47,12 +44,12 @@ fn main(rt: HostRuntime) -> io::Result<()> {
         set_of(alloc, 7)?,
     ];
     let count = joined(&mut set, &others);
-    println!(rt;
-        "{count} of {} joins changed the set. It holds:",
+    let mut out = format!(in alloc;
+        "{count} of {} joins changed the set. It holds:\n",
         others.len()
     )?;
     for number in set.iter_set_bits(..) {
-        println!(rt; "{number}")?;
+        out.push_str(format!(in alloc; "{number}\n")?.as_str())?;
     }
-    Ok(())
+    Ok(out)
 }

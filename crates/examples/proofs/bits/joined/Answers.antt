@@ -1,8 +1,8 @@
 use Rattle.std.proofs.Common.{ℕ, ◌≡◌, ◌≤◌, ◌+◌, cond, length, [], refl, sym, subst, ap, ◌∙◌, arith, add-zero}
 use Rattle.vob.specs.Packed.{Contents}
-use Rattle.example_bits.proofs.Joins.{one_more, Joined}
-use Rattle.example_bits.proofs.joined.Goals as goal
-use Rattle.example_bits.proofs.joined.Goals.{then-or, else-or}
+use Rattle.examples.proofs.Joins.{one_more, Joined}
+use Rattle.examples.proofs.bits.joined.Goals as goal
+use Rattle.examples.proofs.bits.joined.Goals.{then-or, else-or}
 
 pub loop-other-init : goal.loop-other-init
 loop-other-init c = (refl, omega arith, ([], [], tt, refl, refl))

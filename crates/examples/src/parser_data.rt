@@ -1,4 +1,4 @@
-//! Checked data of a text.
+//! The grammar of a text, and the data that a parser runs on.
 
 use cfg_numbered::yacc::grammar::NumberedGrammar;
 use cfgrammar::yacc::{YaccGrammar, YaccGrammarMakeError, YaccKind, YaccOriginalActionKind};
@@ -8,7 +8,7 @@ use std::alloc::{AllocError, Global};
 
 const TREE: YaccKind = YaccKind::Original(YaccOriginalActionKind::GenericParseTree);
 
-/// The grammar of a text, if it has one.
+/// Returns the grammar of a text, if it has one.
 pub fn grammar(alloc: Global, text: &str) -> Result<Option<YaccGrammar<u32>>, AllocError> {
     match YaccGrammar::new_with_storaget(alloc, TREE, text) {
         Ok(grm) => Ok(Some(grm)),
@@ -17,7 +17,7 @@ pub fn grammar(alloc: Global, text: &str) -> Result<Option<YaccGrammar<u32>>, Al
     }
 }
 
-/// The graph and the table of a grammar, if it has them.
+/// Returns the graph and the table of a grammar, if it has them.
 fn tables(
     alloc: Global,
     grm: &YaccGrammar<u32>,
@@ -29,7 +29,7 @@ fn tables(
     }
 }
 
-/// The data of a grammar and its tables, if they are safe.
+/// Returns the data of a grammar and its tables, if they are safe.
 fn checked(
     alloc: Global,
     grm: NumberedGrammar<u32>,
@@ -43,7 +43,7 @@ fn checked(
     }
 }
 
-/// The data of a grammar, if it has them.
+/// Returns the data of a grammar, if it has them.
 fn tabled(alloc: Global, grm: YaccGrammar<u32>) -> Result<Option<ParserData<u32>>, AllocError> {
     let parts = tables(alloc, &grm);
     let numbered = grm.into_numbered();
@@ -60,7 +60,7 @@ fn tabled(alloc: Global, grm: YaccGrammar<u32>) -> Result<Option<ParserData<u32>
     }
 }
 
-/// The data of a text, if it has them.
+/// Returns the data of a text, if it has them.
 pub fn data(alloc: Global, text: &str) -> Result<Option<ParserData<u32>>, AllocError> {
     match grammar(alloc, text)? {
         Some(grm) => tabled(alloc, grm),

@@ -1,27 +1,28 @@
 //! What long lines come to as trees by rules.
 
-use crate::lexer::{PlainLexeme, PlainLexer, PlainTypes};
-use lrpar::{Node, ParseRefusal, ParserData, RTParserBuilder};
+use lrpar::{
+    DefaultLexeme, DefaultLexerTypes, ListLexer, Node, ParseRefusal, ParserData, RTParserBuilder,
+};
 use std::alloc::{AllocError, Global};
 
-/// Tells whether a tree equals a copy of it.
+/// Adds whether a tree equals a copy of it.
 fn push_copied(
     alloc: Global,
     out: &mut String,
-    tree: &Node<PlainLexeme<u32>, u32>,
+    tree: &Node<DefaultLexeme<u32>, u32>,
 ) -> Result<(), AllocError> {
     let copy = tree.clone(alloc)?;
     let same = tree.equals(alloc, &copy);
     drop(copy);
     let same = same?;
-    out.push_str(format!(in alloc; "by rules: equal to its copy: {same}\n")?.as_str())
+    out.push_str(format!(in alloc; "equal to its copy: {same}\n")?.as_str())
 }
 
-/// Tells of a tree, or of how many errors stand in its place.
+/// Adds what a tree is, or how many errors there are in its place.
 fn push_tree(
     alloc: Global,
     out: &mut String,
-    tree: Option<Node<PlainLexeme<u32>, u32>>,
+    tree: Option<Node<DefaultLexeme<u32>, u32>>,
     errors: usize,
 ) -> Result<(), AllocError> {
     match tree {
@@ -30,20 +31,18 @@ fn push_tree(
             drop(tree);
             pushed
         }
-        None => {
-            out.push_str(format!(in alloc; "by rules: no tree, errors: {errors}\n")?.as_str())
-        }
+        None => out.push_str(format!(in alloc; "no tree, errors: {errors}\n")?.as_str()),
     }
 }
 
-/// Tells what the lexemes come to as a tree by rules.
+/// Adds what the lexemes come to as a tree by rules.
 pub fn push_nodes(
     alloc: Global,
     out: &mut String,
     data: &ParserData<u32>,
-    lexer: &PlainLexer<u32>,
+    lexer: &ListLexer<DefaultLexerTypes<u32>>,
 ) -> Result<(), AllocError> {
-    let parser = RTParserBuilder::<PlainTypes<u32>, _>::new(data);
+    let parser = RTParserBuilder::<DefaultLexerTypes<u32>, _>::new(data);
     match parser.parse_generictree(alloc, lexer) {
         Ok((tree, errors)) => {
             let count = errors.len();
@@ -51,6 +50,6 @@ pub fn push_nodes(
             push_tree(alloc, out, tree, count)
         }
         Err(ParseRefusal::Memory(e)) => Err(e),
-        Err(_) => out.push_str("by rules: refused\n"),
+        Err(_) => out.push_str("refused\n"),
     }
 }

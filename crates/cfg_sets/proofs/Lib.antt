@@ -8,3 +8,4 @@ pub mod FollowSteps
 pub mod FollowFills
 pub mod PathSteps
 pub mod PathFills
+mod Searches

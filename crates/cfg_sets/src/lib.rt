@@ -1,4 +1,5 @@
-//! FIRST and FOLLOW sets of a grammar value (Aho, Sethi and Ullman 1986, section 4.4), and paths between its rules.
+//! FIRST and FOLLOW sets of a grammar value (Aho, Sethi and Ullman 1986, section 4.4), paths between its rules, and whether each
+//! derives some text.
 //!
 //! ```rust
 //! use cfg_base::index::IndexStorage;
@@ -28,7 +29,7 @@
 //! is one of this grammar, which follows from `rule_at`; that requires a number below the count.
 //!
 //! The contracts that matter most are those of `YaccFirsts::new` and `YaccFollows::new`, whose sets have exactly the
-//! tokens that derivations have, and of `has_path`.
+//! tokens that derivations have, of `has_path` and of `all_productive`.
 //!
 //! Sets and paths are found with a work list of rules (`work_list`): a rule is taken from it, what depends on the
 //! rule is updated, and a rule whose set grows enters the list. All that is in a set is true of derivations, at the
@@ -40,9 +41,11 @@ pub mod follows;
 pub mod naming;
 pub mod orders;
 pub mod paths;
+mod productive;
 pub mod sets;
 pub mod work_list;
 
 pub use firsts::YaccFirsts;
 pub use follows::YaccFollows;
 pub use paths::has_path;
+pub use productive::all_productive;

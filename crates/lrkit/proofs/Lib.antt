@@ -5,4 +5,4 @@ pub mod ShownLines
 pub mod Outcomes
 pub mod OneOutput
 pub mod KitRefusals
-pub mod Stages
+mod Stages

@@ -213,7 +213,7 @@ module _ (laws : Below) (kits : (grammar : List ℕ) (k l : KitValue) → IsRunK
 -- ---- what inputs give comes so
 
 -- an input's text is its bytes
-pub itself : (bs text : List ℕ) → IsInput (Some bs) text → IsInput (Some bs) bs
+itself : (bs text : List ℕ) → IsInput (Some bs) text → IsInput (Some bs) bs
 itself bs text is = subst (λ (t : List ℕ). IsInput (Some bs) t) (sym is.whole) is
 
 module _ (g l r : List ℕ) where

@@ -8,8 +8,8 @@ use Rattle.maximal_munch.specs.declared.munching.Part.{Part}
 use Rattle.lrlex.specs.Lexing.{Means, AreMeanings, numbers_below, put_part}
 use Rattle.lrlex.specs.declared.bound.Meaning.{Meaning}
 use Rattle.lrlex.specs.declared.bound.Meaning.TheVariants.{Token}
-use Rattle.lrlex.specs.declared.lexeme.DefaultLexeme.{DefaultLexeme}
-use Rattle.lrlex.specs.declared.lexeme.LRLexError.{LRLexError}
+use Rattle.lrpar.specs.declared.default_lexeme.DefaultLexeme.{DefaultLexeme}
+use Rattle.lrlex.specs.declared.lex_error.LRLexError.{LRLexError}
 
 module _ {S : Type 0} (number : S → ℕ) (g : GrammarValue) where
   one_more : (ns : List (Option (List ℕ))) (ms : List (Meaning S)) (n : Option (List ℕ)) (m : Meaning S) → AreMeanings number g ns ms → Means number g n m → AreMeanings number g (ns ++ n ∷ []) (ms ++ m ∷ [])
@@ -34,7 +34,7 @@ next_number p n xs ys b so is e = rw add-one (e ∙ ap (λ l. l ++ cond b (n ∷
 module _ {S : Type 0} where
   -- a lexeme is put
   pub put_lexeme : (m : Meaning S) (t : TIdx S) (p : Part) (span : SpanModel) (old new : List (Result (DefaultLexeme S) LRLexError)) → m ≡ Token t → span.start ≡ p.start → span.end ≡ p.start + p.len →
-      new ≡ old ++ Ok (record { token = t.0; span = span; faulty = false }) ∷ [] → (rest : List (Result (DefaultLexeme S) LRLexError)) → old ++ put_part m p rest ≡ new ++ rest
+      new ≡ old ++ Ok (record { tok_id = t.0; span = span; faulty = false }) ∷ [] → (rest : List (Result (DefaultLexeme S) LRLexError)) → old ++ put_part m p rest ≡ new ++ rest
   put_lexeme m t p span old new means s e is rest =
-      let same = ap₂ (λ a b. old ++ Ok (record { token = t.0; span = record { start = a; end = b }; faulty = false }) ∷ rest) (sym s) (sym e) in
-      ap (λ m. old ++ put_part m p rest) means ∙ same ∙ sym (append_assoc old (Ok (record { token = t.0; span = span; faulty = false }) ∷ []) rest) ∙ ap (λ l. l ++ rest) (sym is)
+      let same = ap₂ (λ a b. old ++ Ok (record { tok_id = t.0; span = record { start = a; end = b }; faulty = false }) ∷ rest) (sym s) (sym e) in
+      ap (λ m. old ++ put_part m p rest) means ∙ same ∙ sym (append_assoc old (Ok (record { tok_id = t.0; span = span; faulty = false }) ∷ []) rest) ∙ ap (λ l. l ++ rest) (sym is)

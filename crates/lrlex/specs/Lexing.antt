@@ -2,7 +2,6 @@
 use Rattle.std.specs.Prelude.{◌≡◌, ℕ, zero, suc, ◌+◌, ◌==◌, Bool, true, false, if◌then◌else◌, ◌++◌, List, [], ◌∷◌, map, Option, None, Some, Result, Ok, Err, slice_index_or, option_map, string_bytes}
 use Rattle.cfg_base.specs.declared.symbol.TIdx.{TIdx}
 use Rattle.cfg_numbered.specs.Value.{GrammarValue, IsTokenNamed}
-use Rattle.parse_trees.specs.Lex.{Lex}
 use Rattle.maximal_munch.specs.RuleValues.{RuleSetValue, rule_set_of}
 use Rattle.regex.specs.Strings.{regex_pattern}
 use Rattle.regex.specs.declared.string.regex.Regex.{Regex}
@@ -11,24 +10,15 @@ use Rattle.maximal_munch.specs.Munching.{Munches}
 use Rattle.maximal_munch.specs.declared.munching.Part.{Part}
 use Rattle.maximal_munch.specs.declared.munching.Ending.{Ending}
 use Rattle.maximal_munch.specs.declared.munching.Ending.TheVariants as endings
-use Rattle.lrlex.specs.declared.lexeme.DefaultLexeme.{DefaultLexeme}
-use Rattle.lrlex.specs.declared.lexeme.LRLexError.{LRLexError}
-use Rattle.lrlex.specs.declared.lexeme.LexErrorKind.{LexErrorKind}
-use Rattle.lrlex.specs.declared.lexeme.LexErrorKind.TheVariants as kinds
+use Rattle.lrpar.specs.declared.default_lexeme.DefaultLexeme.{DefaultLexeme}
+use Rattle.lrlex.specs.declared.lex_error.LRLexError.{LRLexError}
+use Rattle.lrlex.specs.declared.lex_error.LexErrorKind.{LexErrorKind}
+use Rattle.lrlex.specs.declared.lex_error.LexErrorKind.TheVariants as kinds
 use Rattle.lrlex.specs.Expressions.{SearchesFor}
 use Rattle.lrlex.specs.declared.bound.BoundRules.{BoundRules}
 use Rattle.lrlex.specs.declared.rules.LexRules.{LexRules}
 use Rattle.lrlex.specs.declared.bound.Meaning.{Meaning}
 use Rattle.lrlex.specs.declared.bound.Meaning.TheVariants.{Skipped, Token, Unknown}
-
--- what contracts see of a lexer: its text, and the list
-pub record LexedText (S : Type 0) : Type 0 where
-  pub text : List ℕ
-  pub items : List (Result (DefaultLexeme S) LRLexError)
-
--- a lexeme as numbers
-abbrev pub lex_of : {S : Type 0} → (S → ℕ) → DefaultLexeme S → Lex
-lex_of number x = record { token = number x.token; places = x.span; faulty = x.faulty }
 
 -- what is searched for, where, and what follows
 abbrev pub rules_of : LexRules → RuleSetValue
@@ -90,7 +80,7 @@ abbrev pub error_at : LexErrorKind → ℕ → LRLexError
 error_at kind at = record { span = record { start = at; end = at }; kind = kind }
 
 abbrev pub lexeme_at : {S : Type 0} → TIdx S → Part → DefaultLexeme S
-lexeme_at t p = record { token = t.0; span = record { start = p.start; end = p.start + p.len }; faulty = false }
+lexeme_at t p = record { tok_id = t.0; span = record { start = p.start; end = p.start + p.len }; faulty = false }
 
 -- at the end of the list
 abbrev pub last_items : {S : Type 0} → Ending → List (Result (DefaultLexeme S) LRLexError)

@@ -1,3 +1,2 @@
-pub mod LexemeTexts
 pub mod Expressions
 pub mod Lexing

@@ -5,17 +5,16 @@ ghost use Rattle.std.specs.List.{list_any};
 ghost use Rattle.cfg_theory.specs.Grammar.{end_token};
 ghost use Rattle.maximal_munch.specs.RuleValues.{rule_set_of};
 ghost use Rattle.lrlex.specs.Lexing.{rules_of, names_of, bound_rules, bound_meanings, Means, AreMeanings, Lexes, items_of, put_part, error_at, meaning_at, numbers_below, is_unknown, is_token};
-ghost use Rattle.lrlex.specs.declared.lexeme.DefaultLexeme.{DefaultLexeme};
-ghost use Rattle.lrlex.specs.declared.lexeme.LRLexError.{LRLexError};
+ghost use Rattle.lrpar.specs.declared.default_lexeme.DefaultLexeme.{DefaultLexeme};
+ghost use Rattle.lrlex.specs.declared.lex_error.LRLexError.{LRLexError};
 
-use crate::lexeme::{DefaultLexeme, LRLexError, LexErrorKind};
-use crate::lexer::LRNonStreamingLexer;
+use crate::lex_error::{LRLexError, LRNonStreamingLexer, LexErrorKind};
 use crate::rules::LexRules;
-use cfg_base::index::IndexStorage;
-use cfg_base::newlinecache::NewlineCache;
+use cfg_base::index::{IndexOrder, IndexStorage};
 use cfg_base::span::Span;
 use cfg_base::symbol::TIdx;
 use cfg_numbered::yacc::grammar::NumberedGrammar;
+use lrpar::{DefaultLexeme, TextLexer};
 use maximal_munch::{Ending, Part, RuleSet, laws, munch};
 use std::alloc::{AllocError, Global};
 
@@ -109,7 +108,9 @@ impl<'r, S: IndexStorage> BoundRules<'r, S> {
         let end = grm.eof_token_idx().0.to_usize();
         unlexed_tokens(alloc, self.meanings.as_slice(), end)
     }
+}
 
+impl<'r, S: IndexOrder> BoundRules<'r, S> {
     /// Lexes a text by maximal munch. The list ends at the text's end, or with the one error at the first offset at which there is
     /// no lexeme.
     pub fn lex<'t>(
@@ -121,12 +122,7 @@ impl<'r, S: IndexStorage> BoundRules<'r, S> {
         ensures items { IfOk result (λ l. Lexes (bound_rules self.now) (bound_meanings self.now) text.entry.now l.items) }
     {
         let items = lexed_items(alloc, &self.rules.set, self.meanings.as_slice(), text)?;
-        let newlines = NewlineCache::from_str(alloc, text)?;
-        Ok(LRNonStreamingLexer {
-            text,
-            items,
-            newlines,
-        })
+        TextLexer::new(alloc, text, items)
     }
 }
 
@@ -266,7 +262,7 @@ fn push_part<S: IndexStorage>(
         Meaning::Token(token) => {
             let span = Span::new(part.start, part.start + part.len);
             items.push(Ok(DefaultLexeme {
-                token: token.0,
+                tok_id: token.0,
                 span,
                 faulty: false,
             }))?;

@@ -4,8 +4,8 @@ ghost use Rattle.std.specs.Prelude.{◌≡◌, ℕ, List, Result};
 ghost use Rattle.maximal_munch.specs.RuleValues.{RuleSetValue};
 ghost use Rattle.lrlex.specs.Lexing.{Lexes};
 ghost use Rattle.lrlex.specs.declared.bound.Meaning.{Meaning};
-ghost use Rattle.lrlex.specs.declared.lexeme.DefaultLexeme.{DefaultLexeme};
-ghost use Rattle.lrlex.specs.declared.lexeme.LRLexError.{LRLexError};
+ghost use Rattle.lrpar.specs.declared.default_lexeme.DefaultLexeme.{DefaultLexeme};
+ghost use Rattle.lrlex.specs.declared.lex_error.LRLexError.{LRLexError};
 
 use cfg_base::index::IndexStorage;
 use maximal_munch::laws;

@@ -29,12 +29,11 @@
 mod bound;
 mod expression;
 pub mod laws;
-mod lexeme;
-mod lexer;
+mod lex_error;
 mod rules;
 
 pub use bound::{BoundRules, Meaning};
 pub use expression::compile;
-pub use lexeme::{DefaultLexeme, DefaultLexerTypes, LRLexError, LexErrorKind};
-pub use lexer::LRNonStreamingLexer;
+pub use lex_error::{DefaultLexerTypes, LRLexError, LRNonStreamingLexer, LexErrorKind};
+pub use lrpar::DefaultLexeme;
 pub use rules::LexRules;

@@ -53,6 +53,8 @@ impl LexRules {
     ) -> Result<(), Error>
         ensures rules { OnOk result (AddsRule expression.now conditions.items target (rules_of self.old) (rules_of self.new)) }
         ensures names { OnOk result (names_of self.new ≡ names_of self.old ++ option_map (λ s. s.now) name.entry ∷ []) }
+        ensures refused { OnErr result (rules_of self.new ≡ rules_of self.old) }
+        ensures unnamed { OnErr result (names_of self.new ≡ names_of self.old) }
     {
         let regex = compile(alloc, expression)?;
         self.push_compiled(
@@ -76,6 +78,8 @@ impl LexRules {
     ) -> Result<(), AllocError>
         ensures rules { OnOk result (rules_of self.new ≡ record (rules_of self.old) { rules = (rules_of self.old).rules ++ rule_value rule ∷ [] }) }
         ensures names { OnOk result (names_of self.new ≡ names_of self.old ++ option_map (λ s. s.now) name.entry ∷ []) }
+        ensures refused { OnErr result (rules_of self.new ≡ rules_of self.old) }
+        ensures unnamed { OnErr result (names_of self.new ≡ names_of self.old) }
     {
         let name = owned_name(alloc, name)?;
         self.names.push(name)?;

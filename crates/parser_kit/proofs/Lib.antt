@@ -5,6 +5,5 @@ mod SeenParses
 mod SeenAlike
 pub mod Kits
 pub mod Tabled
-mod Searches
 mod HandedOut
 pub mod TextKinds

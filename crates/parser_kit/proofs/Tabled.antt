@@ -15,7 +15,7 @@ use Rattle.state_table.specs.CellViews.{precedences_of}
 use Rattle.state_table.specs.Graphs.{GraphValue, IsGraphOf}
 use Rattle.state_table.specs.TableValues.{TableValue}
 use Rattle.state_table.specs.Tables.{CountsAgree, IsTableOf, automaton_of}
-use Rattle.parser_kit.specs.Productive.{EachProductive, Tells}
+use Rattle.cfg_sets.specs.Productive.{EachProductive, Tells}
 use Rattle.parser_kit.specs.Tabled.{HasTabledCause, IsDataFault, IsTabled, IsTabledRefusal}
 use Rattle.parser_kit.specs.declared.grammar_kit_error.GrammarKitError.{GrammarKitError}
 use Rattle.parser_kit.specs.declared.grammar_kit_error.GrammarKitError.TheVariants as errors

@@ -1,5 +1,3 @@
-pub mod Productive
-pub mod Searching
 pub mod Tabled
 pub mod KitParses
 pub mod SeenLexemes

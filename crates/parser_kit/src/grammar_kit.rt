@@ -15,16 +15,16 @@ ghost use Rattle.state_table.specs.Tables.{AreContested, automaton_of};
 ghost use Rattle.table_theory.specs.CellLaws.{SomeContested};
 ghost use Rattle.table_theory.specs.Cells.{NoPrecedences};
 ghost use Rattle.parser_kit.specs.Tabled.{HasTabledCause, IsTabled, IsTabledRefusal, NeverAcceptsAndReduces};
-ghost use Rattle.parser_kit.specs.Productive.{EachProductive, Tells};
+ghost use Rattle.cfg_sets.specs.Productive.{EachProductive, Tells};
 ghost use Rattle.parser_kit.specs.KitParses.{IsHanded, IsKitOutcome, IsKitParse, ItemsFollowSentences, LeavesNoTrace, WhereParsed};
 
 use crate::grammar_kit_error::GrammarKitError;
 use crate::making::{data_of, tables_of};
-use crate::productive::all_productive;
 use cfg_base::index::IndexStorage;
 use cfg_base::span::Span;
 use cfg_base::symbol::{PIdx, RIdx};
 use cfg_numbered::yacc::NumberedGrammar;
+use cfg_sets::all_productive;
 use lrpar::{
     FlatTree, FoldedOutcome, LexParseError, Lexer, LexerTypes, ParseError, ParseRefusal,
     ParserData, RTParserBuilder, Recoverer,
@@ -43,7 +43,7 @@ pub struct GrammarKit<S: IndexStorage> {
 
 impl<S: IndexStorage> Model for GrammarKit<S> {
     ghost use Rattle.lrpar.specs.Checked.{ParserValue};
-    ghost use Rattle.parser_kit.specs.Productive.{EachProductive, Tells};
+    ghost use Rattle.cfg_sets.specs.Productive.{EachProductive, Tells};
     ghost use Rattle.parser_kit.specs.Tabled.{IsTabled};
 
     ghost Value = { ParserValue };

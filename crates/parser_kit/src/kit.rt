@@ -19,7 +19,7 @@ ghost use Rattle.parser_kit.specs.Kit.{IsKit, IsKitOf};
 ghost use Rattle.parser_kit.specs.Tabled.{NeverAcceptsAndReduces};
 ghost use Rattle.parser_kit.specs.KitErrors.{HasKitCause, IsKitRefusal, IsToldRefusal};
 ghost use Rattle.parser_kit.specs.KitParses.{IsHanded, IsKitOutcome, IsKitParse, ItemsFollowSentences, LeavesNoTrace, WhereParsed};
-ghost use Rattle.parser_kit.specs.Productive.{EachProductive};
+ghost use Rattle.cfg_sets.specs.Productive.{EachProductive};
 ghost use Rattle.parser_kit.specs.TextKinds.{IsKindOfText};
 
 use crate::grammar_kit::GrammarKit;

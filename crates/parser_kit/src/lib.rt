@@ -33,11 +33,10 @@ pub mod kit;
 pub mod kit_error;
 pub mod laws;
 mod making;
-mod productive;
 mod text_making;
 
+pub use cfg_sets::all_productive;
 pub use grammar_kit::GrammarKit;
 pub use grammar_kit_error::GrammarKitError;
 pub use kit::ParserKit;
 pub use kit_error::KitError;
-pub use productive::all_productive;

@@ -4,11 +4,14 @@ use Rattle.std.specs.Io.KnownBytes.{Appends}
 use Rattle.parser_kit.specs.declared.kit_error.KitError.TheVariants as kit
 use Rattle.lrkit.specs.Answers.{GivesOutput, IsFaultOf}
 use Rattle.lrkit.specs.Output.{Output}
-use Rattle.lrkit.specs.Run.{AreGoodBefore, IsCauseIn, IsRefusal, WritesOutput}
+use Rattle.lrkit.specs.Run.{AreGoodBefore, IsCauseIn, IsInput, IsRefusal, WritesOutput}
 use Rattle.lrkit.specs.declared.fault.Input.TheVariants as inputs
 use Rattle.lrkit.specs.declared.fault.RunFault.{RunFault}
 use Rattle.lrkit.specs.declared.fault.RunFault.TheVariants.{Kit, Conflicts, NotARepair, NotUtf8, Read, TooLong, Write}
-use Rattle.lrkit.proofs.Stages.{itself}
+
+-- an input's text is its bytes
+itself : (bs text : List ℕ) → IsInput (Some bs) text → IsInput (Some bs) bs
+itself bs text is = subst (λ (t : List ℕ). IsInput (Some bs) t) (sym is.whole) is
 
 module _ (g l r : List ℕ) where
   output_of : (known known' : Option (List ℕ)) (faulty : Bool) → WritesOutput (Some g) (Some l) (Some r) known known' faulty → (text : List ℕ) × GivesOutput g l r text faulty × Appends known known' text

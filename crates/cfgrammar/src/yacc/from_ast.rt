@@ -63,6 +63,13 @@ pub fn sound_trees_make_grammars()
     ensures { (top : ℕ) (implicit : Bool) (ast : Ast) → IsWellFormedAst ast → NamesNoAdded ast → too_many top (grammar_of implicit ast) ≡ None → IsGrammar top (value_by implicit ast) }
 {}
 
+/// Proves that no rule of a text has the name of a rule that is added: names of the file grammar hold none of the signs of these,
+/// and names of fresh rules end in `?`.
+#[tactic(auto, using(crate::proofs::AddedNames::names_not_added))]
+pub fn names_of_texts_are_not_added()
+    ensures { (ast : Ast) → NamesAreWords ast → NamesNoAdded ast }
+{}
+
 /// Proves that a tree without precedence lines has a grammar without precedences.
 #[tactic(auto, using(crate::proofs::FromAstLevels::made_without_precedences))]
 pub fn trees_without_precedences_make_grammars_without()

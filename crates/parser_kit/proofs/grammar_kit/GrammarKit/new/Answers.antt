@@ -2,7 +2,7 @@ use Rattle.std.proofs.Common.{◌≡◌, ap, sym, subst}
 use Rattle.std.proofs.lemmas.Result.{err_from_is_err_and}
 use Rattle.cfg_numbered.specs.Value.{GrammarValue}
 use Rattle.lrpar.specs.Checked.{ParserValue}
-use Rattle.parser_kit.specs.Productive.{EachProductive, Tells}
+use Rattle.cfg_sets.specs.Productive.{EachProductive, Tells}
 use Rattle.parser_kit.proofs.grammar_kit.GrammarKit.new.Goals as goal
 
 pub returns-in_err-graph-clause-refused : goal.returns-in_err-graph-clause-refused

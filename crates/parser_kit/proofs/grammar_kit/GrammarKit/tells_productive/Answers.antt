@@ -1,6 +1,6 @@
 use Rattle.std.proofs.Common.{subst}
 use Rattle.lrpar.specs.Checked.{ParserValue}
-use Rattle.parser_kit.specs.Productive.{EachProductive, Tells}
+use Rattle.cfg_sets.specs.Productive.{EachProductive, Tells}
 use Rattle.parser_kit.proofs.grammar_kit.GrammarKit.tells_productive.Goals as goal
 
 pub returns : goal.returns

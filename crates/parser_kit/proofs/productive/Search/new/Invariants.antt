@@ -1,5 +1,0 @@
-use Rattle.std.proofs.Common.{◌≡◌, length}
-use Rattle.parser_kit.proofs.productive.Search.new.Given as goal
-
-abbrev pub invariant-prods : goal.invariant-prods
-invariant-prods l = length l.hints.items ≡ l.counter

@@ -1,2 +1,3 @@
+mod EmptySets
 mod OneMore
 mod ShownTrees

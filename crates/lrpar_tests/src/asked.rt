@@ -24,7 +24,7 @@ fn note(digits: &Cell<usize>, number: usize) {
     digits.set(digits.get().wrapping_mul(10).wrapping_add(digit));
 }
 
-/// Hands in the same sequences at each error, and writes down the index at which it is asked.
+/// Passes the same sequences at each error, and writes down the index at which it is asked.
 #[derive(Drop)]
 struct Noted<'a> {
     lines: &'a Lines<u8>,

@@ -1,18 +1,13 @@
 //! Trees as lists of nodes.
 
-use crate::lexer::lexer_of;
-use crate::make::data;
-use crate::same::same;
+use crate::outcomes::{push_parse_errors, refusal_text};
 use crate::spell::leaf;
 use cfg_base::index::{IndexOrder, IndexStorage};
 use lrpar::flat::FlatNode;
-use lrpar::{
-    DefaultLexeme, DefaultLexerTypes, FlatTree, ParseRefusal, ParserData, RTParserBuilder,
-};
+use lrpar::{DefaultLexeme, FlatTree, LRLexError, ParseError, ParseRefusal};
 use std::alloc::{AllocError, Global};
-use std::test::*;
 
-/// A lexeme, or a production with its span and the number of nodes below it.
+/// Returns a lexeme, or a production with its span and the number of nodes below it.
 fn node_text<S: IndexStorage>(
     alloc: Global,
     node: FlatNode<S, DefaultLexeme<S>>,
@@ -28,7 +23,7 @@ fn node_text<S: IndexStorage>(
     }
 }
 
-/// The nodes, and the walk over them by index and depth.
+/// Returns the nodes, and the walk over them by index and depth.
 fn tree_text<S: IndexOrder>(
     alloc: Global,
     tree: &FlatTree<S, DefaultLexeme<S>>,
@@ -47,58 +42,29 @@ fn tree_text<S: IndexOrder>(
     Ok(text)
 }
 
-/// The flat tree of the lexemes over checked data.
-fn told_by<S: IndexOrder>(
+type Parsed<S> = (
+    Option<FlatTree<S, DefaultLexeme<S>>>,
+    Vec<ParseError<DefaultLexeme<S>, S>>,
+);
+
+/// Returns the tree, or that there is none, and the errors.
+pub fn flat_text<S: IndexOrder>(
     alloc: Global,
-    checked: &ParserData<S>,
-    lexemes: &[(u8, u16, u16)],
+    outcome: &Result<Result<Parsed<S>, LRLexError>, ParseRefusal>,
 ) -> Result<String, AllocError> {
-    let lexer = lexer_of::<S>(alloc, lexemes)?;
-    let parser = RTParserBuilder::<DefaultLexerTypes<S>, _>::new(checked);
-    match &parser.parse_flat(alloc, &lexer) {
-        Ok(Ok((Some(tree), _))) => tree_text(alloc, tree),
-        Ok(Ok((None, _))) => format!(in alloc; "none"),
-        Err(ParseRefusal::Memory(e)) => Err(*e),
-        _ => format!(in alloc; "refused"),
+    match outcome {
+        Err(e) => refusal_text(alloc, e),
+        Ok(Err(fault)) => {
+            let start = fault.span.start();
+            format!(in alloc; "none; fault at {start}")
+        }
+        Ok(Ok((tree, errors))) => {
+            let mut text = match tree {
+                Some(tree) => tree_text(alloc, tree)?,
+                None => String::from_str(alloc, "none")?,
+            };
+            push_parse_errors(alloc, &mut text, errors.as_slice())?;
+            Ok(text)
+        }
     }
-}
-
-/// The flat tree of the lexemes by the grammar of a text.
-fn flat<S: IndexOrder>(
-    alloc: Global,
-    text: &str,
-    lexemes: &[(u8, u16, u16)],
-) -> Result<String, Fail> {
-    let checked = data::<S>(alloc, text)?;
-    let found = told_by(alloc, &checked, lexemes);
-    drop(checked);
-    Ok(found?)
-}
-
-const SUMS: &str = "%start E %% E: T '+' E | T; T: 'ID';";
-
-const NODES: &str = "1@0 2[0,1]/1 0@1 1@2 2[2,3]/1 1[2,3]/2 0[0,3]/6  6.0 1.1 0.2 2.1 5.1 4.2 3.3";
-
-#[test]
-fn trees_are_lists(rt: HostRuntime) -> Result<(), Fail> {
-    let lexemes = &[(1, 0, 1), (0, 1, 1), (1, 2, 1)];
-    same(
-        &rt,
-        "u8",
-        flat::<u8>(rt.alloc(), SUMS, lexemes)?.as_str(),
-        NODES,
-    );
-    same(
-        &rt,
-        "u16",
-        flat::<u16>(rt.alloc(), SUMS, lexemes)?.as_str(),
-        NODES,
-    );
-    same(
-        &rt,
-        "u32",
-        flat::<u32>(rt.alloc(), SUMS, &[(1, 0, 1), (0, 1, 1)])?.as_str(),
-        "none",
-    );
-    Ok(())
 }

@@ -12,7 +12,7 @@ use lrpar::{
 use std::alloc::{AllocError, Global};
 use std::test::*;
 
-/// The children of a node, none where there is no such node.
+/// Returns the children of a node, none where there is no such node.
 fn children_of(
     alloc: Global,
     tree: &FlatTree<u8, DefaultLexeme<u8>>,
@@ -26,8 +26,8 @@ fn children_of(
     }
 }
 
-/// The text of a tree over an input, and behind it the children of nodes.
-fn tree_told(
+/// Returns the text of a tree over an input, and behind it the children of nodes.
+fn tree_text(
     alloc: Global,
     grm: &NumberedGrammar<u8>,
     input: &str,
@@ -42,8 +42,8 @@ fn tree_told(
     Ok(text)
 }
 
-/// What the lexemes of an input come to.
-fn told(
+/// Returns the text of the tree of an input's lexemes, and the children of nodes.
+fn text_of(
     alloc: Global,
     data: &ParserData<u8>,
     input: &str,
@@ -52,15 +52,19 @@ fn told(
 ) -> Result<String, AllocError> {
     let lexer = lexer_of::<u8>(alloc, lexemes)?;
     let parser = RTParserBuilder::<DefaultLexerTypes<u8>, _>::new(data);
-    match &parser.parse_flat(alloc, &lexer) {
-        Ok(Ok((Some(tree), _))) => tree_told(alloc, data.grm(), input, tree, nodes),
+    let outcome = parser.parse_flat(alloc, &lexer);
+    let text = match &outcome {
+        Ok(Ok((Some(tree), _))) => tree_text(alloc, data.grm(), input, tree, nodes),
         Err(ParseRefusal::Memory(e)) => Err(*e),
-        _ => format!(in alloc; "no tree"),
-    }
+        _ => String::from_str(alloc, "no tree"),
+    };
+    drop(outcome);
+    drop(lexer);
+    text
 }
 
-/// What the lexemes of an input come to by the grammar of a text.
-fn shown(
+/// Returns the same by the grammar of a text.
+fn line_text(
     alloc: Global,
     text: &str,
     input: &str,
@@ -68,7 +72,7 @@ fn shown(
     nodes: &[Visit],
 ) -> Result<String, Fail> {
     let data = data::<u8>(alloc, text)?;
-    let found = told(alloc, &data, input, lexemes, nodes);
+    let found = text_of(alloc, &data, input, lexemes, nodes);
     drop(data);
     Ok(found?)
 }
@@ -134,7 +138,7 @@ const TREES: &[(&str, &str, &[(u8, u16, u16)], &[Visit], &str)] = &[
 fn trees_are_shown(rt: HostRuntime) -> Result<(), Fail> {
     for index in 0..TREES.len() {
         let (text, input, lexemes, nodes, tree) = TREES[index];
-        let found = shown(rt.alloc(), text, input, lexemes, nodes)?;
+        let found = line_text(rt.alloc(), text, input, lexemes, nodes)?;
         same(&rt, input, found.as_str(), tree);
     }
     Ok(())

@@ -5,10 +5,10 @@ use cfg_base::span::Span;
 use lrpar::{DefaultLexeme, DefaultLexerTypes, LRLexError, Lexeme, ListLexer};
 use std::alloc::{AllocError, Global};
 
-/// Stands for no token.
+/// The number of no token.
 pub const NO_TOKEN: u8 = 255;
 
-/// Lexemes of these tokens, starts and lengths, and a fault for each that is of no token.
+/// Returns lexemes of these tokens, starts and lengths, and a fault for each that is of no token.
 pub fn lexer_of<S: IndexOrder>(
     alloc: Global,
     lexemes: &[(u8, u16, u16)],

@@ -1,5 +1,7 @@
-//! Tests of `lrpar`: what lines come to, with repairs and without, by each call that parses; which lexemes are refused; how often
-//! a parse asks; trees as lists and as texts; the texts of errors.
+//! Tests of `lrtable`, `parse_trees` and `lrpar`. Of the first what needs more than a text and what is printed of its table: item
+//! sets by hand, halving over a row, indices of states. Of the others which data are refused; which tokens may come next; what
+//! lines yield, with repairs and without, by each call that parses; how often a parse asks; trees as lists and as texts. Of all
+//! of them the texts of errors. Texts with their states, cells, conflicts and refusals are the rows of the program `table_rows`.
 #![tactic(auto)]
 
 #[cfg(test)]
@@ -19,17 +21,19 @@ mod nodes;
 #[cfg(test)]
 mod outcomes;
 #[cfg(test)]
+mod parserdata;
+#[cfg(test)]
 mod parses;
 #[cfg(test)]
 mod paths;
-#[cfg(test)]
-mod repairs;
 #[cfg(test)]
 mod same;
 #[cfg(test)]
 mod shown;
 #[cfg(test)]
 mod spell;
+#[cfg(test)]
+mod tables;
 #[cfg(test)]
 mod texts;
 #[cfg(test)]

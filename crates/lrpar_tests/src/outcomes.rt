@@ -1,11 +1,14 @@
-//! What the calls that answer a list of errors come to, as texts.
+//! What calls that parse answer, as texts.
 
 use crate::spell::{leaf, push_repair};
 use cfg_base::index::IndexOrder;
-use lrpar::{DefaultLexeme, DefaultLexerTypes, LexParseError, Lexeme, ParseError, ParseRefusal};
+use lrpar::{
+    DefaultLexeme, DefaultLexerTypes, FoldedOutcome, LRLexError, LexParseError, Lexeme, ParseError,
+    ParseRefusal,
+};
 use std::alloc::{AllocError, Global};
 
-/// An error of a parse: its lexeme, whether that was made up, and the listed sequences.
+/// Adds an error of a parse: its lexeme with its length, whether that was made up, and the listed sequences.
 fn push_parse_error<S: IndexOrder>(
     alloc: Global,
     text: &mut String,
@@ -13,6 +16,8 @@ fn push_parse_error<S: IndexOrder>(
 ) -> Result<(), AllocError> {
     text.push_str("; error at ")?;
     text.push_str(leaf(alloc, *error.lexeme())?.as_str())?;
+    let len = error.lexeme().span.len();
+    text.push_str(format!(in alloc; "+{len}")?.as_str())?;
     if error.lexeme().faulty() {
         text.push_str(" faulty")?;
     }
@@ -25,7 +30,19 @@ fn push_parse_error<S: IndexOrder>(
     Ok(())
 }
 
-/// An error of lexing or of parsing.
+/// Adds errors of a parse.
+pub fn push_parse_errors<S: IndexOrder>(
+    alloc: Global,
+    text: &mut String,
+    errors: &[ParseError<DefaultLexeme<S>, S>],
+) -> Result<(), AllocError> {
+    for error in errors {
+        push_parse_error(alloc, text, error)?;
+    }
+    Ok(())
+}
+
+/// Adds an error of lexing or of parsing.
 fn push_error<S: IndexOrder>(
     alloc: Global,
     text: &mut String,
@@ -40,7 +57,7 @@ fn push_error<S: IndexOrder>(
     }
 }
 
-/// The errors behind the text of a value.
+/// Adds errors of lexing or of parsing.
 pub fn push_errors<S: IndexOrder>(
     alloc: Global,
     text: &mut String,
@@ -52,8 +69,8 @@ pub fn push_errors<S: IndexOrder>(
     Ok(())
 }
 
-/// A refusal.
-pub fn refusal(alloc: Global, refusal: &ParseRefusal) -> Result<String, AllocError> {
+/// Returns a refusal.
+pub fn refusal_text(alloc: Global, refusal: &ParseRefusal) -> Result<String, AllocError> {
     match refusal {
         ParseRefusal::Memory(e) => Err(*e),
         ParseRefusal::LexemeOutside(index) => format!(in alloc; "outside {index}"),
@@ -61,31 +78,55 @@ pub fn refusal(alloc: Global, refusal: &ParseRefusal) -> Result<String, AllocErr
     }
 }
 
-/// The value, or that there is none, and the errors.
-pub fn told<S: IndexOrder>(
+/// Returns a value, or that there is none.
+fn value_text(alloc: Global, value: &Option<String>) -> Result<String, AllocError> {
+    match value {
+        Some(value) => String::from_str(alloc, value.as_str()),
+        None => String::from_str(alloc, "none"),
+    }
+}
+
+/// Returns the value, or that there is none, and the errors.
+pub fn folded_text<S: IndexOrder>(
+    alloc: Global,
+    outcome: &Result<FoldedOutcome<S, DefaultLexeme<S>, LRLexError, String>, ParseRefusal>,
+) -> Result<String, AllocError> {
+    match outcome {
+        Err(e) => refusal_text(alloc, e),
+        Ok(FoldedOutcome::Fault(fault)) => {
+            let start = fault.span.start();
+            format!(in alloc; "none; fault at {start}")
+        }
+        Ok(FoldedOutcome::Parsed(value, errors)) => {
+            let mut text = value_text(alloc, value)?;
+            push_parse_errors(alloc, &mut text, errors.as_slice())?;
+            Ok(text)
+        }
+    }
+}
+
+/// Returns the value, or that there is none, and the errors.
+pub fn outcome_text<S: IndexOrder>(
     alloc: Global,
     outcome: &Result<(Option<String>, Vec<LexParseError<DefaultLexerTypes<S>>>), ParseRefusal>,
 ) -> Result<String, AllocError> {
     match outcome {
-        Err(e) => refusal(alloc, e),
+        Err(e) => refusal_text(alloc, e),
         Ok((value, errors)) => {
-            let mut text = match value {
-                Some(value) => String::from_str(alloc, value.as_str())?,
-                None => String::from_str(alloc, "none")?,
-            };
+            let mut text = value_text(alloc, value)?;
             push_errors(alloc, &mut text, errors.as_slice())?;
             Ok(text)
         }
     }
 }
 
-/// The errors.
-pub fn errors_told<S: IndexOrder>(
+/// Returns the errors.
+pub fn errors_text<S: IndexOrder>(
     alloc: Global,
     outcome: &Result<Vec<LexParseError<DefaultLexerTypes<S>>>, ParseRefusal>,
 ) -> Result<String, AllocError> {
     match outcome {
-        Err(e) => refusal(alloc, e),
+        Err(e) => refusal_text(alloc, e),
         Ok(errors) => {
             let mut text = String::new(alloc);
             push_errors(alloc, &mut text, errors.as_slice())?;

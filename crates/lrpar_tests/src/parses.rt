@@ -1,41 +1,76 @@
-//! Lines without repairs.
+//! What lines yield, with repairs and without.
 
 use crate::lexer::lexer_of;
+use crate::lines::lines_of;
 use crate::make::data;
 use crate::same::same;
-use crate::spell::{branch, leaf, told};
+use crate::ways::{by_productions, each_way};
 use cfg_base::index::IndexOrder;
-use cfg_base::span::Span;
-use cfg_base::symbol::{PIdx, RIdx};
-use lrpar::{DefaultLexeme, DefaultLexerTypes, ParserData, RTParserBuilder};
+use lrpar::{DefaultLexeme, DefaultLexerTypes, ListLexer, ParserData, RTParserBuilder, Recoverer};
 use std::alloc::{AllocError, Global};
 use std::test::*;
 
-/// What the lexemes come to over checked data, where nothing is handed in.
-fn told_by<S: IndexOrder>(
+/// Returns what lexemes yield by each call that parses, or by functions of productions alone.
+fn by_ways<S: IndexOrder, R: Recoverer<S, DefaultLexeme<S>>>(
     alloc: Global,
-    checked: &ParserData<S>,
-    lexemes: &[(u8, u16, u16)],
+    parser: &RTParserBuilder<'_, DefaultLexerTypes<S>, R>,
+    lexer: &ListLexer<DefaultLexerTypes<S>>,
+    by_each: bool,
 ) -> Result<String, AllocError> {
-    let lexer = lexer_of::<S>(alloc, lexemes)?;
-    let parser = RTParserBuilder::<DefaultLexerTypes<S>, _>::new(checked);
-    let fterm = |alloc: Global, lexeme: DefaultLexeme<S>| leaf(alloc, lexeme);
-    let fnonterm = |alloc: Global, pidx: PIdx<S>, ridx: RIdx<S>, span: Span, args: Vec<String>| {
-        branch(alloc, pidx, ridx, span, args)
-    };
-    let outcome = parser.parse_fold(alloc, &lexer, &fterm, &fnonterm);
-    told(alloc, outcome)
+    if by_each {
+        each_way(alloc, parser, lexer)
+    } else {
+        by_productions(alloc, parser, lexer)
+    }
 }
 
-/// What the lexemes come to by the grammar of a text.
-fn parsed<S: IndexOrder>(
+/// Returns what lexemes yield with these sequences at each error.
+fn repaired_text<S: IndexOrder>(
+    alloc: Global,
+    data: &ParserData<S>,
+    lexer: &ListLexer<DefaultLexerTypes<S>>,
+    letters: &str,
+    by_each: bool,
+) -> Result<String, AllocError> {
+    let lines = lines_of::<S>(alloc, letters)?;
+    let parser = RTParserBuilder::<DefaultLexerTypes<S>, _>::new(data).recoverer(&lines);
+    let text = by_ways(alloc, &parser, lexer, by_each);
+    drop(lines);
+    text
+}
+
+/// Returns what lexemes yield with these sequences at each error, or with none.
+fn text_by<S: IndexOrder>(
+    alloc: Global,
+    data: &ParserData<S>,
+    lexemes: &[(u8, u16, u16)],
+    letters: Option<&str>,
+    by_each: bool,
+) -> Result<String, AllocError> {
+    let lexer = lexer_of::<S>(alloc, lexemes)?;
+    let text = match letters {
+        None => {
+            let parser = RTParserBuilder::<DefaultLexerTypes<S>, _>::new(data);
+            by_ways(alloc, &parser, &lexer, by_each)
+        }
+        Some(letters) => repaired_text(alloc, data, &lexer, letters, by_each),
+    };
+    drop(lexer);
+    text
+}
+
+/// Returns what lexemes yield by the grammar of a text, with these sequences at each error, or with none: a line for each call that
+/// parses, or the value by functions of productions alone.
+pub fn line_text<S: IndexOrder>(
     alloc: Global,
     text: &str,
     lexemes: &[(u8, u16, u16)],
+    letters: Option<&str>,
+    by_each: bool,
 ) -> Result<String, Fail> {
-    let checked = data::<S>(alloc, text)?;
-    let found = told_by(alloc, &checked, lexemes);
-    drop(checked);
+    let data = data::<S>(alloc, text)?;
+    let found = text_by(alloc, &data, lexemes, letters, by_each);
+    drop(data);
     Ok(found?)
 }
 
@@ -48,62 +83,68 @@ const CALL: &str = "%% Call: 'ID' '(' ')';";
 const EXPR: &str =
     "%start Expr %% Expr : Expr '+' Term | Term; Term : Term '*' Factor | Factor; Factor : 'INT';";
 
-/// Texts of grammars, tokens with their starts and lengths, and what these come to.
-const LINES: &[(&str, &[(u8, u16, u16)], &str)] = &[
-    // `a+b`
-    (
-        SUMS,
-        &[(1, 0, 1), (0, 1, 1), (1, 2, 1)],
-        "0:1[0,3]( 2:2[0,1]( 1@0 ) 0@1 1:1[2,3]( 2:2[2,3]( 1@2 ) ) )",
-    ),
-    // `ID + + ID`, `ID +`
+/// Texts of grammars, tokens with their starts and lengths, sequences of repairs, and what these yield.
+const LINES: &[(&str, &[(u8, u16, u16)], Option<&str>, &str)] = &[
+    // `ID + + ID`
     (
         SUMS,
         &[(1, 0, 2), (0, 3, 1), (0, 5, 1), (1, 7, 2)],
+        None,
         "none; error at 0@5+1",
     ),
-    (SUMS, &[(1, 0, 2), (0, 3, 1)], "none; error at 2@4+0 faulty"),
-    // nothing, `x`
-    (LIST, &[], "0:1[0,0]( 2:2[0,0]( ) )"),
-    (LIST, &[(0, 0, 1)], "0:1[0,1]( 1:2[0,1]( 0@0 ) )"),
+    // `ID +`, where one of several sequences can be taken
     (
-        "%start S %% S: 'a' L; L: ;",
-        &[(0, 0, 1)],
-        "0:1[0,1]( 0@0 1:2[0,1]( ) )",
+        SUMS,
+        &[(1, 0, 2), (0, 3, 1)],
+        Some(" 2 c s d 101"),
+        "0:1[0,4]( 2:2[0,2]( 1@0 ) 0@3 0:1[4,4]( 2:2[4,4]( 1@4 ) 0@4 1:1[4,4]( 2:2[4,4]( 1@4 ) ) ) ); error at 2@4+0 faulty, insert 1 insert 0 insert 1",
     ),
+    // `x`
+    (LIST, &[(0, 0, 1)], None, "0:1[0,1]( 1:2[0,1]( 0@0 ) )"),
     // `a x z`, where the reduction that is kept lets `y` alone follow
     (
         "%start S %% S: A 'x' 'y' | B 'x' 'z'; A: 'a'; B: 'a';",
         &[(3, 0, 1), (0, 2, 1), (2, 4, 1)],
+        None,
         "none; error at 2@4+1",
     ),
     // `a u`, behind which comes no end
     (
         "%start S %% S: 'a' U | 'b'; U: 'u' U;",
         &[(0, 0, 1), (2, 2, 1)],
+        None,
         "none; error at 3@3+0 faulty",
     ),
     // `f()`, `f(`, `f(f(`
     (
         CALL,
         &[(0, 0, 1), (1, 1, 1), (2, 2, 1)],
+        None,
         "0:1[0,3]( 0@0 1@1 2@2 )",
     ),
-    (CALL, &[(0, 0, 1), (1, 1, 1)], "none; error at 3@2+0 faulty"),
+    (
+        CALL,
+        &[(0, 0, 1), (1, 1, 1)],
+        None,
+        "none; error at 3@2+0 faulty",
+    ),
     (
         CALL,
         &[(0, 0, 1), (1, 1, 1), (0, 2, 1), (1, 3, 1)],
+        None,
         "none; error at 0@2+1",
     ),
     // `2+3*4`, `2*3+4`
     (
         EXPR,
         &[(2, 0, 1), (0, 1, 1), (2, 2, 1), (1, 3, 1), (2, 4, 1)],
+        None,
         "0:1[0,5]( 1:1[0,1]( 3:2[0,1]( 4:3[0,1]( 2@0 ) ) ) 0@1 2:2[2,5]( 3:2[2,3]( 4:3[2,3]( 2@2 ) ) 1@3 4:3[4,5]( 2@4 ) ) )",
     ),
     (
         EXPR,
         &[(2, 0, 1), (1, 1, 1), (2, 2, 1), (0, 3, 1), (2, 4, 1)],
+        None,
         "0:1[0,5]( 1:1[0,3]( 2:2[0,3]( 3:2[0,1]( 4:3[0,1]( 2@0 ) ) 1@1 4:3[2,3]( 2@2 ) ) ) 0@3 3:2[4,5]( 4:3[4,5]( 2@4 ) ) )",
     ),
 ];
@@ -111,24 +152,9 @@ const LINES: &[(&str, &[(u8, u16, u16)], &str)] = &[
 #[test]
 fn lines_are_parsed(rt: HostRuntime) -> Result<(), Fail> {
     for index in 0..LINES.len() {
-        let (text, lexemes, told) = LINES[index];
-        let found = parsed::<u8>(rt.alloc(), text, lexemes)?;
-        same(&rt, text, found.as_str(), told);
-        let found = parsed::<u16>(rt.alloc(), text, lexemes)?;
-        same(&rt, text, found.as_str(), told);
-        let found = parsed::<u32>(rt.alloc(), text, lexemes)?;
+        let (text, lexemes, letters, told) = LINES[index];
+        let found = line_text::<u32>(rt.alloc(), text, lexemes, letters, false)?;
         same(&rt, text, found.as_str(), told);
     }
-    Ok(())
-}
-
-#[test]
-fn lexemes_are_refused(rt: HostRuntime) -> Result<(), Fail> {
-    let found = parsed::<u8>(rt.alloc(), SUMS, &[(2, 0, 1)])?;
-    same(&rt, "end token", found.as_str(), "outside 0");
-    let found = parsed::<u8>(rt.alloc(), SUMS, &[(3, 0, 1)])?;
-    same(&rt, "past the tokens", found.as_str(), "outside 0");
-    let found = parsed::<u8>(rt.alloc(), SUMS, &[(1, 4, 1), (0, 2, 1)])?;
-    same(&rt, "decreasing", found.as_str(), "decreases 1");
     Ok(())
 }

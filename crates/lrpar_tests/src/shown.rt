@@ -14,7 +14,7 @@ use lrpar::{FlatTree, Lexeme, Node};
 use std::alloc::{AllocError, Global};
 use std::test::*;
 
-/// Whether the lexeme is of a token with a name, and of a part of the input.
+/// Checks whether the lexeme is of a token with a name, and of a part of the input.
 fn has_text<S: IndexStorage, L: Lexeme<S>>(grm: &NumberedGrammar<S>, input: &str, lexeme: L) -> bool
     ensures { IsTrue result → HasText grm.now L.lex input.now lexeme }
 {
@@ -25,7 +25,7 @@ fn has_text<S: IndexStorage, L: Lexeme<S>>(grm: &NumberedGrammar<S>, input: &str
         && input.is_char_boundary(span.end())
 }
 
-/// Whether the node of a flat tree can be shown.
+/// Checks whether the node of a flat tree can be shown.
 fn is_shown<S: IndexStorage, L: Lexeme<S>>(
     grm: &NumberedGrammar<S>,
     input: &str,
@@ -43,7 +43,7 @@ fn is_shown<S: IndexStorage, L: Lexeme<S>>(
     }
 }
 
-/// Whether each of these nodes can be shown.
+/// Checks whether each of these nodes can be shown.
 fn are_shown<S: IndexStorage, L: Lexeme<S>>(
     grm: &NumberedGrammar<S>,
     input: &str,
@@ -59,7 +59,7 @@ fn are_shown<S: IndexStorage, L: Lexeme<S>>(
     true
 }
 
-/// The text of a flat tree, or that there is none.
+/// Returns the text of a flat tree, or that there is none.
 pub fn flat_shown<S: IndexStorage, L: Lexeme<S>>(
     alloc: Global,
     grm: &NumberedGrammar<S>,
@@ -72,36 +72,57 @@ pub fn flat_shown<S: IndexStorage, L: Lexeme<S>>(
     tree.pp(alloc, grm, input)
 }
 
-/// A rule over two lexemes.
-fn pair<S: IndexStorage, L: Lexeme<S>>(
+/// Returns a rule over one node.
+fn above<S: IndexStorage, L: Lexeme<S>>(
     alloc: Global,
     ridx: RIdx<S>,
-    one: L,
-    two: L,
+    node: Node<L, S>,
 ) -> Result<Node<L, S>, AllocError>
-    ensures { IfOk result (λ n. shape_of S.number n ≡ over (S.number ridx.0) (along (lexeme one) (along (lexeme two) nothing))) }
+    ensures { IfOk result (λ n. shape_of S.number n ≡ over (S.number ridx.0) (along (shape_of S.number node) nothing)) }
 {
     let mut nodes = Vec::new(alloc);
-    nodes.push(Node::Term { lexeme: one })?;
-    nodes.push(Node::Term { lexeme: two })?;
+    nodes.push(node)?;
     Ok(Node::Nonterm { ridx, nodes })
 }
 
-/// The text of a rule over two lexemes.
-pub fn pair_shown<S: IndexStorage, L: Lexeme<S>>(
+/// Returns the tree of `E: T '+' E | T` and `T: ID` over two words with a sign between them.
+fn sum<S: IndexStorage, L: Lexeme<S>>(
+    alloc: Global,
+    whole: RIdx<S>,
+    word: RIdx<S>,
+    left: L,
+    sign: L,
+    right: L,
+) -> Result<Node<L, S>, AllocError>
+    ensures { IfOk result (λ n. shape_of S.number n ≡ over (S.number whole.0)
+        (along (over (S.number word.0) (along (lexeme left) nothing)) (along (lexeme sign)
+        (along (over (S.number whole.0) (along (over (S.number word.0) (along (lexeme right) nothing)) nothing)) nothing)))) }
+{
+    let front = above(alloc, word, Node::Term { lexeme: left })?;
+    let last = above(alloc, word, Node::Term { lexeme: right })?;
+    let rest = above(alloc, whole, last)?;
+    let mut nodes = Vec::new(alloc);
+    nodes.push(front)?;
+    nodes.push(Node::Term { lexeme: sign })?;
+    nodes.push(rest)?;
+    Ok(Node::Nonterm { ridx: whole, nodes })
+}
+
+/// Returns the text of that tree.
+pub fn sum_shown<S: IndexStorage, L: Lexeme<S>>(
     alloc: Global,
     grm: &NumberedGrammar<S>,
     input: &str,
-    ridx: RIdx<S>,
-    (one, two): (L, L),
+    (whole, word): (RIdx<S>, RIdx<S>),
+    (left, sign, right): (L, L, L),
 ) -> Result<String, Fail> {
-    if ridx.0.to_usize() >= grm.rules_len().0.to_usize() {
+    if !grm.has_rule(whole) || !grm.has_rule(word) {
         return Err("no rule".into());
     }
-    if !has_text(grm, input, one) || !has_text(grm, input, two) {
+    if !has_text(grm, input, left) || !has_text(grm, input, sign) || !has_text(grm, input, right) {
         return Err("no text".into());
     }
-    let node = pair(alloc, ridx, one, two)?;
+    let node = sum(alloc, whole, word, left, sign, right)?;
     let text = node.pp(alloc, grm, input);
     drop(node);
     Ok(text?)

@@ -1,15 +1,20 @@
-//! Values and errors of parses as texts.
+//! Lexemes, nodes, repairs and whatever prints as texts.
 
 use cfg_base::index::IndexStorage;
 use cfg_base::span::Span;
 use cfg_base::symbol::{PIdx, RIdx};
-use lrpar::{
-    DefaultLexeme, FoldedOutcome, LRLexError, Lexeme, ParseError, ParseRefusal, ParseRepair,
-};
+use lrpar::{DefaultLexeme, ParseRepair};
 use std::alloc::{AllocError, Global};
-use std::test::*;
+use std::fmt::Display;
 
-/// A lexeme as its token and its start.
+/// Returns what a value prints, and drops it.
+pub fn display_of<D: Display + Drop>(alloc: Global, value: D) -> Result<String, AllocError> {
+    let text = format!(in alloc; "{value}");
+    drop(value);
+    text
+}
+
+/// Returns a lexeme as its token and its start.
 pub fn leaf<S: IndexStorage>(
     alloc: Global,
     lexeme: DefaultLexeme<S>,
@@ -19,7 +24,7 @@ pub fn leaf<S: IndexStorage>(
     format!(in alloc; "{token}@{start}")
 }
 
-/// A node as its production, its rule and span, and its children.
+/// Returns a node as its production, its rule and span, and its children.
 pub fn branch<S: IndexStorage>(
     alloc: Global,
     pidx: PIdx<S>,
@@ -40,7 +45,7 @@ pub fn branch<S: IndexStorage>(
     Ok(text)
 }
 
-/// A repair.
+/// Returns a repair.
 pub fn push_repair<S: IndexStorage>(
     alloc: Global,
     text: &mut String,
@@ -58,51 +63,6 @@ pub fn push_repair<S: IndexStorage>(
         ParseRepair::Shift(lexeme) => {
             text.push_str(" shift ")?;
             text.push_str(leaf(alloc, lexeme)?.as_str())
-        }
-    }
-}
-
-/// An error: its lexeme with its length, whether that was made up, and the listed sequences.
-fn push_error<S: IndexStorage>(
-    alloc: Global,
-    text: &mut String,
-    error: &ParseError<DefaultLexeme<S>, S>,
-) -> Result<(), AllocError> {
-    text.push_str("; error at ")?;
-    text.push_str(leaf(alloc, error.lexeme)?.as_str())?;
-    let len = error.lexeme.span.len();
-    text.push_str(format!(in alloc; "+{len}")?.as_str())?;
-    if error.lexeme.faulty {
-        text.push_str(" faulty")?;
-    }
-    for sequence in error.repairs.as_slice() {
-        text.push(',')?;
-        for repair in sequence.as_slice() {
-            push_repair(alloc, text, *repair)?;
-        }
-    }
-    Ok(())
-}
-
-/// What a parse comes to.
-pub fn told<S: IndexStorage>(
-    alloc: Global,
-    outcome: Result<FoldedOutcome<S, DefaultLexeme<S>, LRLexError, String>, ParseRefusal>,
-) -> Result<String, AllocError> {
-    match outcome {
-        Err(ParseRefusal::Memory(e)) => Err(e),
-        Err(ParseRefusal::LexemeOutside(index)) => format!(in alloc; "outside {index}"),
-        Err(ParseRefusal::StartDecreases(index)) => format!(in alloc; "decreases {index}"),
-        Ok(FoldedOutcome::Fault(_)) => format!(in alloc; "fault"),
-        Ok(FoldedOutcome::Parsed(value, errors)) => {
-            let mut text = match value {
-                Some(value) => value,
-                None => format!(in alloc; "none")?,
-            };
-            for error in errors.as_slice() {
-                push_error(alloc, &mut text, error)?;
-            }
-            Ok(text)
         }
     }
 }

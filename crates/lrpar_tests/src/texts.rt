@@ -1,23 +1,18 @@
 //! Errors and refusals as texts.
 
 use crate::same::same;
+use crate::spell::display_of;
 use cfg_base::span::Span;
+use cfg_base::symbol::PIdx;
 use lrpar::{
     DefaultLexeme, DefaultLexerTypes, LRLexError, LexParseError, Lexeme, ParseError, ParseRefusal,
 };
-use lrtable::StIdx;
+use lrtable::statetable::{StateTableError, StateTableErrorKind};
+use lrtable::{FromYaccError, Minimiser, StIdx};
 use std::alloc::{AllocError, Global};
-use std::fmt::Display;
 use std::test::*;
 
-/// Returns what a value prints, and drops it.
-fn printed<D: Display + Drop>(alloc: Global, value: D) -> Result<String, AllocError> {
-    let text = format!(in alloc; "{value}");
-    drop(value);
-    text
-}
-
-/// An error at a lexeme without repairs.
+/// Returns an error at a lexeme without repairs.
 fn error_at(alloc: Global, lexeme: DefaultLexeme<u8>) -> ParseError<DefaultLexeme<u8>, u8> {
     ParseError {
         stidx: StIdx(1),
@@ -31,24 +26,97 @@ fn errors_have_texts(rt: HostRuntime) -> Result<(), Fail> {
     let alloc = rt.alloc();
     let lexeme: DefaultLexeme<u8> = DefaultLexeme::new(0, 2, 1);
     let told = format!(in alloc; "Parse error at lexeme {lexeme:?}")?;
-    let found = printed(alloc, error_at(alloc, lexeme))?;
-    same(&rt, "parse error", found.as_str(), told.as_str());
+    same(
+        &rt,
+        "parse error",
+        display_of(alloc, error_at(alloc, lexeme))?.as_str(),
+        told.as_str(),
+    );
     let error = LexParseError::<DefaultLexerTypes<u8>>::from(error_at(alloc, lexeme));
-    let found = printed(alloc, error)?;
-    same(&rt, "either error", found.as_str(), told.as_str());
+    same(
+        &rt,
+        "either error",
+        display_of(alloc, error)?.as_str(),
+        told.as_str(),
+    );
     let span = Span::new(2, 3);
     let error = LexParseError::<DefaultLexerTypes<u8>>::from(LRLexError { span });
     same(
         &rt,
         "lexing error",
-        printed(alloc, error)?.as_str(),
+        display_of(alloc, error)?.as_str(),
         "Couldn't lex input starting at byte 2",
     );
-    let found = printed(alloc, ParseRefusal::LexemeOutside(1))?;
-    same(&rt, "outside", found.as_str(), "LexemeOutside");
-    let found = printed(alloc, ParseRefusal::StartDecreases(1))?;
-    same(&rt, "decreasing", found.as_str(), "StartDecreases");
-    let found = printed(alloc, ParseRefusal::Memory(AllocError))?;
-    same(&rt, "memory", found.as_str(), "Memory");
+    Ok(())
+}
+
+const CONFLICT: StateTableError<u8> = StateTableError {
+    kind: StateTableErrorKind::AcceptReduceConflict,
+    pidx: PIdx(3),
+};
+
+const SHOWN: &str = "Pager StateTableError { kind: AcceptReduceConflict, pidx: PIdx(3) }";
+
+#[test]
+fn refusals_of_tables_have_texts(rt: HostRuntime) -> Result<(), Fail> {
+    let alloc = rt.alloc();
+    let refusal = FromYaccError::StateTable(CONFLICT);
+    same(
+        &rt,
+        "conflict",
+        display_of(alloc, refusal)?.as_str(),
+        "Accept/reduce conflict",
+    );
+    let refusal = FromYaccError::<u8>::TooManyStates(256);
+    same(
+        &rt,
+        "states",
+        display_of(alloc, refusal)?.as_str(),
+        "TooManyStates",
+    );
+    let refusal = FromYaccError::<u16>::TooLarge;
+    same(
+        &rt,
+        "large",
+        display_of(alloc, refusal)?.as_str(),
+        "TooLarge",
+    );
+    let refusal = FromYaccError::<u32>::Memory(AllocError);
+    same(
+        &rt,
+        "memory",
+        display_of(alloc, refusal)?.as_str(),
+        "Memory",
+    );
+    let minimiser = Minimiser::Pager;
+    let told = format!(in alloc; "{minimiser:?} {CONFLICT:?}")?;
+    same(&rt, "debugging", told.as_str(), SHOWN);
+    Ok(())
+}
+
+#[test]
+fn refusals_of_parses_have_texts(rt: HostRuntime) -> Result<(), Fail> {
+    let alloc = rt.alloc();
+    let refusal = ParseRefusal::LexemeOutside(1);
+    same(
+        &rt,
+        "outside",
+        display_of(alloc, refusal)?.as_str(),
+        "LexemeOutside",
+    );
+    let refusal = ParseRefusal::StartDecreases(1);
+    same(
+        &rt,
+        "decreasing",
+        display_of(alloc, refusal)?.as_str(),
+        "StartDecreases",
+    );
+    let refusal = ParseRefusal::Memory(AllocError);
+    same(
+        &rt,
+        "memory",
+        display_of(alloc, refusal)?.as_str(),
+        "Memory",
+    );
     Ok(())
 }

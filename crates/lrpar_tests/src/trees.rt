@@ -1,15 +1,15 @@
 //! Trees by rules as texts.
 
-use crate::outcomes::{push_errors, refusal};
+use crate::outcomes::{push_errors, refusal_text};
 use crate::spell::leaf;
 use cfg_base::index::IndexOrder;
 use lrpar::{DefaultLexeme, DefaultLexerTypes, LexParseError, Node, ParseRefusal};
 use std::alloc::{AllocError, Global};
 
-/// The most nodes of a tree that is told.
+/// The most nodes of a tree that are shown.
 const NODES: usize = 100;
 
-/// A node: its lexeme, or its rule and the number of nodes below, which wait then with the first one on top.
+/// Returns a node: its lexeme, or its rule and the number of nodes below, which wait then with the first one on top.
 fn push_node<'a, S: IndexOrder>(
     alloc: Global,
     text: &mut String,
@@ -29,7 +29,7 @@ fn push_node<'a, S: IndexOrder>(
     }
 }
 
-/// The nodes of a tree, each before those below it.
+/// Returns the nodes of a tree, each before those below it.
 pub fn tree_text<S: IndexOrder>(
     alloc: Global,
     tree: &Node<DefaultLexeme<S>, S>,
@@ -55,10 +55,13 @@ type Outcome<S> = Result<
     ParseRefusal,
 >;
 
-/// The tree, or that there is none, and the errors.
-pub fn tree_told<S: IndexOrder>(alloc: Global, outcome: &Outcome<S>) -> Result<String, AllocError> {
+/// Returns the tree, or that there is none, and the errors.
+pub fn tree_outcome_text<S: IndexOrder>(
+    alloc: Global,
+    outcome: &Outcome<S>,
+) -> Result<String, AllocError> {
     match outcome {
-        Err(e) => refusal(alloc, e),
+        Err(e) => refusal_text(alloc, e),
         Ok((tree, errors)) => {
             let mut text = match tree {
                 Some(tree) => tree_text(alloc, tree)?,

@@ -1,10 +1,11 @@
-//! What a line comes to, by each call that parses.
+//! What a line yields, by each call that parses.
 
 ghost use Rattle.std.specs.Prelude.{IfOk};
 
-use crate::outcomes::{errors_told, told};
-use crate::spell::leaf;
-use crate::trees::tree_told;
+use crate::flat::flat_text;
+use crate::outcomes::{errors_text, folded_text, outcome_text};
+use crate::spell::{branch, leaf};
+use crate::trees::tree_outcome_text;
 use cfg_base::index::{IndexOrder, IndexStorage};
 use cfg_base::span::Span;
 use cfg_base::symbol::{PIdx, RIdx};
@@ -14,7 +15,7 @@ use lrpar::{
 };
 use std::alloc::{AllocError, Global};
 
-/// The arguments' texts in their order, and behind them the rule and their count.
+/// Returns the arguments' texts in their order, and behind them the rule and their count.
 fn postfix<S: IndexStorage>(
     alloc: Global,
     ridx: RIdx<S>,
@@ -31,7 +32,7 @@ fn postfix<S: IndexStorage>(
     Ok(text)
 }
 
-/// The text of an argument.
+/// Returns the text of an argument.
 fn push_arg<S: IndexStorage>(
     alloc: Global,
     text: &mut String,
@@ -44,7 +45,7 @@ fn push_arg<S: IndexStorage>(
     text.push(' ')
 }
 
-/// The arguments' texts in their order, and behind them the production, the rule, the span and their count.
+/// Returns the arguments' texts in their order, and behind them the production, the rule, the span and their count.
 fn postfix_action<S: IndexStorage>(
     alloc: Global,
     pidx: PIdx<S>,
@@ -93,8 +94,24 @@ impl<S: IndexOrder> Actions<DefaultLexerTypes<S>, ListLexer<DefaultLexerTypes<S>
 
 type Parser<'a, S, R> = RTParserBuilder<'a, DefaultLexerTypes<S>, R>;
 
-/// By functions of rules.
-pub fn mapped<S: IndexOrder, R: Recoverer<S, DefaultLexeme<S>>>(
+/// Returns the text of the value by functions of productions.
+pub fn by_productions<S: IndexOrder, R: Recoverer<S, DefaultLexeme<S>>>(
+    alloc: Global,
+    parser: &Parser<'_, S, R>,
+    lexer: &ListLexer<DefaultLexerTypes<S>>,
+) -> Result<String, AllocError> {
+    let fterm = |alloc: Global, lexeme: DefaultLexeme<S>| leaf(alloc, lexeme);
+    let fnonterm = |alloc: Global, pidx: PIdx<S>, ridx: RIdx<S>, span: Span, args: Vec<String>| {
+        branch(alloc, pidx, ridx, span, args)
+    };
+    let outcome = parser.parse_fold(alloc, lexer, &fterm, &fnonterm);
+    let text = folded_text(alloc, &outcome);
+    drop(outcome);
+    text
+}
+
+/// Returns the text of the value by functions of rules.
+fn by_rules<S: IndexOrder, R: Recoverer<S, DefaultLexeme<S>>>(
     alloc: Global,
     parser: &Parser<'_, S, R>,
     lexer: &ListLexer<DefaultLexerTypes<S>>,
@@ -106,55 +123,91 @@ pub fn mapped<S: IndexOrder, R: Recoverer<S, DefaultLexeme<S>>>(
         text
     };
     let outcome = parser.parse_map(alloc, lexer, &fterm, &fnonterm);
-    let text = told(alloc, &outcome);
+    let text = outcome_text(alloc, &outcome);
     drop(outcome);
     text
 }
 
-/// By actions.
-pub fn acted<S: IndexOrder, R: Recoverer<S, DefaultLexeme<S>>>(
+/// Returns the text of the value by actions.
+fn by_actions<S: IndexOrder, R: Recoverer<S, DefaultLexeme<S>>>(
     alloc: Global,
     parser: &Parser<'_, S, R>,
     lexer: &ListLexer<DefaultLexerTypes<S>>,
 ) -> Result<String, AllocError> {
     let outcome = parser.parse_actions(alloc, lexer, &PostfixActions);
-    let text = told(alloc, &outcome);
+    let text = outcome_text(alloc, &outcome);
     drop(outcome);
     text
 }
 
-/// As a tree by rules.
-pub fn treed<S: IndexOrder, R: Recoverer<S, DefaultLexeme<S>>>(
+/// Returns the text of the tree by rules.
+fn as_tree<S: IndexOrder, R: Recoverer<S, DefaultLexeme<S>>>(
     alloc: Global,
     parser: &Parser<'_, S, R>,
     lexer: &ListLexer<DefaultLexerTypes<S>>,
 ) -> Result<String, AllocError> {
     let outcome = parser.parse_generictree(alloc, lexer);
-    let text = tree_told(alloc, &outcome);
+    let text = tree_outcome_text(alloc, &outcome);
     drop(outcome);
     text
 }
 
-/// As a tree by rules, which actions make.
-pub fn treed_by_actions<S: IndexOrder, R: Recoverer<S, DefaultLexeme<S>>>(
+/// Returns the text of the tree by rules that actions make.
+fn as_tree_by_actions<S: IndexOrder, R: Recoverer<S, DefaultLexeme<S>>>(
     alloc: Global,
     parser: &Parser<'_, S, R>,
     lexer: &ListLexer<DefaultLexerTypes<S>>,
 ) -> Result<String, AllocError> {
     let outcome = parser.parse_actions(alloc, lexer, &GenericTreeActions);
-    let text = tree_told(alloc, &outcome);
+    let text = tree_outcome_text(alloc, &outcome);
     drop(outcome);
     text
 }
 
-/// By its errors alone.
-pub fn unvalued<S: IndexOrder, R: Recoverer<S, DefaultLexeme<S>>>(
+/// Returns the text of the tree as a list of nodes.
+fn as_nodes<S: IndexOrder, R: Recoverer<S, DefaultLexeme<S>>>(
+    alloc: Global,
+    parser: &Parser<'_, S, R>,
+    lexer: &ListLexer<DefaultLexerTypes<S>>,
+) -> Result<String, AllocError> {
+    let outcome = parser.parse_flat(alloc, lexer);
+    let text = flat_text(alloc, &outcome);
+    drop(outcome);
+    text
+}
+
+/// Returns the text of the errors of a parse without values.
+fn by_errors<S: IndexOrder, R: Recoverer<S, DefaultLexeme<S>>>(
     alloc: Global,
     parser: &Parser<'_, S, R>,
     lexer: &ListLexer<DefaultLexerTypes<S>>,
 ) -> Result<String, AllocError> {
     let outcome = parser.parse_noaction(alloc, lexer);
-    let text = errors_told(alloc, &outcome);
+    let text = errors_text(alloc, &outcome);
     drop(outcome);
     text
+}
+
+/// Adds a text and the end of its line.
+fn push_line(text: &mut String, line: Result<String, AllocError>) -> Result<(), AllocError> {
+    text.push_str(line?.as_str())?;
+    text.push('\n')
+}
+
+/// Returns a line for each call: by functions of productions, by functions of rules, by actions, as a tree, as a tree by actions,
+/// as a list of nodes, without values.
+pub fn each_way<S: IndexOrder, R: Recoverer<S, DefaultLexeme<S>>>(
+    alloc: Global,
+    parser: &Parser<'_, S, R>,
+    lexer: &ListLexer<DefaultLexerTypes<S>>,
+) -> Result<String, AllocError> {
+    let mut text = String::new(alloc);
+    push_line(&mut text, by_productions(alloc, parser, lexer))?;
+    push_line(&mut text, by_rules(alloc, parser, lexer))?;
+    push_line(&mut text, by_actions(alloc, parser, lexer))?;
+    push_line(&mut text, as_tree(alloc, parser, lexer))?;
+    push_line(&mut text, as_tree_by_actions(alloc, parser, lexer))?;
+    push_line(&mut text, as_nodes(alloc, parser, lexer))?;
+    text.push_str(by_errors(alloc, parser, lexer)?.as_str())?;
+    Ok(text)
 }

@@ -1,16 +1,15 @@
-//! What texts come to: a kit with its counts, or why there is none.
+//! What texts yield: a kit with its counts, or why there is none.
 
+use crate::make::TREE;
 use crate::same::same;
-use crate::texts::{any_of, declared, repeated, ruled};
+use crate::texts::{Many, text_of};
 use cfg_base::index::IndexStorage;
-use cfg_read::yacc::{YaccGrammarError, YaccKind, YaccOriginalActionKind};
+use cfg_read::yacc::YaccGrammarError;
 use parser_kit::{KitError, ParserKit};
 use std::alloc::{AllocError, Global};
 use std::test::*;
 
-const TREE: YaccKind = YaccKind::Original(YaccOriginalActionKind::GenericParseTree);
-
-/// How many conflicts are listed, of shifts and of pairs of reductions.
+/// Returns how many conflicts are listed, of shifts and of pairs of reductions.
 fn counts<S: IndexStorage>(kit: &ParserKit<S>) -> (usize, usize) {
     match kit.conflicts() {
         Some(conflicts) => (conflicts.sr_len(), conflicts.rr_len()),
@@ -18,7 +17,7 @@ fn counts<S: IndexStorage>(kit: &ParserKit<S>) -> (usize, usize) {
     }
 }
 
-/// What a kit tells of its text.
+/// Returns the text of a kit.
 fn kit_text<S: IndexStorage>(alloc: Global, kit: &ParserKit<S>) -> Result<String, AllocError> {
     let (sr, rr) = counts(kit);
     let complete = kit.complete();
@@ -40,7 +39,7 @@ fn push_spans(
     Ok(())
 }
 
-/// Why there is none, and for each error of the grammar its spans behind a semicolon.
+/// Returns why there is none, and for each error of the grammar its spans behind a semicolon.
 fn error_text<S: IndexStorage>(alloc: Global, error: &KitError<S>) -> Result<String, AllocError> {
     let mut text = format!(in alloc; "{error}")?;
     if let KitError::Grammar(errors) = error {
@@ -52,8 +51,8 @@ fn error_text<S: IndexStorage>(alloc: Global, error: &KitError<S>) -> Result<Str
     Ok(text)
 }
 
-/// What is told of a kit, or of why there is none.
-fn told<S: IndexStorage>(
+/// Returns the text of a kit, or of why there is none.
+fn answer_of<S: IndexStorage>(
     alloc: Global,
     made: Result<ParserKit<S>, KitError<S>>,
 ) -> Result<String, AllocError> {
@@ -66,14 +65,14 @@ fn told<S: IndexStorage>(
     text
 }
 
-/// What comes of a text of Yacc's own syntax with trees.
-fn judged<S: IndexStorage>(alloc: Global, text: &str) -> Result<String, AllocError> {
-    told(alloc, ParserKit::<S>::new(alloc, text, TREE, 1000))
+/// Returns what comes of a text of Yacc's own syntax with trees.
+fn answer_to<S: IndexStorage>(alloc: Global, text: &str) -> Result<String, AllocError> {
+    answer_of(alloc, ParserKit::<S>::new(alloc, text, TREE, 1000))
 }
 
-/// What comes of a text whose section may tell its kind.
-fn judged_by_section<S: IndexStorage>(alloc: Global, text: &str) -> Result<String, AllocError> {
-    told(alloc, ParserKit::<S>::of_text(alloc, text, 1000))
+/// Returns what comes of a text whose section may tell its kind.
+fn answer_by_section<S: IndexStorage>(alloc: Global, text: &str) -> Result<String, AllocError> {
+    answer_of(alloc, ParserKit::<S>::of_text(alloc, text, 1000))
 }
 
 /// Texts, and what comes of them: counts of conflicts, whether the table is complete and each rule productive; or errors.
@@ -148,7 +147,7 @@ const SECTIONS: &[(&str, &str)] = &[
     ("%% S: 'a';", "0 0 true true"),
 ];
 
-/// The first of these rows whose text comes to something else, or as many as there are.
+/// Returns the index of the first row whose text yields something else, or the number of rows.
 fn first_wrong<S: IndexStorage>(
     alloc: Global,
     rows: &[(&str, &str)],
@@ -157,9 +156,9 @@ fn first_wrong<S: IndexStorage>(
     for index in 0..rows.len() {
         let (text, answer) = rows[index];
         let found = if by_section {
-            judged_by_section::<S>(alloc, text)?
+            answer_by_section::<S>(alloc, text)?
         } else {
-            judged::<S>(alloc, text)?
+            answer_to::<S>(alloc, text)?
         };
         if found.as_str() != answer {
             return Ok(index);
@@ -181,36 +180,28 @@ fn kits_tell_of_their_texts(rt: HostRuntime) -> Result<(), Fail> {
     Ok(())
 }
 
+/// What there are many of in a text, how many, and what comes of it with numbers of eight bits.
+const NUMBERS: &[(Many, usize, &str)] = &[
+    (Many::Tokens, 254, "0 0 true true"),
+    (Many::Tokens, 255, "too many tokens: 256"),
+    (Many::Rules, 254, "0 0 true true"),
+    (Many::Rules, 255, "too many rules: 256"),
+    (Many::Productions, 255, "too many productions: 256"),
+    (Many::Symbols, 253, "0 0 true true"),
+    (Many::Symbols, 254, "too many states: 256"),
+    (Many::Symbols, 256, "too many symbols: 256"),
+];
+
 #[test]
 fn numbers_have_an_end(rt: HostRuntime) -> Result<(), Fail> {
-    let text = declared(rt.alloc(), 255)?;
-    let found = judged::<u8>(rt.alloc(), text.as_str())?;
-    same(
-        &rt,
-        "255 tokens of u8",
-        found.as_str(),
-        "too many tokens: 256",
-    );
-    let found = judged::<u16>(rt.alloc(), text.as_str())?;
-    same(&rt, "255 tokens of u16", found.as_str(), "0 0 true true");
-    let found = judged::<u8>(rt.alloc(), declared(rt.alloc(), 254)?.as_str())?;
-    same(&rt, "254 tokens", found.as_str(), "0 0 true true");
-    let found = judged::<u8>(rt.alloc(), ruled(rt.alloc(), 254)?.as_str())?;
-    same(&rt, "254 rules", found.as_str(), "0 0 true true");
-    let found = judged::<u8>(rt.alloc(), ruled(rt.alloc(), 255)?.as_str())?;
-    same(&rt, "255 rules", found.as_str(), "too many rules: 256");
-    let found = judged::<u8>(rt.alloc(), any_of(rt.alloc(), 255)?.as_str())?;
-    same(
-        &rt,
-        "255 productions",
-        found.as_str(),
-        "too many productions: 256",
-    );
-    let found = judged::<u8>(rt.alloc(), repeated(rt.alloc(), 253)?.as_str())?;
-    same(&rt, "253 symbols", found.as_str(), "0 0 true true");
-    let found = judged::<u8>(rt.alloc(), repeated(rt.alloc(), 254)?.as_str())?;
-    same(&rt, "254 symbols", found.as_str(), "too many states: 256");
-    let found = judged::<u8>(rt.alloc(), repeated(rt.alloc(), 256)?.as_str())?;
-    same(&rt, "256 symbols", found.as_str(), "too many symbols: 256");
+    for index in 0..NUMBERS.len() {
+        let (many, count, answer) = NUMBERS[index];
+        let text = text_of(rt.alloc(), many, count)?;
+        let found = answer_to::<u8>(rt.alloc(), text.as_str())?;
+        same(&rt, answer, found.as_str(), answer);
+    }
+    let text = text_of(rt.alloc(), Many::Tokens, 255)?;
+    let found = answer_to::<u16>(rt.alloc(), text.as_str())?;
+    same(&rt, "u16", found.as_str(), "0 0 true true");
     Ok(())
 }

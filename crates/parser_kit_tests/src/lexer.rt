@@ -4,7 +4,7 @@ use cfg_base::index::IndexOrder;
 use lrpar::{DefaultLexeme, DefaultLexerTypes, Lexeme, ListLexer};
 use std::alloc::{AllocError, Global};
 
-/// Lexemes of these tokens, starts and lengths.
+/// Returns lexemes of these tokens, starts and lengths.
 pub fn lexer_of<S: IndexOrder>(
     alloc: Global,
     lexemes: &[(u8, u16, u16)],

@@ -1,5 +1,7 @@
-//! Tests of `parser_kit`: what kits tell of their texts, which texts give none, what lines come to, that repairs leave no trace, and
-//! vectors of the ported crates.
+//! Tests of `parser_kit`, `word_lines` and `lrlex`. Of kits what they report of their texts, which texts give none, what lines
+//! yield, that repairs leave no trace, and a vector of the ported crates. Of lines of words their items, the places of these, and
+//! texts of repairs. Of lexers by expressions lexemes and errors with their places, ties, start conditions, a long text, and names
+//! that one side has.
 #![tactic(auto)]
 
 #[cfg(test)]
@@ -7,11 +9,13 @@ mod kits;
 #[cfg(test)]
 mod lexer;
 #[cfg(test)]
+mod lexers;
+#[cfg(test)]
 mod lines;
 #[cfg(test)]
-mod parses;
+mod make;
 #[cfg(test)]
-mod repaired;
+mod parses;
 #[cfg(test)]
 mod same;
 #[cfg(test)]
@@ -20,3 +24,5 @@ mod spell;
 mod texts;
 #[cfg(test)]
 mod vectors;
+#[cfg(test)]
+mod words;

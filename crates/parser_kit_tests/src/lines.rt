@@ -8,7 +8,7 @@ use lrpar::{DefaultLexeme, Recoverer, RepairStep};
 use lrtable::StIdx;
 use std::alloc::{AllocError, Global};
 
-/// Hands in the same sequences at each error.
+/// Passes the same sequences at each error.
 #[derive(Drop)]
 pub struct Lines<S> {
     sequences: Vec<Vec<RepairStep<S>>>,
@@ -34,7 +34,7 @@ impl<S: IndexOrder> Recoverer<S, DefaultLexeme<S>> for Lines<S> {
     }
 }
 
-/// The sequences of letters: `d` deletes, `s` shifts, a digit inserts that token, and a blank ends a sequence.
+/// Returns the sequences of letters: `d` deletes, `s` shifts, a digit inserts that token, and a blank ends a sequence.
 pub fn lines_of<S: IndexStorage>(alloc: Global, letters: &str) -> Result<Lines<S>, AllocError> {
     let mut sequences = Vec::new(alloc);
     let mut sequence = Vec::new(alloc);

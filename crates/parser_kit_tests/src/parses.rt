@@ -1,42 +1,40 @@
-//! Lines through kits.
+//! Lines through kits, and lines whose lexemes as repaired are parsed again, without repairs.
 
 use crate::lexer::lexer_of;
+use crate::lines::lines_of;
+use crate::make::kit;
 use crate::same::same;
-use crate::spell::{branch, by_rule, flat_told, leaf, mapped_told, told};
+use crate::spell::{branch, by_rule, flat_text, folded_text, leaf, mapped_text};
 use crate::texts::any_of;
 use cfg_base::index::IndexOrder;
 use cfg_base::span::Span;
 use cfg_base::symbol::{PIdx, RIdx};
-use cfg_read::yacc::{YaccKind, YaccOriginalActionKind};
-use lrpar::{DefaultLexeme, DefaultLexerTypes, ListLexer, NoRecovery};
-use parser_kit::{KitError, ParserKit};
+use lrpar::{DefaultLexeme, DefaultLexerTypes, ListLexer, NoRecovery, Recoverer};
+use parser_kit::ParserKit;
 use std::alloc::{AllocError, Global};
 use std::test::*;
 
-const TREE: YaccKind = YaccKind::Original(YaccOriginalActionKind::GenericParseTree);
-
-/// What the lexemes fold to.
-fn folded<S: IndexOrder>(
+/// Returns what the lexemes fold to where this recoverer is asked at each error.
+fn by_productions<S: IndexOrder, R: Recoverer<S, DefaultLexeme<S>>>(
     alloc: Global,
     kit: &ParserKit<S>,
     lexer: &ListLexer<DefaultLexerTypes<S>>,
+    recoverer: &R,
 ) -> Result<String, AllocError> {
     let fterm = |alloc: Global, lexeme: DefaultLexeme<S>| leaf(alloc, lexeme);
     let fnonterm = |alloc: Global, pidx: PIdx<S>, ridx: RIdx<S>, span: Span, args: Vec<String>| {
         branch(alloc, pidx, ridx, span, args)
     };
     let outcome = kit.parse_fold::<DefaultLexerTypes<S>, _, _, _, _, _>(
-        alloc,
-        lexer,
-        &NoRecovery,
-        &fterm,
-        &fnonterm,
+        alloc, lexer, recoverer, &fterm, &fnonterm,
     );
-    told(alloc, outcome)
+    let text = folded_text(alloc, &outcome);
+    drop(outcome);
+    text
 }
 
-/// What the lexemes come to by rule.
-fn mapped<S: IndexOrder>(
+/// Returns what the lexemes yield by rule.
+fn by_rules<S: IndexOrder>(
     alloc: Global,
     kit: &ParserKit<S>,
     lexer: &ListLexer<DefaultLexerTypes<S>>,
@@ -50,68 +48,122 @@ fn mapped<S: IndexOrder>(
         &fterm,
         &fnonterm,
     );
-    mapped_told(alloc, outcome)
+    let text = mapped_text(alloc, &outcome);
+    drop(outcome);
+    text
 }
 
-/// What the lexemes come to by each call that parses.
-fn parsed_by<S: IndexOrder>(
+/// Returns how many nodes the tree of the lexemes has.
+fn as_nodes<S: IndexOrder>(
+    alloc: Global,
+    kit: &ParserKit<S>,
+    lexer: &ListLexer<DefaultLexerTypes<S>>,
+) -> Result<String, AllocError> {
+    let outcome = kit.parse_flat::<DefaultLexerTypes<S>, _, _>(alloc, lexer, &NoRecovery);
+    let text = flat_text(alloc, &outcome);
+    drop(outcome);
+    text
+}
+
+/// Returns what the lexemes yield by each call that parses.
+fn each_way<S: IndexOrder>(
+    alloc: Global,
+    kit: &ParserKit<S>,
+    lexer: &ListLexer<DefaultLexerTypes<S>>,
+) -> Result<String, AllocError> {
+    let mut text = by_productions(alloc, kit, lexer, &NoRecovery)?;
+    text.push_str(" / ")?;
+    text.push_str(by_rules(alloc, kit, lexer)?.as_str())?;
+    text.push_str(" / ")?;
+    text.push_str(as_nodes(alloc, kit, lexer)?.as_str())?;
+    Ok(text)
+}
+
+/// Returns what these lexemes yield by each call that parses.
+fn text_by<S: IndexOrder>(
     alloc: Global,
     kit: &ParserKit<S>,
     lexemes: &[(u8, u16, u16)],
 ) -> Result<String, AllocError> {
     let lexer = lexer_of::<S>(alloc, lexemes)?;
-    let mut text = folded(alloc, kit, &lexer)?;
-    text.push_str(" / ")?;
-    text.push_str(mapped(alloc, kit, &lexer)?.as_str())?;
-    text.push_str(" / ")?;
-    let outcome = kit.parse_flat::<DefaultLexerTypes<S>, _, _>(alloc, &lexer, &NoRecovery);
-    text.push_str(flat_told(alloc, outcome)?.as_str())?;
-    Ok(text)
+    let text = each_way(alloc, kit, &lexer);
+    drop(lexer);
+    text
 }
 
-/// What the lexemes come to with the kit of a text that has one.
-fn parsed<S: IndexOrder>(
+/// Returns what the lexemes yield with the kit of a text that has one.
+fn line_text<S: IndexOrder>(
     alloc: Global,
     text: &str,
     lexemes: &[(u8, u16, u16)],
 ) -> Result<String, Fail> {
-    match ParserKit::<S>::new(alloc, text, TREE, 1000) {
-        Ok(kit) => {
-            let found = parsed_by(alloc, &kit, lexemes);
-            drop(kit);
-            Ok(found?)
-        }
-        Err(KitError::Memory(e)) => Err(e.into()),
-        Err(e) => {
-            drop(e);
-            Err("no kit".into())
-        }
-    }
+    let kit = kit::<S>(alloc, text)?;
+    let found = text_by(alloc, &kit, lexemes);
+    drop(kit);
+    Ok(found?)
 }
 
 const TWO: &str = "%start S %% S: 'a' A 'd' | 'b' B 'd' | 'a' B 'e' | 'b' A 'e'; A: 'c'; B: 'c';";
 
+const PLUS: &str = "%start E %% E: E '+' E | 'n';";
+
+const MERGED: &str = "%start S %% S: A 'x' 'y' | B 'x' 'z'; A: 'a'; B: 'a';";
+
+const ENDLESS: &str = "%start S %% S: 'a' U | 'b'; U: 'u' U;";
+
+const PLUS_LEXEMES: &[(u8, u16, u16)] = &[(1, 0, 1), (0, 2, 1), (1, 4, 1), (0, 6, 1), (1, 8, 1)];
+
+const PLUS_TOLD: &str =
+    "0:1[0,9]( 1:1[0,1]( 1@0 ) 0@2 0:1[4,9]( 1:1[4,5]( 1@4 ) 0@6 1:1[8,9]( 1@8 ) ) ) / 1( 1( 1@0 ) 0@2 1( 1( 1@4 ) 0@6 1( 1@8 ) ) ) / 10 nodes";
+
+/// Texts, tokens with their starts and lengths, and what these yield.
+const LINES: &[(&str, &[(u8, u16, u16)], &str)] = &[
+    (
+        TWO,
+        &[(0, 0, 1), (4, 2, 1), (3, 4, 1)],
+        "2:1[0,5]( 0@0 5:3[2,3]( 4@2 ) 3@4 ) / 1( 0@0 3( 4@2 ) 3@4 ) / 5 nodes",
+    ),
+    (PLUS, PLUS_LEXEMES, PLUS_TOLD),
+    (
+        MERGED,
+        &[(3, 0, 1), (0, 2, 1), (2, 4, 1)],
+        "none; error at 2@4 / none, 1 errors / none",
+    ),
+    // without a sentence
+    (
+        ENDLESS,
+        &[(0, 0, 1), (2, 2, 1)],
+        "none; error at 3@3 faulty / none, 1 errors / none",
+    ),
+    // a number past the tokens
+    (ENDLESS, &[(9, 0, 1)], "outside 0 / refused / refused"),
+];
+
 #[test]
 fn lines_are_parsed(rt: HostRuntime) -> Result<(), Fail> {
-    let found = parsed::<u8>(rt.alloc(), TWO, &[(0, 0, 1), (4, 2, 1), (3, 4, 1)])?;
+    for index in 0..LINES.len() {
+        let (text, lexemes, told) = LINES[index];
+        let found = line_text::<u8>(rt.alloc(), text, lexemes)?;
+        same(&rt, text, found.as_str(), told);
+    }
+    Ok(())
+}
+
+#[test]
+fn kits_of_any_numbers_parse(rt: HostRuntime) -> Result<(), Fail> {
+    let found = line_text::<u16>(rt.alloc(), PLUS, PLUS_LEXEMES)?;
+    same(&rt, "u16", found.as_str(), PLUS_TOLD);
+    drop(found);
+    let found = line_text::<u32>(rt.alloc(), MERGED, &[(3, 0, 1), (0, 2, 1), (2, 4, 1)])?;
     same(
         &rt,
-        "merged",
+        "u32",
         found.as_str(),
-        "2:1[0,5]( 0@0 5:3[2,3]( 4@2 ) 3@4 ) / 1( 0@0 3( 4@2 ) 3@4 ) / 5 nodes",
+        "none; error at 2@4 / none, 1 errors / none",
     );
-    let found = parsed::<u16>(
-        rt.alloc(),
-        "%start E %% E: E '+' E | 'n';",
-        &[(1, 0, 1), (0, 2, 1), (1, 4, 1), (0, 6, 1), (1, 8, 1)],
-    )?;
-    same(
-        &rt,
-        "sums",
-        found.as_str(),
-        "0:1[0,9]( 1:1[0,1]( 1@0 ) 0@2 0:1[4,9]( 1:1[4,5]( 1@4 ) 0@6 1:1[8,9]( 1@8 ) ) ) / 1( 1( 1@0 ) 0@2 1( 1( 1@4 ) 0@6 1( 1@8 ) ) ) / 10 nodes",
-    );
-    let found = parsed::<u8>(rt.alloc(), any_of(rt.alloc(), 65)?.as_str(), &[(64, 0, 3)])?;
+    drop(found);
+    let text = any_of(rt.alloc(), 65)?;
+    let found = line_text::<u8>(rt.alloc(), text.as_str(), &[(64, 0, 3)])?;
     same(
         &rt,
         "65 tokens",
@@ -121,30 +173,75 @@ fn lines_are_parsed(rt: HostRuntime) -> Result<(), Fail> {
     Ok(())
 }
 
+/// Returns what the lexemes fold to where these sequences are passed at each error.
+fn with_repairs<S: IndexOrder>(
+    alloc: Global,
+    kit: &ParserKit<S>,
+    lexemes: &[(u8, u16, u16)],
+    letters: &str,
+) -> Result<String, AllocError> {
+    let lexer = lexer_of::<S>(alloc, lexemes)?;
+    let lines = lines_of::<S>(alloc, letters)?;
+    let text = by_productions(alloc, kit, &lexer, &lines);
+    drop(lines);
+    drop(lexer);
+    text
+}
+
+/// Returns what the lexemes fold to without repairs, and these errors behind it.
+fn without_repairs<S: IndexOrder>(
+    alloc: Global,
+    kit: &ParserKit<S>,
+    lexemes: &[(u8, u16, u16)],
+    errors: &str,
+) -> Result<String, AllocError> {
+    let lexer = lexer_of::<S>(alloc, lexemes)?;
+    let made = by_productions(alloc, kit, &lexer, &NoRecovery);
+    drop(lexer);
+    let mut text = made?;
+    text.push_str(errors)?;
+    Ok(text)
+}
+
+/// Returns what lexemes yield with repairs, and what those that the repairs leave yield without, with the errors behind.
+fn both<S: IndexOrder>(
+    alloc: Global,
+    text: &str,
+    (lexemes, letters): (&[(u8, u16, u16)], &str),
+    (left, errors): (&[(u8, u16, u16)], &str),
+) -> Result<(String, String), Fail> {
+    let kit = kit::<S>(alloc, text)?;
+    let found = with_repairs(alloc, &kit, lexemes, letters);
+    let again = without_repairs(alloc, &kit, left, errors);
+    drop(kit);
+    Ok((found?, again?))
+}
+
+const SUMS: &str = "%start E %% E: T '+' E | T; T: 'ID';";
+
+const TAILS: &str = "%start S %% S: 'a' A 't' | 'a' B | 'b' A 'u' | 'b' B; A: 'q'; B: 'q' 'x';";
+
 #[test]
-fn errors_are_told(rt: HostRuntime) -> Result<(), Fail> {
-    let text = "%start S %% S: A 'x' 'y' | B 'x' 'z'; A: 'a'; B: 'a';";
-    let found = parsed::<u32>(rt.alloc(), text, &[(3, 0, 1), (0, 2, 1), (2, 4, 1)])?;
-    same(
-        &rt,
-        "merged",
-        found.as_str(),
-        "none; error at 2@4 / none, 1 errors / none",
-    );
-    let text = "%start S %% S: 'a' U | 'b'; U: 'u' U;";
-    let found = parsed::<u16>(rt.alloc(), text, &[(0, 0, 1), (2, 2, 1)])?;
-    same(
-        &rt,
-        "without a sentence",
-        found.as_str(),
-        "none; error at 3@3 faulty / none, 1 errors / none",
-    );
-    let found = parsed::<u8>(rt.alloc(), text, &[(9, 0, 1)])?;
-    same(
-        &rt,
-        "outside",
-        found.as_str(),
-        "outside 0 / refused / refused",
-    );
+fn repairs_leave_no_trace(rt: HostRuntime) -> Result<(), Fail> {
+    // `ID + + ID ID`, where a lexeme is deleted at each error.
+    let wrong = [(1, 0, 2), (0, 3, 1), (0, 5, 1), (1, 7, 2), (1, 10, 2)];
+    let right = [(1, 0, 2), (0, 3, 1), (1, 7, 2)];
+    let errors = "; error at 0@5, delete 0@5; error at 1@10, delete 1@10";
+    let two = both::<u8>(rt.alloc(), SUMS, (&wrong, "d"), (&right, errors))?;
+    same(&rt, "deleted", two.0.as_str(), two.1.as_str());
+    drop(two);
+    // `ID +`, where one is made up at the end.
+    let wrong = [(1, 0, 2), (0, 3, 1)];
+    let right = [(1, 0, 2), (0, 3, 1), (1, 4, 0)];
+    let errors = "; error at 2@4 faulty, insert 1";
+    let two = both::<u32>(rt.alloc(), SUMS, (&wrong, "d 1"), (&right, errors))?;
+    same(&rt, "inserted", two.0.as_str(), two.1.as_str());
+    drop(two);
+    // A state whose reduction came before the error: what the lexemes as repaired give is the same.
+    let wrong = [(0, 0, 1), (4, 2, 1), (3, 4, 1)];
+    let right = [(0, 0, 1), (4, 2, 1), (1, 4, 0)];
+    let errors = "; error at 3@4, insert 1 delete 3@4";
+    let two = both::<u16>(rt.alloc(), TAILS, (&wrong, "5d 1d"), (&right, errors))?;
+    same(&rt, "reduced before", two.0.as_str(), two.1.as_str());
     Ok(())
 }

@@ -8,9 +8,8 @@ use lrpar::{
     ParseError, ParseRefusal, ParseRepair,
 };
 use std::alloc::{AllocError, Global};
-use std::test::*;
 
-/// A lexeme as its token and its start.
+/// Returns a lexeme as its token and its start.
 pub fn leaf<S: IndexStorage>(
     alloc: Global,
     lexeme: DefaultLexeme<S>,
@@ -20,7 +19,18 @@ pub fn leaf<S: IndexStorage>(
     format!(in alloc; "{token}@{start}")
 }
 
-/// A node as its production, its rule and span, and its children.
+/// Returns a text, and behind it the texts of children in brackets.
+pub fn over(mut text: String, args: Vec<String>) -> Result<String, AllocError> {
+    text.push('(')?;
+    for arg in args.as_slice() {
+        text.push(' ')?;
+        text.push_str(arg.as_str())?;
+    }
+    text.push_str(" )")?;
+    Ok(text)
+}
+
+/// Returns a node as its production, its rule and span, and its children.
 pub fn branch<S: IndexStorage>(
     alloc: Global,
     pidx: PIdx<S>,
@@ -32,16 +42,23 @@ pub fn branch<S: IndexStorage>(
     let rule = ridx.0.to_usize();
     let start = span.start();
     let end = span.end();
-    let mut text = format!(in alloc; "{production}:{rule}[{start},{end}](")?;
-    for arg in args.as_slice() {
-        text.push(' ')?;
-        text.push_str(arg.as_str())?;
-    }
-    text.push_str(" )")?;
-    Ok(text)
+    over(
+        format!(in alloc; "{production}:{rule}[{start},{end}]")?,
+        args,
+    )
 }
 
-/// A repair.
+/// Returns a node as its rule and its children.
+pub fn by_rule<S: IndexStorage>(
+    alloc: Global,
+    ridx: RIdx<S>,
+    args: Vec<String>,
+) -> Result<String, AllocError> {
+    let rule = ridx.0.to_usize();
+    over(format!(in alloc; "{rule}")?, args)
+}
+
+/// Returns a repair.
 fn push_repair<S: IndexStorage>(
     alloc: Global,
     text: &mut String,
@@ -63,7 +80,7 @@ fn push_repair<S: IndexStorage>(
     }
 }
 
-/// An error: its lexeme, whether that was made up, and the listed sequences.
+/// Returns an error: its lexeme, whether that was made up, and the listed sequences.
 fn push_error<S: IndexStorage>(
     alloc: Global,
     text: &mut String,
@@ -83,53 +100,47 @@ fn push_error<S: IndexStorage>(
     Ok(())
 }
 
-/// What a parse comes to.
-pub fn told<S: IndexStorage>(
+/// Adds errors.
+fn push_errors<S: IndexStorage>(
     alloc: Global,
-    outcome: Result<FoldedOutcome<S, DefaultLexeme<S>, LRLexError, String>, ParseRefusal>,
+    text: &mut String,
+    errors: &[ParseError<DefaultLexeme<S>, S>],
+) -> Result<(), AllocError> {
+    for error in errors {
+        push_error(alloc, text, error)?;
+    }
+    Ok(())
+}
+
+/// Returns what a parse yields: its value, or that there is none, and its errors.
+pub fn folded_text<S: IndexStorage>(
+    alloc: Global,
+    outcome: &Result<FoldedOutcome<S, DefaultLexeme<S>, LRLexError, String>, ParseRefusal>,
 ) -> Result<String, AllocError> {
     match outcome {
-        Err(ParseRefusal::Memory(e)) => Err(e),
+        Err(ParseRefusal::Memory(e)) => Err(*e),
         Err(ParseRefusal::LexemeOutside(index)) => format!(in alloc; "outside {index}"),
         Err(ParseRefusal::StartDecreases(index)) => format!(in alloc; "decreases {index}"),
-        Ok(FoldedOutcome::Fault(_)) => format!(in alloc; "fault"),
+        Ok(FoldedOutcome::Fault(_)) => String::from_str(alloc, "fault"),
         Ok(FoldedOutcome::Parsed(value, errors)) => {
             let mut text = match value {
-                Some(value) => value,
-                None => format!(in alloc; "none")?,
+                Some(value) => value.clone()?,
+                None => String::from_str(alloc, "none")?,
             };
-            for error in errors.as_slice() {
-                push_error(alloc, &mut text, error)?;
-            }
+            push_errors(alloc, &mut text, errors.as_slice())?;
             Ok(text)
         }
     }
 }
 
-/// A node as its rule and its children.
-pub fn by_rule<S: IndexStorage>(
+/// Returns what a parse by rule yields: its value, and how many errors there are.
+pub fn mapped_text<S: IndexOrder>(
     alloc: Global,
-    ridx: RIdx<S>,
-    args: Vec<String>,
+    outcome: &Result<(Option<String>, Vec<LexParseError<DefaultLexerTypes<S>>>), ParseRefusal>,
 ) -> Result<String, AllocError> {
-    let rule = ridx.0.to_usize();
-    let mut text = format!(in alloc; "{rule}(")?;
-    for arg in args.as_slice() {
-        text.push(' ')?;
-        text.push_str(arg.as_str())?;
-    }
-    text.push_str(" )")?;
-    Ok(text)
-}
-
-/// What a parse by rule comes to: its value, and how many errors there are.
-pub fn mapped_told<S: IndexOrder>(
-    alloc: Global,
-    outcome: Result<(Option<String>, Vec<LexParseError<DefaultLexerTypes<S>>>), ParseRefusal>,
-) -> Result<String, AllocError> {
-    match &outcome {
+    match outcome {
         Err(ParseRefusal::Memory(e)) => Err(*e),
-        Err(_) => format!(in alloc; "refused"),
+        Err(_) => String::from_str(alloc, "refused"),
         Ok((Some(value), errors)) if errors.is_empty() => value.clone(),
         Ok((value, errors)) => {
             let count = errors.len();
@@ -139,27 +150,23 @@ pub fn mapped_told<S: IndexOrder>(
     }
 }
 
-/// What a parse to a flat tree comes to: how many nodes there are.
-pub fn flat_told<S: IndexOrder>(
+type Flat<S> = (
+    Option<FlatTree<S, DefaultLexeme<S>>>,
+    Vec<ParseError<DefaultLexeme<S>, S>>,
+);
+
+/// Returns what a parse to a flat tree yields: how many nodes there are.
+pub fn flat_text<S: IndexOrder>(
     alloc: Global,
-    outcome: Result<
-        Result<
-            (
-                Option<FlatTree<S, DefaultLexeme<S>>>,
-                Vec<ParseError<DefaultLexeme<S>, S>>,
-            ),
-            LRLexError,
-        >,
-        ParseRefusal,
-    >,
+    outcome: &Result<Result<Flat<S>, LRLexError>, ParseRefusal>,
 ) -> Result<String, AllocError> {
-    match &outcome {
+    match outcome {
         Ok(Ok((Some(tree), _))) => {
             let count = tree.nodes().len();
             format!(in alloc; "{count} nodes")
         }
-        Ok(Ok((None, _))) => format!(in alloc; "none"),
+        Ok(Ok((None, _))) => String::from_str(alloc, "none"),
         Err(ParseRefusal::Memory(e)) => Err(*e),
-        _ => format!(in alloc; "refused"),
+        _ => String::from_str(alloc, "refused"),
     }
 }

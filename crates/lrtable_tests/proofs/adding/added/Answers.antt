@@ -1,5 +1,0 @@
-use Rattle.lrtable_tests.proofs.EmptySets.{none_wide}
-use Rattle.lrtable_tests.proofs.adding.added.Goals as goal
-
-pub push_all-requires : goal.push_all-requires
-push_all-requires g c = none_wide 3 _ c.new-set.ensures.none

@@ -1,0 +1,4 @@
+//! Lexers by regular expressions.
+
+mod lexing;
+mod rules;

@@ -25,7 +25,8 @@ const GAPS: &[(&str, usize, GapPart)] = &[
 #[test]
 fn gaps_are_found(rt: HostRuntime) {
     'gaps: for (source, offset, expected) in GAPS {
-        same(&rt, source, text::gap_at(source, *offset), *expected);
+        let found = text::gap_at(source, *offset);
+        same(&rt, source, found == *expected, true);
     }
 }
 

@@ -1,5 +1,7 @@
 //! Texts and their items.
 
+ghost use Rattle.std.specs.Prelude.{◌≡◌, IfOk};
+
 use crate::lexers::rules::{Row, TOKENS, rules_of};
 use crate::make::grammar;
 use crate::same::same;
@@ -207,7 +209,9 @@ fn lexer_by_rules<'t>(
     alloc: Global,
     rules: &LexRules,
     text: &'t str,
-) -> Result<LRNonStreamingLexer<'t, u8>, Fail> {
+) -> Result<LRNonStreamingLexer<'t, u8>, Fail>
+    ensures { IfOk result (λ l. l.text ≡ text.entry.now) }
+{
     let grm = grammar::<u8>(alloc, TOKENS)?;
     let bound = rules.bind(alloc, &grm);
     drop(grm);

@@ -56,7 +56,8 @@
 //! }
 //! ```
 //!
-//! Module `calc` of `crates/examples` has this lexer whole, with `NoWord` and `LineTypes`.
+//! `lrpar` has ready lexemes (`DefaultLexeme`) and lexers of lists (`ListLexer`, `TextLexer`), for which no ghost member is to be
+//! defined. `crates/word_lines` has a lexer with types of its own.
 
 ghost use Rattle.std.specs.Prelude.{◌≡◌, ℕ, ◌≤◌, ◌<◌, ◌+◌, ◌^◌, Bool, true, false, List, length, slice_range};
 ghost use Rattle.std.specs.declared.result.Result.{Result};

@@ -1,6 +1,6 @@
 //! What productions make of values.
 
-ghost use Rattle.std.specs.Prelude.{◌≡◌, ℕ, IfOk, get_or, map};
+ghost use Rattle.std.specs.Prelude.{◌≡◌, ℕ, IfOk, IsOk, get_or, map};
 ghost use Rattle.examples.specs.Values.{difference, number_in, number_of};
 
 use cfg_base::span::Span;
@@ -77,7 +77,8 @@ impl<'a> Actions<DefaultLexerTypes<u32>, ListLexer<DefaultLexerTypes<u32>>> for 
         _span: Span,
         args: Vec<Argument>,
     ) -> Result<u64, AllocError>
-        ensures { IfOk result (λ v. v ≡ difference pidx.0 (map (number_in self.now.line.now) args.items)) }
+        ensures value { IfOk result (λ v. v ≡ difference pidx.0 (map (number_in self.now.line.now) args.items)) }
+        ensures made { IsOk result }
     {
         Ok(value_of(self.line, pidx.0, args.as_slice()))
     }

@@ -2,7 +2,8 @@
 
 use cfgrammar::precedence::Precedence;
 use cfgrammar::steps::Steps;
-use cfgrammar::yacc::{ASTModificationError, Name};
+use cfgrammar::yacc::Name;
+use cfgrammar::yacc::ast::ASTModificationError;
 use lrpar::parser::{AStackType, LexParseError, Node, ParseError, ParseRepair, RTParserBuilder};
 use lrpar::{Cell, DefaultLexeme, DefaultLexerTypes, NoRecovery, Parts};
 use lrtable::statetable::Conflicts;

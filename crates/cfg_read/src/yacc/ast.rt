@@ -16,7 +16,7 @@ use crate::yacc::Precedence;
 use crate::yacc::name::Name;
 pub use crate::yacc::parser::syntax::Symbol;
 use crate::yacc::parser::syntax::{Alternative, Body, Word};
-pub use crate::yacc::validity_info::ASTWithValidityInfo;
+pub use crate::yacc::validity_info::{ASTModificationError, ASTWithValidityInfo};
 use cfg_base::span::Span;
 use indexmap::IndexMap;
 use std::alloc::{AllocError, Global};

@@ -115,16 +115,23 @@ fn push_first(
     }
 }
 
-/// Adds the first error of a line, which has an LF behind it or ends the file.
+/// Returns the words of a line: a CR before an LF is none of them, and one at the very end of the file is part of the last.
+fn words_of(line: &str, has_feed: bool) -> &str {
+    if has_feed {
+        return line.strip_suffix('\r').unwrap_or(line);
+    }
+    line
+}
+
+/// Adds the first error of the words of a line.
 fn push_line_error(
     alloc: Global,
     text: &mut String,
     source: &Source<'_>,
     kit: &ParserKit<u32>,
-    line: &str,
+    words: &str,
     start: usize,
 ) -> Result<(), AllocError> {
-    let words = line.strip_suffix('\r').unwrap_or(line);
     let lexer = WordLexer::new(alloc, kit.grm(), words)?;
     let pushed = push_first(alloc, text, source, kit, &lexer, start);
     drop(lexer);
@@ -141,10 +148,12 @@ fn push_lines(
 ) -> Result<(), AllocError> {
     let mut start: usize = 0;
     'lines: for line in lines.split('\n') {
+        let end = start.saturating_add(line.len());
         if start < lines.len() {
-            push_line_error(alloc, text, source, kit, line, start)?;
+            let words = words_of(line, end < lines.len());
+            push_line_error(alloc, text, source, kit, words, start)?;
         }
-        start = start.saturating_add(line.len()).saturating_add(1);
+        start = end.saturating_add(1);
     }
     Ok(())
 }

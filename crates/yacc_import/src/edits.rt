@@ -66,20 +66,33 @@ impl<'a> Edits<'a, '_> {
         Ok(())
     }
 
-    /// Declares tokens and the start rule before the first `%%`.
-    fn declare(&self, notes: &mut Notes, at: usize) -> Result<(), ImportError> {
-        let mut text = String::new(self.alloc);
+    /// Adds the declaration of the tokens that the file doesn't declare.
+    fn push_tokens(&self, text: &mut String) -> Result<(), ImportError> {
         for name in &self.names.late {
             text.push_str(if text.is_empty() { "%token " } else { " " })?;
             let spelled = undashed(self.alloc, name)?;
             text.push_str(spelled.as_str())?;
         }
+        Ok(())
+    }
+
+    /// Adds the declarations of the start rule that stand among the rules.
+    fn push_starts(&self, text: &mut String) -> Result<(), ImportError> {
         for (token, part) in self.tokens.iter().zip(&self.found.parts) {
             if part.role == Role::LateStart {
                 text.push_str(" %start ")?;
-                text.push_str(self.spelled(*token, self.names.key(*token))?.as_str())?;
+                let spelled = self.spelled(*token, self.names.key(*token))?;
+                text.push_str(spelled.as_str())?;
             }
         }
+        Ok(())
+    }
+
+    /// Declares tokens and the start rule before the first `%%`.
+    fn declare(&self, notes: &mut Notes, at: usize) -> Result<(), ImportError> {
+        let mut text = String::new(self.alloc);
+        self.push_tokens(&mut text)?;
+        self.push_starts(&mut text)?;
         if text.is_empty() {
             return Ok(());
         }

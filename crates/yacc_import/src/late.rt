@@ -24,6 +24,43 @@ fn has_room(bytes: &[u8], token: Token, next: Token) -> bool {
         && ends_line(bytes, token.end, next.start)
 }
 
+/// Returns the index of the first token, from one on, behind which a level may be put before the rules.
+fn next_place(bytes: &[u8], tokens: &[Token], from: usize) -> Option<usize> {
+    for at in from..tokens.len() {
+        let (Some(token), Some(next)) = (tokens.get(at), tokens.get(at.saturating_add(1))) else {
+            return None;
+        };
+        if token.kind == Kind::Section {
+            return None;
+        }
+        if has_room(bytes, *token, *next) {
+            return Some(at);
+        }
+    }
+    None
+}
+
+/// Adds the indices of tokens behind which levels are put, each with that of the level's word.
+fn add_places(
+    places: &mut IndexMap<usize, usize>,
+    bytes: &[u8],
+    tokens: &[Token],
+    found: &Parts,
+) -> Result<(), ImportError> {
+    let mut from = match found.last_level {
+        Some(last) => last.saturating_add(1),
+        None => 0,
+    };
+    for level in found.late.as_slice() {
+        let Some(at) = next_place(bytes, tokens, from) else {
+            return Err(ImportError::Refused(Fault::LateLevel, start_of(tokens, *level)));
+        };
+        places.insert(at, *level)?;
+        from = at.saturating_add(1);
+    }
+    Ok(())
+}
+
 /// Returns the indices of the tokens behind which levels that stand among the rules are put, with those of the levels' words. A
 /// level needs a line of its own behind all levels before the rules.
 pub(crate) fn late_places(
@@ -33,27 +70,12 @@ pub(crate) fn late_places(
     found: &Parts,
 ) -> Result<IndexMap<usize, usize>, ImportError> {
     let mut places = IndexMap::new(alloc);
-    let mut words = found.late.as_slice().iter();
-    let mut word = words.next();
-    let first = match found.last_level {
-        Some(last) => last.saturating_add(1),
-        None => 0,
-    };
-    for (at, (token, next)) in tokens.iter().zip(tokens.iter().skip(1)).enumerate() {
-        let Some(level) = word else {
-            return Ok(places);
-        };
-        if token.kind == Kind::Section {
-            break;
+    match add_places(&mut places, bytes, tokens, found) {
+        Ok(()) => Ok(places),
+        Err(e) => {
+            drop(places);
+            Err(e)
         }
-        if at >= first && has_room(bytes, *token, *next) {
-            places.insert(at, *level)?;
-            word = words.next();
-        }
-    }
-    match word {
-        Some(level) => Err(ImportError::Refused(Fault::LateLevel, start_of(tokens, *level))),
-        None => Ok(places),
     }
 }
 

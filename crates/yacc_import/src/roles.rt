@@ -373,9 +373,32 @@ impl Roles<'_> {
         Role::Leave(NoteKind::RuleDirective)
     }
 
+    /// Takes a directive that has a meaning of its own in an alternative.
+    fn directive_in_rule(&mut self, at: usize, word: Word) -> Option<Role> {
+        match word {
+            Word::Expect(_) | Word::Merge => Some(self.rule_directive(at, Context::Argument)),
+            Word::Prec => Some(self.rule_directive(at, Context::Prec)),
+            Word::Empty => {
+                self.move_prec();
+                Some(Role::Keep)
+            }
+            _ => None,
+        }
+    }
+
     /// Takes a directive.
     fn directive(&mut self, at: usize, token: Token) -> Result<Role, ImportError> {
         let word = word_of(cut(self.text, token.start, token.end));
+        if self.is_open
+            && let Some(role) = self.directive_in_rule(at, word)
+        {
+            return Ok(role);
+        }
+        self.declaration(at, token, word)
+    }
+
+    /// Takes a directive that begins a declaration.
+    fn declaration(&mut self, at: usize, token: Token, word: Word) -> Result<Role, ImportError> {
         match word {
             Word::Token => self.stay(token, Context::Tokens, Role::Keep),
             Word::Term => self.stay(token, Context::Tokens, Role::Rename("%token")),
@@ -383,26 +406,19 @@ impl Roles<'_> {
             Word::Binary => self.begin_level(at, token, Role::Rename("%nonassoc")),
             Word::Precedence => self.begin_level(at, token, Role::Precedence),
             Word::Start => self.stay(token, Context::Start, Role::Keep),
-            Word::Expect(_) if self.is_open => Ok(self.rule_directive(at, Context::Argument)),
             Word::Expect(name) => self.stay(token, Context::Expect, Role::Rename(name)),
-            Word::Prec if self.is_open => Ok(self.rule_directive(at, Context::Prec)),
-            Word::Merge if self.is_open => Ok(self.rule_directive(at, Context::Argument)),
-            Word::Empty if self.is_open => {
-                self.move_prec();
-                Ok(Role::Keep)
-            }
-            Word::Nterm => {
-                self.declare(Context::Nonterminals);
-                Ok(Role::Leave(NoteKind::Directive))
-            }
-            Word::Other => {
-                self.declare(Context::LeftOut);
-                Ok(Role::Leave(NoteKind::Directive))
-            }
+            Word::Nterm => Ok(self.leave_out(Context::Nonterminals)),
+            Word::Other => Ok(self.leave_out(Context::LeftOut)),
             Word::NoDefaultPrec => refuse(Fault::NoDefaultPrec, token.start),
             Word::Foreign => refuse(Fault::ForeignForm, token.start),
             _ => refuse(Fault::UnknownDirective, token.start),
         }
+    }
+
+    /// Begins a declaration that is left out.
+    fn leave_out(&mut self, context: Context) -> Role {
+        self.declare(context);
+        Role::Leave(NoteKind::Directive)
     }
 
     /// Takes a `%%`.

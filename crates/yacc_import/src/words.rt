@@ -76,25 +76,39 @@ const OTHERS: &[&str] = &[
     "%token_table",
 ];
 
+/// The directives that say something about the grammar, and those that are refused.
+const WORDS: &[(&str, Word)] = &[
+    ("%token", Word::Token),
+    ("%term", Word::Term),
+    ("%left", Word::Left),
+    ("%right", Word::Left),
+    ("%nonassoc", Word::Left),
+    ("%binary", Word::Binary),
+    ("%precedence", Word::Precedence),
+    ("%start", Word::Start),
+    ("%expect", Word::Expect("%expect")),
+    ("%expect-rr", Word::Expect("%expect-rr")),
+    ("%expect_rr", Word::Expect("%expect-rr")),
+    ("%prec", Word::Prec),
+    ("%dprec", Word::Merge),
+    ("%merge", Word::Merge),
+    ("%empty", Word::Empty),
+    ("%nterm", Word::Nterm),
+    ("%no-default-prec", Word::NoDefaultPrec),
+    ("%no_default_prec", Word::NoDefaultPrec),
+    ("%ifdef", Word::Foreign),
+    ("%endif", Word::Foreign),
+    ("%ident", Word::Foreign),
+];
+
 /// Returns what a word with its `%` is.
 pub(crate) fn word_of(word: &str) -> Word {
-    match word {
-        "%token" => Word::Token,
-        "%term" => Word::Term,
-        "%left" | "%right" | "%nonassoc" => Word::Left,
-        "%binary" => Word::Binary,
-        "%precedence" => Word::Precedence,
-        "%start" => Word::Start,
-        "%expect" => Word::Expect("%expect"),
-        "%expect-rr" | "%expect_rr" => Word::Expect("%expect-rr"),
-        "%prec" => Word::Prec,
-        "%dprec" | "%merge" => Word::Merge,
-        "%empty" => Word::Empty,
-        "%nterm" => Word::Nterm,
-        "%no-default-prec" | "%no_default_prec" => Word::NoDefaultPrec,
-        "%ifdef" | "%endif" | "%ident" => Word::Foreign,
-        other => other_word(other),
+    for (known, meaning) in WORDS {
+        if *known == word {
+            return *meaning;
+        }
     }
+    other_word(word)
 }
 
 /// Returns whether a word is one that says nothing about the grammar.

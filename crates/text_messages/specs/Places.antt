@@ -1,24 +1,34 @@
--- Places in a text, and the line that tells one. A place past the text counts as the text's end.
-use Rattle.std.specs.Prelude.{◌≡◌, ℕ, Bool, true, false, List, ◌∷◌, ◌++◌, length, min, codes, Option, None, Some}
+-- Places in a text, and the line that tells one. A place past the text counts as the text's end. The text that is shown may be
+-- another than the one that was read, as where that was made of it.
+use Rattle.std.specs.Prelude.{◌≡◌, ℕ, Bool, true, false, cond, List, [], ◌∷◌, ◌++◌, length, slice_index, min, nat_lt, codes, Option, None, Some}
 use Rattle.std.specs.Fmt.{decimal}
 use Rattle.cfg_base.specs.SpanModel.{SpanModel}
 use Rattle.cfg_base.specs.Newlines.{line_of, column_of}
 use Rattle.text_messages.specs.declared.source.Severity.{Severity}
 use Rattle.text_messages.specs.declared.source.Severity.TheVariants.{Error, Warning, Note}
 
--- a text, the path that its places are shown with, and whether its messages are in color
+-- the text that spans are of, the one that is shown, the offset in this of each byte of that (none where both are the same), the
+-- path that places are shown with, and whether messages are in color
 pub record SourceValue : Type 0 where
   pub text : List ℕ
+  pub shown : List ℕ
+  pub places : List ℕ
   pub path : List ℕ
   pub color : Bool
 
--- a span within a text: an offset past the end counts as the end
-abbrev pub within : List ℕ → SpanModel → SpanModel
-within text span = record { start = min span.start (length text); end = min span.end (length text) }
+-- the offset in a text of so many bytes for an offset: itself where there are no places, and the end past the last of them. One
+-- past the end counts as the end
+abbrev pub offset_by : List ℕ → ℕ → ℕ → ℕ
+offset_by [] len at = min at len
+offset_by (p ∷ ps) len at = min (cond (nat_lt at (length (p ∷ ps))) (slice_index (p ∷ ps) at) len) len
 
--- the line and the column of where a span begins
-abbrev pub place_of : List ℕ → SpanModel → ℕ × ℕ
-place_of text span = (line_of text (within text span).start, column_of text text (within text span).start)
+-- the offset in the text shown for an offset in the text that spans are of
+abbrev pub shown_at : SourceValue → ℕ → ℕ
+shown_at source at = offset_by source.places (length source.shown) at
+
+-- the line and the column of an offset, in the text shown
+abbrev pub place_of : SourceValue → ℕ → ℕ × ℕ
+place_of source at = (line_of source.shown (shown_at source at), column_of source.shown source.shown (shown_at source at))
 
 abbrev pub severity_text : Severity → List ℕ
 severity_text Error = codes "error"
@@ -41,7 +51,7 @@ word_text false severity = severity_text severity
 
 -- `PATH:LINE:COLUMN`
 abbrev pub place_text : SourceValue → SpanModel → List ℕ
-place_text source span = source.path ++ codes ":" ++ decimal (place_of source.text span).0 ++ codes ":" ++ decimal (place_of source.text span).1
+place_text source span = source.path ++ codes ":" ++ decimal (place_of source span.start).0 ++ codes ":" ++ decimal (place_of source span.start).1
 
 -- `PATH:LINE:COLUMN: error: MESSAGE`
 abbrev pub heading : SourceValue → Severity → SpanModel → List ℕ → List ℕ

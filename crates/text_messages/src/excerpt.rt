@@ -171,9 +171,9 @@ fn push_excerpt(
     source: &Source<'_>,
     span: Span,
 ) -> Result<(), AllocError> {
-    let inside = source.within(span);
+    let inside = source.shown_span(span);
     let start = source.line_start(span);
-    let line = line_at(source.text(), start);
+    let line = line_at(source.shown(), start);
     let from = inside.start().saturating_sub(start).min(line.len());
     let to = inside.end().saturating_sub(start).min(line.len());
     let shown = shown_between(line, from);

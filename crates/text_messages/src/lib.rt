@@ -22,8 +22,9 @@
 //!       |   ^
 //! ```
 //!
-//! The contract of `Source::push_heading` is that the first line is `heading` of `specs/Places`: path, line and column of a place
-//! that lies within the text, how grave it is, and the message. A tab has a tab below it, wide characters have a mark below each
+//! Where the text was made of another one, as an import of a file is, `Source::of_original` makes a source that shows the other
+//! one, with the places there. The contract of `Source::push_heading` is that the first line is `heading` of `specs/Places`: path, line and column of a place
+//! that lies within the text shown, how grave it is, and the message. A tab has a tab below it, wide characters have a mark below each
 //! column, and of a line with more than 160 columns the part around the place is shown; that is tested, by the rows of
 //! `report_rows`.
 #![tactic(auto)]
@@ -32,4 +33,4 @@ mod excerpt;
 mod source;
 
 pub use excerpt::part;
-pub use source::{Message, Position, Severity, Source};
+pub use source::{Message, Original, Position, Severity, Source};

@@ -1,9 +1,9 @@
 //! A text with its path, and messages about places in it.
 
-ghost use Rattle.std.specs.Prelude.{◌≡◌, ◌≤◌, false, [], ◌∷◌, ◌++◌, length, min, IfOk, OnOk};
+ghost use Rattle.std.specs.Prelude.{◌≡◌, ◌≤◌, false, [], ◌∷◌, ◌++◌, length, IfOk, OnOk};
 ghost use Rattle.std.specs.String.{string_bytes};
 ghost use Rattle.cfg_base.specs.Newlines.{newlines_of, line_start};
-ghost use Rattle.text_messages.specs.Places.{within, place_of, place_text, severity_text, colored_severity_text, word_text, heading, heading_without_place, heading_if, BeginsWith};
+ghost use Rattle.text_messages.specs.Places.{offset_by, shown_at, place_of, place_text, severity_text, colored_severity_text, word_text, heading, heading_without_place, heading_if, BeginsWith};
 
 use crate::excerpt::{excerpt, part};
 use cfg_base::newlinecache::NewlineCache;
@@ -100,10 +100,21 @@ impl Message {
     }
 }
 
-/// A text, and the path that its places are shown with. Contracts see these two, and whether messages are in color.
+/// The text that is shown where another one was made of it and read.
+#[derive(Clone, Copy, Debug)]
+pub struct Original<'a> {
+    /// The text.
+    pub text: &'a str,
+    /// For each byte of the text that was read the offset of what it is for.
+    pub places: &'a [usize],
+}
+
+/// A text, and the path that its places are shown with. Spans are of the text; where it was made of another one, that is shown,
+/// with the places there. Contracts see the texts, the places, the path, and whether messages are in color.
 #[derive(Drop)]
 pub struct Source<'a> {
     text: &'a str,
+    original: Original<'a>,
     path: &'a str,
     newlines: NewlineCache,
     color: bool,
@@ -116,20 +127,35 @@ impl<'a> Model for Source<'a> {
 
     ghost Value = { SourceValue };
 
-    ghost view = { λ s. record { text = s.text.now; path = s.path.now; color = s.color } };
+    ghost view = { λ s. record { text = s.text.now; shown = s.original.text.now; places = s.original.places.now; path = s.path.now; color = s.color } };
 
-    ghost invariant = { λ s. s.newlines ≡ newlines_of s.text.now };
+    ghost invariant = { λ s. s.newlines ≡ newlines_of s.original.text.now };
 }
 
 impl<'a> Source<'a> {
     /// Makes the source of a text, which is read once for its lines. Its messages are plain.
     pub fn new(alloc: Global, text: &'a str, path: &'a str) -> Result<Source<'a>, AllocError>
-        ensures { IfOk result (λ s. s ≡ record { text = text.entry.now; path = path.entry.now; color = false }) }
+        ensures { IfOk result (λ s. s ≡ record { text = text.entry.now; shown = text.entry.now; places = []; path = path.entry.now; color = false }) }
     {
-        let newlines = NewlineCache::from_str(alloc, text)?;
+        let places = &[];
+        Source::of_original(alloc, text, Original { text, places }, path)
+    }
+
+    /// Makes the source of a text that was made of another one, which is shown in its place. Its messages are plain. Where there
+    /// are no places each byte is at its own offset.
+    pub fn of_original(
+        alloc: Global,
+        text: &'a str,
+        original: Original<'a>,
+        path: &'a str,
+    ) -> Result<Source<'a>, AllocError>
+        ensures { IfOk result (λ s. s ≡ record { text = text.entry.now; shown = original.entry.text.now; places = original.entry.places.now; path = path.entry.now; color = false }) }
+    {
+        let newlines = NewlineCache::from_str(alloc, original.text)?;
         let color = false;
         Ok(Source {
             text,
+            original,
             path,
             newlines,
             color,
@@ -151,51 +177,78 @@ impl<'a> Source<'a> {
         self.color
     }
 
-    /// Returns the text.
+    /// Returns the text that spans are of.
     pub fn text(&self) -> &str
         ensures { result.now ≡ self.now.text }
     {
         self.text
     }
 
-    /// Returns a span within the text: an offset past the end counts as the end.
-    pub(crate) fn within(&self, span: Span) -> Span
-        ensures value { result ≡ within self.now.text span }
-        ensures inside { result.end ≤ length self.now.text }
+    /// Returns the text that is shown.
+    pub(crate) fn shown(&self) -> &str
+        ensures { result.now ≡ self.now.shown }
     {
-        let len = self.text.len();
-        Span::new(span.start().min(len), span.end().min(len))
+        self.original.text
     }
 
-    /// Returns the line and the column, in characters, of where a span begins within the text.
-    pub(crate) fn place(&self, span: Span) -> (usize, usize)
-        ensures { result ≡ place_of self.now.text span }
+    /// Returns the offset in the text shown for an offset: one past the end counts as the end.
+    fn shown_at(&self, at: usize) -> usize
+        ensures value { result ≡ shown_at self.now at }
+        ensures inside { result ≤ length self.now.shown }
     {
-        let first = self.within(span).start();
-        let place = self.newlines.byte_to_line_num_and_col_num(self.text, first);
+        offset_by(self.original.places, self.shown().len(), at)
+    }
+
+    /// Returns where what is shown for a span ends: at the next byte with a place behind that of the span's last one.
+    fn shown_end(&self, span: Span) -> usize {
+        let last = self.shown_at(span.end().saturating_sub(1));
+        match self.original.places.get(span.end()..) {
+            Some(rest) if !span.is_empty() => first_past(rest, last).unwrap_or(self.shown().len()),
+            _ => self.shown_at(span.end()),
+        }
+    }
+
+    /// Returns a span in the text shown: an offset past the end counts as the end.
+    pub(crate) fn shown_span(&self, span: Span) -> Span
+        ensures start { result.start ≡ shown_at self.now span.start }
+        ensures inside { result.end ≤ length self.now.shown }
+    {
+        let first = self.shown_at(span.start());
+        let last = self.shown_end(span).min(self.shown().len());
+        Span::new(first, last.max(first))
+    }
+
+    /// Returns the line and the column, in characters, of where a span begins within the text shown.
+    pub(crate) fn place(&self, span: Span) -> (usize, usize)
+        ensures { result ≡ place_of self.now span.start }
+    {
+        let first = self.shown_span(span).start();
+        let place = self
+            .newlines
+            .byte_to_line_num_and_col_num(self.original.text, first);
         place.unwrap_or((0, 0))
     }
 
     /// Returns the first byte of the line that a span begins on.
     pub(crate) fn line_start(&self, span: Span) -> usize
-        ensures value { result ≡ line_start self.now.text (within self.now.text span).start }
-        ensures inside { result ≤ length self.now.text }
+        ensures value { result ≡ line_start self.now.shown (shown_at self.now span.start) }
+        ensures inside { result ≤ length self.now.shown }
     {
-        let (first, _) = self.newlines.span_line_bytes(self.within(span));
+        let (first, _) = self.newlines.span_line_bytes(self.shown_span(span));
         first
     }
 
-    /// Returns the place of an offset. One past the text's end counts as the end, and one inside a character has the columns
-    /// of that character.
+    /// Returns the place of an offset, in the text shown. One past the text's end counts as the end, and one inside a character
+    /// has the columns of that character.
     pub fn position(&self, offset: usize) -> Position
-        ensures byte { result.byte ≡ min offset (length self.now.text) }
-        ensures line { result.line ≡ (place_of self.now.text (record { start = offset; end = offset })).0 }
-        ensures column { result.column ≡ (place_of self.now.text (record { start = offset; end = offset })).1 }
+        ensures byte { result.byte ≡ shown_at self.now offset }
+        ensures line { result.line ≡ (place_of self.now offset).0 }
+        ensures column { result.column ≡ (place_of self.now offset).1 }
     {
         let span = Span::new(offset, offset);
-        let byte = self.within(span).start();
+        let byte = self.shown_span(span).start();
         let (line, column) = self.place(span);
-        let ahead = part(self.text, self.line_start(span), byte);
+        let ahead = part(self.shown(), self.line_start(span), byte);
         Position {
             byte,
             line,
@@ -242,7 +295,7 @@ impl<'a> Source<'a> {
     }
 
     /// Adds that line.
-    fn push_heading(
+    pub fn push_heading(
         &self,
         alloc: Global,
         text: &mut String,
@@ -320,6 +373,30 @@ impl<'a> Source<'a> {
         self.push_message_if(alloc, text, message.severity, message.span, words)?;
         text.push_str(below.as_str())
     }
+}
+
+/// Returns the offset in a text of so many bytes for an offset.
+fn offset_by(places: &[usize], len: usize, at: usize) -> usize
+    ensures value { result ≡ offset_by places.now len at }
+    ensures inside { result ≤ len }
+{
+    if places.is_empty() {
+        return at.min(len);
+    }
+    if at < places.len() {
+        return places[at].min(len);
+    }
+    len
+}
+
+/// Returns the first place behind another one.
+fn first_past(places: &[usize], last: usize) -> Option<usize> {
+    for place in places {
+        if *place > last {
+            return Some(*place);
+        }
+    }
+    None
 }
 
 /// Returns how many of the characters of a text take two units of UTF-16.

@@ -1,205 +1,499 @@
-//! Tests of maps with marks. A map is lent to what may fail, and dropped by name: so its drop is checked at one place a test.
+//! Tests of maps with marks. Each row of a table is a call on a map, what it returns, and what the map has then.
+//! A map is lent to what may fail, and dropped by name: so its drop is checked at one place a test.
 
 use crate::same::{printed, same};
 use cfg_base::markmap::{Entry, MarkMap, Marks, MergeBehavior, MergeError};
 use std::alloc::{AllocError, Global};
-use std::test::Fail;
-
-fn text(alloc: Global, name: &str) -> Result<String, AllocError> {
-    String::from_str(alloc, name)
-}
+use std::mem;
+use std::process::Abort;
 
 type Small = MarkMap<u32, u8>;
 
-type Merging = (MergeBehavior, Option<MergeBehavior>, Option<u8>);
+/// A call on the first of two maps.
+#[derive(Clone, Copy)]
+enum Call {
+    Insert(u32, u8),
+    Remove(u32),
+    MarkUsed(u32),
+    MarkRequired(u32),
+    Behavior(u32, MergeBehavior),
+    Default(MergeBehavior),
+    /// Merges the second map, which is empty then; that is refused at this key, or not at all.
+    Merge(u32),
+    Swap,
+    /// Changes the value of an entry, and gives it all marks.
+    Occupied(u32, u8),
+    /// Marks a vacant entry as required or not, gives it a behavior or none, and fills it.
+    Vacant(u32, bool, Option<MergeBehavior>, Fill),
+}
 
-// The behaviours of a merge, and what it leaves of 1 here and 2 there.
-const MERGES: &[Merging] = &[
-    (MergeBehavior::Ours, None, Some(1)),
-    (MergeBehavior::Theirs, None, Some(2)),
-    (MergeBehavior::MutuallyExclusive, None, None),
-    (
-        MergeBehavior::MutuallyExclusive,
-        Some(MergeBehavior::Ours),
-        Some(1),
-    ),
-    (
-        MergeBehavior::MutuallyExclusive,
-        Some(MergeBehavior::Theirs),
-        Some(2),
-    ),
-    (
-        MergeBehavior::Theirs,
-        Some(MergeBehavior::MutuallyExclusive),
-        None,
-    ),
-];
+/// How a vacant entry is filled.
+#[derive(Clone, Copy)]
+enum Fill {
+    Nothing,
+    /// With a value, to which one is added then.
+    Value(u8),
+    /// With a value by an entry, which is marked as used and changed to 8 then.
+    Entry(u8),
+}
 
-fn seven(alloc: Global, value: u8) -> Result<Small, AllocError> {
-    let mut map: Small = MarkMap::new(alloc);
-    match map.insert(7, value) {
-        Ok(_) => Ok(map),
-        Err(e) => {
-            drop(map);
-            Err(e)
+const THEIRS: Option<MergeBehavior> = Some(MergeBehavior::Theirs);
+
+/// Makes a call, and returns the value that it tells.
+fn make_call(
+    alloc: Global,
+    map: &mut Small,
+    other: &mut Small,
+    call: Call,
+) -> Result<Option<u8>, AllocError> {
+    match call {
+        Call::Insert(key, value) => map.insert(key, value),
+        Call::Remove(key) => Ok(map.remove(&key)),
+        Call::Merge(at) => merge(alloc, map, other, at),
+        Call::Occupied(key, value) => Ok(change_occupied(map, key, value)),
+        Call::Vacant(key, required, behavior, fill) => {
+            change_vacant(map, key, required, behavior, fill)
+        }
+        Call::Swap => {
+            mem::swap(map, other);
+            Ok(None)
+        }
+        _ => match mark(map, call) {
+            Ok(()) => Ok(None),
+            Err(e) => Err(e),
+        },
+    }
+}
+
+fn mark(map: &mut Small, call: Call) -> Result<(), AllocError> {
+    match call {
+        Call::MarkUsed(key) => map.mark_used(&key),
+        Call::MarkRequired(key) => map.mark_required(&key),
+        Call::Behavior(key, behavior) => map.set_merge_behavior(&key, behavior),
+        Call::Default(behavior) => {
+            map.set_default_merge_behavior(behavior);
+            Ok(())
+        }
+        _ => Ok(()),
+    }
+}
+
+/// Merges a map that is empty then, and returns the value for which that is refused at a key.
+fn merge(
+    alloc: Global,
+    map: &mut Small,
+    other: &mut Small,
+    at: u32,
+) -> Result<Option<u8>, AllocError> {
+    let theirs = mem::replace(other, MarkMap::new(alloc));
+    match map.merge_from(theirs) {
+        Ok(()) => Ok(None),
+        Err(MergeError::Exclusivity(key, value)) => Ok((key == at).then_some(value)),
+        Err(MergeError::Memory(e)) => Err(e),
+    }
+}
+
+const ALL_MARKS: Marks = Marks {
+    used: true,
+    required: true,
+    behavior: Some(MergeBehavior::Ours),
+};
+
+/// Gives an entry a value and all marks, and returns its old value, where the entry has all that then.
+fn change_occupied(map: &mut Small, key: u32, value: u8) -> Option<u8> {
+    let Entry::Occupied(mut entry) = map.entry(key) else {
+        return None;
+    };
+    let old = entry.insert(value);
+    entry.mark_used();
+    entry.mark_required();
+    entry.set_merge_behavior(MergeBehavior::Ours);
+    let is_marked = entry.is_used() && entry.is_required() && entry.get_mark() == ALL_MARKS;
+    (is_marked && *entry.get() == value).then_some(old)
+}
+
+/// Marks and fills an entry, and returns the value that it was filled with.
+fn change_vacant(
+    map: &mut Small,
+    key: u32,
+    required: bool,
+    behavior: Option<MergeBehavior>,
+    fill: Fill,
+) -> Result<Option<u8>, AllocError> {
+    let Entry::Vacant(mut entry) = map.entry(key) else {
+        return Ok(None);
+    };
+    let is_of_key = *entry.key() == key;
+    if required {
+        entry.mark_required()?;
+    }
+    if let Some(behavior) = behavior {
+        entry.set_merge_behavior(behavior)?;
+    }
+    match fill {
+        Fill::Nothing => Ok(None),
+        Fill::Value(value) => {
+            let put = entry.insert(value)?;
+            *put = value.wrapping_add(1);
+            Ok(is_of_key.then_some(value))
+        }
+        Fill::Entry(value) => {
+            let mut entry = entry.insert_entry(value)?;
+            let old = entry.insert(8);
+            entry.mark_used();
+            Ok(is_of_key.then_some(old))
         }
     }
 }
 
-/// Puts 1 into a map, merges 2 into it, and returns whether that was let.
-fn is_merged(
-    alloc: Global,
-    ours: &mut Small,
-    default: MergeBehavior,
-    own: Option<MergeBehavior>,
-) -> Result<bool, AllocError> {
-    ours.insert(7, 1)?;
-    ours.set_default_merge_behavior(default);
-    if let Some(own) = own {
-        ours.set_merge_behavior(&7, own)?;
+/// Renders the keys with a value, those that are unused and those that are missing; then each key with its marks and its value.
+fn render(alloc: Global, map: &Small) -> Result<String, AllocError> {
+    let keys: Vec<u32> = map.keys().copied().collect(alloc)?;
+    let unused = map.unused(alloc)?;
+    let missing = map.missing(alloc)?;
+    let mut text = format!(in alloc; "{keys:?} {unused:?} {missing:?}")?;
+    for key in 1..10u32 {
+        render_key(alloc, &mut text, map, key)?;
     }
-    let theirs = seven(alloc, 2)?;
-    Ok(ours.merge_from(theirs).is_ok())
+    Ok(text)
+}
+
+/// Adds a key, `u` where it is used, `r` where it is required, and its value.
+fn render_key(alloc: Global, text: &mut String, map: &Small, key: u32) -> Result<(), AllocError> {
+    let used = if map.is_used(&key) { "u" } else { "" };
+    let required = if map.is_required(&key) { "r" } else { "" };
+    let value = map.get(&key).copied();
+    if map.contains_key(&key) != value.is_some() {
+        text.push_str(" wrong")?;
+    }
+    if let Some(value) = value {
+        let shown = format!(in alloc; " {key}{used}{required}={value}")?;
+        return text.push_str(shown.as_str());
+    }
+    if used.is_empty() && required.is_empty() {
+        return Ok(());
+    }
+    let shown = format!(in alloc; " {key}{used}{required}")?;
+    text.push_str(shown.as_str())
+}
+
+type Row = (Call, Option<u8>, &'static str);
+
+/// Ends the test unless a map is rendered so.
+fn is_rendered(
+    rt: &impl Abort,
+    alloc: Global,
+    map: &Small,
+    wanted: &str,
+) -> Result<(), AllocError> {
+    let found = render(alloc, map)?;
+    same(rt, "map", found.as_str(), wanted);
+    Ok(())
+}
+
+/// Makes a call, once more where it is refused memory; the map then is as before. A map that was to be merged is gone then.
+fn called_at_last(
+    rt: &impl Abort,
+    alloc: Global,
+    map: &mut Small,
+    other: &mut Small,
+    call: Call,
+    before: &str,
+) -> Result<Option<u8>, AllocError> {
+    match make_call(alloc, map, other, call) {
+        Ok(answer) => Ok(answer),
+        Err(e) => {
+            is_rendered(rt, alloc, map, before)?;
+            match call {
+                Call::Merge(_at) => Err(e),
+                _ => make_call(alloc, map, other, call),
+            }
+        }
+    }
+}
+
+fn all_called(
+    rt: &impl Abort,
+    alloc: Global,
+    map: &mut Small,
+    other: &mut Small,
+    rows: &[Row],
+) -> Result<(), AllocError> {
+    let mut before = "[] [] []";
+    'rows: for (call, answer, wanted) in rows {
+        let found = called_at_last(rt, alloc, map, other, *call, before)?;
+        same(rt, wanted, found, *answer);
+        is_rendered(rt, alloc, map, wanted)?;
+        before = wanted;
+    }
+    Ok(())
+}
+
+/// Makes the calls of rows on empty maps.
+fn from_empty(rt: &impl Abort, alloc: Global, rows: &[Row]) -> Result<(), AllocError> {
+    let mut map: Small = MarkMap::new(alloc);
+    let mut other: Small = MarkMap::new(alloc);
+    let found = all_called(rt, alloc, &mut map, &mut other, rows);
+    drop(map);
+    drop(other);
+    found
+}
+
+const MARKS: &[Row] = &[
+    (Call::Insert(3, 30), None, "[3] [3] [] 3=30"),
+    (Call::Insert(1, 10), None, "[1, 3] [1, 3] [] 1=10 3=30"),
+    (Call::MarkUsed(3), None, "[1, 3] [1] [] 1=10 3u=30"),
+    (Call::MarkRequired(2), None, "[1, 3] [1] [2] 1=10 2r 3u=30"),
+    (Call::MarkRequired(3), None, "[1, 3] [1] [2] 1=10 2r 3ur=30"),
+    (
+        Call::Behavior(3, MergeBehavior::Theirs),
+        None,
+        "[1, 3] [1] [2] 1=10 2r 3ur=30",
+    ),
+    (
+        Call::Default(MergeBehavior::Ours),
+        None,
+        "[1, 3] [1] [2] 1=10 2r 3ur=30",
+    ),
+    (
+        Call::Insert(3, 31),
+        Some(30),
+        "[1, 3] [1] [2] 1=10 2r 3ur=31",
+    ),
+    (Call::Swap, None, "[] [] []"),
+    (Call::Insert(3, 99), None, "[3] [3] [] 3=99"),
+    (Call::Insert(1, 98), None, "[1, 3] [1, 3] [] 1=98 3=99"),
+    (
+        Call::Insert(9, 90),
+        None,
+        "[1, 3, 9] [1, 3, 9] [] 1=98 3=99 9=90",
+    ),
+    (
+        Call::MarkRequired(1),
+        None,
+        "[1, 3, 9] [1, 3, 9] [] 1r=98 3=99 9=90",
+    ),
+    (Call::Swap, None, "[1, 3] [1] [2] 1=10 2r 3ur=31"),
+    (
+        Call::Merge(0),
+        None,
+        "[1, 3, 9] [1, 9] [2] 1r=10 2r 3ur=99 9=90",
+    ),
+    (
+        Call::Insert(3, 31),
+        Some(99),
+        "[1, 3, 9] [1, 9] [2] 1r=10 2r 3ur=31 9=90",
+    ),
+    (Call::Remove(3), Some(31), "[1, 9] [1, 9] [2] 1r=10 2r 9=90"),
+    (Call::Remove(3), None, "[1, 9] [1, 9] [2] 1r=10 2r 9=90"),
+];
+
+const SEVERAL: &[Row] = &[
+    (Call::Insert(7, 0), None, "[7] [7] [] 7=0"),
+    (Call::Insert(3, 0), None, "[3, 7] [3, 7] [] 3=0 7=0"),
+    (
+        Call::Insert(5, 0),
+        None,
+        "[3, 5, 7] [3, 5, 7] [] 3=0 5=0 7=0",
+    ),
+    (
+        Call::Insert(1, 0),
+        None,
+        "[1, 3, 5, 7] [1, 3, 5, 7] [] 1=0 3=0 5=0 7=0",
+    ),
+    (
+        Call::MarkRequired(8),
+        None,
+        "[1, 3, 5, 7] [1, 3, 5, 7] [8] 1=0 3=0 5=0 7=0 8r",
+    ),
+    (
+        Call::MarkRequired(2),
+        None,
+        "[1, 3, 5, 7] [1, 3, 5, 7] [2, 8] 1=0 2r 3=0 5=0 7=0 8r",
+    ),
+    (
+        Call::MarkRequired(5),
+        None,
+        "[1, 3, 5, 7] [1, 3, 5, 7] [2, 8] 1=0 2r 3=0 5r=0 7=0 8r",
+    ),
+    (
+        Call::MarkRequired(4),
+        None,
+        "[1, 3, 5, 7] [1, 3, 5, 7] [2, 4, 8] 1=0 2r 3=0 4r 5r=0 7=0 8r",
+    ),
+    (
+        Call::MarkUsed(3),
+        None,
+        "[1, 3, 5, 7] [1, 5, 7] [2, 4, 8] 1=0 2r 3u=0 4r 5r=0 7=0 8r",
+    ),
+];
+
+const CLASHING: &[Row] = &[
+    (Call::Insert(7, 3), None, "[7] [7] [] 7=3"),
+    (Call::Insert(5, 2), None, "[5, 7] [5, 7] [] 5=2 7=3"),
+    (
+        Call::Insert(4, 2),
+        None,
+        "[4, 5, 7] [4, 5, 7] [] 4=2 5=2 7=3",
+    ),
+    (Call::MarkUsed(4), None, "[4, 5, 7] [5, 7] [] 4u=2 5=2 7=3"),
+    (Call::Swap, None, "[] [] []"),
+    (Call::Insert(5, 1), None, "[5] [5] [] 5=1"),
+    (Call::Insert(7, 1), None, "[5, 7] [5, 7] [] 5=1 7=1"),
+    (Call::Merge(5), Some(2), "[5, 7] [5, 7] [] 5=1 7=1"),
+];
+
+const ENTRIES: &[Row] = &[
+    (Call::Insert(6, 1), None, "[6] [6] [] 6=1"),
+    (Call::Occupied(6, 2), Some(1), "[6] [] [] 6ur=2"),
+    (Call::MarkUsed(7), None, "[6] [] [] 6ur=2 7u"),
+    (
+        Call::Vacant(7, true, THEIRS, Fill::Value(5)),
+        Some(5),
+        "[6, 7] [] [] 6ur=2 7ur=6",
+    ),
+    (Call::Swap, None, "[] [] []"),
+    (Call::Insert(7, 9), None, "[7] [7] [] 7=9"),
+    (Call::Insert(6, 9), None, "[6, 7] [6, 7] [] 6=9 7=9"),
+    (Call::Swap, None, "[6, 7] [] [] 6ur=2 7ur=6"),
+    (Call::Merge(0), None, "[6, 7] [] [] 6ur=2 7ur=9"),
+    (Call::MarkRequired(5), None, "[6, 7] [] [5] 5r 6ur=2 7ur=9"),
+    (
+        Call::Vacant(5, false, None, Fill::Entry(7)),
+        Some(7),
+        "[5, 6, 7] [] [] 5ur=8 6ur=2 7ur=9",
+    ),
+];
+
+const MADE: &[Row] = &[
+    (Call::Behavior(7, MergeBehavior::Theirs), None, "[] [] []"),
+    (
+        Call::Vacant(6, false, THEIRS, Fill::Nothing),
+        None,
+        "[] [] []",
+    ),
+    (
+        Call::Vacant(5, true, None, Fill::Nothing),
+        None,
+        "[] [] [5] 5r",
+    ),
+    (
+        Call::Vacant(4, false, None, Fill::Value(5)),
+        Some(5),
+        "[4] [4] [5] 4=6 5r",
+    ),
+    (
+        Call::Vacant(3, false, None, Fill::Entry(7)),
+        Some(7),
+        "[3, 4] [4] [5] 3u=8 4=6 5r",
+    ),
+];
+
+// Merges of 2 into 1, by the default and the behavior of the key.
+const MERGES: &[&[Row]] = &[
+    &[
+        (Call::Insert(7, 2), None, "[7] [7] [] 7=2"),
+        (Call::Swap, None, "[] [] []"),
+        (Call::Insert(7, 1), None, "[7] [7] [] 7=1"),
+        (Call::Default(MergeBehavior::Ours), None, "[7] [7] [] 7=1"),
+        (Call::Merge(7), None, "[7] [7] [] 7=1"),
+    ],
+    &[
+        (Call::Insert(7, 2), None, "[7] [7] [] 7=2"),
+        (Call::Swap, None, "[] [] []"),
+        (Call::Insert(7, 1), None, "[7] [7] [] 7=1"),
+        (Call::Default(MergeBehavior::Theirs), None, "[7] [7] [] 7=1"),
+        (Call::Merge(7), None, "[7] [7] [] 7=2"),
+    ],
+    &[
+        (Call::Insert(7, 2), None, "[7] [7] [] 7=2"),
+        (Call::Swap, None, "[] [] []"),
+        (Call::Insert(7, 1), None, "[7] [7] [] 7=1"),
+        (
+            Call::Default(MergeBehavior::MutuallyExclusive),
+            None,
+            "[7] [7] [] 7=1",
+        ),
+        (Call::Merge(7), Some(2), "[7] [7] [] 7=1"),
+    ],
+    &[
+        (Call::Insert(7, 2), None, "[7] [7] [] 7=2"),
+        (Call::Swap, None, "[] [] []"),
+        (Call::Insert(7, 1), None, "[7] [7] [] 7=1"),
+        (
+            Call::Default(MergeBehavior::MutuallyExclusive),
+            None,
+            "[7] [7] [] 7=1",
+        ),
+        (
+            Call::Behavior(7, MergeBehavior::Ours),
+            None,
+            "[7] [7] [] 7=1",
+        ),
+        (Call::Merge(7), None, "[7] [7] [] 7=1"),
+    ],
+    &[
+        (Call::Insert(7, 2), None, "[7] [7] [] 7=2"),
+        (Call::Swap, None, "[] [] []"),
+        (Call::Insert(7, 1), None, "[7] [7] [] 7=1"),
+        (
+            Call::Default(MergeBehavior::MutuallyExclusive),
+            None,
+            "[7] [7] [] 7=1",
+        ),
+        (
+            Call::Behavior(7, MergeBehavior::Theirs),
+            None,
+            "[7] [7] [] 7=1",
+        ),
+        (Call::Merge(7), None, "[7] [7] [] 7=2"),
+    ],
+    &[
+        (Call::Insert(7, 2), None, "[7] [7] [] 7=2"),
+        (Call::Swap, None, "[] [] []"),
+        (Call::Insert(7, 1), None, "[7] [7] [] 7=1"),
+        (Call::Default(MergeBehavior::Theirs), None, "[7] [7] [] 7=1"),
+        (
+            Call::Behavior(7, MergeBehavior::MutuallyExclusive),
+            None,
+            "[7] [7] [] 7=1",
+        ),
+        (Call::Merge(7), Some(2), "[7] [7] [] 7=1"),
+    ],
+];
+
+#[test]
+fn values_and_marks(rt: HostRuntime) -> Result<(), AllocError> {
+    from_empty(&rt, rt.alloc(), MARKS)
+}
+
+#[test]
+fn several_keys_are_unused_and_missing(rt: HostRuntime) -> Result<(), AllocError> {
+    from_empty(&rt, rt.alloc(), SEVERAL)
+}
+
+// The value of the least key is answered, the other map's, and this map stays.
+#[test]
+fn values_on_both_sides_are_refused(rt: HostRuntime) -> Result<(), AllocError> {
+    from_empty(&rt, rt.alloc(), CLASHING)
+}
+
+#[test]
+fn entries_are_changed(rt: HostRuntime) -> Result<(), AllocError> {
+    from_empty(&rt, rt.alloc(), ENTRIES)
+}
+
+// A call that makes its key leaves none where it is refused, and can be made again.
+#[test]
+fn absent_keys_are_made(rt: HostRuntime) -> Result<(), AllocError> {
+    from_empty(&rt, rt.alloc(), MADE)
 }
 
 #[test]
 fn merges_go_by_the_behavior(rt: HostRuntime) -> Result<(), AllocError> {
-    'cases: for (default, own, wanted) in MERGES {
-        let mut ours: Small = MarkMap::new(rt.alloc());
-        let merged = is_merged(rt.alloc(), &mut ours, *default, *own);
-        let left = ours.get(&7).copied();
-        drop(ours);
-        same(&rt, "merged", merged?, wanted.is_some());
-        same(&rt, "left", left, Some(wanted.unwrap_or(1)));
+    for rows in MERGES {
+        from_empty(&rt, rt.alloc(), rows)?;
     }
-    Ok(())
-}
-
-type Told = (bool, bool, bool, Option<u8>);
-
-/// Returns whether a key is used, is required and has a value, and this value.
-fn told(map: &Small, key: u32) -> Told {
-    let has_value = map.contains_key(&key);
-    let value = map.get(&key).copied();
-    (map.is_used(&key), map.is_required(&key), has_value, value)
-}
-
-/// Returns the keys with a value, those that are unused, and those that are missing.
-fn listed(alloc: Global, map: &Small) -> Result<String, AllocError> {
-    let keys: Vec<u32> = map.keys().copied().collect(alloc)?;
-    let unused = map.unused(alloc)?;
-    let missing = map.missing(alloc)?;
-    format!(in alloc; "{keys:?} {unused:?} {missing:?}")
-}
-
-type Old = (Option<u8>, Option<u8>, Option<u8>);
-
-/// Puts values to 3, 1 and 3 again, and returns the old ones.
-fn fill(map: &mut Small) -> Result<Old, AllocError> {
-    let first = map.insert(3, 30)?;
-    let second = map.insert(1, 10)?;
-    map.mark_used(&3)?;
-    map.mark_required(&2)?;
-    map.mark_required(&3)?;
-    map.set_merge_behavior(&3, MergeBehavior::Theirs)?;
-    map.set_default_merge_behavior(MergeBehavior::Ours);
-    Ok((first, second, map.insert(3, 31)?))
-}
-
-fn put_others(map: &mut Small) -> Result<(), AllocError> {
-    map.insert(3, 99)?;
-    map.insert(1, 98)?;
-    map.insert(9, 90)?;
-    map.mark_required(&1)
-}
-
-fn others(alloc: Global) -> Result<Small, AllocError> {
-    let mut map: Small = MarkMap::new(alloc);
-    match put_others(&mut map) {
-        Ok(()) => Ok(map),
-        Err(e) => {
-            drop(map);
-            Err(e)
-        }
-    }
-}
-
-/// Merges the others, and returns whether that was let.
-fn take_others(alloc: Global, map: &mut Small) -> Result<bool, AllocError> {
-    let theirs = others(alloc)?;
-    match map.merge_from(theirs) {
-        Ok(()) => Ok(true),
-        Err(MergeError::Memory(e)) => Err(e),
-        Err(MergeError::Exclusivity(_, _)) => Ok(false),
-    }
-}
-
-/// Replaces the value of 3, and takes it out twice.
-fn take_three(map: &mut Small) -> Result<Old, AllocError> {
-    let old = map.insert(3, 31)?;
-    let first = map.remove(&3);
-    Ok((old, first, map.remove(&3)))
-}
-
-// What is told of 1, 2 and 3 in a filled map.
-const FILLED: [Told; 3] = [
-    (false, false, true, Some(10)),
-    (false, true, false, None),
-    (true, true, true, Some(31)),
-];
-
-// What is told of 1, 3 and 9 once the others are merged.
-const MERGED: [Told; 3] = [
-    (false, true, true, Some(10)),
-    (true, true, true, Some(99)),
-    (false, false, true, Some(90)),
-];
-
-#[test]
-fn values_and_marks(rt: HostRuntime) -> Result<(), Fail> {
-    let mut map: Small = MarkMap::new(rt.alloc());
-    let filled = fill(&mut map);
-    let at_first = [told(&map, 1), told(&map, 2), told(&map, 3)];
-    let lists = listed(rt.alloc(), &map);
-    let merged = take_others(rt.alloc(), &mut map);
-    let later = [told(&map, 1), told(&map, 3), told(&map, 9)];
-    let taken = take_three(&mut map);
-    let gone = told(&map, 3);
-    drop(map);
-    same(&rt, "old values", filled?, (None, None, Some(30)));
-    same(&rt, "filled", at_first, FILLED);
-    same(&rt, "lists", lists?.as_str(), "[1, 3] [1] [2]");
-    same(&rt, "merge", merged?, true);
-    same(&rt, "merged", later, MERGED);
-    same(&rt, "taken", taken?, (Some(99), Some(31), None));
-    same(&rt, "gone", gone, (false, false, false, None));
-    Ok(())
-}
-
-fn mark_several(map: &mut Small) -> Result<(), AllocError> {
-    'valued: for key in [7u32, 3, 5, 1] {
-        map.insert(key, 0)?;
-    }
-    'required: for key in [8u32, 2, 5, 4] {
-        map.mark_required(&key)?;
-    }
-    map.mark_used(&3)
-}
-
-// Several keys are unused, and several missing, in order.
-#[test]
-fn several_keys_are_unused_and_missing(rt: HostRuntime) -> Result<(), AllocError> {
-    let mut map: Small = MarkMap::new(rt.alloc());
-    let marked = mark_several(&mut map);
-    let lists = listed(rt.alloc(), &map);
-    drop(map);
-    marked?;
-    same(
-        &rt,
-        "lists",
-        lists?.as_str(),
-        "[1, 3, 5, 7] [1, 5, 7] [2, 4, 8]",
-    );
     Ok(())
 }
 
@@ -217,98 +511,66 @@ fn a_merge_without_memory_prints_its_kind(rt: HostRuntime) -> Result<(), AllocEr
     Ok(())
 }
 
-fn put_clashing(map: &mut Small) -> Result<(), AllocError> {
-    map.insert(7, 3)?;
-    map.insert(5, 2)?;
-    map.insert(4, 2)?;
-    Ok(())
-}
+// What five steps of each iterator give: a key and its value, and a key.
+type Step = (Option<(u32, u8)>, Option<u32>);
 
-fn clashing(alloc: Global) -> Result<Small, AllocError> {
-    let mut map: Small = MarkMap::new(alloc);
-    match put_clashing(&mut map) {
-        Ok(()) => Ok(map),
-        Err(e) => {
-            drop(map);
-            Err(e)
-        }
+const STEPS: &[Step] = &[
+    (Some((1, 1)), Some(1)),
+    (Some((2, 2)), Some(2)),
+    (Some((3, 3)), Some(3)),
+    (None, None),
+    (None, None),
+];
+
+fn put_out_of_order(map: &mut Small) -> Result<(), AllocError> {
+    map.mark_required(&4)?;
+    'keys: for key in [3u8, 1, 2] {
+        map.insert(u32::from(key), key)?;
     }
+    map.mark_used(&9)
 }
 
-/// Returns the key and the value that a merge is refused for.
-fn clash(alloc: Global, ours: &mut Small) -> Result<Option<(u32, u8)>, AllocError> {
-    ours.insert(5, 1)?;
-    ours.insert(7, 1)?;
-    let theirs = clashing(alloc)?;
-    match ours.merge_from(theirs) {
-        Err(MergeError::Exclusivity(key, value)) => Ok(Some((key, value))),
-        Err(MergeError::Memory(e)) => Err(e),
-        Ok(()) => Ok(None),
+fn steps_over(alloc: Global, map: &Small) -> Result<Vec<Step>, AllocError> {
+    let mut steps = Vec::new(alloc);
+    let mut pairs = map.into_iter();
+    let mut keys = map.keys();
+    for _ in 0..5 {
+        let pair = match pairs.next() {
+            Some((key, value)) => Some((*key, *value)),
+            None => None,
+        };
+        steps.push((pair, keys.next().copied()))?;
     }
+    Ok(steps)
 }
 
-// The least key is answered, with the other map's value, and this map stays.
+// Keys without a value are in no iterator.
 #[test]
-fn values_on_both_sides_are_refused(rt: HostRuntime) -> Result<(), Fail> {
-    let mut ours: Small = MarkMap::new(rt.alloc());
-    let found = clash(rt.alloc(), &mut ours);
-    let kept = ours.get(&5).copied();
-    let came_in = ours.contains_key(&4);
-    drop(ours);
-    same(&rt, "clash", found?, Some((5, 2)));
-    same(&rt, "kept", kept, Some(1));
-    same(&rt, "came in", came_in, false);
+fn iterators_give_keys_with_a_value(rt: HostRuntime) -> Result<(), AllocError> {
+    let mut map: Small = MarkMap::new(rt.alloc());
+    let put = put_out_of_order(&mut map);
+    let steps = steps_over(rt.alloc(), &map);
+    drop(map);
+    put?;
+    same(&rt, "steps", steps?.as_slice(), STEPS);
     Ok(())
 }
 
 type Named = MarkMap<String, u8>;
 
-fn name(alloc: Global, map: &mut Named, key: &str, value: u8) -> Result<Option<u8>, AllocError> {
-    map.insert(text(alloc, key)?, value)
+fn put_k(alloc: Global, map: &mut Named, value: u8) -> Result<(), AllocError> {
+    map.insert(String::from_str(alloc, "k")?, value)?;
+    Ok(())
 }
 
-#[tactic(auto, using(crate::proofs::TextKeys::text_clones_are_equal))]
-fn mark_name_used(alloc: Global, map: &mut Named, key: &str) -> Result<(), AllocError> {
-    map.mark_used(&text(alloc, key)?)
-}
-
-#[tactic(auto, using(crate::proofs::TextKeys::text_clones_are_equal))]
-fn mark_name_required(alloc: Global, map: &mut Named, key: &str) -> Result<(), AllocError> {
-    map.mark_required(&text(alloc, key)?)
-}
-
-type ToldOfName = (bool, bool, Option<u8>);
-
-/// Returns whether a key is used and is required, and its value.
-fn told_of_name(map: &Named, key: &String) -> ToldOfName {
-    (
-        map.is_used(key),
-        map.is_required(key),
-        map.get(key).copied(),
-    )
-}
-
-fn put_k_and_a(alloc: Global, map: &mut Named) -> Result<(), AllocError> {
-    name(alloc, map, "k", 2)?;
-    mark_name_used(alloc, map, "a")
-}
-
-fn named_k(alloc: Global) -> Result<Named, AllocError> {
-    let mut map: Named = MarkMap::new(alloc);
-    match put_k_and_a(alloc, &mut map) {
-        Ok(()) => Ok(map),
-        Err(e) => {
-            drop(map);
-            Err(e)
-        }
-    }
-}
-
-/// Returns what a refused merge prints, and its key and value; nothing where it is let.
+/// Merges a map with another value of `k`, and returns what the refusal prints, and its key and value; nothing where it is let.
 #[tactic(auto, using(crate::proofs::TextKeys::text_clones_are_equal))]
 fn refusal(alloc: Global, ours: &mut Named) -> Result<String, AllocError> {
-    name(alloc, ours, "k", 1)?;
-    let theirs = named_k(alloc)?;
+    let mut theirs: Named = MarkMap::new(alloc);
+    if let Err(e) = put_k(alloc, &mut theirs, 2) {
+        drop(theirs);
+        return Err(e);
+    }
     match ours.merge_from(theirs) {
         Ok(()) => Ok(String::new(alloc)),
         Err(MergeError::Memory(e)) => Err(e),
@@ -320,325 +582,20 @@ fn refusal(alloc: Global, ours: &mut Named) -> Result<String, AllocError> {
     }
 }
 
+/// Puts a value to `k`, and returns how a merge with another is refused, and the value then.
+fn refused(alloc: Global, ours: &mut Named) -> Result<String, AllocError> {
+    put_k(alloc, ours, 1)?;
+    let text = refusal(alloc, ours)?;
+    let value = ours.get(&String::from_str(alloc, "k")?).copied();
+    format!(in alloc; "{text} {value:?}")
+}
+
 #[test]
-fn a_text_on_both_sides_is_refused(rt: HostRuntime) -> Result<(), Fail> {
-    let (k, a) = (text(rt.alloc(), "k")?, text(rt.alloc(), "a")?);
+fn a_text_on_both_sides_is_refused(rt: HostRuntime) -> Result<(), AllocError> {
     let mut ours: Named = MarkMap::new(rt.alloc());
-    let found = refusal(rt.alloc(), &mut ours);
-    let (of_k, of_a) = (told_of_name(&ours, &k), told_of_name(&ours, &a));
+    let found = refused(rt.alloc(), &mut ours);
     drop(ours);
-    same(
-        &rt,
-        "error",
-        found?.as_str(),
-        "Value on both sides: Exclusivity(\"k\", 2)",
-    );
-    same(&rt, "k", of_k, (false, false, Some(1)));
-    same(&rt, "a", of_a, (false, false, None));
-    Ok(())
-}
-
-const OUT_OF_ORDER: &[(&str, u8)] = &[("c", 3), ("a", 1), ("b", 2)];
-
-/// Puts values to new names, and returns whether all were new.
-fn fill_names(alloc: Global, map: &mut Named) -> Result<bool, AllocError> {
-    let mut are_new = true;
-    'cases: for (key, value) in OUT_OF_ORDER {
-        are_new &= name(alloc, map, key, *value)?.is_none();
-    }
-    mark_name_used(alloc, map, "aa")?;
-    mark_name_required(alloc, map, "d")?;
-    Ok(are_new)
-}
-
-/// Returns what five steps of each iterator give.
-fn walked(alloc: Global, map: &Named) -> Result<String, AllocError> {
-    let mut found = String::new(alloc);
-    let mut pairs = map.into_iter();
-    let mut keys = map.keys();
-    for _ in 0..5 {
-        match pairs.next() {
-            Some((key, value)) => found.push_str(format!(in alloc; "{key}={value}")?.as_str())?,
-            None => found.push_str("end")?,
-        }
-        match keys.next() {
-            Some(key) => found.push_str(format!(in alloc; " {key}; ")?.as_str())?,
-            None => found.push_str(" end; ")?,
-        }
-    }
-    Ok(found)
-}
-
-const WALKED: &str = "a=1 a; b=2 b; c=3 c; end end; end end; ";
-
-// Keys without a value are in no iterator.
-#[test]
-fn iterators_give_keys_with_a_value(rt: HostRuntime) -> Result<(), AllocError> {
-    let mut map: Named = MarkMap::new(rt.alloc());
-    let are_new = fill_names(rt.alloc(), &mut map);
-    let found = walked(rt.alloc(), &map);
-    drop(map);
-    same(&rt, "new", are_new?, true);
-    same(&rt, "walked", found?.as_str(), WALKED);
-    Ok(())
-}
-
-fn all_marks() -> Marks {
-    Marks {
-        used: true,
-        required: true,
-        behavior: Some(MergeBehavior::Ours),
-    }
-}
-
-/// Changes the entry of `k`, and returns its old value, and its marks where the entry tells them.
-fn change_occupied(alloc: Global, map: &mut Named) -> Result<(u8, Option<Marks>), AllocError> {
-    name(alloc, map, "k", 1)?;
-    let asked = text(alloc, "k")?;
-    Ok(occupied_is_changed(map, asked))
-}
-
-fn occupied_is_changed(map: &mut Named, asked: String) -> (u8, Option<Marks>) {
-    let mut old = 0;
-    let mut marks = None;
-    if let Entry::Occupied(mut entry) = map.entry(asked) {
-        old = entry.insert(2);
-        entry.mark_used();
-        entry.mark_required();
-        entry.set_merge_behavior(MergeBehavior::Ours);
-        if *entry.get() == 2 && entry.is_used() && entry.is_required() {
-            marks = Some(entry.get_mark());
-        }
-    }
-    (old, marks)
-}
-
-#[test]
-fn an_occupied_entry(rt: HostRuntime) -> Result<(), AllocError> {
-    let k = text(rt.alloc(), "k")?;
-    let mut map: Named = MarkMap::new(rt.alloc());
-    let changed = change_occupied(rt.alloc(), &mut map);
-    let filled = told_of_name(&map, &k);
-    drop(map);
-    same(&rt, "old value and marks", changed?, (1, Some(all_marks())));
-    same(&rt, "filled", filled, (true, true, Some(2)));
-    Ok(())
-}
-
-/// Fills the vacant entry of `k`, which is used, and returns whether that is its key.
-#[tactic(auto, using(crate::proofs::TextKeys::text_clones_are_equal))]
-fn fill_vacant(alloc: Global, map: &mut Named) -> Result<bool, AllocError> {
-    mark_name_used(alloc, map, "k")?;
-    let asked = text(alloc, "k")?;
-    vacant_is_filled(map, asked)
-}
-
-#[tactic(auto, using(crate::proofs::TextKeys::text_clones_are_equal))]
-fn vacant_is_filled(map: &mut Named, asked: String) -> Result<bool, AllocError> {
-    let mut same = false;
-    if let Entry::Vacant(mut entry) = map.entry(asked) {
-        same = entry.key().as_str() == "k";
-        entry.mark_required()?;
-        entry.set_merge_behavior(MergeBehavior::Theirs)?;
-        *entry.insert(5)? += 1;
-    }
-    Ok(same)
-}
-
-// A vacant entry's marks, and those that the key had, stay with the value.
-#[test]
-fn a_vacant_entry(rt: HostRuntime) -> Result<(), AllocError> {
-    let k = text(rt.alloc(), "k")?;
-    let mut map: Named = MarkMap::new(rt.alloc());
-    let is_of_key = fill_vacant(rt.alloc(), &mut map);
-    let filled = told_of_name(&map, &k);
-    drop(map);
-    same(&rt, "key", is_of_key?, true);
-    same(&rt, "filled", filled, (true, true, Some(6)));
-    Ok(())
-}
-
-/// Fills the entry of `k`, which is required, and returns the value that it was filled with.
-#[tactic(auto, using(crate::proofs::TextKeys::text_clones_are_equal))]
-fn change_filled(alloc: Global, map: &mut Named) -> Result<u8, AllocError> {
-    mark_name_required(alloc, map, "k")?;
-    let asked = text(alloc, "k")?;
-    filled_is_changed(map, asked)
-}
-
-#[tactic(auto, using(crate::proofs::TextKeys::text_clones_are_equal))]
-fn filled_is_changed(map: &mut Named, asked: String) -> Result<u8, AllocError> {
-    let mut old = 0;
-    if let Entry::Vacant(entry) = map.entry(asked) {
-        let mut entry = entry.insert_entry(7)?;
-        old = entry.insert(8);
-        entry.mark_used();
-    }
-    Ok(old)
-}
-
-#[test]
-fn a_filled_entry(rt: HostRuntime) -> Result<(), AllocError> {
-    let k = text(rt.alloc(), "k")?;
-    let mut map: Named = MarkMap::new(rt.alloc());
-    let old = change_filled(rt.alloc(), &mut map);
-    let filled = told_of_name(&map, &k);
-    drop(map);
-    same(&rt, "old value", old?, 7);
-    same(&rt, "filled", filled, (true, true, Some(8)));
-    Ok(())
-}
-
-/// Puts a value to `a` and marks `b`, each once more where it is refused; returns whether a refused call left the map as it was.
-#[tactic(auto, using(crate::proofs::TextKeys::text_clones_are_equal))]
-fn try_twice(alloc: Global, map: &mut Named, a: &String, b: &String) -> Result<bool, AllocError> {
-    let mut unchanged = true;
-    if map.insert(text(alloc, "a")?, 1).is_err() {
-        unchanged = !map.contains_key(a) && map.keys().next().is_none();
-        map.insert(text(alloc, "a")?, 1)?;
-    }
-    if map.mark_required(b).is_err() {
-        unchanged = unchanged && !map.is_required(b);
-        map.mark_required(b)?;
-    }
-    Ok(unchanged)
-}
-
-// A call that is refused leaves the map as it was, and can be made again.
-#[test]
-fn refused_calls_change_nothing(rt: HostRuntime) -> Result<(), Fail> {
-    let (a, b) = (text(rt.alloc(), "a")?, text(rt.alloc(), "b")?);
-    let mut map: Named = MarkMap::new(rt.alloc());
-    let unchanged = try_twice(rt.alloc(), &mut map, &a, &b);
-    let (of_a, of_b) = (told_of_name(&map, &a), told_of_name(&map, &b));
-    let has_b = map.contains_key(&b);
-    drop(map);
-    same(&rt, "unchanged", unchanged?, true);
-    same(&rt, "a", of_a, (false, false, Some(1)));
-    same(&rt, "b", of_b, (false, true, None));
-    same(&rt, "has b", has_b, false);
-    Ok(())
-}
-
-fn put_a_and_c(alloc: Global, map: &mut Named) -> Result<(), AllocError> {
-    name(alloc, map, "a", 2)?;
-    name(alloc, map, "c", 3)?;
-    mark_name_used(alloc, map, "c")
-}
-
-fn named_a_and_c(alloc: Global) -> Result<Named, AllocError> {
-    let mut map: Named = MarkMap::new(alloc);
-    match put_a_and_c(alloc, &mut map) {
-        Ok(()) => Ok(map),
-        Err(e) => {
-            drop(map);
-            Err(e)
-        }
-    }
-}
-
-/// Merges two names into a map that has another, and returns whether that was let.
-#[tactic(auto, using(crate::proofs::TextKeys::text_clones_are_equal))]
-fn merge_two(alloc: Global, ours: &mut Named) -> Result<bool, AllocError> {
-    name(alloc, ours, "b", 1)?;
-    let theirs = named_a_and_c(alloc)?;
-    Ok(ours.merge_from(theirs).is_ok())
-}
-
-// So does a merge: neither values nor marks came in.
-#[test]
-fn a_merge_without_memory_changes_nothing(rt: HostRuntime) -> Result<(), AllocError> {
-    let (a, c) = (text(rt.alloc(), "a")?, text(rt.alloc(), "c")?);
-    let mut ours: Named = MarkMap::new(rt.alloc());
-    let merged = merge_two(rt.alloc(), &mut ours);
-    let (of_a, of_c) = (told_of_name(&ours, &a), told_of_name(&ours, &c));
-    let has_any = ours.contains_key(&a) || ours.contains_key(&c);
-    drop(ours);
-    let merged = merged?;
-    same(&rt, "came in", has_any, merged);
-    same(&rt, "a", of_a, (false, false, merged.then_some(2)));
-    same(&rt, "c", of_c, (merged, false, merged.then_some(3)));
-    Ok(())
-}
-
-/// The calls that make a key that is absent.
-#[derive(Clone, Copy)]
-enum Making {
-    Behavior,
-    EntryBehavior,
-    EntryRequired,
-    EntryValue,
-    FilledEntry,
-}
-
-// These calls, whether the key is required then, and whether it has a value.
-const MAKINGS: &[(Making, bool, bool)] = &[
-    (Making::Behavior, false, false),
-    (Making::EntryBehavior, false, false),
-    (Making::EntryRequired, true, false),
-    (Making::EntryValue, false, true),
-    (Making::FilledEntry, false, true),
-];
-
-/// Makes the key 7, once more where that is refused; returns whether a refused call left none.
-fn make_twice(map: &mut Small, making: Making) -> Result<bool, AllocError> {
-    if makes(map, making).is_ok() {
-        return Ok(true);
-    }
-    let unchanged = !map.is_required(&7) && !map.contains_key(&7);
-    makes(map, making)?;
-    Ok(unchanged)
-}
-
-// A call that makes its key leaves none where it is refused, and can be made again.
-#[test]
-fn absent_keys_are_made(rt: HostRuntime) -> Result<(), AllocError> {
-    'makings: for (making, required, filled) in MAKINGS {
-        let mut map: Small = MarkMap::new(rt.alloc());
-        let unchanged = make_twice(&mut map, *making);
-        let found = (map.is_required(&7), map.contains_key(&7));
-        drop(map);
-        same(&rt, "unchanged", unchanged?, true);
-        same(&rt, "made", found, (*required, *filled));
-    }
-    Ok(())
-}
-
-fn makes(map: &mut Small, making: Making) -> Result<(), AllocError> {
-    match making {
-        Making::Behavior => map.set_merge_behavior(&7, MergeBehavior::Theirs),
-        Making::EntryBehavior => entry_has_behavior(map),
-        Making::EntryRequired => entry_is_required(map),
-        Making::EntryValue => entry_has_value(map),
-        Making::FilledEntry => entry_is_filled(map),
-    }
-}
-
-fn entry_has_behavior(map: &mut Small) -> Result<(), AllocError> {
-    if let Entry::Vacant(mut entry) = map.entry(7) {
-        entry.set_merge_behavior(MergeBehavior::Theirs)?;
-    }
-    Ok(())
-}
-
-fn entry_is_required(map: &mut Small) -> Result<(), AllocError> {
-    if let Entry::Vacant(mut entry) = map.entry(7) {
-        entry.mark_required()?;
-    }
-    Ok(())
-}
-
-fn entry_has_value(map: &mut Small) -> Result<(), AllocError> {
-    if let Entry::Vacant(entry) = map.entry(7) {
-        *entry.insert(5)? = 6;
-    }
-    Ok(())
-}
-
-fn entry_is_filled(map: &mut Small) -> Result<(), AllocError> {
-    if let Entry::Vacant(entry) = map.entry(7) {
-        let mut entry = entry.insert_entry(5)?;
-        entry.mark_used();
-    }
+    let wanted = "Value on both sides: Exclusivity(\"k\", 2) Some(1)";
+    same(&rt, "refused", found?.as_str(), wanted);
     Ok(())
 }

@@ -7,11 +7,10 @@ use std::test::Fail;
 #[test]
 fn spans_answer_their_offsets(rt: HostRuntime) -> Result<(), Fail> {
     let span = Span::new(3, 7);
-    same(&rt, "start", span.start(), 3);
-    same(&rt, "end", span.end(), 7);
-    same(&rt, "length", span.len(), 4);
-    same(&rt, "four bytes", span.is_empty(), false);
-    same(&rt, "no byte", Span::new(3, 3).is_empty(), true);
+    let offsets = (span.start(), span.end(), span.len());
+    same(&rt, "start, end and length", offsets, (3, 7, 4));
+    let are_empty = [span.is_empty(), Span::new(3, 3).is_empty()];
+    same(&rt, "four bytes and none", are_empty, [false, true]);
     assert!(rt; span == Span::new(3, 7) && span != Span::new(3, 8) && span != Span::new(2, 7));
     let copy = span;
     let text = format!(in rt.alloc(); "{copy:?} {span:?}")?;

@@ -7,36 +7,31 @@ use std::test::Fail;
 
 #[test]
 fn indices_give_their_numbers(rt: HostRuntime) {
-    same(&rt, "rule", RIdx(7u8).as_storaget(), 7);
-    same(&rt, "production", PIdx(8u16).as_storaget(), 8);
-    same(&rt, "place", SIdx(9u32).as_storaget(), 9);
-    same(&rt, "token", TIdx(10u8).as_storaget(), 10);
+    let stored = (
+        RIdx(7u8).as_storaget(),
+        PIdx(8u16).as_storaget(),
+        SIdx(9u32).as_storaget(),
+        TIdx(10u8).as_storaget(),
+    );
+    same(&rt, "stored", stored, (7, 8, 9, 10));
 }
 
 #[test]
 fn indices_are_numbers_of_any_size(rt: HostRuntime) {
-    same(&rt, "rule", usize::from(RIdx(255u8)), 255);
-    same(&rt, "production", usize::from(PIdx(65_535u16)), 65_535);
-    same(
-        &rt,
-        "place",
+    let numbers = [
+        usize::from(RIdx(255u8)),
+        usize::from(PIdx(65_535u16)),
         usize::from(SIdx(4_294_967_295u32)),
-        4_294_967_295,
-    );
-    same(&rt, "token", usize::from(TIdx(1u16)), 1);
-}
-
-#[test]
-fn indices_are_wide_numbers(rt: HostRuntime) {
-    same(
-        &rt,
-        "rule",
+        usize::from(TIdx(1u16)),
+    ];
+    same(&rt, "usize", numbers, [255, 65_535, 4_294_967_295, 1]);
+    let numbers = [
         u32::from(RIdx(4_294_967_295u32)),
-        4_294_967_295,
-    );
-    same(&rt, "production", u32::from(PIdx(2u8)), 2);
-    same(&rt, "place", u32::from(SIdx(3u16)), 3);
-    same(&rt, "token", u32::from(TIdx(4u32)), 4);
+        u32::from(PIdx(2u8)),
+        u32::from(SIdx(3u16)),
+        u32::from(TIdx(4u32)),
+    ];
+    same(&rt, "u32", numbers, [4_294_967_295, 2, 3, 4]);
 }
 
 #[test]

@@ -1,8 +1,15 @@
-//! Tests of `cfgrammar` that need more than a text and what is printed of its grammar: calls that change a value, loops
-//! over a grammar's numbers, functions handed in, counts past an index type, texts of errors. Texts with what is printed of
-//! their grammars, FIRST and FOLLOW sets, paths, sentences and refusals are the rows of the program `grammar_rows`.
+//! Tests of `cfg_read` and `cfgrammar` that need more than a text and what is printed of it: calls that change a value, loops
+//! over a grammar's numbers, functions handed in, values made by hand, texts of errors. Texts with their trees and errors are
+//! rows of `read_rows`; those with what is printed of their grammars, FIRST and FOLLOW sets, paths, sentences and refusals
+//! are rows of `grammar_rows`.
+//! Large values are dropped by name, at one exit: such drops go through one function for each type,
+//! which is checked once, where a drop at the end of a scope is checked anew at each exit.
 #![tactic(auto)]
 
+#[cfg(test)]
+mod error_texts;
+#[cfg(test)]
+mod kinds;
 #[cfg(test)]
 mod make;
 #[cfg(test)]
@@ -14,4 +21,6 @@ mod same;
 #[cfg(test)]
 mod sentences;
 #[cfg(test)]
-mod sizes;
+mod texts;
+#[cfg(test)]
+mod trees;

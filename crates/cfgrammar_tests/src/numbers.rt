@@ -2,7 +2,7 @@
 
 ghost use Rattle.std.specs.Prelude.{◌<◌, length};
 
-use crate::make::{TREE, made};
+use crate::make::made;
 use crate::same::same;
 use cfgrammar::index::IndexStorage;
 use cfgrammar::yacc::grammar::laws::walks_stay_below;
@@ -27,15 +27,24 @@ fn is_put_in<S: IndexStorage>(
     tidx: TIdx<S>,
 ) -> Result<bool, AllocError> {
     let mut firsts = grm.firsts(alloc)?;
-    Ok(grm.has_rule(ridx) && grm.has_token(tidx) && is_put(&mut firsts, ridx, tidx))
+    let is_put = grm.has_rule(ridx) && grm.has_token(tidx) && is_put(&mut firsts, ridx, tidx);
+    drop(firsts);
+    Ok(is_put)
+}
+
+/// Returns whether a new token, one that is there, and one for a rule that is not there are put.
+fn are_put(alloc: Global, grm: &YaccGrammar<u8>) -> Result<[bool; 3], AllocError> {
+    let new = is_put_in(alloc, grm, RIdx(1), TIdx(2))?;
+    let old = is_put_in(alloc, grm, RIdx(1), TIdx(1))?;
+    Ok([new, old, is_put_in(alloc, grm, RIdx(9), TIdx(1))?])
 }
 
 #[test]
 fn a_token_is_put(rt: HostRuntime) -> Result<(), Fail> {
-    let grm = made::<u8>(rt.alloc(), TREE, "%% S: 'a' | 'b' T; T: 'c';")?;
-    assert!(rt; is_put_in(rt.alloc(), &grm, RIdx(1), TIdx(2))?);
-    assert!(rt; !is_put_in(rt.alloc(), &grm, RIdx(1), TIdx(1))?);
-    assert!(rt; !is_put_in(rt.alloc(), &grm, RIdx(9), TIdx(1))?);
+    let grm = made(rt.alloc(), "%% S: 'a' | 'b' T; T: 'c';")?;
+    let found = are_put(rt.alloc(), &grm);
+    drop(grm);
+    same(&rt, "put", found?, [true, false, false]);
     Ok(())
 }
 
@@ -60,8 +69,9 @@ fn longest_name<S: IndexStorage>(grm: &YaccGrammar<S>) -> usize {
 
 #[test]
 fn loops_give_all_rules(rt: HostRuntime) -> Result<(), Fail> {
-    let grm = made::<u8>(rt.alloc(), TREE, "%% S: Long T; Long: 'a'; T: ;")?;
-    same(&rt, "by an iterator", longest_name(&grm), 4);
-    same(&rt, "by numbers", longest_name_by_numbers(&grm), 4);
+    let grm = made(rt.alloc(), "%% S: Long T; Long: 'a'; T: ;")?;
+    let found = (longest_name(&grm), longest_name_by_numbers(&grm));
+    drop(grm);
+    same(&rt, "by an iterator and by numbers", found, (4, 4));
     Ok(())
 }

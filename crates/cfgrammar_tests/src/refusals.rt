@@ -1,24 +1,9 @@
-//! Texts without a grammar, and the texts of errors.
+//! The texts of errors.
 
-use crate::make::{TREE, spell_refusal};
 use crate::same::same;
-use cfgrammar::yacc::{TooMany, YaccGrammar, YaccGrammarMakeError};
+use cfgrammar::yacc::{TooMany, YaccGrammarMakeError};
 use std::alloc::{AllocError, Global};
 use std::test::*;
-
-#[test]
-fn a_text_without_grammar(rt: HostRuntime) -> Result<(), Fail> {
-    let alloc = rt.alloc();
-    let made = YaccGrammar::new(alloc, TREE, "%start S %% S: T;");
-    let found = spell_refusal::<u32>(alloc, made)?;
-    same(
-        &rt,
-        "refusal",
-        found.as_str(),
-        "Unknown reference to rule 'T' 15-16; ",
-    );
-    Ok(())
-}
 
 /// Returns what an error prints, and drops it.
 fn printed(alloc: Global, error: YaccGrammarMakeError) -> Result<String, AllocError> {

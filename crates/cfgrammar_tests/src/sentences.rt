@@ -1,108 +1,108 @@
-//! Costs of sentences by costs that a function tells, and the first of very many cheapest ones.
+//! The first of very many cheapest sentences, by costs that a function tells, which is asked of each token once.
+//! Grammars and what they give are lent to what asks, and dropped by name.
 
-use crate::make::{TREE, made};
+ghost use Rattle.std.specs.Prelude.{◌<◌};
+
+use crate::make::TREE;
 use crate::same::same;
+use cfgrammar::RIdx;
 use cfgrammar::index::IndexStorage;
-use cfgrammar::yacc::SentenceError;
-use std::alloc::Global;
+use cfgrammar::yacc::{SentenceError, SentenceGenerator, YaccGrammar, YaccGrammarMakeError};
+use std::alloc::{AllocError, Global};
 use std::cell::Cell;
 use std::test::*;
 
-/// Least and greatest cost of the rule of this name, with each token at this cost.
-fn costs<S: IndexStorage>(
+// How many tokens a list has, and how many of them are the first token.
+type Counts = Option<(usize, usize)>;
+
+fn counts_of<S: IndexStorage>(
     alloc: Global,
-    text: &str,
-    rule: &str,
-    cost: u8,
-) -> Result<(u16, Option<u16>), Fail> {
-    let grm = made::<S>(alloc, TREE, text)?;
-    let sentences = grm.sentence_generator(alloc, |_token| cost)?;
-    let Some(ridx) = grm.rule_idx(rule) else {
-        return Err("no rule".into());
-    };
-    let Ok(least) = sentences.min_sentence_cost(ridx) else {
-        return Err("no least cost".into());
-    };
-    let Ok(greatest) = sentences.max_sentence_cost(ridx) else {
-        return Err("no greatest cost".into());
-    };
-    Ok((least, greatest))
+    sentences: &SentenceGenerator<'_, S>,
+    ridx: RIdx<S>,
+) -> Result<Counts, AllocError>
+    requires { S.number ridx.0 < sentences.now.grammar.rules }
+{
+    match sentences.min_sentence(alloc, ridx) {
+        Ok(list) => {
+            let firsts = list.iter().filter(|tidx| tidx.0.to_usize() == 0).count();
+            Ok(Some((list.len(), firsts)))
+        }
+        Err(SentenceError::Memory(e)) => Err(e),
+        Err(_) => Ok(None),
+    }
 }
 
-#[test]
-fn costs_of_three(rt: HostRuntime) -> Result<(), Fail> {
-    let text = "%token a %% S: O 'b'; O: 'a' | ;";
-    let found = costs::<u8>(rt.alloc(), text, "S", 3)?;
-    same(&rt, "S", found, (3, Some(6)));
-    let found = costs::<u32>(rt.alloc(), text, "O", 3)?;
-    same(&rt, "O", found, (0, Some(3)));
-    Ok(())
+/// A text, a rule, and what the end token and each other one cost.
+type Asked = (&'static str, &'static str, u8, u8);
+
+// The tokens that costs were asked of, each as a digit one more than its number; and the counts of the first list.
+type Found = (usize, Counts);
+
+fn found_in<S: IndexStorage>(
+    alloc: Global,
+    grm: &YaccGrammar<S>,
+    asked: Asked,
+) -> Result<Found, AllocError> {
+    let (_text, rule, end, cost) = asked;
+    let Some(ridx) = grm.rule_idx(rule) else {
+        return Ok((0, None));
+    };
+    let last = grm.eof_token_idx().0.to_usize();
+    let digits = Cell::new(0usize);
+    let sentences = grm.sentence_generator(alloc, |token| {
+        let number = token.0.to_usize();
+        let digit = number.wrapping_add(1);
+        digits.set(digits.get().wrapping_mul(10).wrapping_add(digit));
+        if number == last { end } else { cost }
+    })?;
+    let counts = counts_of(alloc, &sentences, ridx);
+    drop(sentences);
+    Ok((digits.get(), counts?))
+}
+
+/// Returns what is found in a grammar, if it was made.
+fn found<S: IndexStorage>(
+    alloc: Global,
+    made: Result<YaccGrammar<S>, YaccGrammarMakeError>,
+    asked: Asked,
+) -> Result<Found, AllocError> {
+    match made {
+        Ok(grm) => {
+            let found = found_in(alloc, &grm, asked);
+            drop(grm);
+            found
+        }
+        Err(YaccGrammarMakeError::Memory(e)) => Err(e),
+        Err(refusal) => {
+            drop(refusal);
+            Ok((0, None))
+        }
+    }
 }
 
 const CHOICES: &str =
     "%token a b %% R10: R9 R9; R9: R8 R8; R8: R7 R7; R7: R6 R6; R6: R5 R5; R5: R4 R4; R4: R3 R3; R3: R2 R2; R2: R1 R1; R1: R0 R0; R0: 'b' | 'a';";
 
-/// How many tokens the first cheapest list has, and how many of them are the first token, by the cost of the end token
-/// and that of each other one.
-fn first_tokens<S: IndexStorage>(alloc: Global, end: u8, cost: u8) -> Result<(usize, usize), Fail> {
-    let grm = made::<S>(alloc, TREE, CHOICES)?;
-    let last = grm.eof_token_idx().0.to_usize();
-    let sentences = grm.sentence_generator(alloc, |token| {
-        if token.0.to_usize() == last {
-            end
-        } else {
-            cost
-        }
-    })?;
-    let Some(ridx) = grm.rule_idx("R10") else {
-        return Err("no rule".into());
-    };
-    match sentences.min_sentence(alloc, ridx) {
-        Ok(list) => {
-            let firsts = list.iter().filter(|tidx| tidx.0.to_usize() == 0).count();
-            Ok((list.len(), firsts))
-        }
-        Err(SentenceError::Memory(e)) => Err(e.into()),
-        Err(_) => Err("no list".into()),
+const FEW: &str = "%token a b %% S: 'c' 'b' T; T: 'a' 'b' | ;";
+
+// There are 2 to the power of 1,024 cheapest lists; as many, where the end token costs nothing, and where no token does.
+const ROWS: &[(Asked, Found)] = &[
+    ((CHOICES, "R10", 1, 1), (123, Some((1024, 1024)))),
+    ((CHOICES, "R10", 0, 1), (123, Some((1024, 1024)))),
+    ((CHOICES, "R10", 0, 0), (123, Some((1024, 1024)))),
+    ((FEW, "S", 1, 1), (1234, Some((2, 0)))),
+];
+
+#[test]
+fn first_cheapest_lists(rt: HostRuntime) -> Result<(), AllocError> {
+    let alloc = rt.alloc();
+    'rows: for (asked, wanted) in ROWS {
+        let wide = found(alloc, YaccGrammar::new(alloc, TREE, asked.0), *asked)?;
+        same(&rt, "u32", wide, *wanted);
+        let made = YaccGrammar::<u16>::new_with_storaget(alloc, TREE, asked.0);
+        same(&rt, "u16", found(alloc, made, *asked)?, *wanted);
+        let made = YaccGrammar::<u8>::new_with_storaget(alloc, TREE, asked.0);
+        same(&rt, "u8", found(alloc, made, *asked)?, *wanted);
     }
-}
-
-/// There are 2 to the power of 1,024 cheapest lists.
-#[test]
-fn first_of_very_many_lists(rt: HostRuntime) -> Result<(), Fail> {
-    let found = first_tokens::<u8>(rt.alloc(), 1, 1)?;
-    same(&rt, "u8", found, (1024, 1024));
-    let found = first_tokens::<u32>(rt.alloc(), 1, 1)?;
-    same(&rt, "u32", found, (1024, 1024));
-    Ok(())
-}
-
-/// As many, where the end token costs nothing, and where no token does.
-#[test]
-fn first_of_very_many_lists_of_free_tokens(rt: HostRuntime) -> Result<(), Fail> {
-    let found = first_tokens::<u8>(rt.alloc(), 0, 1)?;
-    same(&rt, "free end", found, (1024, 1024));
-    let found = first_tokens::<u8>(rt.alloc(), 0, 0)?;
-    same(&rt, "all free", found, (1024, 1024));
-    Ok(())
-}
-
-/// The tokens that costs were asked of, each as a digit one more than its number.
-fn asked<S: IndexStorage>(alloc: Global, text: &str) -> Result<usize, Fail> {
-    let grm = made::<S>(alloc, TREE, text)?;
-    let digits = Cell::new(0usize);
-    grm.sentence_generator(alloc, |token| {
-        let digit = token.0.to_usize().wrapping_add(1);
-        digits.set(digits.get().wrapping_mul(10).wrapping_add(digit));
-        1
-    })?;
-    Ok(digits.get())
-}
-
-#[test]
-fn costs_are_asked_once_in_order(rt: HostRuntime) -> Result<(), Fail> {
-    let text = "%token a b %% S: 'c' 'b' T; T: 'a' 'b' | ;";
-    same(&rt, "u8", asked::<u8>(rt.alloc(), text)?, 1234);
-    same(&rt, "u32", asked::<u32>(rt.alloc(), text)?, 1234);
     Ok(())
 }

@@ -24,6 +24,7 @@ fn push_asked<S: IndexStorage>(
         Some("sets") => push_sets(alloc, out, grm),
         Some("paths") => push_paths(alloc, out, grm),
         Some("ones") => push_costs(alloc, out, grm, 1),
+        Some("threes") => push_costs(alloc, out, grm, 3),
         Some("noughts") => push_costs(alloc, out, grm, 0),
         Some("greatest") => push_costs(alloc, out, grm, 255),
         Some("falling") => push_falling_costs(alloc, out, grm),

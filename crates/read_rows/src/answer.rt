@@ -1,5 +1,6 @@
 //! What `cfg_read` answers to a text.
 
+use crate::header::push_section;
 use crate::tree::{push_differences, push_tree};
 use cfg_base::span::Spanned;
 use cfg_read::yacc::ast::GrammarAST;
@@ -86,7 +87,20 @@ fn push_kept(
     }
 }
 
-/// The answer to a text of a kind, behind the kind where the text is kept as one of another.
+/// The answer to a text of a kind, behind a line where the text is kept as one of another.
+fn push_of_kind(
+    alloc: Global,
+    out: &mut String,
+    checked: &ASTWithValidityInfo,
+    kind: YaccKind,
+    start: Option<&str>,
+) -> Result<(), AllocError> {
+    if checked.yacc_kind() != kind {
+        out.push_str("of another kind\n")?;
+    }
+    push_kept(alloc, out, checked, start)
+}
+
 fn push_by_kind(
     alloc: Global,
     out: &mut String,
@@ -95,10 +109,7 @@ fn push_by_kind(
     start: Option<&str>,
 ) -> Result<(), AllocError> {
     let checked = ASTWithValidityInfo::new(alloc, kind, text)?;
-    if checked.yacc_kind() != kind {
-        out.push_str("of another kind\n")?;
-    }
-    let pushed = push_kept(alloc, out, &checked, start);
+    let pushed = push_of_kind(alloc, out, &checked, kind, start);
     drop(checked);
     pushed
 }
@@ -149,7 +160,7 @@ fn push_by_section(
     }
 }
 
-/// The answer to a text, with another start rule where one is named.
+/// Adds the answer to a text, with another start rule where one is named; or what its section says.
 fn push_answer(
     alloc: Global,
     out: &mut String,
@@ -157,9 +168,11 @@ fn push_answer(
     text: &str,
     start: Option<&str>,
 ) -> Result<(), AllocError> {
-    match kind_of(heading) {
-        Some(kind) => push_by_kind(alloc, out, kind, text, start),
-        None => push_by_section(alloc, out, text, start),
+    match (kind_of(heading), heading) {
+        (Some(kind), _) => push_by_kind(alloc, out, kind, text, start),
+        (None, "header") => push_section(alloc, out, text, false),
+        (None, "header required") => push_section(alloc, out, text, true),
+        (None, _) => push_by_section(alloc, out, text, start),
     }
 }
 

@@ -4,6 +4,7 @@
 #![tactic(auto)]
 
 mod answer;
+mod header;
 mod tree;
 
 pub use answer::answer_file;

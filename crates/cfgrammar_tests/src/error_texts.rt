@@ -9,8 +9,7 @@ use cfg_read::yacc::parser::{
     read_syntax,
 };
 use cfg_read::yacc::{
-    ASTModificationError, ASTWithValidityInfo, KindError, YaccGrammarFailure, YaccKind,
-    YaccOriginalActionKind,
+    ASTModificationError, KindError, YaccGrammarFailure, YaccKind, YaccOriginalActionKind,
 };
 use std::alloc::{AllocError, Global};
 use std::error::Error;
@@ -39,66 +38,69 @@ fn want_of_memory(rt: HostRuntime) -> Result<(), Fail> {
     Ok(())
 }
 
-fn reading(alloc: Global, text: &str) -> Result<String, AllocError> {
+/// Returns what the fault of a text prints.
+fn fault_in(alloc: Global, text: &str) -> Result<String, AllocError> {
     match read_syntax(alloc, TREE, text, 0) {
-        Ok(_) => String::from_str(alloc, "reads"),
+        Ok(syntax) => {
+            drop(syntax);
+            Ok(String::new(alloc))
+        }
         Err(ReadError::Memory(e)) => Err(e),
         Err(e) => shown(alloc, e),
     }
 }
 
-const READINGS: &[(&str, &str)] = &[
-    ("%% S: 'a';", "reads"),
-    ("%% S: 'a' %prec ;", "%prec not followed by token name"),
-];
-
-#[test]
-fn faults_of_reading(rt: HostRuntime) -> Result<(), Fail> {
-    for (text, expected) in READINGS {
-        let found = reading(rt.alloc(), text)?;
-        same(&rt, text, found.as_str(), *expected);
-    }
-    Ok(())
-}
-
-fn failure(alloc: Global, text: &str) -> Result<String, AllocError> {
-    match ASTWithValidityInfo::from_str(alloc, text) {
-        Ok(kept) => {
-            drop(kept);
-            String::from_str(alloc, "kept")
-        }
-        Err(YaccGrammarFailure::Memory(e)) => Err(e),
+/// Returns what an error prints from which a value has no kind.
+fn refused_value(alloc: Global) -> Result<String, AllocError> {
+    let value = Value::Flag(true, Span::new(10, 18));
+    let kind = YaccKind::try_from_value(alloc, &value);
+    drop(value);
+    match kind {
+        Ok(_kind) => Ok(String::new(alloc)),
+        Err(KindError::Memory(e)) => Err(e),
         Err(e) => shown(alloc, e),
     }
 }
 
-const FAILURES: &[(&str, &str)] = &[
-    ("%grmtools{yacckind: Grmtools} %%", "kept"),
-    ("%% S: 'a';", "Invalid"),
-    ("%grmtools{1} %% S: 'a';", "Invalid"),
-    ("%grmtools{yacckind: Foo} %% S: 'a';", "Invalid"),
-];
-
 #[test]
-fn texts_without_a_kind(rt: HostRuntime) -> Result<(), Fail> {
-    for (text, expected) in FAILURES {
-        let found = failure(rt.alloc(), text)?;
-        same(&rt, text, found.as_str(), *expected);
+fn faults(rt: HostRuntime) -> Result<(), Fail> {
+    let alloc = rt.alloc();
+    let found = fault_in(alloc, "%% S: 'a' %prec ;")?;
+    same(
+        &rt,
+        "text",
+        found.as_str(),
+        "%prec not followed by token name",
+    );
+    let found = refused_value(alloc)?;
+    same(&rt, "value", found.as_str(), "Invalid");
+    let found = shown(alloc, YaccGrammarFailure::Invalid(Vec::new(alloc)))?;
+    same(&rt, "failure", found.as_str(), "Invalid");
+    Ok(())
+}
+
+// The kinds of faults that no text has: what others print is in rows of `read_rows`.
+#[test]
+fn kinds_without_texts(rt: HostRuntime) -> Result<(), Fail> {
+    let kinds = [
+        (YaccGrammarErrorKind::MismatchedBrace, "MismatchedBrace"),
+        (
+            YaccGrammarErrorKind::ProgramsNotSupported,
+            "ProgramsNotSupported",
+        ),
+        (YaccGrammarErrorKind::ExpectedInput, "ExpectedInput"),
+    ];
+    for (kind, wanted) in kinds {
+        let found = kind_shown(rt.alloc(), kind)?;
+        same(&rt, "kind", found.as_str(), wanted);
     }
     Ok(())
 }
 
-#[test]
-fn values_without_a_kind(rt: HostRuntime) -> Result<(), Fail> {
-    let alloc = rt.alloc();
-    let value = Value::Flag(true, Span::new(10, 18));
-    let found = match YaccKind::try_from_value(alloc, &value) {
-        Ok(_) => String::from_str(alloc, "a kind")?,
-        Err(KindError::Memory(e)) => return Err(e.into()),
-        Err(e) => shown(alloc, e)?,
-    };
-    same(&rt, "value", found.as_str(), "Invalid");
-    Ok(())
+fn kind_shown(alloc: Global, kind: YaccGrammarErrorKind) -> Result<String, AllocError> {
+    let text = format!(in alloc; "{kind}");
+    drop(kind);
+    text
 }
 
 fn unknown_token(alloc: Global) -> Result<YaccGrammarError, AllocError> {

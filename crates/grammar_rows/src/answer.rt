@@ -10,25 +10,57 @@ use cfgrammar::yacc::{TooMany, YaccGrammar, YaccGrammarMakeError};
 use row_files::{Part, kind_of, parts, push_errors};
 use std::alloc::{AllocError, Global};
 
-/// What a heading asks of a grammar.
+/// What is asked of a grammar; costs where each token costs the same, or less by its number.
+#[derive(Clone, Copy)]
+enum Asked {
+    Numbers,
+    Counts,
+    Kept,
+    Sets,
+    Paths,
+    Costs(u8),
+    Falling,
+}
+
+const WORDS: &[(&str, Asked)] = &[
+    ("numbers", Asked::Numbers),
+    ("counts", Asked::Counts),
+    ("kept", Asked::Kept),
+    ("sets", Asked::Sets),
+    ("paths", Asked::Paths),
+    ("ones", Asked::Costs(1)),
+    ("threes", Asked::Costs(3)),
+    ("noughts", Asked::Costs(0)),
+    ("greatest", Asked::Costs(255)),
+    ("falling", Asked::Falling),
+];
+
+/// Returns what the second word of a heading asks, if it asks anything.
+fn asked_by(heading: &str) -> Option<Asked> {
+    let word = heading.split_whitespace().nth(1)?;
+    'words: for (name, asked) in WORDS {
+        if *name == word {
+            return Some(*asked);
+        }
+    }
+    None
+}
+
 fn push_asked<S: IndexStorage>(
     alloc: Global,
     out: &mut String,
     heading: &str,
     grm: &YaccGrammar<S>,
 ) -> Result<(), AllocError> {
-    match heading.split_whitespace().nth(1) {
-        Some("numbers") => push_numbers(alloc, out, grm),
-        Some("counts") => push_counts(alloc, out, grm),
-        Some("kept") => push_kept(alloc, out, grm),
-        Some("sets") => push_sets(alloc, out, grm),
-        Some("paths") => push_paths(alloc, out, grm),
-        Some("ones") => push_costs(alloc, out, grm, 1),
-        Some("threes") => push_costs(alloc, out, grm, 3),
-        Some("noughts") => push_costs(alloc, out, grm, 0),
-        Some("greatest") => push_costs(alloc, out, grm, 255),
-        Some("falling") => push_falling_costs(alloc, out, grm),
-        _ => out.push_str("asks for nothing\n"),
+    match asked_by(heading) {
+        Some(Asked::Numbers) => push_numbers(alloc, out, grm),
+        Some(Asked::Counts) => push_counts(alloc, out, grm),
+        Some(Asked::Kept) => push_kept(alloc, out, grm),
+        Some(Asked::Sets) => push_sets(alloc, out, grm),
+        Some(Asked::Paths) => push_paths(alloc, out, grm),
+        Some(Asked::Costs(cost)) => push_costs(alloc, out, grm, cost),
+        Some(Asked::Falling) => push_falling_costs(alloc, out, grm),
+        None => out.push_str("asks for nothing\n"),
     }
 }
 

@@ -5,11 +5,7 @@
 #![tactic(auto)]
 
 #[cfg(test)]
-mod asked;
-#[cfg(test)]
 mod flat;
-#[cfg(test)]
-mod flat_texts;
 #[cfg(test)]
 mod lexer;
 #[cfg(test)]
@@ -27,6 +23,8 @@ mod parses;
 #[cfg(test)]
 mod paths;
 #[cfg(test)]
+mod rows;
+#[cfg(test)]
 mod same;
 #[cfg(test)]
 mod shown;
@@ -38,7 +36,5 @@ mod tables;
 mod texts;
 #[cfg(test)]
 mod trees;
-#[cfg(test)]
-mod values;
 #[cfg(test)]
 mod ways;

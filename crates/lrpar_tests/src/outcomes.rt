@@ -1,40 +1,40 @@
 //! What calls that parse answer, as texts.
 
-use crate::spell::{leaf, push_repair};
-use cfg_base::index::IndexOrder;
+use crate::spell::repair_text;
 use lrpar::{
-    DefaultLexeme, DefaultLexerTypes, FoldedOutcome, LRLexError, LexParseError, Lexeme, ParseError,
+    DefaultLexeme, DefaultLexerTypes, FoldedOutcome, LRLexError, LexParseError, ParseError,
     ParseRefusal,
 };
 use std::alloc::{AllocError, Global};
 
+/// An error of a parse.
+pub type Wrong = ParseError<DefaultLexeme<u8>, u8>;
+
+/// An error of lexing or of a parse.
+pub type AnyError = LexParseError<DefaultLexerTypes<u8>>;
+
 /// Adds an error of a parse: its lexeme with its length, whether that was made up, and the listed sequences.
-fn push_parse_error<S: IndexOrder>(
-    alloc: Global,
-    text: &mut String,
-    error: &ParseError<DefaultLexeme<S>, S>,
-) -> Result<(), AllocError> {
-    text.push_str("; error at ")?;
-    text.push_str(leaf(alloc, *error.lexeme())?.as_str())?;
-    let len = error.lexeme().span.len();
-    text.push_str(format!(in alloc; "+{len}")?.as_str())?;
-    if error.lexeme().faulty() {
-        text.push_str(" faulty")?;
-    }
+fn push_parse_error(alloc: Global, text: &mut String, error: &Wrong) -> Result<(), AllocError> {
+    let lexeme = *error.lexeme();
+    let token = lexeme.tok_id;
+    let start = lexeme.span.start();
+    let len = lexeme.span.len();
+    let faulty = if lexeme.faulty { " faulty" } else { "" };
+    text.push_str(format!(in alloc; "; error at {token}@{start}+{len}{faulty}")?.as_str())?;
     for sequence in error.repairs().as_slice() {
         text.push(',')?;
         for repair in sequence.as_slice() {
-            push_repair(alloc, text, *repair)?;
+            text.push_str(repair_text(alloc, *repair)?.as_str())?;
         }
     }
     Ok(())
 }
 
 /// Adds errors of a parse.
-pub fn push_parse_errors<S: IndexOrder>(
+pub fn push_parse_errors(
     alloc: Global,
     text: &mut String,
-    errors: &[ParseError<DefaultLexeme<S>, S>],
+    errors: &[Wrong],
 ) -> Result<(), AllocError> {
     for error in errors {
         push_parse_error(alloc, text, error)?;
@@ -43,11 +43,7 @@ pub fn push_parse_errors<S: IndexOrder>(
 }
 
 /// Adds an error of lexing or of parsing.
-fn push_error<S: IndexOrder>(
-    alloc: Global,
-    text: &mut String,
-    error: &LexParseError<DefaultLexerTypes<S>>,
-) -> Result<(), AllocError> {
+fn push_error(alloc: Global, text: &mut String, error: &AnyError) -> Result<(), AllocError> {
     match error {
         LexParseError::LexError(fault) => {
             let start = fault.span.start();
@@ -58,10 +54,10 @@ fn push_error<S: IndexOrder>(
 }
 
 /// Adds errors of lexing or of parsing.
-pub fn push_errors<S: IndexOrder>(
+pub fn push_errors(
     alloc: Global,
     text: &mut String,
-    errors: &[LexParseError<DefaultLexerTypes<S>>],
+    errors: &[AnyError],
 ) -> Result<(), AllocError> {
     for error in errors {
         push_error(alloc, text, error)?;
@@ -73,23 +69,15 @@ pub fn push_errors<S: IndexOrder>(
 pub fn refusal_text(alloc: Global, refusal: &ParseRefusal) -> Result<String, AllocError> {
     match refusal {
         ParseRefusal::Memory(e) => Err(*e),
-        ParseRefusal::LexemeOutside(index) => format!(in alloc; "outside {index}"),
-        ParseRefusal::StartDecreases(index) => format!(in alloc; "decreases {index}"),
-    }
-}
-
-/// Returns a value, or that there is none.
-fn value_text(alloc: Global, value: &Option<String>) -> Result<String, AllocError> {
-    match value {
-        Some(value) => String::from_str(alloc, value.as_str()),
-        None => String::from_str(alloc, "none"),
+        ParseRefusal::LexemeOutside(index) => format!(in alloc; "{refusal}: outside {index}"),
+        ParseRefusal::StartDecreases(index) => format!(in alloc; "{refusal}: decreases {index}"),
     }
 }
 
 /// Returns the value, or that there is none, and the errors.
-pub fn folded_text<S: IndexOrder>(
+pub fn folded_text(
     alloc: Global,
-    outcome: &Result<FoldedOutcome<S, DefaultLexeme<S>, LRLexError, String>, ParseRefusal>,
+    outcome: &Result<FoldedOutcome<u8, DefaultLexeme<u8>, LRLexError, String>, ParseRefusal>,
 ) -> Result<String, AllocError> {
     match outcome {
         Err(e) => refusal_text(alloc, e),
@@ -98,7 +86,11 @@ pub fn folded_text<S: IndexOrder>(
             format!(in alloc; "none; fault at {start}")
         }
         Ok(FoldedOutcome::Parsed(value, errors)) => {
-            let mut text = value_text(alloc, value)?;
+            let value = match value {
+                Some(value) => value.as_str(),
+                None => "none",
+            };
+            let mut text = String::from_str(alloc, value)?;
             push_parse_errors(alloc, &mut text, errors.as_slice())?;
             Ok(text)
         }
@@ -106,14 +98,18 @@ pub fn folded_text<S: IndexOrder>(
 }
 
 /// Returns the value, or that there is none, and the errors.
-pub fn outcome_text<S: IndexOrder>(
+pub fn outcome_text(
     alloc: Global,
-    outcome: &Result<(Option<String>, Vec<LexParseError<DefaultLexerTypes<S>>>), ParseRefusal>,
+    outcome: &Result<(Option<String>, Vec<AnyError>), ParseRefusal>,
 ) -> Result<String, AllocError> {
     match outcome {
         Err(e) => refusal_text(alloc, e),
         Ok((value, errors)) => {
-            let mut text = value_text(alloc, value)?;
+            let value = match value {
+                Some(value) => value.as_str(),
+                None => "none",
+            };
+            let mut text = String::from_str(alloc, value)?;
             push_errors(alloc, &mut text, errors.as_slice())?;
             Ok(text)
         }
@@ -121,9 +117,9 @@ pub fn outcome_text<S: IndexOrder>(
 }
 
 /// Returns the errors.
-pub fn errors_text<S: IndexOrder>(
+pub fn errors_text(
     alloc: Global,
-    outcome: &Result<Vec<LexParseError<DefaultLexerTypes<S>>>, ParseRefusal>,
+    outcome: &Result<Vec<AnyError>, ParseRefusal>,
 ) -> Result<String, AllocError> {
     match outcome {
         Err(e) => refusal_text(alloc, e),

@@ -1,5 +1,4 @@
 //! Which grammars and tables are refused, and where, with their parts returned; which tokens may come next.
 
-mod chains;
-mod foreign;
 mod next;
+mod refused;

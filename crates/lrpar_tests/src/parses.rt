@@ -3,158 +3,75 @@
 use crate::lexer::lexer_of;
 use crate::lines::lines_of;
 use crate::make::data;
+use crate::rows::{LINES, Row, Shown};
 use crate::same::same;
-use crate::ways::{by_productions, each_way};
-use cfg_base::index::IndexOrder;
+use crate::ways::{Parser, as_nodes, as_one_tree, by_productions, each_way};
 use lrpar::{DefaultLexeme, DefaultLexerTypes, ListLexer, ParserData, RTParserBuilder, Recoverer};
 use std::alloc::{AllocError, Global};
+use std::cell::Cell;
 use std::test::*;
 
-/// Returns what lexemes yield by each call that parses, or by functions of productions alone.
-fn by_ways<S: IndexOrder, R: Recoverer<S, DefaultLexeme<S>>>(
+/// Returns what is shown of lexemes.
+fn shown_of<R: Recoverer<u8, DefaultLexeme<u8>>>(
     alloc: Global,
-    parser: &RTParserBuilder<'_, DefaultLexerTypes<S>, R>,
-    lexer: &ListLexer<DefaultLexerTypes<S>>,
-    by_each: bool,
+    parser: &Parser<'_, R>,
+    lexer: &ListLexer<DefaultLexerTypes<u8>>,
+    shown: Shown,
+    indices: &Cell<usize>,
 ) -> Result<String, AllocError> {
-    if by_each {
-        each_way(alloc, parser, lexer)
-    } else {
-        by_productions(alloc, parser, lexer)
+    match shown {
+        Shown::Value => by_productions(alloc, parser, lexer, None),
+        Shown::Asked => by_productions(alloc, parser, lexer, Some(indices)),
+        Shown::Each => each_way(alloc, parser, lexer),
+        Shown::Tree(input, nodes) => as_nodes(alloc, parser, lexer, Some((input, nodes))),
+        Shown::OneTree => as_one_tree(alloc, parser, lexer),
     }
 }
 
-/// Returns what lexemes yield with these sequences at each error.
-fn repaired_text<S: IndexOrder>(
+/// Returns what is shown of lexemes with these sequences at each error.
+fn repaired_text(
     alloc: Global,
-    data: &ParserData<S>,
-    lexer: &ListLexer<DefaultLexerTypes<S>>,
+    data: &ParserData<u8>,
+    lexer: &ListLexer<DefaultLexerTypes<u8>>,
     letters: &str,
-    by_each: bool,
+    shown: Shown,
 ) -> Result<String, AllocError> {
-    let lines = lines_of::<S>(alloc, letters)?;
-    let parser = RTParserBuilder::<DefaultLexerTypes<S>, _>::new(data).recoverer(&lines);
-    let text = by_ways(alloc, &parser, lexer, by_each);
+    let indices = Cell::new(0usize);
+    let lines = lines_of(alloc, letters, &indices)?;
+    let parser = RTParserBuilder::<DefaultLexerTypes<u8>, _>::new(data).recoverer(&lines);
+    let text = shown_of(alloc, &parser, lexer, shown, &indices);
     drop(lines);
     text
 }
 
-/// Returns what lexemes yield with these sequences at each error, or with none.
-fn text_by<S: IndexOrder>(
-    alloc: Global,
-    data: &ParserData<S>,
-    lexemes: &[(u8, u16, u16)],
-    letters: Option<&str>,
-    by_each: bool,
-) -> Result<String, AllocError> {
-    let lexer = lexer_of::<S>(alloc, lexemes)?;
+/// Returns what is shown of a row by its data.
+fn text_by(alloc: Global, data: &ParserData<u8>, row: Row) -> Result<String, AllocError> {
+    let (_, lexemes, letters, shown, _) = row;
+    let lexer = lexer_of(alloc, lexemes)?;
     let text = match letters {
         None => {
-            let parser = RTParserBuilder::<DefaultLexerTypes<S>, _>::new(data);
-            by_ways(alloc, &parser, &lexer, by_each)
+            let parser = RTParserBuilder::<DefaultLexerTypes<u8>, _>::new(data);
+            shown_of(alloc, &parser, &lexer, shown, &Cell::new(0usize))
         }
-        Some(letters) => repaired_text(alloc, data, &lexer, letters, by_each),
+        Some(letters) => repaired_text(alloc, data, &lexer, letters, shown),
     };
     drop(lexer);
     text
 }
 
-/// Returns what lexemes yield by the grammar of a text, with these sequences at each error, or with none: a line for each call that
-/// parses, or the value by functions of productions alone.
-pub fn line_text<S: IndexOrder>(
-    alloc: Global,
-    text: &str,
-    lexemes: &[(u8, u16, u16)],
-    letters: Option<&str>,
-    by_each: bool,
-) -> Result<String, Fail> {
-    let data = data::<S>(alloc, text)?;
-    let found = text_by(alloc, &data, lexemes, letters, by_each);
+/// Returns what is shown of a row.
+fn line_text(alloc: Global, row: Row) -> Result<String, Fail> {
+    let data = data(alloc, row.0)?;
+    let found = text_by(alloc, &data, row);
     drop(data);
     Ok(found?)
 }
 
-const SUMS: &str = "%start E %% E: T '+' E | T; T: 'ID';";
-
-const LIST: &str = "%start S %% S: L; L: 'ID' | ;";
-
-const CALL: &str = "%% Call: 'ID' '(' ')';";
-
-const EXPR: &str =
-    "%start Expr %% Expr : Expr '+' Term | Term; Term : Term '*' Factor | Factor; Factor : 'INT';";
-
-/// Texts of grammars, tokens with their starts and lengths, sequences of repairs, and what these yield.
-const LINES: &[(&str, &[(u8, u16, u16)], Option<&str>, &str)] = &[
-    // `ID + + ID`
-    (
-        SUMS,
-        &[(1, 0, 2), (0, 3, 1), (0, 5, 1), (1, 7, 2)],
-        None,
-        "none; error at 0@5+1",
-    ),
-    // `ID +`, where one of several sequences can be taken
-    (
-        SUMS,
-        &[(1, 0, 2), (0, 3, 1)],
-        Some(" 2 c s d 101"),
-        "0:1[0,4]( 2:2[0,2]( 1@0 ) 0@3 0:1[4,4]( 2:2[4,4]( 1@4 ) 0@4 1:1[4,4]( 2:2[4,4]( 1@4 ) ) ) ); error at 2@4+0 faulty, insert 1 insert 0 insert 1",
-    ),
-    // `x`
-    (LIST, &[(0, 0, 1)], None, "0:1[0,1]( 1:2[0,1]( 0@0 ) )"),
-    // `a x z`, where the reduction that is kept lets `y` alone follow
-    (
-        "%start S %% S: A 'x' 'y' | B 'x' 'z'; A: 'a'; B: 'a';",
-        &[(3, 0, 1), (0, 2, 1), (2, 4, 1)],
-        None,
-        "none; error at 2@4+1",
-    ),
-    // `a u`, behind which comes no end
-    (
-        "%start S %% S: 'a' U | 'b'; U: 'u' U;",
-        &[(0, 0, 1), (2, 2, 1)],
-        None,
-        "none; error at 3@3+0 faulty",
-    ),
-    // `f()`, `f(`, `f(f(`
-    (
-        CALL,
-        &[(0, 0, 1), (1, 1, 1), (2, 2, 1)],
-        None,
-        "0:1[0,3]( 0@0 1@1 2@2 )",
-    ),
-    (
-        CALL,
-        &[(0, 0, 1), (1, 1, 1)],
-        None,
-        "none; error at 3@2+0 faulty",
-    ),
-    (
-        CALL,
-        &[(0, 0, 1), (1, 1, 1), (0, 2, 1), (1, 3, 1)],
-        None,
-        "none; error at 0@2+1",
-    ),
-    // `2+3*4`, `2*3+4`
-    (
-        EXPR,
-        &[(2, 0, 1), (0, 1, 1), (2, 2, 1), (1, 3, 1), (2, 4, 1)],
-        None,
-        "0:1[0,5]( 1:1[0,1]( 3:2[0,1]( 4:3[0,1]( 2@0 ) ) ) 0@1 2:2[2,5]( 3:2[2,3]( 4:3[2,3]( 2@2 ) ) 1@3 4:3[4,5]( 2@4 ) ) )",
-    ),
-    (
-        EXPR,
-        &[(2, 0, 1), (1, 1, 1), (2, 2, 1), (0, 3, 1), (2, 4, 1)],
-        None,
-        "0:1[0,5]( 1:1[0,3]( 2:2[0,3]( 3:2[0,1]( 4:3[0,1]( 2@0 ) ) 1@1 4:3[2,3]( 2@2 ) ) ) 0@3 3:2[4,5]( 4:3[4,5]( 2@4 ) ) )",
-    ),
-];
-
 #[test]
 fn lines_are_parsed(rt: HostRuntime) -> Result<(), Fail> {
-    for index in 0..LINES.len() {
-        let (text, lexemes, letters, told) = LINES[index];
-        let found = line_text::<u32>(rt.alloc(), text, lexemes, letters, false)?;
-        same(&rt, text, found.as_str(), told);
+    for row in LINES {
+        let found = line_text(rt.alloc(), *row)?;
+        same(&rt, row.0, found.as_str(), row.4);
     }
     Ok(())
 }

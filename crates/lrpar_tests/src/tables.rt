@@ -1,6 +1,5 @@
-//! Item sets by hand, halving over a row, indices of states, and texts of refusals.
+//! Item sets by hand, halving over a row, and indices of states.
 
 mod adding;
-mod closing;
 mod items;
 mod rows;

@@ -1,53 +1,51 @@
 //! Errors and refusals as texts.
 
+use crate::outcomes::AnyError;
 use crate::same::same;
-use crate::spell::display_of;
 use cfg_base::span::Span;
 use cfg_base::symbol::PIdx;
-use lrpar::{
-    DefaultLexeme, DefaultLexerTypes, LRLexError, LexParseError, Lexeme, ParseError, ParseRefusal,
-};
+use lrpar::{DefaultLexeme, LRLexError, ParseError, ParseRefusal};
 use lrtable::statetable::{StateTableError, StateTableErrorKind};
 use lrtable::{FromYaccError, Minimiser, StIdx};
 use std::alloc::{AllocError, Global};
+use std::fmt::Display;
 use std::test::*;
 
+/// Adds a line with what a value prints, and drops it.
+fn push_display<D: Display + Drop>(
+    alloc: Global,
+    out: &mut String,
+    value: D,
+) -> Result<(), AllocError> {
+    let text = format!(in alloc; "{value}\n");
+    drop(value);
+    out.push_str(text?.as_str())
+}
+
+/// Returns a lexeme.
+fn lexeme() -> DefaultLexeme<u8> {
+    DefaultLexeme {
+        tok_id: 0,
+        span: Span::new(2, 3),
+        faulty: false,
+    }
+}
+
 /// Returns an error at a lexeme without repairs.
-fn error_at(alloc: Global, lexeme: DefaultLexeme<u8>) -> ParseError<DefaultLexeme<u8>, u8> {
+fn error_at_lexeme(alloc: Global) -> ParseError<DefaultLexeme<u8>, u8> {
     ParseError {
         stidx: StIdx(1),
-        lexeme,
+        lexeme: lexeme(),
         repairs: Vec::new(alloc),
     }
 }
 
-#[test]
-fn errors_have_texts(rt: HostRuntime) -> Result<(), Fail> {
-    let alloc = rt.alloc();
-    let lexeme: DefaultLexeme<u8> = DefaultLexeme::new(0, 2, 1);
-    let told = format!(in alloc; "Parse error at lexeme {lexeme:?}")?;
-    same(
-        &rt,
-        "parse error",
-        display_of(alloc, error_at(alloc, lexeme))?.as_str(),
-        told.as_str(),
-    );
-    let error = LexParseError::<DefaultLexerTypes<u8>>::from(error_at(alloc, lexeme));
-    same(
-        &rt,
-        "either error",
-        display_of(alloc, error)?.as_str(),
-        told.as_str(),
-    );
+/// Adds the texts of errors.
+fn push_errors(alloc: Global, out: &mut String) -> Result<(), AllocError> {
     let span = Span::new(2, 3);
-    let error = LexParseError::<DefaultLexerTypes<u8>>::from(LRLexError { span });
-    same(
-        &rt,
-        "lexing error",
-        display_of(alloc, error)?.as_str(),
-        "Couldn't lex input starting at byte 2",
-    );
-    Ok(())
+    push_display(alloc, out, error_at_lexeme(alloc))?;
+    push_display(alloc, out, AnyError::from(error_at_lexeme(alloc)))?;
+    push_display(alloc, out, AnyError::from(LRLexError { span }))
 }
 
 const CONFLICT: StateTableError<u8> = StateTableError {
@@ -55,68 +53,44 @@ const CONFLICT: StateTableError<u8> = StateTableError {
     pidx: PIdx(3),
 };
 
-const SHOWN: &str = "Pager StateTableError { kind: AcceptReduceConflict, pidx: PIdx(3) }";
-
-#[test]
-fn refusals_of_tables_have_texts(rt: HostRuntime) -> Result<(), Fail> {
-    let alloc = rt.alloc();
-    let refusal = FromYaccError::StateTable(CONFLICT);
-    same(
-        &rt,
-        "conflict",
-        display_of(alloc, refusal)?.as_str(),
-        "Accept/reduce conflict",
-    );
-    let refusal = FromYaccError::<u8>::TooManyStates(256);
-    same(
-        &rt,
-        "states",
-        display_of(alloc, refusal)?.as_str(),
-        "TooManyStates",
-    );
-    let refusal = FromYaccError::<u16>::TooLarge;
-    same(
-        &rt,
-        "large",
-        display_of(alloc, refusal)?.as_str(),
-        "TooLarge",
-    );
-    let refusal = FromYaccError::<u32>::Memory(AllocError);
-    same(
-        &rt,
-        "memory",
-        display_of(alloc, refusal)?.as_str(),
-        "Memory",
-    );
+/// Adds the texts of refusals.
+fn push_refusals(alloc: Global, out: &mut String) -> Result<(), AllocError> {
+    push_display(alloc, out, FromYaccError::StateTable(CONFLICT))?;
+    push_display(alloc, out, FromYaccError::<u8>::TooManyStates(256))?;
+    push_display(alloc, out, FromYaccError::<u8>::TooLarge)?;
+    push_display(alloc, out, FromYaccError::<u8>::Memory(AllocError))?;
+    push_display(alloc, out, ParseRefusal::LexemeOutside(1))?;
+    push_display(alloc, out, ParseRefusal::StartDecreases(1))?;
+    push_display(alloc, out, ParseRefusal::Memory(AllocError))?;
     let minimiser = Minimiser::Pager;
-    let told = format!(in alloc; "{minimiser:?} {CONFLICT:?}")?;
-    same(&rt, "debugging", told.as_str(), SHOWN);
-    Ok(())
+    let lexeme = lexeme();
+    out.push_str(format!(in alloc; "{minimiser:?} {CONFLICT:?} {lexeme:?}\n")?.as_str())
 }
 
+/// Returns the texts of errors and of refusals.
+fn texts(alloc: Global) -> Result<String, AllocError> {
+    let mut out = String::new(alloc);
+    push_errors(alloc, &mut out)?;
+    push_refusals(alloc, &mut out)?;
+    Ok(out)
+}
+
+const TEXTS: &str =
+    "Parse error at lexeme DefaultLexeme { tok_id: 0, span: Span { start: 2, end: 3 }, faulty: false }
+Parse error at lexeme DefaultLexeme { tok_id: 0, span: Span { start: 2, end: 3 }, faulty: false }
+Couldn't lex input starting at byte 2
+Accept/reduce conflict
+TooManyStates
+TooLarge
+Memory
+LexemeOutside
+StartDecreases
+Memory
+Pager StateTableError { kind: AcceptReduceConflict, pidx: PIdx(3) } DefaultLexeme { tok_id: 0, span: Span { start: 2, end: 3 }, faulty: false }
+";
+
 #[test]
-fn refusals_of_parses_have_texts(rt: HostRuntime) -> Result<(), Fail> {
-    let alloc = rt.alloc();
-    let refusal = ParseRefusal::LexemeOutside(1);
-    same(
-        &rt,
-        "outside",
-        display_of(alloc, refusal)?.as_str(),
-        "LexemeOutside",
-    );
-    let refusal = ParseRefusal::StartDecreases(1);
-    same(
-        &rt,
-        "decreasing",
-        display_of(alloc, refusal)?.as_str(),
-        "StartDecreases",
-    );
-    let refusal = ParseRefusal::Memory(AllocError);
-    same(
-        &rt,
-        "memory",
-        display_of(alloc, refusal)?.as_str(),
-        "Memory",
-    );
+fn errors_and_refusals_have_texts(rt: HostRuntime) -> Result<(), Fail> {
+    same(&rt, "texts", texts(rt.alloc())?.as_str(), TEXTS);
     Ok(())
 }

@@ -1,39 +1,40 @@
 //! Trees by rules as texts.
 
-use crate::outcomes::{push_errors, refusal_text};
-use crate::spell::leaf;
-use cfg_base::index::IndexOrder;
-use lrpar::{DefaultLexeme, DefaultLexerTypes, LexParseError, Node, ParseRefusal};
+use crate::outcomes::{AnyError, push_errors, refusal_text};
+use lrpar::{DefaultLexeme, Node, ParseRefusal};
 use std::alloc::{AllocError, Global};
+
+/// A tree by rules.
+pub type Tree = Node<DefaultLexeme<u8>, u8>;
 
 /// The most nodes of a tree that are shown.
 const NODES: usize = 100;
 
 /// Returns a node: its lexeme, or its rule and the number of nodes below, which wait then with the first one on top.
-fn push_node<'a, S: IndexOrder>(
+fn node_text<'a>(
     alloc: Global,
-    text: &mut String,
-    node: &'a Node<DefaultLexeme<S>, S>,
-    waiting: &mut Vec<&'a Node<DefaultLexeme<S>, S>>,
-) -> Result<(), AllocError> {
+    node: &'a Tree,
+    waiting: &mut Vec<&'a Tree>,
+) -> Result<String, AllocError> {
     match node {
-        Node::Term { lexeme } => text.push_str(leaf(alloc, *lexeme)?.as_str()),
+        Node::Term { lexeme } => {
+            let token = lexeme.tok_id;
+            let start = lexeme.span.start();
+            format!(in alloc; "{token}@{start}")
+        }
         Node::Nonterm { ridx, nodes } => {
-            let rule = ridx.0.to_usize();
+            let rule = ridx.0;
             let count = nodes.len();
             for at in 0..count {
                 waiting.push(&nodes[count - 1 - at])?;
             }
-            text.push_str(format!(in alloc; "{rule}/{count}")?.as_str())
+            format!(in alloc; "{rule}/{count}")
         }
     }
 }
 
 /// Returns the nodes of a tree, each before those below it.
-pub fn tree_text<S: IndexOrder>(
-    alloc: Global,
-    tree: &Node<DefaultLexeme<S>, S>,
-) -> Result<String, AllocError> {
+fn tree_text(alloc: Global, tree: &Tree) -> Result<String, AllocError> {
     let mut text = String::new(alloc);
     let mut waiting = Vec::new(alloc);
     waiting.push(tree)?;
@@ -42,23 +43,15 @@ pub fn tree_text<S: IndexOrder>(
         if at > 0 {
             text.push(' ')?;
         }
-        push_node(alloc, &mut text, node, &mut waiting)?;
+        text.push_str(node_text(alloc, node, &mut waiting)?.as_str())?;
     }
     Ok(text)
 }
 
-type Outcome<S> = Result<
-    (
-        Option<Node<DefaultLexeme<S>, S>>,
-        Vec<LexParseError<DefaultLexerTypes<S>>>,
-    ),
-    ParseRefusal,
->;
-
 /// Returns the tree, or that there is none, and the errors.
-pub fn tree_outcome_text<S: IndexOrder>(
+pub fn tree_outcome_text(
     alloc: Global,
-    outcome: &Outcome<S>,
+    outcome: &Result<(Option<Tree>, Vec<AnyError>), ParseRefusal>,
 ) -> Result<String, AllocError> {
     match outcome {
         Err(e) => refusal_text(alloc, e),
@@ -70,5 +63,18 @@ pub fn tree_outcome_text<S: IndexOrder>(
             push_errors(alloc, &mut text, errors.as_slice())?;
             Ok(text)
         }
+    }
+}
+
+/// Returns whether the tree of a parse is this one.
+pub fn is_told(
+    alloc: Global,
+    outcome: &Result<(Option<Tree>, Vec<AnyError>), ParseRefusal>,
+    tree: &Tree,
+) -> Result<bool, AllocError> {
+    match outcome {
+        Ok((Some(other), _)) => tree.equals(alloc, other),
+        Err(ParseRefusal::Memory(e)) => Err(*e),
+        _ => Ok(false),
     }
 }

@@ -2,7 +2,6 @@
 
 use crate::make::data;
 use crate::same::same;
-use cfg_base::index::{IndexOrder, IndexStorage};
 use cfg_base::symbol::TIdx;
 use cfg_numbered::yacc::grammar::NumberedGrammar;
 use lrpar::{DefaultLexeme, Lexeme, ParserData, Prefix};
@@ -11,7 +10,7 @@ use std::test::*;
 use vob::Vob;
 
 /// Returns the token with a name, the end token for `$`.
-fn token_of<S: IndexStorage>(grm: &NumberedGrammar<S>, name: &str) -> TIdx<S> {
+fn token_of(grm: &NumberedGrammar<u8>, name: &str) -> TIdx<u8> {
     match grm.token_idx(name) {
         Some(tidx) => tidx,
         None => grm.eof_token_idx(),
@@ -19,11 +18,11 @@ fn token_of<S: IndexStorage>(grm: &NumberedGrammar<S>, name: &str) -> TIdx<S> {
 }
 
 /// Returns lexemes of the tokens with these names.
-fn lexemes_of<S: IndexOrder>(
+fn lexemes_of(
     alloc: Global,
-    grm: &NumberedGrammar<S>,
+    grm: &NumberedGrammar<u8>,
     names: &[&str],
-) -> Result<Vec<DefaultLexeme<S>>, AllocError> {
+) -> Result<Vec<DefaultLexeme<u8>>, AllocError> {
     let mut lexemes = Vec::new(alloc);
     for index in 0..names.len() {
         lexemes.push(DefaultLexeme::new(token_of(grm, names[index]).0, 0, 0))?;
@@ -32,13 +31,9 @@ fn lexemes_of<S: IndexOrder>(
 }
 
 /// Returns the names of the tokens whose bits are set.
-fn names_of<S: IndexStorage>(
-    alloc: Global,
-    grm: &NumberedGrammar<S>,
-    bits: &Vob,
-) -> Result<String, AllocError> {
+fn names_of(alloc: Global, grm: &NumberedGrammar<u8>, bits: &Vob) -> Result<String, AllocError> {
     let mut text = String::new(alloc);
-    for number in 0..grm.tokens_len().0.to_usize() {
+    for number in 0..usize::from(grm.tokens_len()) {
         if bits.get(number) == Some(true) {
             text.push(' ')?;
             text.push_str(grm.token_name(grm.token_at(number)).unwrap_or("$"))?;
@@ -48,11 +43,7 @@ fn names_of<S: IndexStorage>(
 }
 
 /// Returns what may come after lexemes of the tokens with these names.
-fn next_of<S: IndexOrder>(
-    alloc: Global,
-    data: &ParserData<S>,
-    names: &[&str],
-) -> Result<String, AllocError> {
+fn next_of(alloc: Global, data: &ParserData<u8>, names: &[&str]) -> Result<String, AllocError> {
     let lexemes = lexemes_of(alloc, data.grm(), names)?;
     match data.next_tokens(alloc, lexemes.as_slice())? {
         Some(bits) => names_of(alloc, data.grm(), &bits),
@@ -61,10 +52,10 @@ fn next_of<S: IndexOrder>(
 }
 
 /// Adds what may come behind a prefix.
-fn push_next<S: IndexStorage>(
+fn push_next(
     alloc: Global,
-    grm: &NumberedGrammar<S>,
-    prefix: &Prefix<'_, S>,
+    grm: &NumberedGrammar<u8>,
+    prefix: &Prefix<'_, u8>,
     text: &mut String,
 ) -> Result<(), AllocError> {
     let bits = prefix.next_tokens(alloc)?;
@@ -73,10 +64,10 @@ fn push_next<S: IndexStorage>(
 
 /// Pushes each of the tokens with these names, and adds ` !` where it isn't shifted, and what may come then; the number of tokens
 /// that were shifted behind the last one.
-fn push_names<S: IndexStorage>(
+fn push_names(
     alloc: Global,
-    grm: &NumberedGrammar<S>,
-    prefix: &mut Prefix<'_, S>,
+    grm: &NumberedGrammar<u8>,
+    prefix: &mut Prefix<'_, u8>,
     names: &[&str],
     text: &mut String,
 ) -> Result<(), AllocError> {
@@ -92,9 +83,9 @@ fn push_names<S: IndexStorage>(
 }
 
 /// Adds what may come first, and behind each of the tokens with these names.
-fn push_prefix<S: IndexStorage>(
+fn push_prefix(
     alloc: Global,
-    data: &ParserData<S>,
+    data: &ParserData<u8>,
     names: &[&str],
     text: &mut String,
 ) -> Result<(), AllocError> {
@@ -107,8 +98,8 @@ fn push_prefix<S: IndexStorage>(
 }
 
 /// Returns what may come after these tokens by the grammar of a text; behind a semicolon what may come first and after each.
-fn next<S: IndexOrder>(alloc: Global, text: &str, names: &[&str]) -> Result<String, Fail> {
-    let data = data::<S>(alloc, text)?;
+fn next(alloc: Global, text: &str, names: &[&str]) -> Result<String, Fail> {
+    let data = data(alloc, text)?;
     let next = next_of(alloc, &data, names);
     let mut behind = String::new(alloc);
     let pushed = push_prefix(alloc, &data, names, &mut behind);
@@ -155,29 +146,20 @@ const NEXT: &[(&str, &[&str], &str)] = &[
         &["a", "q", "u", "x", "$", "x"],
         "none ; a b | q | t x ! | t x | $ ! | $ ! | $ 3",
     ),
+    (MERGED, &["b", "q"], " u x ; a b | q | u x 2"),
+    (
+        SUMS,
+        &["(", "INT", "*", "+", "INT", ")"],
+        "none ; ( INT | ( INT | + * ) | ( INT ! | ( INT | + * ) | + * $ 5",
+    ),
 ];
 
 #[test]
 fn next_tokens_are_told(rt: HostRuntime) -> Result<(), Fail> {
     for index in 0..NEXT.len() {
         let (text, names, told) = NEXT[index];
-        let found = next::<u8>(rt.alloc(), text, names)?;
+        let found = next(rt.alloc(), text, names)?;
         same(&rt, text, found.as_str(), told);
     }
-    Ok(())
-}
-
-#[test]
-fn next_tokens_have_any_numbers(rt: HostRuntime) -> Result<(), Fail> {
-    let found = next::<u32>(rt.alloc(), MERGED, &["b", "q"])?;
-    same(&rt, "merged", found.as_str(), " u x ; a b | q | u x 2");
-    drop(found);
-    let found = next::<u16>(rt.alloc(), SUMS, &["(", "INT", "*", "+", "INT", ")"])?;
-    same(
-        &rt,
-        "sums",
-        found.as_str(),
-        "none ; ( INT | ( INT | + * ) | ( INT ! | ( INT | + * ) | + * $ 5",
-    );
     Ok(())
 }

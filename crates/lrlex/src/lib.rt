@@ -28,12 +28,15 @@
 
 mod bound;
 mod expression;
+mod from_text;
 pub mod laws;
 mod lex_error;
 mod rules;
 
 pub use bound::{BoundRules, Meaning};
 pub use expression::compile;
+pub use from_text::LexTextError;
 pub use lex_error::{DefaultLexerTypes, LRLexError, LRNonStreamingLexer, LexErrorKind};
+pub use lex_files::{Fault, FaultKind, LexFileError};
 pub use lrpar::DefaultLexeme;
 pub use rules::LexRules;

@@ -1,0 +1,4 @@
+mod Cuts
+mod Folds
+mod Rooms
+mod Sections

@@ -1,11 +1,13 @@
 //! Types at the paths of the Rust crates. A path that is missing here fails to compile.
 
 use cfgrammar::precedence::Precedence;
+pub use cfgrammar::steps::Steps;
 use cfgrammar::yacc::Name;
 use cfgrammar::yacc::ast::ASTModificationError;
 use lrpar::parser::{AStackType, LexParseError, Node, ParseError, ParseRepair, RTParserBuilder};
 use lrpar::{Cell, DefaultLexeme, DefaultLexerTypes, NoRecovery, Parts};
 use lrtable::statetable::Conflicts;
+pub use vob::{Block, Word};
 use vob::{Iter, IterSetBits, IterUnsetBits, RawVob, StorageIter, VobError, VobRecord};
 
 /// Types of `vob`.

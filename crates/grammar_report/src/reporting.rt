@@ -165,11 +165,7 @@ fn text_of_refusal(
 
 /// Returns the report on a source's text, of the kind that its section tells, else of `Original(GenericParseTree)`. Places are
 /// those of the source. No chain of reductions on one token goes past 1000.
-pub fn report_on(
-    alloc: Global,
-    source: &Source<'_>,
-    asked: Asked<'_>,
-) -> Result<Report, AllocError>
+pub fn report_on(alloc: Global, source: &Source<'_>, asked: Asked<'_>) -> Result<Report, AllocError>
     ensures { IfOk result (λ r. IsOutcome source.now.text r.outcome) }
 {
     match ParserKit::of_text(alloc, source.text(), CAP) {

@@ -13,7 +13,7 @@ const DECLARATIONS: &[(&str, &str)] = &[
     ("\u{feff}", "a byte order mark: save the file without it"),
     (
         "%{",
-        "no code stands before the rules: leave `%{ .. %}` out; `lrkit-import` makes a grammar of a Bison file",
+        "no code stands before the rules: leave `%{ .. %}` out; `lrkit-check --bison` reads a Bison file, `lrkit-import` makes a grammar of it",
     ),
     (
         "%union",

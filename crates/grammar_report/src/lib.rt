@@ -45,4 +45,4 @@ mod settled;
 
 pub use asked::{Asked, LineFile};
 pub use outcome::{Outcome, Report, status};
-pub use reporting::report;
+pub use reporting::{report, report_on};

@@ -163,15 +163,12 @@ fn text_of_refusal(
     Ok(text)
 }
 
-fn report_of(
-    alloc: Global,
-    source: &Source<'_>,
-    text: &str,
-    asked: Asked<'_>,
-) -> Result<Report, AllocError>
-    ensures { IfOk result (λ r. IsOutcome text.now r.outcome) }
+/// Returns the report on a source's text, of the kind that its section tells, else of `Original(GenericParseTree)`. Places are
+/// those of the source. No chain of reductions on one token goes past 1000.
+pub fn report_on(alloc: Global, source: &Source<'_>, asked: Asked<'_>) -> Result<Report, AllocError>
+    ensures { IfOk result (λ r. IsOutcome source.now.text r.outcome) }
 {
-    match ParserKit::of_text(alloc, text, CAP) {
+    match ParserKit::of_text(alloc, source.text(), CAP) {
         Ok(kit) => {
             let outcome = outcome_of(&kit);
             let told = text_of_kit(alloc, source, &kit, severity_of(outcome), asked);
@@ -189,13 +186,12 @@ fn report_of(
     }
 }
 
-/// The report on a grammar's text, of the kind that its section tells, else of `Original(GenericParseTree)`. Places are told
-/// with the path. No chain of reductions on one token goes past 1000.
+/// The report on a grammar's text, as `report_on` makes it. Places are told with the path.
 pub fn report(alloc: Global, text: &str, path: &str, asked: Asked<'_>) -> Result<Report, AllocError>
     ensures { IfOk result (λ r. IsOutcome text.now r.outcome) }
 {
     let source = Source::new(alloc, text, path)?;
-    let told = report_of(alloc, &source, text, asked);
+    let told = report_on(alloc, &source, asked);
     drop(source);
     told
 }

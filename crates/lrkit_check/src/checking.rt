@@ -3,6 +3,8 @@
 ghost use Rattle.std.specs.Prelude.{◌≡◌, IfOk};
 ghost use Rattle.grammar_report.specs.Outcomes.{IsOutcome};
 
+use crate::bison::{BisonFile, report_on_bison};
+use crate::bison_signs::bison_sign;
 use crate::fault::{CheckFault, Input, fault_of};
 use crate::recorded::{Recorded, cause_of};
 use crate::words::Words;
@@ -75,6 +77,33 @@ fn write_report_on<R: Print + AllocGlobal>(
     }
 }
 
+/// Writes the report on a Bison file, and returns what is so of its import.
+fn write_bison_report<R: Print + AllocGlobal>(
+    rt: &R,
+    file: BisonFile<'_>,
+    asked: Asked<'_>,
+) -> Result<Outcome, CheckFault> {
+    match report_on_bison(rt.alloc(), file, asked) {
+        Ok(told) => write_report(rt, &told),
+        Err(e) => Err(CheckFault::Memory(e)),
+    }
+}
+
+/// Returns the grammar's file as one of Bison, where the words or the file itself say so.
+fn bison_file<'a>(words: &Words, text: &'a str, path: &'a str) -> Option<BisonFile<'a>> {
+    if words.bison {
+        let sign = None;
+        return Some(BisonFile { text, path, sign });
+    }
+    match bison_sign(text) {
+        Some(at) => {
+            let sign = Some(at);
+            Some(BisonFile { text, path, sign })
+        }
+        None => None,
+    }
+}
+
 /// Returns what is asked for, with the lines if they are.
 fn asked_of<'a>(words: &Words, next: Option<LineFile<'a>>) -> Asked<'a> {
     Asked {
@@ -86,16 +115,29 @@ fn asked_of<'a>(words: &Words, next: Option<LineFile<'a>>) -> Asked<'a> {
     }
 }
 
+/// Writes the report on a grammar's file, in either syntax.
+fn write_report_in<R: Print + AllocGlobal>(
+    rt: &R,
+    words: &Words,
+    grammar: &str,
+    next: Option<LineFile<'_>>,
+) -> Result<Outcome, CheckFault> {
+    let path = words.path(Input::Grammar);
+    let asked = asked_of(words, next);
+    match bison_file(words, grammar, path) {
+        Some(file) => write_bison_report(rt, file, asked),
+        None => write_report_on(rt, grammar, path, asked),
+    }
+}
+
 /// Reads the grammar, and then the lines if they are asked for, and writes the report.
 pub fn check<R: Files + io::Input + Print + AllocGlobal>(
     rt: &R,
     words: &Words,
 ) -> Result<Outcome, CheckFault> {
-    let path = words.path(Input::Grammar);
-    let grammar = read_input(rt, Input::Grammar, path)?;
+    let grammar = read_input(rt, Input::Grammar, words.path(Input::Grammar))?;
     if words.lines.is_none() {
-        let asked = asked_of(words, None);
-        return write_report_on(rt, grammar.as_str(), path, asked);
+        return write_report_in(rt, words, grammar.as_str(), None);
     }
     let lines = words.path(Input::Lines);
     let read = read_input(rt, Input::Lines, lines)?;
@@ -103,5 +145,5 @@ pub fn check<R: Files + io::Input + Print + AllocGlobal>(
         text: read.as_str(),
         path: lines,
     });
-    write_report_on(rt, grammar.as_str(), path, asked_of(words, next))
+    write_report_in(rt, words, grammar.as_str(), next)
 }

@@ -1,9 +1,12 @@
-//! The program `lrkit-check GRAMMAR [--each] [--full] [--states] [--sentences] [--next LINES]`: its arguments, files and
+//! The program `lrkit-check GRAMMAR [--bison] [--each] [--full] [--states] [--sentences] [--next LINES]`: its arguments, files and
 //! standard output around the library's `report`.
 #![tactic(auto)]
 
 ghost use Rattle.std.specs.Prelude.{◌≡◌};
 
+mod bison;
+mod bison_notes;
+mod bison_signs;
 mod checking;
 mod fault;
 mod recorded;
@@ -24,12 +27,14 @@ const OUT_OF_MEMORY: u8 = 6;
 const WRITE_FAULT: u8 = 5;
 
 const HELP: &str = "\
-usage: lrkit-check GRAMMAR [--each] [--full] [--states] [--sentences] [--next LINES]
+usage: lrkit-check GRAMMAR [--bison] [--each] [--full] [--states] [--sentences] [--next LINES]
        lrkit-check --help | --version
 
 Reports on a grammar: its errors, warnings, and conflicts with an example each. A path may be `-`, for standard input; behind
 `--` each word is a path.
 
+  --bison       reads a Bison or Yacc file, and lists what is left out or changed of it; without this word a file is read so that
+                begins with `%{`, `%union` or the like, or has a tag `<..>` in a declaration
   --each        each conflict by itself, in place of one block for each production
   --full        examples from the start rule on
   --states      the states, with their items and edges
@@ -86,7 +91,7 @@ fn usage(rt: &impl Eprint) -> u8
     ensures { result ≡ USAGE }
 {
     let _ = eprintln!(rt;
-        "usage: lrkit-check GRAMMAR [--each] [--full] [--states] [--sentences] [--next LINES]"
+        "usage: lrkit-check GRAMMAR [--bison] [--each] [--full] [--states] [--sentences] [--next LINES]"
     );
     USAGE
 }

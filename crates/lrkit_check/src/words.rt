@@ -10,6 +10,8 @@ pub struct Words {
     pub grammar: Option<String>,
     /// The path of the lines, where their errors are asked for.
     pub lines: Option<String>,
+    /// Whether the grammar is said to be a Bison file.
+    pub bison: bool,
     /// Whether each conflict is to have a block.
     pub each: bool,
     /// Whether examples are to begin at the start.
@@ -59,6 +61,7 @@ fn take_path(read: &mut Words, word: String) -> bool {
 /// Takes an option without a value, and returns whether it is one.
 fn take_option(read: &mut Words, word: &str) -> bool {
     match word {
+        "--bison" => read.bison = true,
         "--each" => read.each = true,
         "--full" => read.full = true,
         "--states" => read.states = true,
@@ -115,6 +118,7 @@ pub fn read_words(mut words: Args) -> Call {
     let mut read = Words {
         grammar: None,
         lines: None,
+        bison: false,
         each: false,
         full: false,
         states: false,

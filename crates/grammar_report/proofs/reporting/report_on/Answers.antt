@@ -1,5 +1,5 @@
 use Rattle.grammar_report.proofs.Told.{told_is_outcome}
-use Rattle.grammar_report.proofs.reporting.report_of.Goals as goal
+use Rattle.grammar_report.proofs.reporting.report_on.Goals as goal
 
 pub returns-in_ok-text-in-Ok : goal.returns-in_ok-text-in-Ok
 returns-in_ok-text-in-Ok c =

@@ -1,4 +1,4 @@
-//! Shared parts of a Yacc toolkit: index types and symbols, spans, lines and bytes of a text, and maps with marks.
+//! Shared parts of a Yacc toolkit: index types and symbols, spans, lines and bytes of a text.
 //!
 //! A line of a text is found so:
 //!
@@ -20,14 +20,11 @@
 //! holds for every index type. A span is a pair of byte offsets; lines count LFs and columns count characters. Module
 //! `text` has what all readers of texts share: classes of bytes, runs and gaps. The contracts that matter most are
 //! those of `index::IndexStorage` (`from_usize` takes exactly the numbers up to `MAX`) with the laws
-//! `index::each_number_is_of_one_value`, `symbol::symbol_is_its_kind_and_number` and `span::span_is_its_offsets`; of
-//! `newlinecache::NewlineCache`, whose answers are those of the fed text (`newlinecache::pieces_make_the_whole`); and
-//! of `markmap::MarkMap::merge_from`.
+//! `index::each_number_is_of_one_value`, `symbol::symbol_is_its_kind_and_number` and `span::span_is_its_offsets`; and of
+//! `newlinecache::NewlineCache`, whose answers are those of the fed text (`newlinecache::pieces_make_the_whole`).
 #![tactic(auto)]
 
-pub mod header;
 pub mod index;
-pub mod markmap;
 pub mod newlinecache;
 pub mod precedence;
 pub mod span;

@@ -4,11 +4,11 @@
 ghost use Rattle.std.specs.Prelude.{◌<◌};
 
 use crate::same::{printed, same};
-use cfg_base::header::{
+use cfg_base::span::{Span, Spanned};
+use cfg_sections::header::{
     GrmtoolsSectionParser, HeaderError, HeaderErrorKind, KeyValueError, Namespaced, SectionError,
     Setting, Value,
 };
-use cfg_base::span::{Span, Spanned};
 use std::alloc::{AllocError, Global};
 use std::fmt::Display;
 use std::process::Abort;

@@ -2,10 +2,10 @@
 //! `read_rows`.
 
 use crate::same::{debugged, same};
-use cfg_base::header::{
+use cfg_base::span::{Location, Span};
+use cfg_sections::header::{
     GrmtoolsSectionParser, Header, HeaderValue, Namespaced, SectionError, Setting, Value,
 };
-use cfg_base::span::{Location, Span};
 use std::alloc::{AllocError, Global};
 
 /// Returns the form of a setting, and of its path where it is one.

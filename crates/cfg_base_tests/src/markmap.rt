@@ -2,7 +2,7 @@
 //! A map is lent to what may fail, and dropped by name: so its drop is checked at one place a test.
 
 use crate::same::{printed, same};
-use cfg_base::markmap::{Entry, MarkMap, Marks, MergeBehavior, MergeError};
+use cfg_sections::markmap::{Entry, MarkMap, Marks, MergeBehavior, MergeError};
 use std::alloc::{AllocError, Global};
 use std::mem;
 use std::process::Abort;

@@ -2,14 +2,14 @@
 use Rattle.std.proofs.Common.{◌≡◌, ℕ, false, List, [], ◌∷◌, map, None, refl, ◌∙◌, ap}
 use lib.Chars.{codes}
 use Rattle.cfg_base.specs.SpanModel.{SpanModel}
-use Rattle.cfg_base.specs.HeaderErrors.{no_conversion}
-use Rattle.cfg_base.specs.Sections.{span}
+use Rattle.cfg_sections.specs.HeaderErrors.{no_conversion}
+use Rattle.cfg_sections.specs.Sections.{span}
 use Rattle.cfg_read.specs.declared.yacc.parser.error.YaccGrammarErrorKind.TheVariants as faults
-use Rattle.cfg_base.specs.declared.header.error.HeaderError.{HeaderError}
-use Rattle.cfg_base.specs.SectionSource.{SectionSource}
-use Rattle.cfg_base.specs.SectionResults.{error_text, IsSectionError}
-use Rattle.cfg_base.specs.declared.header.section.SectionError.{SectionError}
-use Rattle.cfg_base.specs.declared.header.section.SectionError.TheVariants as refusals
+use Rattle.cfg_sections.specs.declared.header.error.HeaderError.{HeaderError}
+use Rattle.cfg_sections.specs.SectionSource.{SectionSource}
+use Rattle.cfg_sections.specs.SectionResults.{error_text, IsSectionError}
+use Rattle.cfg_sections.specs.declared.header.section.SectionError.{SectionError}
+use Rattle.cfg_sections.specs.declared.header.section.SectionError.TheVariants as refusals
 use Rattle.cfg_read.specs.declared.yacc.YaccKind.{YaccKind}
 use Rattle.cfg_read.specs.declared.yacc.parser.error.ReadError.{ReadError}
 use Rattle.cfg_read.specs.declared.yacc.parser.error.ReadError.TheVariants as errors

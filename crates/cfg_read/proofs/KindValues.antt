@@ -2,8 +2,8 @@
 use Rattle.std.proofs.Common.{◌≡◌, ℕ, Bool, true, false, List, Option, Some, None, refl, sym, ◌∙◌, ap}
 use Rattle.std.specs.Prelude.{option_map, if◌then◌else◌}
 use lib.Chars.{codes}
-use Rattle.cfg_base.specs.HeaderTexts.{WordText, PathText, SettingText, unitary, construct, num, quoted, array, ValueText, flag, setting}
-use Rattle.cfg_base.specs.HeaderMaps.{map_word, map_path, map_setting, map_value}
+use Rattle.cfg_sections.specs.HeaderTexts.{WordText, PathText, SettingText, unitary, construct, num, quoted, array, ValueText, flag, setting}
+use Rattle.cfg_sections.specs.HeaderMaps.{map_word, map_path, map_setting, map_value}
 use Rattle.cfg_read.specs.declared.yacc.YaccKind.{YaccKind}
 use Rattle.cfg_read.specs.declared.yacc.YaccKind.TheVariants as kinds
 use Rattle.cfg_read.specs.declared.yacc.YaccOriginalActionKind.{YaccOriginalActionKind}

@@ -1,8 +1,8 @@
 -- What is kept of a text is one thing, and a text that doesn't read is invalid.
 use Rattle.std.proofs.Common.{◌≡◌, ℕ, Bool, false, List, [], ◌∷◌, map, refl, sym, ◌∙◌, ap, subst}
 use Rattle.cfg_base.specs.SpanModel.{SpanModel}
-use Rattle.cfg_base.specs.SectionResults.{ErrorText, repeat_text, Refuses, one_fault, repeated_keys}
-use Rattle.cfg_base.specs.SectionRepeats.{repeats_of}
+use Rattle.cfg_sections.specs.SectionResults.{ErrorText, repeat_text, Refuses, one_fault, repeated_keys}
+use Rattle.cfg_sections.specs.SectionRepeats.{repeats_of}
 use Rattle.cfg_read.specs.declared.yacc.YaccKind.{YaccKind}
 use Rattle.cfg_read.specs.SyntaxTexts.{SyntaxText}
 use Rattle.cfg_read.specs.Asts.{Ast, ast_of}

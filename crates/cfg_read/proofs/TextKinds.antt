@@ -3,9 +3,9 @@ use Rattle.std.proofs.Common.{◌≡◌, ℕ, List, Some, refl, sym, ap, subst}
 use Rattle.std.specs.declared.string.String.{String}
 use Rattle.std.specs.declared.alloc.Global.{Global}
 use Rattle.cfg_base.specs.SpanModel.{SpanModel}
-use Rattle.cfg_base.specs.MarkMaps.{Marked}
-use Rattle.cfg_base.specs.SectionResults.{ReadsHeader}
-use Rattle.cfg_base.specs.declared.header.value.HeaderValue.{HeaderValue}
+use Rattle.cfg_sections.specs.MarkMaps.{Marked}
+use Rattle.cfg_sections.specs.SectionResults.{ReadsHeader}
+use Rattle.cfg_sections.specs.declared.header.value.HeaderValue.{HeaderValue}
 use Rattle.cfg_read.specs.declared.yacc.YaccKind.{YaccKind}
 use Rattle.cfg_read.specs.declared.yacc.file.YaccGrammarFailure.{YaccGrammarFailure}
 use Rattle.cfg_read.specs.Kinds.{Meaning, means}

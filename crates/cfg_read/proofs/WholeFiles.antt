@@ -1,11 +1,11 @@
 -- A text has one reading or one list of errors: from the laws of sections and of what stands behind them.
 use Rattle.std.proofs.Common.{◌≡◌, ℕ, Bool, false, List, [], ◌∷◌, map, Option, Some, None, refl, sym, ◌∙◌, ap, subst}
 use Rattle.cfg_base.specs.SpanModel.{SpanModel}
-use Rattle.cfg_base.specs.HeaderErrors.{KindText}
-use Rattle.cfg_base.specs.Sections.{span, PairText}
-use Rattle.cfg_base.specs.Sections as sections
-use Rattle.cfg_base.specs.SectionResults.{ErrorText, repeat_text, Refuses, one_fault, repeated_keys, IsAnswered, reads_header, repeats_keys, has_fault}
-use Rattle.cfg_base.specs.SectionRepeats.{repeats_of}
+use Rattle.cfg_sections.specs.HeaderErrors.{KindText}
+use Rattle.cfg_sections.specs.Sections.{span, PairText}
+use Rattle.cfg_sections.specs.Sections as sections
+use Rattle.cfg_sections.specs.SectionResults.{ErrorText, repeat_text, Refuses, one_fault, repeated_keys, IsAnswered, reads_header, repeats_keys, has_fault}
+use Rattle.cfg_sections.specs.SectionRepeats.{repeats_of}
 use Rattle.cfg_read.specs.declared.yacc.YaccKind.{YaccKind}
 use Rattle.cfg_read.specs.declared.yacc.parser.error.YaccGrammarErrorKind.{YaccGrammarErrorKind}
 use Rattle.cfg_read.specs.declared.yacc.parser.error.YaccGrammarErrorKind.TheVariants as told

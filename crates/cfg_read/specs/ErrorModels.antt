@@ -4,7 +4,7 @@ use Rattle.std.specs.declared.alloc.Global.{Global}
 use Rattle.cfg_base.specs.SpanModel.{SpanModel}
 use Rattle.std.specs.String.{string_bytes}
 use Rattle.cfg_base.specs.declared.span.SpansKind.{SpansKind}
-use Rattle.cfg_base.specs.HeaderErrors.{kind_text}
+use Rattle.cfg_sections.specs.HeaderErrors.{kind_text}
 use Rattle.cfg_read.specs.declared.yacc.parser.error.YaccGrammarErrorKind.{YaccGrammarErrorKind}
 use Rattle.cfg_read.specs.declared.yacc.parser.error.YaccGrammarErrorKind.TheVariants as kinds
 use Rattle.cfg_read.specs.declared.yacc.validity.YaccGrammarError.{YaccGrammarError}

@@ -1,6 +1,6 @@
 -- What errors of a grammar text print.
 use Rattle.std.specs.Prelude.{ℕ, List, [], ◌++◌, codes}
-use Rattle.cfg_base.specs.HeaderErrors.{header_error_text}
+use Rattle.cfg_sections.specs.HeaderErrors.{header_error_text}
 use Rattle.cfg_read.specs.declared.yacc.parser.error.YaccGrammarErrorKind.{YaccGrammarErrorKind}
 use Rattle.cfg_read.specs.declared.yacc.parser.error.YaccGrammarErrorKind.TheVariants as faults
 use Rattle.cfg_read.specs.declared.yacc.parser.error.ReadError.{ReadError}

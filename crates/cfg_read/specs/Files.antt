@@ -3,17 +3,17 @@ use Rattle.std.specs.Prelude.{◌≡◌, ℕ, false, List, [], ◌∷◌, map, O
 use lib.Chars.{codes}
 use Rattle.cfg_base.specs.SpanModel.{SpanModel}
 use Rattle.cfg_base.specs.declared.span.SpansKind.TheVariants as spanskinds
-use Rattle.cfg_base.specs.HeaderErrors.{no_conversion}
-use Rattle.cfg_base.specs.Sections.{span, PairText}
-use Rattle.cfg_base.specs.Sections as sections
-use Rattle.cfg_base.specs.SectionSource.{SectionSource}
-use Rattle.cfg_base.specs.HeaderTexts.{ValueText}
-use Rattle.cfg_base.specs.SectionResults.{ErrorText, error_text, Refuses}
-use Rattle.cfg_base.specs.declared.header.section.SectionError.{SectionError}
-use Rattle.cfg_base.specs.declared.header.section.SectionError.TheVariants as refusals
+use Rattle.cfg_sections.specs.HeaderErrors.{no_conversion}
+use Rattle.cfg_sections.specs.Sections.{span, PairText}
+use Rattle.cfg_sections.specs.Sections as sections
+use Rattle.cfg_sections.specs.SectionSource.{SectionSource}
+use Rattle.cfg_sections.specs.HeaderTexts.{ValueText}
+use Rattle.cfg_sections.specs.SectionResults.{ErrorText, error_text, Refuses}
+use Rattle.cfg_sections.specs.declared.header.section.SectionError.{SectionError}
+use Rattle.cfg_sections.specs.declared.header.section.SectionError.TheVariants as refusals
 use Rattle.cfg_read.specs.declared.yacc.parser.error.ReadError.{ReadError}
 use Rattle.cfg_read.specs.declared.yacc.parser.error.ReadError.TheVariants as errors
-use Rattle.cfg_base.specs.SectionRepeats.{repeats_of, said_of}
+use Rattle.cfg_sections.specs.SectionRepeats.{repeats_of, said_of}
 use Rattle.cfg_read.specs.declared.yacc.YaccKind.{YaccKind}
 use Rattle.cfg_read.specs.declared.yacc.parser.error.YaccGrammarErrorKind.{YaccGrammarErrorKind}
 use Rattle.cfg_read.specs.declared.yacc.parser.error.YaccGrammarErrorKind.TheVariants as faults

@@ -7,9 +7,9 @@ use lib.Chars.{codes}
 use Rattle.cfg_base.specs.SpanModel.{SpanModel}
 use Rattle.cfg_base.specs.declared.span.Location.{Location}
 use Rattle.cfg_base.specs.declared.span.Location.TheVariants as locations
-use Rattle.cfg_base.specs.declared.header.error.HeaderError.{HeaderError}
-use Rattle.cfg_base.specs.HeaderErrors.{kind_text, no_conversion}
-use Rattle.cfg_base.specs.HeaderTexts.{WordText, PathText, SettingText, unitary, construct, ValueText, flag, setting, setting_primary}
+use Rattle.cfg_sections.specs.declared.header.error.HeaderError.{HeaderError}
+use Rattle.cfg_sections.specs.HeaderErrors.{kind_text, no_conversion}
+use Rattle.cfg_sections.specs.HeaderTexts.{WordText, PathText, SettingText, unitary, construct, ValueText, flag, setting, setting_primary}
 use Rattle.cfg_read.specs.declared.yacc.YaccKind.{YaccKind}
 use Rattle.cfg_read.specs.declared.yacc.YaccKind.TheVariants as kinds
 use Rattle.cfg_read.specs.declared.yacc.YaccOriginalActionKind.{YaccOriginalActionKind}

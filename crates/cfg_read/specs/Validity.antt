@@ -2,8 +2,8 @@
 use Rattle.std.specs.Prelude.{◌≡◌, ℕ, Bool, not, ◌&&◌, ◌||◌, List, [], ◌∷◌, ◌++◌, map, filter, option_to_list}
 use Rattle.std.specs.List.{flat_map}
 use Rattle.cfg_base.specs.SpanModel.{SpanModel}
-use Rattle.cfg_base.specs.HeaderErrors.{KindText, spanskind_of}
-use Rattle.cfg_base.specs.SectionResults.{ErrorText}
+use Rattle.cfg_sections.specs.HeaderErrors.{KindText, spanskind_of}
+use Rattle.cfg_sections.specs.SectionResults.{ErrorText}
 use Rattle.cfg_base.specs.declared.span.SpansKind.{SpansKind}
 use Rattle.cfg_base.specs.declared.span.SpansKind.TheVariants as spans
 use Rattle.cfg_read.specs.declared.yacc.parser.error.YaccGrammarErrorKind.{YaccGrammarErrorKind}

@@ -37,4 +37,5 @@ pub mod yacc;
 pub use cfg_base::newlinecache::NewlineCache;
 pub use cfg_base::span::{Location, Span, Spanned};
 pub use cfg_base::symbol::{PIdx, RIdx, SIdx, Symbol, TIdx};
-pub use cfg_base::{header, index, markmap, newlinecache, precedence, span, steps, symbol};
+pub use cfg_base::{index, newlinecache, precedence, span, steps, symbol};
+pub use cfg_sections::{header, markmap};

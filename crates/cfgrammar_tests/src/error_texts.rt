@@ -1,7 +1,6 @@
 //! What errors print, each seen as a `std::error::Error`.
 
 use crate::same::same;
-use cfg_base::header::Value;
 use cfg_base::span::{Span, Spanned};
 use cfg_read::yacc::parser::error::ReadError;
 use cfg_read::yacc::parser::{
@@ -11,6 +10,7 @@ use cfg_read::yacc::parser::{
 use cfg_read::yacc::{
     ASTModificationError, KindError, YaccGrammarFailure, YaccKind, YaccOriginalActionKind,
 };
+use cfg_sections::header::Value;
 use std::alloc::{AllocError, Global};
 use std::error::Error;
 use std::test::*;

@@ -1,9 +1,9 @@
 //! Kinds made into values.
 
 use crate::same::same;
-use cfg_base::header::Value;
 use cfg_base::span::Location;
 use cfg_read::yacc::{YaccKind, YaccOriginalActionKind};
+use cfg_sections::header::Value;
 use std::process::Abort;
 use std::test::*;
 

@@ -2,7 +2,7 @@
 use Rattle.std.specs.Prelude.{◌≡◌, ℕ, ◌+◌, ◌-◌, ◌==◌, Bool, true, false, not, ◌&&◌, ◌||◌, if◌then◌else◌, List, [], ◌∷◌, ◌++◌, length, drop, map, codes, nat_lt, Option, None, Some, option_map, Result, Ok, Err}
 use Rattle.std.specs.List.{prefix_len, position_or_len, list_any, slice_split}
 use Rattle.std.specs.Str.{bytes_eq, IsCharBoundary}
-use Rattle.cfg_base.specs.Sections.{PairText, Reads}
+use Rattle.cfg_sections.specs.Sections.{PairText, Reads}
 use Rattle.cfg_base.specs.Text.{is_letter, is_digit}
 use Rattle.lex_files.specs.Pieces.{trimmed, before_name, name_part, after_byte, cut_at, is_gap, begins_white}
 use Rattle.lex_files.specs.declared.conditions.Condition.{Condition}

@@ -1,7 +1,7 @@
 //! Why a lexer file doesn't read.
 
-use cfg_base::header::HeaderError;
 use cfg_base::span::Span;
+use cfg_sections::header::HeaderError;
 use std::alloc::AllocError;
 use std::error::Error;
 use std::fmt;

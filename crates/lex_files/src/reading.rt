@@ -8,7 +8,7 @@ use crate::conditions::{Condition, declare, fault_at, read_declaration};
 use crate::fault::{FaultKind, LexFileError};
 use crate::pieces::{begins_white, is_gap, trimmed};
 use crate::rules::{RuleText, read_rule};
-use cfg_base::header::{GrmtoolsSectionParser, SectionError};
+use cfg_sections::header::{GrmtoolsSectionParser, SectionError};
 use std::alloc::{AllocError, Global};
 
 /// Where in a file a line is.

@@ -1,6 +1,6 @@
 -- Kinds of texts whose section may tell them.
 use Rattle.std.proofs.Common.{◌≡◌, ℕ, Bool, true, false, List, [], ◌∷◌, map, refl, sym, ap, subst, ◌∙◌}
-use Rattle.cfg_base.specs.SectionResults.{ErrorText}
+use Rattle.cfg_sections.specs.SectionResults.{ErrorText}
 use Rattle.cfg_read.specs.declared.yacc.YaccKind.{YaccKind}
 use Rattle.cfg_read.specs.declared.yacc.YaccKind.TheVariants.{Original}
 use Rattle.cfg_read.specs.declared.yacc.YaccOriginalActionKind.TheVariants.{GenericParseTree}

@@ -1,7 +1,7 @@
 -- The kind of a text whose section may tell it.
 use Rattle.std.specs.Prelude.{◌≡◌, ℕ, Bool, true, false, List, [], ◌∷◌, Some, None}
 use Rattle.cfg_base.specs.SpanModel.{SpanModel}
-use Rattle.cfg_base.specs.Sections.{PairText}
+use Rattle.cfg_sections.specs.Sections.{PairText}
 use Rattle.cfg_read.specs.declared.yacc.YaccKind.{YaccKind}
 use Rattle.cfg_read.specs.declared.yacc.YaccKind.TheVariants.{Original}
 use Rattle.cfg_read.specs.declared.yacc.YaccOriginalActionKind.TheVariants.{GenericParseTree}

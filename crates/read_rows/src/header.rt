@@ -1,7 +1,9 @@
 //! Sections, a line for each key or error.
 
-use cfg_base::header::{GrmtoolsSectionParser, Header, HeaderError, SectionError, try_from_header};
 use cfg_base::span::{Location, Span, Spanned, SpansKind};
+use cfg_sections::header::{
+    GrmtoolsSectionParser, Header, HeaderError, SectionError, try_from_header,
+};
 use row_files::push_spans;
 use std::alloc::{AllocError, Global};
 

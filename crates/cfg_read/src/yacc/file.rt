@@ -1,12 +1,12 @@
 //! Reads a grammar text as a whole: its section, and the text behind it.
 
 ghost use Rattle.std.specs.Prelude.{◌≡◌, ◌≤◌, ◌++◌, ◌∷◌, [], ℕ, List, Some, None, length, map, option_map, option_copied, IfOk, IfErr};
-ghost use Rattle.cfg_base.specs.declared.header.value.HeaderValue.{HeaderValue};
+ghost use Rattle.cfg_sections.specs.declared.header.value.HeaderValue.{HeaderValue};
 ghost use Rattle.cfg_base.specs.SpanModel.{SpanModel};
-ghost use Rattle.cfg_base.specs.HeaderTexts.{value_text};
-ghost use Rattle.cfg_base.specs.SectionResults.{error_text, ReadsHeader, IsSectionError};
-ghost use Rattle.cfg_base.specs.SectionRepeats.{Holds, said_of, entry_text};
-ghost use Rattle.cfg_base.specs.Sections.{PairText};
+ghost use Rattle.cfg_sections.specs.HeaderTexts.{value_text};
+ghost use Rattle.cfg_sections.specs.SectionResults.{error_text, ReadsHeader, IsSectionError};
+ghost use Rattle.cfg_sections.specs.SectionRepeats.{Holds, said_of, entry_text};
+ghost use Rattle.cfg_sections.specs.Sections.{PairText};
 ghost use Rattle.cfg_read.specs.declared.yacc.YaccKind.{YaccKind};
 ghost use Rattle.cfg_read.specs.SyntaxTexts.{SyntaxText};
 ghost use Rattle.cfg_read.specs.Reading.{Reads};
@@ -23,10 +23,10 @@ use crate::yacc::parser::error::{ReadError, YaccGrammarErrorKind};
 use crate::yacc::parser::syntax::Syntax;
 use crate::yacc::parser::{laws, read_syntax};
 use crate::yacc::validity::YaccGrammarError;
-use cfg_base::header::{
+use cfg_base::span::Span;
+use cfg_sections::header::{
     GrmtoolsSectionParser, Header, HeaderError, HeaderValue, SectionError, laws as section_laws,
 };
-use cfg_base::span::Span;
 use std::alloc::{AllocError, Global};
 use thiserror::Error;
 

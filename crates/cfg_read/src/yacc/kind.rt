@@ -3,14 +3,14 @@
 ghost use Rattle.std.specs.Prelude.{◌≡◌, Ok, IfOk, IfErr, option_map};
 ghost use lib.Chars.{codes};
 ghost use Rattle.std.specs.String.{string_bytes};
-ghost use Rattle.cfg_base.specs.HeaderTexts.{word_text, path_text, setting_text, value_text};
-ghost use Rattle.cfg_base.specs.HeaderMaps.{map_word, map_path, map_setting, map_value};
+ghost use Rattle.cfg_sections.specs.HeaderTexts.{word_text, path_text, setting_text, value_text};
+ghost use Rattle.cfg_sections.specs.HeaderMaps.{map_word, map_path, map_setting, map_value};
 ghost use Rattle.cfg_read.specs.declared.yacc.YaccKind.TheVariants.{Original};
 ghost use Rattle.cfg_read.specs.Kinds.{is_word, Meaning, means, unfit, within, or_misfit, kind_named, action_named, argument_meaning, alone_meaning, applied_meaning, meaning_of, found_meaning, RefusesKind, IsKindError, LocationText, location_text, kind_word, kind_path, kind_setting, action_name, value_of};
 
 use crate::yacc::{YaccKind, YaccOriginalActionKind};
-use cfg_base::header::{HeaderError, HeaderErrorKind, Namespaced, Setting, Value};
 use cfg_base::span::Location;
+use cfg_sections::header::{HeaderError, HeaderErrorKind, Namespaced, Setting, Value};
 use std::alloc::{AllocError, Global};
 use std::error::Error;
 use std::fmt;

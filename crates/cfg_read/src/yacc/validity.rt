@@ -13,8 +13,8 @@ use crate::yacc::ast::parts::Lines;
 use crate::yacc::ast::settle::Uses;
 use crate::yacc::parser::error::YaccGrammarErrorKind;
 use crate::yacc::parser::syntax::{Syntax, Word};
-use cfg_base::header::HeaderError;
 use cfg_base::span::{Span, Spanned, SpansKind};
+use cfg_sections::header::HeaderError;
 use std::alloc::{AllocError, Global};
 use std::error::Error;
 use std::fmt;
@@ -89,7 +89,7 @@ impl Clone for YaccGrammarError {
 
 impl From<HeaderError<Span>> for YaccGrammarError {
     ghost use Rattle.std.specs.Prelude.{◌≡◌};
-    ghost use Rattle.cfg_base.specs.SectionResults.{error_text};
+    ghost use Rattle.cfg_sections.specs.SectionResults.{error_text};
     ghost use Rattle.cfg_read.specs.Validity.{header_failure};
     ghost use Rattle.cfg_read.specs.ErrorModels.{failure_of};
 

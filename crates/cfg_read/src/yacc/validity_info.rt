@@ -1,7 +1,7 @@
 //! Syntax trees of grammar texts, with what is wrong with the texts.
 
 ghost use Rattle.std.specs.Prelude.{◌≡◌, ◌≤◌, ℕ, List, [], Some, true, false, length, IfOk, IfErr, OnOk};
-ghost use Rattle.cfg_base.specs.Sections.{PairText};
+ghost use Rattle.cfg_sections.specs.Sections.{PairText};
 ghost use Rattle.cfg_read.specs.declared.yacc.YaccKind.{YaccKind};
 ghost use Rattle.cfg_read.specs.SyntaxModels.{syntax_of};
 ghost use Rattle.cfg_read.specs.AstModels.{named_rules, named_spans};

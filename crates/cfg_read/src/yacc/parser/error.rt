@@ -6,8 +6,8 @@ ghost use Rattle.cfg_read.specs.ErrorModels.{kind_of};
 ghost use Rattle.cfg_read.specs.ErrorTexts.{failure_text};
 ghost use Rattle.cfg_read.specs.declared.yacc.parser.error.ReadError.TheVariants.{Memory};
 
-use cfg_base::header::HeaderErrorKind;
 use cfg_base::span::SpansKind;
+use cfg_sections::header::HeaderErrorKind;
 use std::alloc::{AllocError, AllocFailed};
 use std::error::Error;
 use std::fmt;

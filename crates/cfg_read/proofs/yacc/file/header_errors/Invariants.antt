@@ -1,5 +1,5 @@
 use Rattle.std.specs.Prelude.{◌≡◌, map}
-use Rattle.cfg_base.specs.SectionResults.{error_text}
+use Rattle.cfg_sections.specs.SectionResults.{error_text}
 use Rattle.cfg_read.specs.Validity.{header_failure}
 use Rattle.cfg_read.specs.ErrorModels.{failures_in}
 use Rattle.cfg_read.proofs.yacc.file.header_errors.Given as goal

@@ -1,4 +1,4 @@
-use Rattle.cfg_base.specs.HeaderTexts.{value_text}
+use Rattle.cfg_sections.specs.HeaderTexts.{value_text}
 use Rattle.cfg_read.specs.Kinds.{meaning_of}
 use Rattle.cfg_read.proofs.yacc.file.kind_of_value.Goals as goal
 

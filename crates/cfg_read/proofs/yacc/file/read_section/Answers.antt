@@ -1,5 +1,5 @@
 use Rattle.std.proofs.Common.{subst}
-use Rattle.cfg_base.specs.SectionResults.{ReadsHeader, IsSectionError}
+use Rattle.cfg_sections.specs.SectionResults.{ReadsHeader, IsSectionError}
 use Rattle.cfg_read.proofs.FileFailures.{section_shown, source_is}
 use Rattle.cfg_read.proofs.yacc.file.read_section.Goals as goal
 

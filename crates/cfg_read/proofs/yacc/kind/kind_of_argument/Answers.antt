@@ -1,6 +1,6 @@
 use Rattle.std.proofs.Common.{◌∙◌, ap}
 use lib.Chars.{codes}
-use Rattle.cfg_base.specs.HeaderTexts.{path_text}
+use Rattle.cfg_sections.specs.HeaderTexts.{path_text}
 use Rattle.cfg_read.specs.Kinds.{unfit, action_named, action_or}
 use Rattle.cfg_read.proofs.yacc.kind.kind_of_argument.Goals as goal
 

@@ -1,7 +1,0 @@
-use Rattle.std.proofs.Common.{◌≡◌, ◌++◌, map, filter}
-use Rattle.cfg_base.specs.MarkMaps.{is_unused, unused_of}
-use Rattle.cfg_base.proofs.markmap.MarkMap.unused.Given as goal
-
--- what is found, and what is still to be found
-abbrev pub invariant-keys : goal.invariant-keys
-invariant-keys g l = map (λ k. k.now) l.found.items ++ map (λ e. e.0) (filter is_unused l.key-iterator) ≡ unused_of l.self

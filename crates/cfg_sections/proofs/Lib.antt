@@ -1,0 +1,15 @@
+pub mod HeaderRuns
+pub mod HeaderTokens
+pub mod LocatedHeaders
+pub mod LocatedTexts
+pub mod MarkMapEntries
+pub mod MarkMapIterators
+pub mod MarkMapMerges
+pub mod MarkMapRoom
+pub mod RepeatLists
+pub mod SectionChains
+pub mod SectionNext
+pub mod SectionRefusals
+pub mod SectionTotal
+pub mod SettingReads
+pub mod SettingTexts

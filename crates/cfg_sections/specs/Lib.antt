@@ -1,0 +1,12 @@
+pub mod MarkMaps
+pub mod LentValues
+pub mod Entries
+pub mod Merges
+pub mod HeaderErrors
+pub mod HeaderTexts
+pub mod HeaderWords
+pub mod Sections
+pub mod SectionRepeats
+pub mod SectionSource
+pub mod SectionResults
+pub mod HeaderMaps

@@ -11,12 +11,10 @@ ghost use Rattle.state_table.specs.ConflictTexts.{ConflictsInRange};
 ghost use Rattle.state_table.specs.Graphs.{IsGraphOf};
 ghost use Rattle.state_table.specs.Tables.{IsTableOf};
 
+use crate::text_errors::grammar;
 use cfg_numbered::yacc::NumberedGrammar;
-use cfgrammar::yacc::{YaccGrammar, YaccGrammarMakeError, YaccKind, YaccOriginalActionKind};
 use lrtable::{FromYaccError, Minimiser, StateGraph, StateTable, from_yacc};
 use std::alloc::{AllocError, Global};
-
-const TREE: YaccKind = YaccKind::Original(YaccOriginalActionKind::GenericParseTree);
 
 const STATEMENTS: &str = "%start S %% S: 'if' S 'else' S | 'if' S | 'x';";
 
@@ -71,14 +69,13 @@ fn told_of(alloc: Global, grm: &NumberedGrammar<u32>) -> Result<String, AllocErr
 }
 
 fn told(alloc: Global, text: &str) -> Result<String, AllocError> {
-    match YaccGrammar::new(alloc, TREE, text) {
+    match grammar(alloc, text)? {
         Ok(grm) => {
             let told = told_of(alloc, &grm);
             drop(grm);
             told
         }
-        Err(YaccGrammarMakeError::Memory(e)) => Err(e),
-        Err(refusal) => format!(in alloc; "{refusal}\n"),
+        Err(told) => Ok(told),
     }
 }
 

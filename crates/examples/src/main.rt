@@ -3,7 +3,7 @@
 //!
 //! - `places` over `cfg_base`; `bits` over `vob`; `first_sets` and `shortest` over `cfgrammar`; `conflicts` over `lrtable`;
 //!   `calc` over `lrpar`; `editor` over `lrpar` and `lrpar_diagnostics`; `kit` over `parser_kit`.
-//! - `text_errors` and `parser_data` are parts that several of them use. `deep_runs` is a test of long lines and deep trees.
+//! - `text_errors` makes the grammar of a text, `parser_data` what a parser runs on; several of them use these. `deep_runs` is a test of long lines and deep trees.
 #![tactic(auto)]
 
 mod bits;

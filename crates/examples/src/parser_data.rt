@@ -1,21 +1,11 @@
-//! The grammar of a text, and the data that a parser runs on.
+//! The data that a parser runs on.
 
+use crate::text_errors::grammar;
 use cfg_numbered::yacc::grammar::NumberedGrammar;
-use cfgrammar::yacc::{YaccGrammar, YaccGrammarMakeError, YaccKind, YaccOriginalActionKind};
+use cfgrammar::yacc::YaccGrammar;
 use lrpar::{ParserData, ParserDataError};
 use lrtable::{FromYaccError, Minimiser, StateGraph, StateTable, from_yacc};
 use std::alloc::{AllocError, Global};
-
-const TREE: YaccKind = YaccKind::Original(YaccOriginalActionKind::GenericParseTree);
-
-/// Returns the grammar of a text, if it has one.
-pub fn grammar(alloc: Global, text: &str) -> Result<Option<YaccGrammar<u32>>, AllocError> {
-    match YaccGrammar::new_with_storaget(alloc, TREE, text) {
-        Ok(grm) => Ok(Some(grm)),
-        Err(YaccGrammarMakeError::Memory(e)) => Err(e),
-        Err(_) => Ok(None),
-    }
-}
 
 /// Returns the graph and the table of a grammar, if it has them.
 fn tables(
@@ -63,7 +53,7 @@ fn tabled(alloc: Global, grm: YaccGrammar<u32>) -> Result<Option<ParserData<u32>
 /// Returns the data of a text, if it has them.
 pub fn data(alloc: Global, text: &str) -> Result<Option<ParserData<u32>>, AllocError> {
     match grammar(alloc, text)? {
-        Some(grm) => tabled(alloc, grm),
-        None => Ok(None),
+        Ok(grm) => tabled(alloc, grm),
+        Err(_) => Ok(None),
     }
 }

@@ -1,13 +1,19 @@
 //! What texts yield: a kit with its counts, or why there is none.
 
-use crate::make::TREE;
 use crate::same::same;
-use crate::texts::{Many, text_of};
 use cfg_base::index::IndexStorage;
-use cfg_read::yacc::YaccGrammarError;
+use cfg_read::yacc::{YaccGrammarError, YaccKind, YaccOriginalActionKind};
 use parser_kit::{KitError, ParserKit};
 use std::alloc::{AllocError, Global};
 use std::test::*;
+
+/// Yacc's own syntax, with trees.
+const TREE: YaccKind = YaccKind::Original(YaccOriginalActionKind::GenericParseTree);
+
+/// Returns the kit of a text of Yacc's own syntax with trees, or why there is none.
+pub fn made<S: IndexStorage>(alloc: Global, text: &str) -> Result<ParserKit<S>, KitError<S>> {
+    ParserKit::<S>::new(alloc, text, TREE, 1000)
+}
 
 /// Returns how many conflicts are listed, of shifts and of pairs of reductions.
 fn counts<S: IndexStorage>(kit: &ParserKit<S>) -> (usize, usize) {
@@ -67,7 +73,7 @@ fn answer_of<S: IndexStorage>(
 
 /// Returns what comes of a text of Yacc's own syntax with trees.
 fn answer_to<S: IndexStorage>(alloc: Global, text: &str) -> Result<String, AllocError> {
-    answer_of(alloc, ParserKit::<S>::new(alloc, text, TREE, 1000))
+    answer_of(alloc, made::<S>(alloc, text))
 }
 
 /// Returns what comes of a text whose section may tell its kind.
@@ -180,28 +186,30 @@ fn kits_tell_of_their_texts(rt: HostRuntime) -> Result<(), Fail> {
     Ok(())
 }
 
-/// What there are many of in a text, how many, and what comes of it with numbers of eight bits.
-const NUMBERS: &[(Many, usize, &str)] = &[
-    (Many::Tokens, 254, "0 0 true true"),
-    (Many::Tokens, 255, "too many tokens: 256"),
-    (Many::Rules, 254, "0 0 true true"),
-    (Many::Rules, 255, "too many rules: 256"),
-    (Many::Productions, 255, "too many productions: 256"),
-    (Many::Symbols, 253, "0 0 true true"),
-    (Many::Symbols, 254, "too many states: 256"),
-    (Many::Symbols, 256, "too many symbols: 256"),
+/// Returns a text whose one production is a token this many times.
+fn symbols_text(alloc: Global, count: usize) -> Result<String, AllocError> {
+    let mut text = String::from_str(alloc, "%start S %% S:")?;
+    for _ in 0..count {
+        text.push_str(" 'a'")?;
+    }
+    text.push(';')?;
+    Ok(text)
+}
+
+/// How many symbols a production has, and what comes of its text with numbers of eight bits.
+const NUMBERS: &[(usize, &str)] = &[
+    (253, "0 0 true true"),
+    (254, "too many states: 256"),
+    (256, "too many symbols: 256"),
 ];
 
 #[test]
 fn numbers_have_an_end(rt: HostRuntime) -> Result<(), Fail> {
     for index in 0..NUMBERS.len() {
-        let (many, count, answer) = NUMBERS[index];
-        let text = text_of(rt.alloc(), many, count)?;
+        let (count, answer) = NUMBERS[index];
+        let text = symbols_text(rt.alloc(), count)?;
         let found = answer_to::<u8>(rt.alloc(), text.as_str())?;
         same(&rt, answer, found.as_str(), answer);
     }
-    let text = text_of(rt.alloc(), Many::Tokens, 255)?;
-    let found = answer_to::<u16>(rt.alloc(), text.as_str())?;
-    same(&rt, "u16", found.as_str(), "0 0 true true");
     Ok(())
 }

@@ -1,32 +1,33 @@
-//! Lines through kits, and lines whose lexemes as repaired are parsed again, without repairs.
+//! Lines through kits.
 
+use crate::kits::made;
 use crate::lexer::lexer_of;
-use crate::lines::lines_of;
-use crate::make::kit;
 use crate::same::same;
 use crate::spell::{branch, by_rule, flat_text, folded_text, leaf, mapped_text};
-use crate::texts::any_of;
 use cfg_base::index::IndexOrder;
 use cfg_base::span::Span;
 use cfg_base::symbol::{PIdx, RIdx};
-use lrpar::{DefaultLexeme, DefaultLexerTypes, ListLexer, NoRecovery, Recoverer};
-use parser_kit::ParserKit;
+use lrpar::{DefaultLexeme, DefaultLexerTypes, ListLexer, NoRecovery};
+use parser_kit::{KitError, ParserKit};
 use std::alloc::{AllocError, Global};
 use std::test::*;
 
-/// Returns what the lexemes fold to where this recoverer is asked at each error.
-fn by_productions<S: IndexOrder, R: Recoverer<S, DefaultLexeme<S>>>(
+/// Returns what the lexemes fold to.
+fn by_productions<S: IndexOrder>(
     alloc: Global,
     kit: &ParserKit<S>,
     lexer: &ListLexer<DefaultLexerTypes<S>>,
-    recoverer: &R,
 ) -> Result<String, AllocError> {
     let fterm = |alloc: Global, lexeme: DefaultLexeme<S>| leaf(alloc, lexeme);
     let fnonterm = |alloc: Global, pidx: PIdx<S>, ridx: RIdx<S>, span: Span, args: Vec<String>| {
         branch(alloc, pidx, ridx, span, args)
     };
     let outcome = kit.parse_fold::<DefaultLexerTypes<S>, _, _, _, _, _>(
-        alloc, lexer, recoverer, &fterm, &fnonterm,
+        alloc,
+        lexer,
+        &NoRecovery,
+        &fterm,
+        &fnonterm,
     );
     let text = folded_text(alloc, &outcome);
     drop(outcome);
@@ -71,7 +72,7 @@ fn each_way<S: IndexOrder>(
     kit: &ParserKit<S>,
     lexer: &ListLexer<DefaultLexerTypes<S>>,
 ) -> Result<String, AllocError> {
-    let mut text = by_productions(alloc, kit, lexer, &NoRecovery)?;
+    let mut text = by_productions(alloc, kit, lexer)?;
     text.push_str(" / ")?;
     text.push_str(by_rules(alloc, kit, lexer)?.as_str())?;
     text.push_str(" / ")?;
@@ -91,16 +92,20 @@ fn text_by<S: IndexOrder>(
     text
 }
 
-/// Returns what the lexemes yield with the kit of a text that has one.
+/// Returns what the lexemes yield with the kit of a text, or that it has none.
 fn line_text<S: IndexOrder>(
     alloc: Global,
     text: &str,
     lexemes: &[(u8, u16, u16)],
-) -> Result<String, Fail> {
-    let kit = kit::<S>(alloc, text)?;
-    let found = text_by(alloc, &kit, lexemes);
-    drop(kit);
-    Ok(found?)
+) -> Result<String, AllocError> {
+    let made = made::<S>(alloc, text);
+    let found = match &made {
+        Ok(kit) => text_by(alloc, kit, lexemes),
+        Err(KitError::Memory(e)) => Err(*e),
+        Err(_) => String::from_str(alloc, "no kit"),
+    };
+    drop(made);
+    found
 }
 
 const TWO: &str = "%start S %% S: 'a' A 'd' | 'b' B 'd' | 'a' B 'e' | 'b' A 'e'; A: 'c'; B: 'c';";
@@ -161,87 +166,5 @@ fn kits_of_any_numbers_parse(rt: HostRuntime) -> Result<(), Fail> {
         found.as_str(),
         "none; error at 2@4 / none, 1 errors / none",
     );
-    drop(found);
-    let text = any_of(rt.alloc(), 65)?;
-    let found = line_text::<u8>(rt.alloc(), text.as_str(), &[(64, 0, 3)])?;
-    same(
-        &rt,
-        "65 tokens",
-        found.as_str(),
-        "64:1[0,3]( 64@0 ) / 1( 64@0 ) / 2 nodes",
-    );
-    Ok(())
-}
-
-/// Returns what the lexemes fold to where these sequences are passed at each error.
-fn with_repairs<S: IndexOrder>(
-    alloc: Global,
-    kit: &ParserKit<S>,
-    lexemes: &[(u8, u16, u16)],
-    letters: &str,
-) -> Result<String, AllocError> {
-    let lexer = lexer_of::<S>(alloc, lexemes)?;
-    let lines = lines_of::<S>(alloc, letters)?;
-    let text = by_productions(alloc, kit, &lexer, &lines);
-    drop(lines);
-    drop(lexer);
-    text
-}
-
-/// Returns what the lexemes fold to without repairs, and these errors behind it.
-fn without_repairs<S: IndexOrder>(
-    alloc: Global,
-    kit: &ParserKit<S>,
-    lexemes: &[(u8, u16, u16)],
-    errors: &str,
-) -> Result<String, AllocError> {
-    let lexer = lexer_of::<S>(alloc, lexemes)?;
-    let made = by_productions(alloc, kit, &lexer, &NoRecovery);
-    drop(lexer);
-    let mut text = made?;
-    text.push_str(errors)?;
-    Ok(text)
-}
-
-/// Returns what lexemes yield with repairs, and what those that the repairs leave yield without, with the errors behind.
-fn both<S: IndexOrder>(
-    alloc: Global,
-    text: &str,
-    (lexemes, letters): (&[(u8, u16, u16)], &str),
-    (left, errors): (&[(u8, u16, u16)], &str),
-) -> Result<(String, String), Fail> {
-    let kit = kit::<S>(alloc, text)?;
-    let found = with_repairs(alloc, &kit, lexemes, letters);
-    let again = without_repairs(alloc, &kit, left, errors);
-    drop(kit);
-    Ok((found?, again?))
-}
-
-const SUMS: &str = "%start E %% E: T '+' E | T; T: 'ID';";
-
-const TAILS: &str = "%start S %% S: 'a' A 't' | 'a' B | 'b' A 'u' | 'b' B; A: 'q'; B: 'q' 'x';";
-
-#[test]
-fn repairs_leave_no_trace(rt: HostRuntime) -> Result<(), Fail> {
-    // `ID + + ID ID`, where a lexeme is deleted at each error.
-    let wrong = [(1, 0, 2), (0, 3, 1), (0, 5, 1), (1, 7, 2), (1, 10, 2)];
-    let right = [(1, 0, 2), (0, 3, 1), (1, 7, 2)];
-    let errors = "; error at 0@5, delete 0@5; error at 1@10, delete 1@10";
-    let two = both::<u8>(rt.alloc(), SUMS, (&wrong, "d"), (&right, errors))?;
-    same(&rt, "deleted", two.0.as_str(), two.1.as_str());
-    drop(two);
-    // `ID +`, where one is made up at the end.
-    let wrong = [(1, 0, 2), (0, 3, 1)];
-    let right = [(1, 0, 2), (0, 3, 1), (1, 4, 0)];
-    let errors = "; error at 2@4 faulty, insert 1";
-    let two = both::<u32>(rt.alloc(), SUMS, (&wrong, "d 1"), (&right, errors))?;
-    same(&rt, "inserted", two.0.as_str(), two.1.as_str());
-    drop(two);
-    // A state whose reduction came before the error: what the lexemes as repaired give is the same.
-    let wrong = [(0, 0, 1), (4, 2, 1), (3, 4, 1)];
-    let right = [(0, 0, 1), (4, 2, 1), (1, 4, 0)];
-    let errors = "; error at 3@4, insert 1 delete 3@4";
-    let two = both::<u16>(rt.alloc(), TAILS, (&wrong, "5d 1d"), (&right, errors))?;
-    same(&rt, "reduced before", two.0.as_str(), two.1.as_str());
     Ok(())
 }

@@ -5,7 +5,7 @@ use cfg_base::span::Span;
 use cfg_base::symbol::{PIdx, RIdx};
 use lrpar::{
     DefaultLexeme, DefaultLexerTypes, FlatTree, FoldedOutcome, LRLexError, LexParseError, Lexeme,
-    ParseError, ParseRefusal, ParseRepair,
+    ParseError, ParseRefusal,
 };
 use std::alloc::{AllocError, Global};
 
@@ -58,56 +58,17 @@ pub fn by_rule<S: IndexStorage>(
     over(format!(in alloc; "{rule}")?, args)
 }
 
-/// Returns a repair.
-fn push_repair<S: IndexStorage>(
-    alloc: Global,
-    text: &mut String,
-    repair: ParseRepair<DefaultLexeme<S>, S>,
-) -> Result<(), AllocError> {
-    match repair {
-        ParseRepair::Insert(tidx) => {
-            let token = tidx.0.to_usize();
-            text.push_str(format!(in alloc; " insert {token}")?.as_str())
-        }
-        ParseRepair::Delete(lexeme) => {
-            text.push_str(" delete ")?;
-            text.push_str(leaf(alloc, lexeme)?.as_str())
-        }
-        ParseRepair::Shift(lexeme) => {
-            text.push_str(" shift ")?;
-            text.push_str(leaf(alloc, lexeme)?.as_str())
-        }
-    }
-}
-
-/// Returns an error: its lexeme, whether that was made up, and the listed sequences.
-fn push_error<S: IndexStorage>(
-    alloc: Global,
-    text: &mut String,
-    error: &ParseError<DefaultLexeme<S>, S>,
-) -> Result<(), AllocError> {
-    text.push_str("; error at ")?;
-    text.push_str(leaf(alloc, error.lexeme)?.as_str())?;
-    if error.lexeme.faulty {
-        text.push_str(" faulty")?;
-    }
-    for sequence in error.repairs.as_slice() {
-        text.push(',')?;
-        for repair in sequence.as_slice() {
-            push_repair(alloc, text, *repair)?;
-        }
-    }
-    Ok(())
-}
-
-/// Adds errors.
+/// Adds errors: the lexeme of each, and whether that was made up.
 fn push_errors<S: IndexStorage>(
     alloc: Global,
     text: &mut String,
     errors: &[ParseError<DefaultLexeme<S>, S>],
 ) -> Result<(), AllocError> {
     for error in errors {
-        push_error(alloc, text, error)?;
+        let token = error.lexeme.tok_id.to_usize();
+        let start = error.lexeme.span.start();
+        let faulty = if error.lexeme.faulty { " faulty" } else { "" };
+        text.push_str(format!(in alloc; "; error at {token}@{start}{faulty}")?.as_str())?;
     }
     Ok(())
 }
@@ -123,10 +84,11 @@ pub fn folded_text<S: IndexStorage>(
         Err(ParseRefusal::StartDecreases(index)) => format!(in alloc; "decreases {index}"),
         Ok(FoldedOutcome::Fault(_)) => String::from_str(alloc, "fault"),
         Ok(FoldedOutcome::Parsed(value, errors)) => {
-            let mut text = match value {
-                Some(value) => value.clone()?,
-                None => String::from_str(alloc, "none")?,
+            let value = match value {
+                Some(value) => value.as_str(),
+                None => "none",
             };
+            let mut text = String::from_str(alloc, value)?;
             push_errors(alloc, &mut text, errors.as_slice())?;
             Ok(text)
         }

@@ -3,7 +3,6 @@
 use crate::lexer::lexer_of;
 use crate::same::same;
 use crate::spell::{mapped_text, over};
-use cfg_base::index::{IndexOrder, IndexStorage};
 use cfg_base::symbol::{RIdx, TIdx};
 use cfg_numbered::yacc::NumberedGrammar;
 use cfgrammar::yacc::{YaccGrammar, YaccGrammarMakeError};
@@ -23,8 +22,8 @@ Factor : 'INT';";
 const INPUT: &str = "2*3+4";
 
 /// Returns the grammar of a text that names its kind.
-fn grammar_of<S: IndexStorage>(alloc: Global, text: &str) -> Result<NumberedGrammar<S>, Fail> {
-    match YaccGrammar::<S>::from_str(alloc, text) {
+fn grammar_of(alloc: Global, text: &str) -> Result<NumberedGrammar<u16>, Fail> {
+    match YaccGrammar::<u16>::from_str(alloc, text) {
         Ok(grm) => Ok(grm.into_numbered()),
         Err(YaccGrammarMakeError::Memory(e)) => Err(e.into()),
         Err(_) => Err("no grammar".into()),
@@ -32,8 +31,8 @@ fn grammar_of<S: IndexStorage>(alloc: Global, text: &str) -> Result<NumberedGram
 }
 
 /// Returns the kit of the grammar of a text that names its kind.
-fn kit_of<S: IndexStorage>(alloc: Global, text: &str) -> Result<GrammarKit<S>, Fail> {
-    let grm = grammar_of::<S>(alloc, text)?;
+fn kit_of(alloc: Global, text: &str) -> Result<GrammarKit<u16>, Fail> {
+    let grm = grammar_of(alloc, text)?;
     match GrammarKit::new(alloc, grm, 1000) {
         Ok(kit) => Ok(kit),
         Err(GrammarKitError::Memory(e)) => Err(e.into()),
@@ -42,10 +41,10 @@ fn kit_of<S: IndexStorage>(alloc: Global, text: &str) -> Result<GrammarKit<S>, F
 }
 
 /// Returns a lexeme as the name of its token and its text.
-fn named_leaf<S: IndexStorage>(
+fn named_leaf(
     alloc: Global,
-    grm: &NumberedGrammar<S>,
-    lexeme: DefaultLexeme<S>,
+    grm: &NumberedGrammar<u16>,
+    lexeme: DefaultLexeme<u16>,
 ) -> Result<String, AllocError> {
     let token = TIdx(lexeme.tok_id);
     let name = if grm.has_token(token) {
@@ -59,10 +58,10 @@ fn named_leaf<S: IndexStorage>(
 }
 
 /// Returns a node as the name of its rule and its children.
-fn named_branch<S: IndexStorage>(
+fn named_branch(
     alloc: Global,
-    grm: &NumberedGrammar<S>,
-    ridx: RIdx<S>,
+    grm: &NumberedGrammar<u16>,
+    ridx: RIdx<u16>,
     args: Vec<String>,
 ) -> Result<String, AllocError> {
     let name = if grm.has_rule(ridx) {
@@ -74,15 +73,15 @@ fn named_branch<S: IndexStorage>(
 }
 
 /// Returns what the input yields by names.
-fn names_text<S: IndexOrder>(alloc: Global, kit: &GrammarKit<S>) -> Result<String, AllocError> {
+fn names_text(alloc: Global, kit: &GrammarKit<u16>) -> Result<String, AllocError> {
     let lexemes = [(2, 0, 1), (1, 1, 1), (2, 2, 1), (0, 3, 1), (2, 4, 1)];
-    let lexer = lexer_of::<S>(alloc, &lexemes)?;
+    let lexer = lexer_of::<u16>(alloc, &lexemes)?;
     let grm = kit.grm();
-    let fterm = |alloc: Global, lexeme: DefaultLexeme<S>| named_leaf(alloc, grm, lexeme);
-    let fnonterm = |alloc: Global, ridx: RIdx<S>, args: Vec<String>| named_branch(
+    let fterm = |alloc: Global, lexeme: DefaultLexeme<u16>| named_leaf(alloc, grm, lexeme);
+    let fnonterm = |alloc: Global, ridx: RIdx<u16>, args: Vec<String>| named_branch(
         alloc, grm, ridx, args,
     );
-    let outcome = kit.parse_map::<DefaultLexerTypes<S>, _, _, _, _, _>(
+    let outcome = kit.parse_map::<DefaultLexerTypes<u16>, _, _, _, _, _>(
         alloc,
         &lexer,
         &NoRecovery,
@@ -97,7 +96,7 @@ fn names_text<S: IndexOrder>(alloc: Global, kit: &GrammarKit<S>) -> Result<Strin
 
 #[test]
 fn values_name_rules_and_tokens(rt: HostRuntime) -> Result<(), Fail> {
-    let kit = kit_of::<u16>(rt.alloc(), FACTORS)?;
+    let kit = kit_of(rt.alloc(), FACTORS)?;
     let found = names_text(rt.alloc(), &kit);
     drop(kit);
     same(

@@ -57,7 +57,7 @@ fn value_of(line: &str, production: u32, args: &[Argument]) -> u64
 }
 
 /// Actions that make the values of the trees of a line.
-#[derive(Clone, Copy, Debug)]
+#[derive(Clone, Copy)]
 pub struct Differences<'a> {
     /// The line, which has the digits.
     pub line: &'a str,

@@ -2,7 +2,7 @@
 
 ghost use Rattle.std.specs.Prelude.{◌<◌};
 
-use crate::parser_data::grammar;
+use crate::text_errors::grammar;
 use cfgrammar::RIdx;
 use cfgrammar::yacc::{SentenceError, SentenceGenerator, YaccGrammar};
 use std::alloc::{AllocError, Global};
@@ -92,11 +92,11 @@ pub fn push_chain(alloc: Global, out: &mut String) -> Result<(), AllocError> {
     out.push_str("a chain of rules\n")?;
     let text = text_of(alloc)?;
     match grammar(alloc, text.as_str())? {
-        Some(grm) => {
+        Ok(grm) => {
             let pushed = push_answers(alloc, out, &grm);
             drop(grm);
             pushed
         }
-        None => out.push_str("no grammar\n"),
+        Err(_) => out.push_str("no grammar\n"),
     }
 }

@@ -12,7 +12,7 @@ const MANY: u32 = 1000;
 const LONG: u32 = 500_000;
 
 /// What a recoverer offers at each error.
-#[derive(Clone, Copy, Debug, PartialEq, Eq)]
+#[derive(Clone, Copy, Debug)]
 pub enum Offers {
     /// The empty sequence.
     Empty,

@@ -5,16 +5,11 @@ ghost use Rattle.cfg_sets.specs.Firsts.{AreFirsts};
 ghost use Rattle.cfg_sets.specs.Follows.{AreFollows};
 
 use crate::first_sets::{begins, follows, is_nullable};
-use crate::text_errors::lines_of;
+use crate::text_errors::grammar;
 use cfgrammar::index::IndexStorage;
-use cfgrammar::yacc::{
-    NumberedGrammar, YaccFirsts, YaccFollows, YaccGrammar, YaccGrammarMakeError, YaccKind,
-    YaccOriginalActionKind,
-};
+use cfgrammar::yacc::{NumberedGrammar, YaccFirsts, YaccFollows, YaccGrammar};
 use cfgrammar::{RIdx, TIdx};
 use std::alloc::{AllocError, Global};
-
-const TREE: YaccKind = YaccKind::Original(YaccOriginalActionKind::GenericParseTree);
 
 /// Adds a token's name, or that of the end.
 fn push_name<S: IndexStorage>(
@@ -123,18 +118,12 @@ fn sets_told<S: IndexStorage>(alloc: Global, grm: &YaccGrammar<S>) -> Result<Str
 
 /// Returns the sets of a text's grammar, or why it has none.
 pub fn told(alloc: Global, text: &str) -> Result<String, AllocError> {
-    match YaccGrammar::<u32>::new(alloc, TREE, text) {
+    match grammar(alloc, text)? {
         Ok(grm) => {
             let told = sets_told(alloc, &grm);
             drop(grm);
             told
         }
-        Err(YaccGrammarMakeError::Memory(e)) => Err(e),
-        Err(YaccGrammarMakeError::Invalid(errors)) => {
-            let told = lines_of(alloc, text, &errors);
-            drop(errors);
-            told
-        }
-        Err(refusal) => format!(in alloc; "{refusal}\n"),
+        Err(told) => Ok(told),
     }
 }

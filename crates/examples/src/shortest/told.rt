@@ -3,16 +3,11 @@
 ghost use Rattle.std.specs.Prelude.{◌<◌, ◌≡◌};
 
 use crate::shortest::cheapest;
-use crate::text_errors::lines_of;
+use crate::text_errors::grammar;
 use cfgrammar::TIdx;
 use cfgrammar::index::IndexStorage;
-use cfgrammar::yacc::{
-    NumberedGrammar, SentenceGenerator, YaccGrammar, YaccGrammarMakeError, YaccKind,
-    YaccOriginalActionKind,
-};
+use cfgrammar::yacc::{NumberedGrammar, SentenceGenerator, YaccGrammar};
 use std::alloc::{AllocError, Global};
-
-const TREE: YaccKind = YaccKind::Original(YaccOriginalActionKind::GenericParseTree);
 
 fn push_list<S: IndexStorage>(
     grm: &NumberedGrammar<S>,
@@ -59,18 +54,12 @@ fn lists_told<S: IndexStorage>(alloc: Global, grm: &YaccGrammar<S>) -> Result<St
 
 /// Returns the lists of a text's grammar, or why it has none.
 pub fn told(alloc: Global, text: &str) -> Result<String, AllocError> {
-    match YaccGrammar::<u32>::new(alloc, TREE, text) {
+    match grammar(alloc, text)? {
         Ok(grm) => {
             let told = lists_told(alloc, &grm);
             drop(grm);
             told
         }
-        Err(YaccGrammarMakeError::Memory(e)) => Err(e),
-        Err(YaccGrammarMakeError::Invalid(errors)) => {
-            let told = lines_of(alloc, text, &errors);
-            drop(errors);
-            told
-        }
-        Err(refusal) => format!(in alloc; "{refusal}\n"),
+        Err(told) => Ok(told),
     }
 }

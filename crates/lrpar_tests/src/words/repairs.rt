@@ -9,7 +9,7 @@ use word_lines::{RepairsError, read_repairs};
 
 /// Returns why a text has no repairs; nothing where it has some.
 fn fault_of(alloc: Global, text: &str) -> Result<String, Fail> {
-    let grm = grammar::<u8>(alloc, SUMS)?;
+    let grm = grammar(alloc, SUMS)?;
     let read = read_repairs(alloc, &grm, text);
     drop(grm);
     match read {

@@ -212,7 +212,7 @@ fn lexer_by_rules<'t>(
 ) -> Result<LRNonStreamingLexer<'t, u8>, Fail>
     ensures { IfOk result (λ l. l.text ≡ text.entry.now) }
 {
-    let grm = grammar::<u8>(alloc, TOKENS)?;
+    let grm = grammar(alloc, TOKENS)?;
     let bound = rules.bind(alloc, &grm);
     drop(grm);
     let bound = bound?;
@@ -292,15 +292,20 @@ fn long_text(alloc: Global) -> Result<String, AllocError> {
     Ok(text)
 }
 
+/// Returns how many words a text has.
+fn words_in(text: &str) -> usize {
+    let mut count = 0usize;
+    for _word in text.split_whitespace() {
+        count = count.wrapping_add(1);
+    }
+    count
+}
+
 #[test]
 fn a_long_text_has_all_items(rt: HostRuntime) -> Result<(), Fail> {
     let text = long_text(rt.alloc())?;
-    let rules = rules_of(rt.alloc(), CALCULATOR)?;
-    let made = lexer_by_rules(rt.alloc(), &rules, text.as_str());
-    drop(rules);
-    let lexer = made?;
-    same(&rt, "items", lexer.iter().count(), 10_000);
-    drop(lexer);
+    let found = items_by_rows(rt.alloc(), CALCULATOR, text.as_str())?;
+    same(&rt, "items", words_in(found.as_str()), 10_000);
     Ok(())
 }
 
@@ -319,7 +324,7 @@ fn missing(
 
 /// Returns the same by a grammar of its own.
 fn missing_by_rules(alloc: Global, rules: &LexRules) -> Result<(Vec<usize>, Vec<usize>), Fail> {
-    let grm = grammar::<u8>(alloc, TOKENS)?;
+    let grm = grammar(alloc, TOKENS)?;
     let found = missing(alloc, rules, &grm);
     drop(grm);
     Ok(found?)

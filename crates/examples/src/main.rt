@@ -3,7 +3,7 @@
 //!
 //! - `places` over `cfg_base`; `bits` over `vob`; `first_sets` and `shortest` over `cfgrammar`; `conflicts` over `lrtable`;
 //!   `calc` over `lrpar`; `editor` over `lrpar` and `lrpar_diagnostics`; `kit` over `parser_kit`.
-//! - `text_errors` makes the grammar of a text, `parser_data` what a parser runs on; several of them use these. `deep_runs` is a test of long lines and deep trees.
+//! - `text_errors` makes the grammar of a text, `parser_data` what a parser runs on; several of them use these. `deep_runs` is a test of long lines and deep trees, `kit_runs` one of kits.
 #![tactic(auto)]
 
 mod bits;
@@ -13,6 +13,7 @@ mod deep_runs;
 mod editor;
 mod first_sets;
 mod kit;
+mod kit_runs;
 mod parser_data;
 mod places;
 mod shortest;
@@ -30,5 +31,6 @@ fn main(rt: HostRuntime) -> io::Result<()> {
     print!(rt; "{}", calc::output(alloc)?)?;
     print!(rt; "{}", editor::output(alloc)?)?;
     print!(rt; "{}", kit::output(alloc)?)?;
+    print!(rt; "{}", kit_runs::output(alloc)?)?;
     print!(rt; "{}", deep_runs::output(alloc)?)
 }

@@ -1,15 +1,13 @@
 //! What the ported crates show of their own tests: a line whose value names its rules and tokens, of a text that names its kind.
 
-use crate::lexer::lexer_of;
-use crate::same::same;
-use crate::spell::{mapped_text, over};
+use crate::kit_runs::lexer::lexer_of;
+use crate::kit_runs::spell::{mapped_text, over};
 use cfg_base::symbol::{RIdx, TIdx};
 use cfg_numbered::yacc::NumberedGrammar;
 use cfgrammar::yacc::{YaccGrammar, YaccGrammarMakeError};
 use lrpar::{DefaultLexeme, DefaultLexerTypes, NoRecovery};
 use parser_kit::{GrammarKit, GrammarKitError};
 use std::alloc::{AllocError, Global};
-use std::test::*;
 
 const FACTORS: &str = "
 %grmtools{YaccKind: Original(NoAction)}
@@ -20,25 +18,6 @@ Term : Term '*' Factor | Factor;
 Factor : 'INT';";
 
 const INPUT: &str = "2*3+4";
-
-/// Returns the grammar of a text that names its kind.
-fn grammar_of(alloc: Global, text: &str) -> Result<NumberedGrammar<u16>, Fail> {
-    match YaccGrammar::<u16>::from_str(alloc, text) {
-        Ok(grm) => Ok(grm.into_numbered()),
-        Err(YaccGrammarMakeError::Memory(e)) => Err(e.into()),
-        Err(_) => Err("no grammar".into()),
-    }
-}
-
-/// Returns the kit of the grammar of a text that names its kind.
-fn kit_of(alloc: Global, text: &str) -> Result<GrammarKit<u16>, Fail> {
-    let grm = grammar_of(alloc, text)?;
-    match GrammarKit::new(alloc, grm, 1000) {
-        Ok(kit) => Ok(kit),
-        Err(GrammarKitError::Memory(e)) => Err(e.into()),
-        Err(_) => Err("no kit".into()),
-    }
-}
 
 /// Returns a lexeme as the name of its token and its text.
 fn named_leaf(
@@ -94,16 +73,25 @@ fn names_text(alloc: Global, kit: &GrammarKit<u16>) -> Result<String, AllocError
     text
 }
 
-#[test]
-fn values_name_rules_and_tokens(rt: HostRuntime) -> Result<(), Fail> {
-    let kit = kit_of(rt.alloc(), FACTORS)?;
-    let found = names_text(rt.alloc(), &kit);
-    drop(kit);
-    same(
-        &rt,
-        "value",
-        found?.as_str(),
-        "Expr( Expr( Term( Term( Factor( INT 2 ) ) * * Factor( INT 3 ) ) ) + + Term( Factor( INT 4 ) ) )",
-    );
-    Ok(())
+/// Adds what the input yields by the kit of a grammar.
+fn push_by(alloc: Global, out: &mut String, grm: NumberedGrammar<u16>) -> Result<(), AllocError> {
+    match GrammarKit::new(alloc, grm, 1000) {
+        Ok(kit) => {
+            let names = names_text(alloc, &kit);
+            drop(kit);
+            out.push_str(names?.as_str())?;
+            out.push('\n')
+        }
+        Err(GrammarKitError::Memory(e)) => Err(e),
+        Err(_) => out.push_str("no kit\n"),
+    }
+}
+
+/// Adds what the input yields by the text's grammar, whose section names its kind.
+pub fn push_names(alloc: Global, out: &mut String) -> Result<(), AllocError> {
+    match YaccGrammar::<u16>::from_str(alloc, FACTORS) {
+        Ok(grm) => push_by(alloc, out, grm.into_numbered()),
+        Err(YaccGrammarMakeError::Memory(e)) => Err(e),
+        Err(_) => out.push_str("no grammar\n"),
+    }
 }

@@ -1,16 +1,14 @@
 //! Lines through kits.
 
-use crate::kits::made;
-use crate::lexer::lexer_of;
-use crate::same::same;
-use crate::spell::{branch, by_rule, flat_text, folded_text, leaf, mapped_text};
+use crate::kit_runs::kits::{made, push_answers};
+use crate::kit_runs::lexer::lexer_of;
+use crate::kit_runs::spell::{branch, by_rule, flat_text, folded_text, leaf, mapped_text};
 use cfg_base::index::IndexOrder;
 use cfg_base::span::Span;
 use cfg_base::symbol::{PIdx, RIdx};
 use lrpar::{DefaultLexeme, DefaultLexerTypes, ListLexer, NoRecovery};
 use parser_kit::{KitError, ParserKit};
 use std::alloc::{AllocError, Global};
-use std::test::*;
 
 /// Returns what the lexemes fold to.
 fn by_productions<S: IndexOrder>(
@@ -116,55 +114,28 @@ const MERGED: &str = "%start S %% S: A 'x' 'y' | B 'x' 'z'; A: 'a'; B: 'a';";
 
 const ENDLESS: &str = "%start S %% S: 'a' U | 'b'; U: 'u' U;";
 
-const PLUS_LEXEMES: &[(u8, u16, u16)] = &[(1, 0, 1), (0, 2, 1), (1, 4, 1), (0, 6, 1), (1, 8, 1)];
-
-const PLUS_TOLD: &str =
-    "0:1[0,9]( 1:1[0,1]( 1@0 ) 0@2 0:1[4,9]( 1:1[4,5]( 1@4 ) 0@6 1:1[8,9]( 1@8 ) ) ) / 1( 1( 1@0 ) 0@2 1( 1( 1@4 ) 0@6 1( 1@8 ) ) ) / 10 nodes";
-
-/// Texts, tokens with their starts and lengths, and what these yield.
-const LINES: &[(&str, &[(u8, u16, u16)], &str)] = &[
+/// Texts, and tokens with their starts and lengths.
+const LINES: &[(&str, &[(u8, u16, u16)])] = &[
+    (TWO, &[(0, 0, 1), (4, 2, 1), (3, 4, 1)]),
     (
-        TWO,
-        &[(0, 0, 1), (4, 2, 1), (3, 4, 1)],
-        "2:1[0,5]( 0@0 5:3[2,3]( 4@2 ) 3@4 ) / 1( 0@0 3( 4@2 ) 3@4 ) / 5 nodes",
+        PLUS,
+        &[(1, 0, 1), (0, 2, 1), (1, 4, 1), (0, 6, 1), (1, 8, 1)],
     ),
-    (PLUS, PLUS_LEXEMES, PLUS_TOLD),
-    (
-        MERGED,
-        &[(3, 0, 1), (0, 2, 1), (2, 4, 1)],
-        "none; error at 2@4 / none, 1 errors / none",
-    ),
+    (MERGED, &[(3, 0, 1), (0, 2, 1), (2, 4, 1)]),
     // without a sentence
-    (
-        ENDLESS,
-        &[(0, 0, 1), (2, 2, 1)],
-        "none; error at 3@3 faulty / none, 1 errors / none",
-    ),
+    (ENDLESS, &[(0, 0, 1), (2, 2, 1)]),
     // a number past the tokens
-    (ENDLESS, &[(9, 0, 1)], "outside 0 / refused / refused"),
+    (ENDLESS, &[(9, 0, 1)]),
 ];
 
-#[test]
-fn lines_are_parsed(rt: HostRuntime) -> Result<(), Fail> {
+/// Adds what each line yields, by functions of productions, by functions of rules, and as a list of nodes.
+pub fn push_lines(alloc: Global, out: &mut String) -> Result<(), AllocError> {
     for index in 0..LINES.len() {
-        let (text, lexemes, told) = LINES[index];
-        let found = line_text::<u8>(rt.alloc(), text, lexemes)?;
-        same(&rt, text, found.as_str(), told);
+        let (text, lexemes) = LINES[index];
+        let narrow = line_text::<u8>(alloc, text, lexemes)?;
+        let middle = line_text::<u16>(alloc, text, lexemes)?;
+        let wide = line_text::<u32>(alloc, text, lexemes)?;
+        push_answers(out, narrow.as_str(), middle.as_str(), wide.as_str())?;
     }
-    Ok(())
-}
-
-#[test]
-fn kits_of_any_numbers_parse(rt: HostRuntime) -> Result<(), Fail> {
-    let found = line_text::<u16>(rt.alloc(), PLUS, PLUS_LEXEMES)?;
-    same(&rt, "u16", found.as_str(), PLUS_TOLD);
-    drop(found);
-    let found = line_text::<u32>(rt.alloc(), MERGED, &[(3, 0, 1), (0, 2, 1), (2, 4, 1)])?;
-    same(
-        &rt,
-        "u32",
-        found.as_str(),
-        "none; error at 2@4 / none, 1 errors / none",
-    );
     Ok(())
 }

@@ -56,7 +56,7 @@ fn source(bytes: &[u8], at_once: usize, fault: Option<ErrorKind>) -> Counted<Par
 }
 
 /// Returns the text of an input, or what it fails by behind a question mark.
-fn told<S: Source>(alloc: Global, input: &mut S) -> Result<String, AllocError> {
+fn text_or_fault<S: Source>(alloc: Global, input: &mut S) -> Result<String, AllocError> {
     match read_text(alloc, input) {
         Ok(text) => Ok(text),
         Err(InputFault::Memory(e)) => Err(e),
@@ -69,7 +69,12 @@ fn texts_come_whole(rt: HostRuntime) -> Result<(), Fail> {
     for at_once in [1, 3, 8192, 10_000] {
         for text in ["", "a", "ID + ID\n", "é\u{1F600}"] {
             let mut input = source(text.as_bytes(), at_once, None);
-            same(&rt, "text", told(rt.alloc(), &mut input)?.as_str(), text);
+            same(
+                &rt,
+                "text",
+                text_or_fault(rt.alloc(), &mut input)?.as_str(),
+                text,
+            );
             same(&rt, "failures", Source::failures(&input), 0);
         }
     }
@@ -84,7 +89,7 @@ fn a_failing_read_is_told_and_counted(rt: HostRuntime) -> Result<(), Fail> {
             same(
                 &rt,
                 text,
-                told(rt.alloc(), &mut input)?.as_str(),
+                text_or_fault(rt.alloc(), &mut input)?.as_str(),
                 "? read fault",
             );
             same(&rt, "failures", Source::failures(&input), 1);
@@ -101,7 +106,7 @@ fn bytes_that_are_no_text_are_told(rt: HostRuntime) -> Result<(), Fail> {
         same(
             &rt,
             "bytes",
-            told(rt.alloc(), &mut input)?.as_str(),
+            text_or_fault(rt.alloc(), &mut input)?.as_str(),
             "? not UTF-8",
         );
         same(&rt, "failures", Source::failures(&input), 0);
@@ -115,7 +120,7 @@ fn an_input_can_be_too_long(rt: HostRuntime) -> Result<(), Fail> {
     same(
         &rt,
         "input",
-        told(rt.alloc(), &mut input)?.as_str(),
+        text_or_fault(rt.alloc(), &mut input)?.as_str(),
         "? too long",
     );
     same(&rt, "given", input.into_inner().given, 67_108_865);

@@ -81,7 +81,7 @@ fn a_failing_write_leaves_a_beginning(rt: HostRuntime) -> Result<(), Fail> {
 }
 
 /// What is displayed of the fault of a write.
-fn told(alloc: Global, written: Result<(), WriteFault>) -> Result<String, AllocError> {
+fn fault_text(alloc: Global, written: Result<(), WriteFault>) -> Result<String, AllocError> {
     match written {
         Ok(()) => Ok(String::new(alloc)),
         Err(fault) => format!(in alloc; "{fault}"),
@@ -95,7 +95,7 @@ fn a_fault_is_displayed(rt: HostRuntime) -> Result<(), Fail> {
     same(
         &rt,
         "fault",
-        told(rt.alloc(), written)?.as_str(),
+        fault_text(rt.alloc(), written)?.as_str(),
         "write fault",
     );
     Ok(())

@@ -3,7 +3,7 @@
 
 ghost use Rattle.std.specs.Prelude.{◌<◌};
 
-use crate::same::{printed, same};
+use crate::same::{same, text_of};
 use cfg_base::span::{Span, Spanned};
 use cfg_sections::header::{
     GrmtoolsSectionParser, HeaderError, HeaderErrorKind, KeyValueError, Namespaced, SectionError,
@@ -94,7 +94,7 @@ const TEXTS_OF_ERRORS: &[(HeaderErrorKind, &str)] = &[
 #[test]
 fn texts_of_errors(rt: HostRuntime) -> Result<(), AllocError> {
     'cases: for (kind, expected) in TEXTS_OF_ERRORS {
-        let found = printed(rt.alloc(), *kind)?;
+        let found = text_of(rt.alloc(), *kind)?;
         same(&rt, "kind", found.as_str(), *expected);
     }
     Ok(())
@@ -107,7 +107,7 @@ fn prints<E: Display + Drop>(
     error: E,
     expected: &str,
 ) -> Result<(), AllocError> {
-    same(rt, "error", printed(alloc, error)?.as_str(), expected);
+    same(rt, "error", text_of(alloc, error)?.as_str(), expected);
     Ok(())
 }
 

@@ -1,7 +1,7 @@
 //! Tests of values converted from spans to locations: by themselves, and compared. What whole sections become are rows of
 //! `read_rows`.
 
-use crate::same::{debugged, same};
+use crate::same::{debug_text_of, same};
 use cfg_base::span::{Location, Span};
 use cfg_sections::header::{
     GrmtoolsSectionParser, Header, HeaderValue, Namespaced, SectionError, Setting, Value,
@@ -10,10 +10,10 @@ use std::alloc::{AllocError, Global};
 
 /// Returns the form of a setting, and of its path where it is one.
 fn forms(alloc: Global, setting: &Setting<Span>) -> Result<String, AllocError> {
-    let mut forms = debugged(alloc, Setting::try_from_setting(alloc, setting)?)?;
+    let mut forms = debug_text_of(alloc, Setting::try_from_setting(alloc, setting)?)?;
     forms.push_str("; ")?;
     if let Setting::Unitary(path) = setting {
-        let form = debugged(alloc, Namespaced::try_from_namespaced(alloc, path)?)?;
+        let form = debug_text_of(alloc, Namespaced::try_from_namespaced(alloc, path)?)?;
         forms.push_str(form.as_str())?;
     }
     Ok(forms)
@@ -35,12 +35,17 @@ fn parts_of_values_are_converted(rt: HostRuntime) -> Result<(), AllocError> {
     let converted = Value::try_from_value(alloc, &flag);
     drop(flag);
     let wanted = "Flag(false, Span(Span { start: 0, end: 2 }))";
-    same(&rt, "flag", debugged(alloc, converted?)?.as_str(), wanted);
+    same(
+        &rt,
+        "flag",
+        debug_text_of(alloc, converted?)?.as_str(),
+        wanted,
+    );
     Ok(())
 }
 
 /// Returns the value of `a` at locations, if there is one.
-fn located(
+fn value_at_locations(
     alloc: Global,
     header: &Header<Span>,
 ) -> Result<Option<HeaderValue<Location>>, AllocError> {
@@ -58,7 +63,7 @@ fn located(
 fn value_in(alloc: Global, text: &str) -> Result<Option<HeaderValue<Location>>, AllocError> {
     match GrmtoolsSectionParser::new(text, true).parse(alloc) {
         Ok((header, _end)) => {
-            let value = located(alloc, &header);
+            let value = value_at_locations(alloc, &header);
             drop(header);
             value
         }
@@ -91,7 +96,10 @@ const OTHER_TEXT: &str = "%grmtools{a: [b::c(d), 1, \"y\"], !e}";
 type Compared = (bool, bool, bool, bool);
 
 /// Returns whether there is a value, and which sections have the same.
-fn compared(alloc: Global, value: &Option<HeaderValue<Location>>) -> Result<Compared, AllocError> {
+fn comparison(
+    alloc: Global,
+    value: &Option<HeaderValue<Location>>,
+) -> Result<Compared, AllocError> {
     let itself = says(alloc, SECTION, value)?;
     let other_keys = says(alloc, OTHER_KEYS, value)?;
     let other_text = says(alloc, OTHER_TEXT, value)?;
@@ -101,7 +109,7 @@ fn compared(alloc: Global, value: &Option<HeaderValue<Location>>) -> Result<Comp
 #[test]
 fn converted_values_are_compared(rt: HostRuntime) -> Result<(), AllocError> {
     let value = value_in(rt.alloc(), SECTION)?;
-    let found = compared(rt.alloc(), &value);
+    let found = comparison(rt.alloc(), &value);
     drop(value);
     same(&rt, "values", found?, (true, true, true, false));
     Ok(())

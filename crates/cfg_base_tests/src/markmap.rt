@@ -1,7 +1,7 @@
 //! Tests of maps with marks. Each row of a table is a call on a map, what it returns, and what the map has then.
 //! A map is lent to what may fail, and dropped by name: so its drop is checked at one place a test.
 
-use crate::same::{printed, same};
+use crate::same::{same, text_of};
 use cfg_sections::markmap::{Entry, MarkMap, Marks, MergeBehavior, MergeError};
 use std::alloc::{AllocError, Global};
 use std::mem;
@@ -507,7 +507,7 @@ fn behaviors_are_compared(rt: HostRuntime) {
 #[test]
 fn a_merge_without_memory_prints_its_kind(rt: HostRuntime) -> Result<(), AllocError> {
     let error: MergeError<u32, u8> = MergeError::Memory(AllocError);
-    same(&rt, "error", printed(rt.alloc(), error)?.as_str(), "Memory");
+    same(&rt, "error", text_of(rt.alloc(), error)?.as_str(), "Memory");
     Ok(())
 }
 
@@ -583,7 +583,7 @@ fn refusal(alloc: Global, ours: &mut Named) -> Result<String, AllocError> {
 }
 
 /// Puts a value to `k`, and returns how a merge with another is refused, and the value then.
-fn refused(alloc: Global, ours: &mut Named) -> Result<String, AllocError> {
+fn refusal_and_value(alloc: Global, ours: &mut Named) -> Result<String, AllocError> {
     put_k(alloc, ours, 1)?;
     let text = refusal(alloc, ours)?;
     let value = ours.get(&String::from_str(alloc, "k")?).copied();
@@ -593,7 +593,7 @@ fn refused(alloc: Global, ours: &mut Named) -> Result<String, AllocError> {
 #[test]
 fn a_text_on_both_sides_is_refused(rt: HostRuntime) -> Result<(), AllocError> {
     let mut ours: Named = MarkMap::new(rt.alloc());
-    let found = refused(rt.alloc(), &mut ours);
+    let found = refusal_and_value(rt.alloc(), &mut ours);
     drop(ours);
     let wanted = "Value on both sides: Exclusivity(\"k\", 2) Some(1)";
     same(&rt, "refused", found?.as_str(), wanted);

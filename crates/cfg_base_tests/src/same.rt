@@ -13,14 +13,14 @@ pub fn same<V: PartialEq + Debug + Copy>(rt: &impl Abort, word: &str, found: V, 
 }
 
 /// Returns what a value prints, and drops it.
-pub fn printed<V: Display + Drop>(alloc: Global, value: V) -> Result<String, AllocError> {
+pub fn text_of<V: Display + Drop>(alloc: Global, value: V) -> Result<String, AllocError> {
     let text = format!(in alloc; "{value}");
     drop(value);
     text
 }
 
 /// Returns the form of a value for debugging, and drops it.
-pub fn debugged<V: Debug + Drop>(alloc: Global, value: V) -> Result<String, AllocError> {
+pub fn debug_text_of<V: Debug + Drop>(alloc: Global, value: V) -> Result<String, AllocError> {
     let text = format!(in alloc; "{value:?}");
     drop(value);
     text

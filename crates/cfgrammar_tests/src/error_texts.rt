@@ -18,7 +18,7 @@ use std::test::*;
 const TREE: YaccKind = YaccKind::Original(YaccOriginalActionKind::GenericParseTree);
 
 /// Returns what an error prints, and drops it.
-fn shown<E: Error + Drop>(alloc: Global, error: E) -> Result<String, AllocError> {
+fn text_of<E: Error + Drop>(alloc: Global, error: E) -> Result<String, AllocError> {
     let text = format!(in alloc; "{error}");
     drop(error);
     text
@@ -27,13 +27,13 @@ fn shown<E: Error + Drop>(alloc: Global, error: E) -> Result<String, AllocError>
 #[test]
 fn want_of_memory(rt: HostRuntime) -> Result<(), Fail> {
     let alloc = rt.alloc();
-    let reading = shown(alloc, ReadError::Memory(AllocError))?;
+    let reading = text_of(alloc, ReadError::Memory(AllocError))?;
     same(&rt, "reading", reading.as_str(), "Memory");
-    let failure = shown(alloc, YaccGrammarFailure::Memory(AllocError))?;
+    let failure = text_of(alloc, YaccGrammarFailure::Memory(AllocError))?;
     same(&rt, "failure", failure.as_str(), "Memory");
-    let kind = shown(alloc, KindError::<Span>::Memory(AllocError))?;
+    let kind = text_of(alloc, KindError::<Span>::Memory(AllocError))?;
     same(&rt, "kind", kind.as_str(), "Memory");
-    let change = shown(alloc, ASTModificationError::Memory(AllocError))?;
+    let change = text_of(alloc, ASTModificationError::Memory(AllocError))?;
     same(&rt, "change", change.as_str(), "Memory");
     Ok(())
 }
@@ -46,7 +46,7 @@ fn fault_in(alloc: Global, text: &str) -> Result<String, AllocError> {
             Ok(String::new(alloc))
         }
         Err(ReadError::Memory(e)) => Err(e),
-        Err(e) => shown(alloc, e),
+        Err(e) => text_of(alloc, e),
     }
 }
 
@@ -58,7 +58,7 @@ fn refused_value(alloc: Global) -> Result<String, AllocError> {
     match kind {
         Ok(_kind) => Ok(String::new(alloc)),
         Err(KindError::Memory(e)) => Err(e),
-        Err(e) => shown(alloc, e),
+        Err(e) => text_of(alloc, e),
     }
 }
 
@@ -74,7 +74,7 @@ fn faults(rt: HostRuntime) -> Result<(), Fail> {
     );
     let found = refused_value(alloc)?;
     same(&rt, "value", found.as_str(), "Invalid");
-    let found = shown(alloc, YaccGrammarFailure::Invalid(Vec::new(alloc)))?;
+    let found = text_of(alloc, YaccGrammarFailure::Invalid(Vec::new(alloc)))?;
     same(&rt, "failure", found.as_str(), "Invalid");
     Ok(())
 }
@@ -116,7 +116,7 @@ fn names_in_the_parser(rt: HostRuntime) -> Result<(), Fail> {
     let alloc = rt.alloc();
     let error = unknown_token(alloc)?;
     let of_spans = error.spanskind();
-    let found = shown(alloc, error)?;
+    let found = text_of(alloc, error)?;
     same(&rt, "error", found.as_str(), "Unknown token 'x'");
     same(&rt, "spans", of_spans, SpansKind::Error);
     let kind = YaccGrammarWarningKind::UnusedToken;

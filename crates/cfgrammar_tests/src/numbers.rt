@@ -2,7 +2,7 @@
 
 ghost use Rattle.std.specs.Prelude.{◌<◌, length};
 
-use crate::make::made;
+use crate::make::grammar_of;
 use crate::same::same;
 use cfgrammar::index::IndexStorage;
 use cfgrammar::yacc::grammar::laws::walks_stay_below;
@@ -41,7 +41,7 @@ fn are_put(alloc: Global, grm: &YaccGrammar<u8>) -> Result<[bool; 3], AllocError
 
 #[test]
 fn a_token_is_put(rt: HostRuntime) -> Result<(), Fail> {
-    let grm = made(rt.alloc(), "%% S: 'a' | 'b' T; T: 'c';")?;
+    let grm = grammar_of(rt.alloc(), "%% S: 'a' | 'b' T; T: 'c';")?;
     let found = are_put(rt.alloc(), &grm);
     drop(grm);
     same(&rt, "put", found?, [true, false, false]);
@@ -69,7 +69,7 @@ fn longest_name<S: IndexStorage>(grm: &YaccGrammar<S>) -> usize {
 
 #[test]
 fn loops_give_all_rules(rt: HostRuntime) -> Result<(), Fail> {
-    let grm = made(rt.alloc(), "%% S: Long T; Long: 'a'; T: ;")?;
+    let grm = grammar_of(rt.alloc(), "%% S: Long T; Long: 'a'; T: ;")?;
     let found = (longest_name(&grm), longest_name_by_numbers(&grm));
     drop(grm);
     same(&rt, "by an iterator and by numbers", found, (4, 4));

@@ -6,7 +6,7 @@ use std::alloc::{AllocError, Global};
 use std::test::*;
 
 /// Returns what an error prints, and drops it.
-fn printed(alloc: Global, error: YaccGrammarMakeError) -> Result<String, AllocError> {
+fn text_of(alloc: Global, error: YaccGrammarMakeError) -> Result<String, AllocError> {
     let text = format!(in alloc; "{error}");
     drop(error);
     text
@@ -16,12 +16,12 @@ fn printed(alloc: Global, error: YaccGrammarMakeError) -> Result<String, AllocEr
 #[test]
 fn refusals_without_a_text(rt: HostRuntime) -> Result<(), Fail> {
     let alloc = rt.alloc();
-    let told = printed(alloc, YaccGrammarMakeError::Memory(AllocError))?;
+    let told = text_of(alloc, YaccGrammarMakeError::Memory(AllocError))?;
     same(&rt, "memory", told.as_str(), "Memory");
-    let told = printed(alloc, YaccGrammarMakeError::Invalid(Vec::new(alloc)))?;
+    let told = text_of(alloc, YaccGrammarMakeError::Invalid(Vec::new(alloc)))?;
     same(&rt, "invalid", told.as_str(), "Invalid");
     let many = TooMany::TooManyRules(300);
-    let told = printed(alloc, YaccGrammarMakeError::TooMany(many))?;
+    let told = text_of(alloc, YaccGrammarMakeError::TooMany(many))?;
     same(&rt, "too many", told.as_str(), "TooManyRules");
     Ok(())
 }

@@ -61,7 +61,7 @@ fn found_in<S: IndexStorage>(
 }
 
 /// Returns what is found in a grammar, if it was made.
-fn found<S: IndexStorage>(
+fn answer<S: IndexStorage>(
     alloc: Global,
     made: Result<YaccGrammar<S>, YaccGrammarMakeError>,
     asked: Asked,
@@ -97,12 +97,12 @@ const ROWS: &[(Asked, Found)] = &[
 fn first_cheapest_lists(rt: HostRuntime) -> Result<(), AllocError> {
     let alloc = rt.alloc();
     'rows: for (asked, wanted) in ROWS {
-        let wide = found(alloc, YaccGrammar::new(alloc, TREE, asked.0), *asked)?;
+        let wide = answer(alloc, YaccGrammar::new(alloc, TREE, asked.0), *asked)?;
         same(&rt, "u32", wide, *wanted);
         let made = YaccGrammar::<u16>::new_with_storaget(alloc, TREE, asked.0);
-        same(&rt, "u16", found(alloc, made, *asked)?, *wanted);
+        same(&rt, "u16", answer(alloc, made, *asked)?, *wanted);
         let made = YaccGrammar::<u8>::new_with_storaget(alloc, TREE, asked.0);
-        same(&rt, "u8", found(alloc, made, *asked)?, *wanted);
+        same(&rt, "u8", answer(alloc, made, *asked)?, *wanted);
     }
     Ok(())
 }

@@ -26,7 +26,7 @@ fn push_rule(alloc: Global, out: &mut String, rule: &Rule) -> Result<(), AllocEr
 }
 
 /// Renders the rules, and then the programs.
-fn rendered(alloc: Global, ast: &GrammarAST) -> Result<String, AllocError> {
+fn rules_text(alloc: Global, ast: &GrammarAST) -> Result<String, AllocError> {
     let mut out = String::new(alloc);
     for (_name, rule) in ast.rules() {
         push_rule(alloc, &mut out, rule)?;
@@ -50,7 +50,7 @@ fn span_of(start: usize) -> Span
     Span::new(start, start + 1)
 }
 
-fn named(alloc: Global, name: &str, start: usize) -> Result<(String, Span), AllocError>
+fn name_at(alloc: Global, name: &str, start: usize) -> Result<(String, Span), AllocError>
     requires { start < 1000 }
 {
     Ok((String::from_str(alloc, name)?, span_of(start)))
@@ -73,8 +73,8 @@ fn add_production(alloc: Global, ast: &mut GrammarAST, rule: &str) -> Result<(),
 }
 
 fn add_rules(alloc: Global, ast: &mut GrammarAST) -> Result<(), AllocError> {
-    ast.add_rule(alloc, named(alloc, "S", 0)?, None)?;
-    ast.add_rule(alloc, named(alloc, "T", 2)?, None)?;
+    ast.add_rule(alloc, name_at(alloc, "S", 0)?, None)?;
+    ast.add_rule(alloc, name_at(alloc, "T", 2)?, None)?;
     add_production(alloc, ast, "S")?;
     add_production(alloc, ast, "T")?;
     add_production(alloc, ast, "U")?;
@@ -83,7 +83,7 @@ fn add_rules(alloc: Global, ast: &mut GrammarAST) -> Result<(), AllocError> {
 
 fn replace_rule(alloc: Global, ast: &mut GrammarAST) -> Result<(), AllocError> {
     let kind = String::from_str(alloc, "u8")?;
-    ast.add_rule(alloc, named(alloc, "S", 7)?, Some(kind))
+    ast.add_rule(alloc, name_at(alloc, "S", 7)?, Some(kind))
 }
 
 fn set_texts(alloc: Global, ast: &mut GrammarAST) -> Result<(), AllocError> {
@@ -95,11 +95,11 @@ fn set_texts(alloc: Global, ast: &mut GrammarAST) -> Result<(), AllocError> {
 /// Changes a tree in three steps, and returns it after each.
 fn changes(alloc: Global, ast: &mut GrammarAST) -> Result<[String; 3], AllocError> {
     add_rules(alloc, ast)?;
-    let added = rendered(alloc, ast)?;
+    let added = rules_text(alloc, ast)?;
     replace_rule(alloc, ast)?;
-    let replaced = rendered(alloc, ast)?;
+    let replaced = rules_text(alloc, ast)?;
     set_texts(alloc, ast)?;
-    Ok([added, replaced, rendered(alloc, ast)?])
+    Ok([added, replaced, rules_text(alloc, ast)?])
 }
 
 #[test]

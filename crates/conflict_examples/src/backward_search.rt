@@ -4,9 +4,9 @@
 //! what follows the rule is nullable. Where nothing is needed any more, a shortest path from the start state comes before.
 
 use crate::productions::has_production;
-use crate::source::{Source, Wanted};
+use crate::source::Source;
 use cfg_base::index::IndexStorage;
-use cfg_base::symbol::{PIdx, RIdx, SIdx, Symbol};
+use cfg_base::symbol::{PIdx, SIdx, Symbol};
 use state_table::stidx::StIdx;
 use std::alloc::{AllocError, Global};
 use std::collections::BTreeSet;
@@ -63,25 +63,12 @@ struct Search<S> {
     done: Option<usize>,
 }
 
-/// Returns the numbers of a needed item.
+/// Returns the numbers of a needed item, the number of edges back to its dot 0 last; `usize::MAX` where nothing is needed.
 fn numbers_of<S: IndexStorage>(need: Need<S>) -> (usize, usize) {
     match need {
         Some((pidx, dot)) => (pidx.0.to_usize(), dot.0.to_usize()),
         None => (usize::MAX, usize::MAX),
     }
-}
-
-/// Returns the number of edges back to dot 0; `usize::MAX` where nothing is needed.
-fn edges_of<S: IndexStorage>(need: Need<S>) -> usize {
-    match need {
-        Some((_, dot)) => dot.0.to_usize(),
-        None => usize::MAX,
-    }
-}
-
-/// Returns the number of edges back until one of both items is at dot 0.
-fn edges_back<S: IndexStorage>(visit: &Visit<S>) -> usize {
-    edges_of(visit.first).min(edges_of(visit.second))
 }
 
 /// Moves the dot of the item back.
@@ -104,41 +91,36 @@ fn has_needs<'a, S: IndexStorage>(source: &Source<'a, S>, visit: &Visit<S>) -> b
     has_need(source, visit.stidx, visit.first) && has_need(source, visit.stidx, visit.second)
 }
 
-/// Returns whether the first of both items is at dot 0.
-fn is_first_at_zero<S: IndexStorage>(visit: &Visit<S>) -> bool {
-    edges_of(visit.first) == 0
-}
+impl<S: IndexStorage> Visit<S> {
+    /// Returns the number of edges back until one of both items is at dot 0.
+    fn edges_back(&self) -> usize {
+        numbers_of(self.first).1.min(numbers_of(self.second).1)
+    }
 
-/// Returns the production of the item at dot 0: of the first one, if it is there, else of the second.
-fn production_at_zero<S: IndexStorage>(visit: &Visit<S>) -> Option<PIdx<S>> {
-    let is_first = is_first_at_zero(visit);
-    let need = if is_first { visit.first } else { visit.second };
-    let (pidx, _) = need?;
-    Some(pidx)
-}
+    /// Returns whether the first of both items is at dot 0.
+    fn is_first_at_zero(&self) -> bool {
+        numbers_of(self.first).1 == 0
+    }
 
-/// Returns the key of a replacement of the items of a rule.
-fn key_of<S: IndexStorage>(visit: &Visit<S>, ridx: RIdx<S>) -> Key {
-    let is_first = is_first_at_zero(visit);
-    let other = if is_first { visit.second } else { visit.first };
-    let (production, dot) = numbers_of(other);
-    let state = visit.stidx.0.to_usize();
-    (state, ridx.0.to_usize(), production, dot, is_first)
-}
+    /// Returns the item at dot 0, and the other one.
+    fn needs(&self) -> (Need<S>, Need<S>) {
+        if self.is_first_at_zero() {
+            return (self.first, self.second);
+        }
+        (self.second, self.first)
+    }
 
-/// Replaces the item at dot 0.
-fn replaced<S: IndexStorage>(visit: &Visit<S>, index: usize, need: Need<S>) -> Visit<S> {
-    let (first, second) = if is_first_at_zero(visit) {
-        (need, visit.second)
-    } else {
-        (visit.first, need)
-    };
-    Visit {
-        stidx: visit.stidx,
-        first,
-        second,
-        next: index,
-        by_edge: false,
+    /// Replaces the item at dot 0.
+    fn with_need(&self, index: usize, need: Need<S>) -> Visit<S> {
+        let mut visit = *self;
+        if self.is_first_at_zero() {
+            visit.first = need;
+        } else {
+            visit.second = need;
+        }
+        visit.next = index;
+        visit.by_edge = false;
+        visit
     }
 }
 
@@ -151,17 +133,18 @@ impl<S: IndexStorage> Search<S> {
             self.done = Some(index);
             return Ok(());
         }
-        let left = edges_back(&visit);
+        let left = visit.edges_back();
         if left == 0 {
-            self.way.push(Step {
-                index,
-                left,
-                next: 0,
-            })?;
-        } else {
-            let distance = self.distance.saturating_add(left);
-            self.queue.insert((distance, index))?;
+            return self.step(index, left, 0);
         }
+        let distance = self.distance.saturating_add(left);
+        self.queue.insert((distance, index))?;
+        Ok(())
+    }
+
+    /// Puts a visit on the way, with so many edges left, to go to its predecessors from one on.
+    fn step(&mut self, index: usize, left: usize, next: usize) -> Result<(), AllocError> {
+        self.way.push(Step { index, left, next })?;
         Ok(())
     }
 
@@ -171,13 +154,9 @@ impl<S: IndexStorage> Search<S> {
             return Ok(false);
         };
         if index < self.visits.len() {
-            let left = edges_back(&self.visits[index]);
+            let left = self.visits[index].edges_back();
             self.distance = distance;
-            self.way.push(Step {
-                index,
-                left,
-                next: 0,
-            })?;
+            self.step(index, left, 0)?;
         }
         Ok(true)
     }
@@ -194,11 +173,7 @@ impl<S: IndexStorage> Search<S> {
         if next >= states.len() {
             return Ok(());
         }
-        self.way.push(Step {
-            index,
-            left,
-            next: next + 1,
-        })?;
+        self.step(index, left, next + 1)?;
         let before = Visit {
             stidx: states[next],
             first: moved_back(visit.first),
@@ -207,11 +182,7 @@ impl<S: IndexStorage> Search<S> {
             by_edge: true,
         };
         if has_needs(source, &before) {
-            self.way.push(Step {
-                index: self.visits.len(),
-                left: left.saturating_sub(1),
-                next: 0,
-            })?;
+            self.step(self.visits.len(), left.saturating_sub(1), 0)?;
             self.visits.push(before)?;
         }
         Ok(())
@@ -225,23 +196,28 @@ impl<S: IndexStorage> Search<S> {
         index: usize,
         outer: &mut Vec<(PIdx<S>, SIdx<S>)>,
     ) -> Result<(), AllocError> {
-        let Some(pidx) = production_at_zero(visit) else {
+        let (Some((pidx, _)), other) = visit.needs() else {
             return Ok(());
         };
         if !has_production(source.grm, pidx) {
             return Ok(());
         }
         let ridx = source.grm.prod_to_rule(pidx);
-        if !self.seen.insert(key_of(visit, ridx))? {
+        let (production, dot) = numbers_of(other);
+        let (state, is_first) = (visit.stidx.0.to_usize(), visit.is_first_at_zero());
+        if !self
+            .seen
+            .insert((state, ridx.0.to_usize(), production, dot, is_first))?
+        {
             return Ok(());
         }
         if source.is_start(pidx) {
             if source.is_end() {
-                self.put(replaced(visit, index, None))?;
+                self.put(visit.with_need(index, None))?;
             }
             return Ok(());
         }
-        source.items_before(visit.stidx, Symbol::Rule(ridx), Wanted::All, outer)?;
+        source.items_before(visit.stidx, Symbol::Rule(ridx), false, outer)?;
         self.put_each(source, visit, index, outer.as_slice())
     }
 
@@ -259,11 +235,11 @@ impl<S: IndexStorage> Search<S> {
             let start = source.start_behind(pidx, dot);
             if start.has {
                 if !follows {
-                    self.put(replaced(visit, index, None))?;
+                    self.put(visit.with_need(index, None))?;
                 }
                 follows = true;
             } else if start.vanishes && source.has_look(visit.stidx, pidx, dot) {
-                self.put(replaced(visit, index, Some((pidx, dot))))?;
+                self.put(visit.with_need(index, Some((pidx, dot))))?;
             }
             if self.done.is_some() {
                 return Ok(());

@@ -3,7 +3,7 @@
 use crate::backward_search::path_to;
 use crate::left_corner::steps_behind;
 use crate::productions::has_production;
-use crate::source::{Source, Wanted};
+use crate::source::Source;
 use crate::spine_search::spine_along;
 use crate::witness::Candidate;
 use cfg_base::index::IndexStorage;
@@ -47,7 +47,7 @@ fn shift_candidate<'a, S: IndexStorage>(
 ) -> Result<Option<Candidate<S>>, AllocError> {
     let mut before = Vec::new(alloc);
     let token = Symbol::Token(source.token);
-    source.items_before(stidx, token, Wanted::All, &mut before)?;
+    source.items_before(stidx, token, false, &mut before)?;
     'items: for k in 0..before.len() {
         if let Some(items) = spine_along(alloc, source, path, before[k], false)? {
             let steps = Vec::new(alloc);
@@ -57,50 +57,33 @@ fn shift_candidate<'a, S: IndexStorage>(
     Ok(None)
 }
 
-/// Returns a shift and a reduction after one path to the state.
-pub(crate) fn shift_candidates<'a, S: IndexStorage>(
+/// Returns a reduction, or a shift where no first production is given, and a second reduction, after one path to the state.
+pub(crate) fn candidates<'a, S: IndexStorage>(
     alloc: Global,
     source: &Source<'a, S>,
-    production: PIdx<S>,
-    stidx: StIdx<S>,
-) -> Result<Option<(Candidate<S>, Candidate<S>)>, AllocError> {
-    let Some(item) = complete(source, production) else {
-        return Ok(None);
-    };
-    let Some(path) = path_to(alloc, source, stidx, Some(item), None)? else {
-        return Ok(None);
-    };
-    let Some(first) = shift_candidate(alloc, source, path.as_slice(), stidx)? else {
-        return Ok(None);
-    };
-    let Some(second) = reduce_candidate(alloc, source, path.as_slice(), item)? else {
-        return Ok(None);
-    };
-    Ok(Some((first, second)))
-}
-
-/// Returns two reductions after one path to the state.
-pub(crate) fn pair_candidates<'a, S: IndexStorage>(
-    alloc: Global,
-    source: &Source<'a, S>,
-    first: PIdx<S>,
+    first: Option<PIdx<S>>,
     second: PIdx<S>,
     stidx: StIdx<S>,
 ) -> Result<Option<(Candidate<S>, Candidate<S>)>, AllocError> {
-    let Some(one) = complete(source, first) else {
+    let first = match first {
+        Some(pidx) => complete(source, pidx),
+        None => None,
+    };
+    let Some(second) = complete(source, second) else {
         return Ok(None);
     };
-    let Some(other) = complete(source, second) else {
+    let Some(path) = path_to(alloc, source, stidx, first, Some(second))? else {
         return Ok(None);
     };
-    let Some(path) = path_to(alloc, source, stidx, Some(one), Some(other))? else {
+    let one = match first {
+        Some(item) => reduce_candidate(alloc, source, path.as_slice(), item)?,
+        None => shift_candidate(alloc, source, path.as_slice(), stidx)?,
+    };
+    let Some(one) = one else {
         return Ok(None);
     };
-    let Some(first) = reduce_candidate(alloc, source, path.as_slice(), one)? else {
+    let Some(other) = reduce_candidate(alloc, source, path.as_slice(), second)? else {
         return Ok(None);
     };
-    let Some(second) = reduce_candidate(alloc, source, path.as_slice(), other)? else {
-        return Ok(None);
-    };
-    Ok(Some((first, second)))
+    Ok(Some((one, other)))
 }

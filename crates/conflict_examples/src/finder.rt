@@ -7,7 +7,7 @@ ghost use Rattle.state_table.specs.Graphs.{graph_of};
 ghost use Rattle.conflict_examples.specs.ExampleViews.{FinderValue, example_of};
 ghost use Rattle.conflict_examples.specs.Spines.{IsExample};
 
-use crate::candidates::{pair_candidates, shift_candidates};
+use crate::candidates::candidates;
 use crate::example_check::{pair_example, shift_example};
 use crate::examples::ConflictExample;
 use crate::source::Source;
@@ -69,10 +69,10 @@ impl<'a, S: IndexStorage> ExampleFinder<'a, S> {
             tables: &self.tables,
             token,
         };
-        let Some(candidates) = shift_candidates(alloc, &source, production, stidx)? else {
+        let Some(found) = candidates(alloc, &source, None, production, stidx)? else {
             return Ok(None);
         };
-        shift_example(alloc, &source, &candidates, production, stidx)
+        shift_example(alloc, &source, &found, production, stidx)
     }
 
     /// Returns an example of a listed pair of reductions, after symbols that lead to its state. Its token may be
@@ -132,9 +132,9 @@ impl<'a, S: IndexStorage> ExampleFinder<'a, S> {
             tables: &self.tables,
             token,
         };
-        let Some(candidates) = pair_candidates(alloc, &source, first, second, stidx)? else {
+        let Some(found) = candidates(alloc, &source, Some(first), second, stidx)? else {
             return Ok(None);
         };
-        pair_example(alloc, &source, &candidates, first, second, stidx)
+        pair_example(alloc, &source, &found, first, second, stidx)
     }
 }

@@ -21,13 +21,6 @@ pub(crate) struct Source<'a, S: IndexStorage> {
     pub token: TIdx<S>,
 }
 
-/// Which items of a state are asked for: all, or of those that its closure adds one of each rule.
-#[derive(Clone, Copy)]
-pub(crate) enum Wanted {
-    All,
-    OneOfEachRule,
-}
-
 /// Returns the number of a rule; `usize::MAX` for a token.
 fn rule_number<S: IndexStorage>(symbol: Symbol<S>) -> usize {
     match symbol {
@@ -63,12 +56,13 @@ impl<'a, S: IndexStorage> Source<'a, S> {
         }
     }
 
-    /// Puts items of the state before the symbol into `found`, in place of what it holds.
+    /// Puts items of the state before the symbol into `found`, in place of what it holds: all, or of those that its closure adds one of
+    /// each rule.
     pub(crate) fn items_before(
         &self,
         stidx: StIdx<S>,
         symbol: Symbol<S>,
-        wanted: Wanted,
+        is_one_each: bool,
         found: &mut Vec<(PIdx<S>, SIdx<S>)>,
     ) -> Result<(), AllocError> {
         found.clear();
@@ -76,7 +70,7 @@ impl<'a, S: IndexStorage> Source<'a, S> {
             return Ok(());
         }
         self.push_core(self.graph.core_state(stidx), symbol, found)?;
-        self.push_closure(self.graph.edges(stidx), symbol, wanted, found)
+        self.push_closure(self.graph.edges(stidx), symbol, is_one_each, found)
     }
 
     /// Appends the items of a core before the symbol.
@@ -102,7 +96,7 @@ impl<'a, S: IndexStorage> Source<'a, S> {
         &self,
         edges: &[(Symbol<S>, StIdx<S>)],
         symbol: Symbol<S>,
-        wanted: Wanted,
+        is_one_each: bool,
         found: &mut Vec<(PIdx<S>, SIdx<S>)>,
     ) -> Result<(), AllocError> {
         let items = self.tables.beginnings.of(symbol);
@@ -111,7 +105,7 @@ impl<'a, S: IndexStorage> Source<'a, S> {
         'items: for k in 0..items.len() {
             let Beginning { rule, pidx, dot } = items[k];
             edge = skip_to(edges, edge, rule);
-            if is_on(edges, edge, rule) && (matches!(wanted, Wanted::All) || rule != last) {
+            if is_on(edges, edge, rule) && (!is_one_each || rule != last) {
                 found.push((pidx, dot))?;
                 last = rule;
             }

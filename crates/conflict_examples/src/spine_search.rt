@@ -1,7 +1,7 @@
 //! Searches for the productions that are open along a path of states, breadth first from the innermost one out.
 
 use crate::productions::has_production;
-use crate::source::{Source, Wanted};
+use crate::source::Source;
 use cfg_base::index::IndexStorage;
 use cfg_base::symbol::{PIdx, SIdx, Symbol};
 use state_table::stidx::StIdx;
@@ -111,12 +111,7 @@ impl<S: IndexStorage> Links<S> {
         }
         let stidx = path[link.place];
         let rule = source.grm.prod_to_rule(link.pidx);
-        let wanted = if link.needs {
-            Wanted::All
-        } else {
-            Wanted::OneOfEachRule
-        };
-        source.items_before(stidx, Symbol::Rule(rule), wanted, outer)?;
+        source.items_before(stidx, Symbol::Rule(rule), !link.needs, outer)?;
         'outer: for k in 0..outer.len() {
             if let Some(next) = link_around(source, &link, within, stidx, outer[k]) {
                 self.put(source, next)?;

@@ -35,8 +35,7 @@ fn first_sets<S: IndexStorage>(
     let firsts = YaccFirsts::new(alloc, grm)?;
     let mut sets = Vec::new(alloc);
     'rules: for number in 0..grm.rules_len().0.to_usize() {
-        let set = firsts.firsts(grm.rule_at(number)).clone()?;
-        sets.push(set)?;
+        sets.push(firsts.firsts(grm.rule_at(number)).clone()?)?;
     }
     Ok(sets)
 }

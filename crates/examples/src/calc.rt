@@ -17,7 +17,7 @@ const DIFFERENCES: &str = "%start D %% D: D '-' 'digit' | 'digit';";
 const LINES: [&str; 5] = ["9 - 3 - 2", "7", "1 - 5", "4 -", "4 * 2"];
 
 /// Returns the line and its value.
-fn told(alloc: Global, data: &ParserData<u32>, line: &str) -> Result<String, AllocError> {
+fn line_text(alloc: Global, data: &ParserData<u32>, line: &str) -> Result<String, AllocError> {
     let words = lexer::read(alloc, line)?;
     let value = eval::eval(alloc, data, line, &words);
     drop(words);
@@ -30,10 +30,10 @@ fn told(alloc: Global, data: &ParserData<u32>, line: &str) -> Result<String, All
 }
 
 /// Returns the lines and their values.
-fn all_told(alloc: Global, data: &ParserData<u32>) -> Result<String, AllocError> {
+fn all_lines(alloc: Global, data: &ParserData<u32>) -> Result<String, AllocError> {
     let mut out = String::new(alloc);
     for line in LINES {
-        out.push_str(told(alloc, data, line)?.as_str())?;
+        out.push_str(line_text(alloc, data, line)?.as_str())?;
     }
     Ok(out)
 }
@@ -42,9 +42,9 @@ fn all_told(alloc: Global, data: &ParserData<u32>) -> Result<String, AllocError>
 pub fn output(alloc: Global) -> Result<String, AllocError> {
     match parser_data::data(alloc, DIFFERENCES)? {
         Some(data) => {
-            let told = all_told(alloc, &data);
+            let text = all_lines(alloc, &data);
             drop(data);
-            told
+            text
         }
         None => Ok(String::new(alloc)),
     }

@@ -20,7 +20,7 @@ const STATEMENTS: &str = "%start S %% S: 'if' S 'else' S | 'if' S | 'x';";
 
 /// Returns the graph and the table of a grammar, and whether the table lists no conflict. Without precedences it
 /// lists none if and only if no string leaves a token two actions of canonical LR(1).
-fn judged(
+fn tables_and_verdict(
     alloc: Global,
     grm: &NumberedGrammar<u32>,
 ) -> Result<(StateGraph<u32>, StateTable<u32>, bool), FromYaccError<u32>>
@@ -35,7 +35,7 @@ fn judged(
 }
 
 /// Returns the states of a graph, the conflicts of its table, and whether the grammar is LR(1).
-fn listed(
+fn listing(
     alloc: Global,
     grm: &NumberedGrammar<u32>,
     graph: &StateGraph<u32>,
@@ -55,31 +55,31 @@ fn listed(
 }
 
 /// Returns the states of a grammar's table, what conflicts in it, and whether it is LR(1), or why it has none.
-fn told_of(alloc: Global, grm: &NumberedGrammar<u32>) -> Result<String, AllocError> {
-    match judged(alloc, grm) {
+fn report_of(alloc: Global, grm: &NumberedGrammar<u32>) -> Result<String, AllocError> {
+    match tables_and_verdict(alloc, grm) {
         Ok((graph, table, clear)) => {
-            let told = listed(alloc, grm, &graph, &table, clear);
+            let report = listing(alloc, grm, &graph, &table, clear);
             drop(table);
             drop(graph);
-            told
+            report
         }
         Err(FromYaccError::Memory(e)) => Err(e),
         Err(refusal) => format!(in alloc; "{refusal}\n"),
     }
 }
 
-fn told(alloc: Global, text: &str) -> Result<String, AllocError> {
+fn report_on(alloc: Global, text: &str) -> Result<String, AllocError> {
     match grammar(alloc, text)? {
         Ok(grm) => {
-            let told = told_of(alloc, &grm);
+            let report = report_of(alloc, &grm);
             drop(grm);
-            told
+            report
         }
-        Err(told) => Ok(told),
+        Err(report) => Ok(report),
     }
 }
 
 /// Returns the output.
 pub fn output(alloc: Global) -> Result<String, AllocError> {
-    told(alloc, STATEMENTS)
+    report_on(alloc, STATEMENTS)
 }

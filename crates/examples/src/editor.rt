@@ -29,7 +29,7 @@ fn push_shown(
     out: &mut String,
 ) -> Result<(), AllocError> {
     for error in errors {
-        let text = shown::underlined(alloc, grm, formatter, error)?;
+        let text = shown::underline_error(alloc, grm, formatter, error)?;
         out.push_str(text.as_str())?;
         out.push('\n')?;
     }
@@ -51,7 +51,7 @@ fn all_shown(
 }
 
 /// Returns the errors of the text, as they are shown, where any one token is offered at each.
-fn told(alloc: Global, data: &ParserData<u32>) -> Result<String, AllocError> {
+fn errors_text(alloc: Global, data: &ParserData<u32>) -> Result<String, AllocError> {
     let lexer = lexer_of(alloc, data.grm(), TEXT)?;
     let offers = offers::AnyToken {
         count: data.grm().eof_token_idx().0,
@@ -74,9 +74,9 @@ fn told(alloc: Global, data: &ParserData<u32>) -> Result<String, AllocError> {
 pub fn output(alloc: Global) -> Result<String, AllocError> {
     match parser_data::data(alloc, GRAMMAR)? {
         Some(data) => {
-            let told = told(alloc, &data);
+            let errors = errors_text(alloc, &data);
             drop(data);
-            told
+            errors
         }
         None => Ok(String::new(alloc)),
     }

@@ -10,7 +10,7 @@ ghost use Rattle.cfg_theory.specs.Derivation.{Nullable, IsFirst, IsFollow};
 ghost use Rattle.cfg_sets.specs.Firsts.{AreFirsts};
 ghost use Rattle.cfg_sets.specs.Follows.{AreFollows};
 
-mod told;
+mod report;
 
 use cfgrammar::index::IndexStorage;
 use cfgrammar::yacc::{NumberedGrammar, YaccFirsts, YaccFollows};
@@ -66,7 +66,7 @@ const WRONG: &str = "%start S\n%%\nS: 'a' T;\nU: 'é' V;\n";
 
 /// Returns the output for a grammar and for a text that has none.
 pub fn output(alloc: Global) -> Result<String, AllocError> {
-    let mut out = told::told(alloc, NESTED)?;
-    out.push_str(told::told(alloc, WRONG)?.as_str())?;
+    let mut out = report::report_on(alloc, NESTED)?;
+    out.push_str(report::report_on(alloc, WRONG)?.as_str())?;
     Ok(out)
 }

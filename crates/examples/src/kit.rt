@@ -8,8 +8,6 @@ ghost use Rattle.table_theory.specs.CellLaws.{SomeContested};
 
 use cfg_base::index::IndexStorage;
 use cfg_read::yacc::{YaccKind, YaccOriginalActionKind};
-use cfgrammar::yacc::from_ast::trees_without_precedences_make_grammars_without;
-use lrtable::laws::precedences_are_kept;
 use parser_kit::{KitError, ParserKit};
 use std::alloc::{AllocError, Global};
 
@@ -28,14 +26,11 @@ const ROUND: &str = "%start S %% S: S | 'x';";
 fn is_lr1<S: IndexStorage>(kit: &ParserKit<S>) -> bool
     ensures { kit.now.kept.ast.precedences ≡ [] → IsTrue result ↔ (SomeContested kit.now.parser.grammar.grammar → ⊥) }
 {
-    trees_without_precedences_make_grammars_without();
-    precedences_are_kept();
-    kit.stays_kit();
     kit.conflicts().is_none()
 }
 
 /// Returns a line about the kit of a text.
-fn kit_told(alloc: Global, kit: &ParserKit<u32>) -> Result<String, AllocError> {
+fn kit_line(alloc: Global, kit: &ParserKit<u32>) -> Result<String, AllocError> {
     let rules = usize::from(kit.grm().rules_len());
     let states = kit.sgraph().all_states_len().0.to_usize();
     let said = if is_lr1(kit) { "LR(1)" } else { "not LR(1)" };
@@ -51,12 +46,12 @@ fn kit_told(alloc: Global, kit: &ParserKit<u32>) -> Result<String, AllocError> {
 }
 
 /// Returns a line about the kit of a text, or why it has no kit.
-fn told(alloc: Global, text: &str) -> Result<String, AllocError> {
+fn line_about(alloc: Global, text: &str) -> Result<String, AllocError> {
     match ParserKit::new(alloc, text, TREE, 1000) {
         Ok(kit) => {
-            let told = kit_told(alloc, &kit);
+            let line = kit_line(alloc, &kit);
             drop(kit);
-            told
+            line
         }
         Err(KitError::Memory(e)) => Err(e),
         Err(refusal) => format!(in alloc; "{refusal}\n"),
@@ -67,7 +62,7 @@ fn told(alloc: Global, text: &str) -> Result<String, AllocError> {
 pub fn output(alloc: Global) -> Result<String, AllocError> {
     let mut out = String::new(alloc);
     for text in [SUMS, UNCLEAR, UNFINISHED, ROUND] {
-        out.push_str(told(alloc, text)?.as_str())?;
+        out.push_str(line_about(alloc, text)?.as_str())?;
     }
     Ok(out)
 }

@@ -20,7 +20,7 @@ fn tables(
 }
 
 /// Returns the data of a grammar and its tables, if they are safe.
-fn checked(
+fn data_of_parts(
     alloc: Global,
     grm: NumberedGrammar<u32>,
     graph: StateGraph<u32>,
@@ -34,11 +34,14 @@ fn checked(
 }
 
 /// Returns the data of a grammar, if it has them.
-fn tabled(alloc: Global, grm: YaccGrammar<u32>) -> Result<Option<ParserData<u32>>, AllocError> {
+fn data_of_grammar(
+    alloc: Global,
+    grm: YaccGrammar<u32>,
+) -> Result<Option<ParserData<u32>>, AllocError> {
     let parts = tables(alloc, &grm);
     let numbered = grm.into_numbered();
     match parts {
-        Ok(Some((graph, table))) => checked(alloc, numbered, graph, table),
+        Ok(Some((graph, table))) => data_of_parts(alloc, numbered, graph, table),
         Ok(None) => {
             drop(numbered);
             Ok(None)
@@ -53,7 +56,7 @@ fn tabled(alloc: Global, grm: YaccGrammar<u32>) -> Result<Option<ParserData<u32>
 /// Returns the data of a text, if it has them.
 pub fn data(alloc: Global, text: &str) -> Result<Option<ParserData<u32>>, AllocError> {
     match grammar(alloc, text)? {
-        Ok(grm) => tabled(alloc, grm),
+        Ok(grm) => data_of_grammar(alloc, grm),
         Err(_) => Ok(None),
     }
 }

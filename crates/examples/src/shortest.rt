@@ -8,7 +8,7 @@ ghost use Rattle.cfg_theory.specs.Cost.{IsCheapest};
 ghost use Rattle.cfg_sentences.specs.CostTable.{cost_of};
 ghost use Rattle.cfg_sentences.specs.TokenLists.{tokens_of};
 
-mod told;
+mod report;
 
 use cfgrammar::index::IndexStorage;
 use cfgrammar::yacc::{SentenceError, SentenceGenerator};
@@ -44,7 +44,7 @@ const WRONG: &str = "%start S\n%%\nS: 'a' T;\nU: 'é' V;\n";
 
 /// Returns the output for a grammar and for a text that has none.
 pub fn output(alloc: Global) -> Result<String, AllocError> {
-    let mut out = told::told(alloc, STATEMENTS)?;
-    out.push_str(told::told(alloc, WRONG)?.as_str())?;
+    let mut out = report::report_on(alloc, STATEMENTS)?;
+    out.push_str(report::report_on(alloc, WRONG)?.as_str())?;
     Ok(out)
 }

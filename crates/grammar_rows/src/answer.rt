@@ -2,7 +2,7 @@
 
 use crate::costs::{push_costs, push_falling_costs};
 use crate::kept::push_kept;
-use crate::make::made;
+use crate::make::grammar_of;
 use crate::numbers::{push_counts, push_number, push_numbers};
 use crate::sets::{push_paths, push_sets};
 use cfgrammar::index::IndexStorage;
@@ -96,7 +96,7 @@ fn answer<S: IndexStorage>(
     start: Option<&str>,
 ) -> Result<String, AllocError> {
     let mut out = String::new(alloc);
-    let pushed = match made::<S>(alloc, kind_of(heading), text, start) {
+    let pushed = match grammar_of::<S>(alloc, kind_of(heading), text, start) {
         Ok(grm) => {
             let pushed = push_asked(alloc, &mut out, heading, &grm);
             drop(grm);

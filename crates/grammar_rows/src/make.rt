@@ -34,7 +34,7 @@ pub fn has_prod<S: IndexStorage>(grm: &YaccGrammar<S>, pidx: PIdx<S>) -> bool
 type Made<S> = Result<YaccGrammar<S>, YaccGrammarMakeError>;
 
 /// What a text is kept as, by its kind or by its section.
-fn kept(
+fn tree_of(
     alloc: Global,
     kind: Option<YaccKind>,
     text: &str,
@@ -73,7 +73,7 @@ fn made_at<S: IndexStorage>(
     text: &str,
     start: &str,
 ) -> Made<S> {
-    match kept(alloc, kind, text) {
+    match tree_of(alloc, kind, text) {
         Ok(kept) => {
             let made = starting_at(alloc, &kept, start);
             drop(kept);
@@ -84,7 +84,7 @@ fn made_at<S: IndexStorage>(
 }
 
 /// The grammar of a text, with another start rule where one is named.
-pub fn made<S: IndexStorage>(
+pub fn grammar_of<S: IndexStorage>(
     alloc: Global,
     kind: Option<YaccKind>,
     text: &str,

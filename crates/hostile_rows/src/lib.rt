@@ -11,4 +11,4 @@ mod kits;
 mod rows;
 mod runs;
 
-pub use rows::told;
+pub use rows::summary_of;

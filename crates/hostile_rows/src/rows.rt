@@ -54,7 +54,7 @@ impl Seen {
 }
 
 /// What is told of a file: how many rows it has, and the numbers, from nought, of those that are answered wrongly.
-pub fn told(alloc: Global, file: &str) -> Result<String, AllocError> {
+pub fn summary_of(alloc: Global, file: &str) -> Result<String, AllocError> {
     let mut seen = Seen {
         rows: 0,
         wrong: String::new(alloc),

@@ -221,8 +221,12 @@ module _ (laws : Below) (text : List ℕ) where
       (long_chains_are_exact.none k.parser.grammar.grammar (automaton_of k.parser.graph k.parser.table) k.parser.cap).1 is.chains c long.passes
   no_cause k is cap_is (tabled.Memory e) a h = absurd a
 
+  -- nothing is wrong with the text of a kit
+  is_valid_kit : (k : KitValue) → IsRunKit text k → is_valid k.kept.errors ≡ true
+  is_valid_kit k run = ap (λ (c : CheckedAst). is_valid c.errors) run.is_kit.kept ∙ ap is_valid run.is_kit.valid
+
   kit_or_parts : (k : KitValue) (run : IsRunKit text k) (e : KitError ℕ) → Parts k.kept e → ⊥
-  kit_or_parts k run e (Parts.invalid es is wrong h) = not_both _ run.is_kit.valid wrong
+  kit_or_parts k run e (Parts.invalid es is wrong h) = not_both _ (is_valid_kit k run) wrong
   kit_or_parts k run e (Parts.counted n is valid h) = let fits = run.is_kit.fits in cc
   kit_or_parts k run e (Parts.refused x is cause fits h) =
       let P : GrammarValue → Type 0 = λ v. IsTabledRefusal (λ n. n) top v cap x in
@@ -231,8 +235,9 @@ module _ (laws : Below) (text : List ℕ) where
   kit_or_of : (k : KitValue) → IsRunKit text k → (e : KitError ℕ) → (IsMemory e → ⊥) → IsOf text e → ⊥
   kit_or_of k run e ne (IsOf.untold es is fails) = untold_or_kind laws text _ run.kind fails run.is_kind
   kit_or_of k run e ne (IsOf.kept kind c is_kind checked h) =
+      let is_read = IsChecked.reads_as run.is_kit.reading run.is_kit.reads run.is_kit.kept in
       let P : CheckedAst → Type 0 = λ d. KeptRefusal d e in
-      kit_or_parts k run e (parts k.kept e ne (subst P (same_checked kind run.kind c k.kept is_kind run.is_kind checked run.is_kit.checked) h))
+      kit_or_parts k run e (parts k.kept e ne (subst P (same_checked kind run.kind c k.kept is_kind run.is_kind checked is_read) h))
 
   -- a text with a kit isn't refused
   pub kit_or_refusal : (k : KitValue) → IsRunKit text k → (e : KitError ℕ) → (IsMemory e → ⊥) → IsRunKitRefusal text e → ⊥

@@ -1,12 +1,15 @@
 -- Kits of texts: what is refused, and that there is one of a text.
-use Rattle.std.proofs.Common.{◌≡◌, ℕ, true, false, List, Some, Ok, Err, ap, sym, subst, ◌∙◌}
+use Rattle.std.proofs.Common.{◌≡◌, ℕ, true, false, List, [], ◌∷◌, Some, Ok, Err, ap, refl, sym, subst, ◌∙◌}
 use Rattle.std.specs.Prelude.{Vec}
 use Rattle.std.specs.declared.alloc.Global.{Global}
 use Rattle.std.specs.declared.alloc.AllocError.{AllocError}
 use Rattle.cfg_read.specs.declared.yacc.YaccKind.{YaccKind}
 use Rattle.cfg_read.specs.declared.yacc.validity.YaccGrammarError.{YaccGrammarError}
 use Rattle.cfg_read.specs.ErrorModels.{failures_in}
-use Rattle.cfg_read.specs.ValidityInfo.{CheckedAst, IsChecked, is_valid}
+use Rattle.cfg_read.specs.Files.{FailsFile, ReadsFile}
+use Rattle.cfg_read.specs.SyntaxTexts.{SyntaxText}
+use Rattle.cfg_read.specs.Validity.{FailureText, failures}
+use Rattle.cfg_read.specs.ValidityInfo.{CheckedAst, IsChecked, is_valid, read_as}
 use Rattle.cfg_numbered.specs.Value.{GrammarValue}
 use Rattle.cfgrammar.specs.FromAst.{Makes, too_many}
 use Rattle.cfgrammar.specs.declared.yacc.from_ast.TooMany.{TooMany}
@@ -52,11 +55,28 @@ no_memory {S} top kind text P x e is = subst (λ (y : KitError S). IsTextRefusal
 
 -- ---- one kit
 
-pub kit_of_text : (top cap : ℕ) (kind : YaccKind) (text : List ℕ) (kept : CheckedAst) (d : ParserValue) → IsChecked kind text kept → HasFitting top kept → d.grammar ≡ grammar_of kept → d.cap ≡ cap → IsTabled top d → IsKitOf top kind text cap (record { kept = kept; parser = d })
-kit_of_text top cap kind text kept d checked fits grammar cap_is tabled =
+none_of : (fs : List FailureText) → is_valid fs ≡ true → fs ≡ []
+none_of [] valid = refl
+none_of (f ∷ fs) valid = cc
+
+-- what is kept of a text with nothing wrong is its reading
+read_of : ((kind : YaccKind) (text : List ℕ) (fs : List FailureText) → FailsFile kind text fs → is_valid fs ≡ false) →
+    (kind : YaccKind) (text : List ℕ) (c : CheckedAst) → IsChecked kind text c → is_valid c.errors ≡ true → (x : SyntaxText) × ReadsFile kind text x × (failures x ≡ []) × (c ≡ read_as kind x)
+read_of unread kind text c (IsChecked.reads_as x r is) valid = (x, r, none_of (failures x) (sym (ap (λ (d : CheckedAst). is_valid d.errors) is) ∙ valid), is)
+read_of unread kind text c (IsChecked.has_errors fs f is) valid =
+    let wrong = unread kind text fs f in
+    let same = ap (λ (d : CheckedAst). is_valid d.errors) is in
+    cc
+
+pub kit_of_text : ((kind : YaccKind) (text : List ℕ) (fs : List FailureText) → FailsFile kind text fs → is_valid fs ≡ false) →
+    (top cap : ℕ) (kind : YaccKind) (text : List ℕ) (kept : CheckedAst) (d : ParserValue) → IsChecked kind text kept → HasFitting top kept → d.grammar ≡ grammar_of kept → d.cap ≡ cap → IsTabled top d → IsKitOf top kind text cap (record { kept = kept; parser = d })
+kit_of_text unread top cap kind text kept d checked fits grammar cap_is tabled =
+    let r = read_of unread kind text kept checked fits.0 in
     record {
-      checked = checked;
-      valid = fits.0;
+      reading = r.0;
+      reads = r.1;
+      valid = r.2;
+      kept = r.3;
       grammar = grammar;
       fits = fits.1;
       tabled = tabled;
@@ -66,7 +86,7 @@ kit_of_text top cap kind text kept d checked fits grammar cap_is tabled =
 module _ (one_answer : (kind : YaccKind) (text : List ℕ) (c d : CheckedAst) → IsChecked kind text c → IsChecked kind text d → c ≡ d)
     (top top' cap : ℕ) (kind : YaccKind) (text : List ℕ) (k l : KitValue) (x : IsKitOf top kind text cap k) (y : IsKitOf top' kind text cap l) where
   pub same_kept : k.kept ≡ l.kept
-  same_kept = one_answer kind text k.kept l.kept x.checked y.checked
+  same_kept = one_answer kind text k.kept l.kept (IsChecked.reads_as x.reading x.reads x.kept) (IsChecked.reads_as y.reading y.reads y.kept)
 
   pub same_grammar : k.parser.grammar ≡ l.parser.grammar
   same_grammar = x.grammar ∙ (ap grammar_of same_kept ∙ sym y.grammar)

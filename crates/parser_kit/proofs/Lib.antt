@@ -6,4 +6,5 @@ mod SeenAlike
 pub mod Kits
 pub mod Tabled
 mod HandedOut
+mod Undeclared
 pub mod TextKinds

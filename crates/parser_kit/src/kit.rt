@@ -1,6 +1,6 @@
 //! Kits of texts.
 
-ghost use Rattle.std.specs.Prelude.{◌≡◌, ◌↔◌, IfOk, IfErr, IfSome, IsNone, IsSome, IsTrue, option_map};
+ghost use Rattle.std.specs.Prelude.{◌≡◌, ◌↔◌, [], IfOk, IfErr, IfSome, IsNone, IsSome, IsTrue, option_map};
 ghost use Rattle.cfg_theory.specs.Derivation.{AllProductive};
 ghost use Rattle.lr_theory.specs.Automaton.{Complete};
 ghost use Rattle.cfg_read.specs.declared.yacc.YaccKind.{YaccKind};
@@ -31,11 +31,13 @@ use cfg_base::span::Span;
 use cfg_base::symbol::{PIdx, RIdx};
 use cfg_numbered::yacc::NumberedGrammar;
 use cfg_read::yacc::ast::GrammarAST;
-use cfg_read::yacc::{ASTWithValidityInfo, YaccKind};
+use cfg_read::yacc::{ASTWithValidityInfo, YaccKind, one_answer};
+use cfgrammar::yacc::from_ast::trees_without_precedences_make_grammars_without;
 use lrpar::{
     FlatTree, FoldedOutcome, LexParseError, Lexer, LexerTypes, ParseError, ParseRefusal,
     ParserData, Recoverer,
 };
+use lrtable::laws::precedences_are_kept;
 use lrtable::{Conflicts, StateGraph, StateTable};
 use std::alloc::{AllocError, Global};
 use std::marker::Model;
@@ -78,6 +80,7 @@ impl<S: IndexStorage> ParserKit<S> {
         ensures crowded { IfErr result (HasKitCause S.number S.MAX kind text.now) }
         ensures accepts { IfOk result (λ k. NeverAcceptsAndReduces k.parser.grammar.grammar) }
     {
+        one_answer();
         let kept = ASTWithValidityInfo::new(alloc, kind, text)?;
         match kit_in(alloc, &kept, cap) {
             Ok(kit) => Ok(ParserKit { kept, kit }),
@@ -97,6 +100,7 @@ impl<S: IndexStorage> ParserKit<S> {
         ensures crowded { IfErr result (IsToldRefusal text.now (λ kind. HasKitCause S.number S.MAX kind text.now)) }
         ensures accepts { IfOk result (λ k. NeverAcceptsAndReduces k.parser.grammar.grammar) }
     {
+        one_answer();
         let kept = kept_of(alloc, text)?;
         match kit_in(alloc, &kept, cap) {
             Ok(kit) => Ok(ParserKit { kept, kit }),
@@ -149,23 +153,25 @@ impl<S: IndexStorage> ParserKit<S> {
         self.kit.stable()
     }
 
-    /// Returns the conflicts that no precedence settles, `None` where there are none. Without precedences some
-    /// are listed if and only if some string leaves a token two canonical LR(1) actions; with any, each listed
-    /// one is contested.
+    /// Returns the conflicts that no precedence settles, `None` where there are none. If the text declares no
+    /// precedence, some are listed if and only if some string leaves a token two canonical LR(1) actions; with any,
+    /// each listed one is contested.
     pub fn conflicts(&self) -> Option<&Conflicts<S>>
         ensures value { option_map (λ c. c.now) result ≡ self.now.parser.table.conflicts }
-        ensures exact { NoPrecedences (precedences_of self.now.parser.grammar) → IsSome self.now.parser.table.conflicts ↔ SomeContested self.now.parser.grammar.grammar }
+        ensures exact { self.now.kept.ast.precedences ≡ [] → IsSome self.now.parser.table.conflicts ↔ SomeContested self.now.parser.grammar.grammar }
         ensures contested { IfSome self.now.parser.table.conflicts (AreContested self.now.parser.grammar.grammar) }
     {
-        self.kit.conflicts()
+        self.stays_without_precedences();
+        self.kit().conflicts()
     }
 
     /// Returns whether each item's action is in its cell, so that each sentence is parsed without errors.
     pub fn complete(&self) -> bool
         ensures value { IsTrue result ↔ Complete self.now.parser.grammar.grammar (automaton_of self.now.parser.graph self.now.parser.table) }
-        ensures unlisted { NoPrecedences (precedences_of self.now.parser.grammar) → IsTrue result ↔ IsNone self.now.parser.table.conflicts }
+        ensures unlisted { self.now.kept.ast.precedences ≡ [] → IsTrue result ↔ IsNone self.now.parser.table.conflicts }
     {
-        self.kit.complete()
+        self.stays_without_precedences();
+        self.kit().complete()
     }
 
     /// Returns whether each rule of the grammar derives some text.
@@ -181,8 +187,8 @@ impl<S: IndexStorage> ParserKit<S> {
     /// returns sequences of repairs, and the first that can be applied is. Returns the lexer's first error; or
     /// the value, if there is one, and the parse errors.
     ///
-    /// Without precedences and listed conflicts lexemes parse without errors if and only if they are a sentence,
-    /// and then with the value of their only tree. If each rule derives some text too, repairs leave no trace:
+    /// If the text declares no precedence and no conflict is listed, lexemes parse without errors if and only if they are
+    /// a sentence, and then with the value of their only tree. If each rule derives some text too, repairs leave no trace:
     /// the value is that of the lexemes as repaired, and each error is at a token that continues no sentence
     /// there.
     ///
@@ -213,9 +219,10 @@ impl<S: IndexStorage> ParserKit<S> {
         requires nonterm { H.IsAlwaysCallable fnonterm.now }
         ensures parsed { IfOk result (IsKitOutcome S.number T.LexemeT.lex T.LexemeT.faulty_of self.now.parser (values_by S.number (F.post fterm.now) (H.post fnonterm.now)) (R.answers recoverer.now) (X.lexed lexer.now)) }
         ensures refused { IfErr result (IsParseRefusal self.now.parser.grammar.grammar T.LexemeT.lex (X.lexed lexer.now)) }
-        ensures sentences { NoPrecedences (precedences_of self.now.parser.grammar) → IsNone self.now.parser.table.conflicts → IfOk result (WhereParsed (λ value errors. ItemsFollowSentences T.LexemeT.lex self.now.parser.grammar.grammar (X.lexed lexer.now) (HasValue self.now.parser.grammar.grammar (values_by S.number (F.post fterm.now) (H.post fnonterm.now)) (span_by T.LexemeT.lex) value) errors)) }
-        ensures traceless { NoPrecedences (precedences_of self.now.parser.grammar) → IsNone self.now.parser.table.conflicts → AllProductive self.now.parser.grammar.grammar → IfOk result (WhereParsed (λ value errors. LeavesNoTrace S.number T.LexemeT.lex T.LexemeT.faulty_of self.now.parser (R.answers recoverer.now) (X.lexed lexer.now) (HasValue self.now.parser.grammar.grammar (values_by S.number (F.post fterm.now) (H.post fnonterm.now)) (span_by T.LexemeT.lex) value) errors)) }
+        ensures sentences { self.now.kept.ast.precedences ≡ [] → IsNone self.now.parser.table.conflicts → IfOk result (WhereParsed (λ value errors. ItemsFollowSentences T.LexemeT.lex self.now.parser.grammar.grammar (X.lexed lexer.now) (HasValue self.now.parser.grammar.grammar (values_by S.number (F.post fterm.now) (H.post fnonterm.now)) (span_by T.LexemeT.lex) value) errors)) }
+        ensures traceless { self.now.kept.ast.precedences ≡ [] → IsNone self.now.parser.table.conflicts → AllProductive self.now.parser.grammar.grammar → IfOk result (WhereParsed (λ value errors. LeavesNoTrace S.number T.LexemeT.lex T.LexemeT.faulty_of self.now.parser (R.answers recoverer.now) (X.lexed lexer.now) (HasValue self.now.parser.grammar.grammar (values_by S.number (F.post fterm.now) (H.post fnonterm.now)) (span_by T.LexemeT.lex) value) errors)) }
     {
+        self.stays_without_precedences();
         self.kit()
             .parse_fold::<T, V, X, R, F, H>(alloc, lexer, recoverer, fterm, fnonterm)
     }
@@ -240,9 +247,10 @@ impl<S: IndexStorage> ParserKit<S> {
         ensures fault { IfOk result (λ r. IfErr r (IsFirstLexError (X.lexed lexer.now))) }
         ensures parsed { IfOk result (λ r. IfOk r (λ p. IsKitParse S.number T.LexemeT.lex T.LexemeT.faulty_of self.now.parser (R.answers recoverer.now) (X.lexed lexer.now) (HasFlat (span_by T.LexemeT.lex) p.0) p.1.items)) }
         ensures refused { IfErr result (IsParseRefusal self.now.parser.grammar.grammar T.LexemeT.lex (X.lexed lexer.now)) }
-        ensures sentences { NoPrecedences (precedences_of self.now.parser.grammar) → IsNone self.now.parser.table.conflicts → IfOk result (λ r. IfOk r (λ p. ItemsFollowSentences T.LexemeT.lex self.now.parser.grammar.grammar (X.lexed lexer.now) (HasFlat (span_by T.LexemeT.lex) p.0) p.1.items)) }
-        ensures traceless { NoPrecedences (precedences_of self.now.parser.grammar) → IsNone self.now.parser.table.conflicts → AllProductive self.now.parser.grammar.grammar → IfOk result (λ r. IfOk r (λ p. LeavesNoTrace S.number T.LexemeT.lex T.LexemeT.faulty_of self.now.parser (R.answers recoverer.now) (X.lexed lexer.now) (HasFlat (span_by T.LexemeT.lex) p.0) p.1.items)) }
+        ensures sentences { self.now.kept.ast.precedences ≡ [] → IsNone self.now.parser.table.conflicts → IfOk result (λ r. IfOk r (λ p. ItemsFollowSentences T.LexemeT.lex self.now.parser.grammar.grammar (X.lexed lexer.now) (HasFlat (span_by T.LexemeT.lex) p.0) p.1.items)) }
+        ensures traceless { self.now.kept.ast.precedences ≡ [] → IsNone self.now.parser.table.conflicts → AllProductive self.now.parser.grammar.grammar → IfOk result (λ r. IfOk r (λ p. LeavesNoTrace S.number T.LexemeT.lex T.LexemeT.faulty_of self.now.parser (R.answers recoverer.now) (X.lexed lexer.now) (HasFlat (span_by T.LexemeT.lex) p.0) p.1.items)) }
     {
+        self.stays_without_precedences();
         self.kit().parse_flat::<T, X, R>(alloc, lexer, recoverer)
     }
 
@@ -271,11 +279,21 @@ impl<S: IndexStorage> ParserKit<S> {
         requires nonterm { H.IsAlwaysCallable fnonterm.now }
         ensures parsed { IfOk result (λ r. IsHanded errors.LexError errors.ParseError (X.lexed lexer.now) (λ value es. IsKitParse S.number T.LexemeT.lex T.LexemeT.faulty_of self.now.parser (R.answers recoverer.now) (X.lexed lexer.now) (HasValue self.now.parser.grammar.grammar (mapped_by S.number (F.post fterm.now) (H.post fnonterm.now)) (span_by T.LexemeT.lex) value) es) r.0 r.1.items) }
         ensures refused { IfErr result (IsParseRefusal self.now.parser.grammar.grammar T.LexemeT.lex (X.lexed lexer.now)) }
-        ensures sentences { NoPrecedences (precedences_of self.now.parser.grammar) → IsNone self.now.parser.table.conflicts → IfOk result (λ r. ItemsFollowSentences T.LexemeT.lex self.now.parser.grammar.grammar (X.lexed lexer.now) (HasValue self.now.parser.grammar.grammar (mapped_by S.number (F.post fterm.now) (H.post fnonterm.now)) (span_by T.LexemeT.lex) r.0) r.1.items) }
-        ensures traceless { NoPrecedences (precedences_of self.now.parser.grammar) → IsNone self.now.parser.table.conflicts → AllProductive self.now.parser.grammar.grammar → IfOk result (λ r. IsHanded errors.LexError errors.ParseError (X.lexed lexer.now) (λ value es. LeavesNoTrace S.number T.LexemeT.lex T.LexemeT.faulty_of self.now.parser (R.answers recoverer.now) (X.lexed lexer.now) (HasValue self.now.parser.grammar.grammar (mapped_by S.number (F.post fterm.now) (H.post fnonterm.now)) (span_by T.LexemeT.lex) value) es) r.0 r.1.items) }
+        ensures sentences { self.now.kept.ast.precedences ≡ [] → IsNone self.now.parser.table.conflicts → IfOk result (λ r. ItemsFollowSentences T.LexemeT.lex self.now.parser.grammar.grammar (X.lexed lexer.now) (HasValue self.now.parser.grammar.grammar (mapped_by S.number (F.post fterm.now) (H.post fnonterm.now)) (span_by T.LexemeT.lex) r.0) r.1.items) }
+        ensures traceless { self.now.kept.ast.precedences ≡ [] → IsNone self.now.parser.table.conflicts → AllProductive self.now.parser.grammar.grammar → IfOk result (λ r. IsHanded errors.LexError errors.ParseError (X.lexed lexer.now) (λ value es. LeavesNoTrace S.number T.LexemeT.lex T.LexemeT.faulty_of self.now.parser (R.answers recoverer.now) (X.lexed lexer.now) (HasValue self.now.parser.grammar.grammar (mapped_by S.number (F.post fterm.now) (H.post fnonterm.now)) (span_by T.LexemeT.lex) value) es) r.0 r.1.items) }
     {
+        self.stays_without_precedences();
         self.kit()
             .parse_map::<T, N, X, R, F, H>(alloc, lexer, recoverer, fterm, fnonterm)
+    }
+
+    /// Proves that the table of a text that declares no precedence knows none.
+    pub fn stays_without_precedences(&self)
+        ensures { self.now.kept.ast.precedences ≡ [] → NoPrecedences (precedences_of self.now.parser.grammar) }
+    {
+        trees_without_precedences_make_grammars_without();
+        precedences_are_kept();
+        self.stays_kit();
     }
 
     /// Proves that each kit is that of some text, kind and cap.

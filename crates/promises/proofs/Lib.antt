@@ -1,3 +1,2 @@
-pub mod Undeclared
 pub mod LeastSentences
 pub mod Answered

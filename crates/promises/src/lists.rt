@@ -1,36 +1,32 @@
 //! The conflict list is exact.
 
-ghost use Rattle.std.specs.Prelude.{◌≡◌, ◌↔◌, ℕ, List, [], IfSome, IsNone, IsSome, IsTrue};
-ghost use Rattle.cfg_read.specs.declared.yacc.YaccKind.{YaccKind};
+ghost use Rattle.std.specs.Prelude.{◌≡◌, ◌↔◌, [], IfSome, IsNone, IsSome, IsTrue, option_map};
 ghost use Rattle.lr_theory.specs.Automaton.{Complete};
 ghost use Rattle.state_table.specs.Tables.{AreContested, automaton_of};
-ghost use Rattle.parser_kit.specs.Kit.{IsKitOf, KitValue};
 ghost use Rattle.table_theory.specs.CellLaws.{SomeContested};
 
 use cfg_base::index::IndexStorage;
-use cfgrammar::yacc::from_ast::trees_without_precedences_make_grammars_without;
-use lrtable::laws::{conflicts_are_canonical, precedences_are_kept};
+use lrtable::Conflicts;
 use parser_kit::ParserKit;
 
 /// Where the text declares no precedence, conflicts are listed exactly where some string of symbols leaves some token two
 /// actions of canonical LR(1).
 /// Shown by `a_token_is_contested`, `sets_of_one_core_stay_apart` of `lr_theory`; `examples` (`kit`); refused: `merge_all`, `closure_by_follow`.
-pub fn lists_are_exact()
-    ensures { (top cap : ℕ) (kind : YaccKind) (text : List ℕ) (k : KitValue) → IsKitOf top kind text cap k → k.kept.ast.precedences ≡ [] →
-        IsSome k.parser.table.conflicts ↔ SomeContested k.parser.grammar.grammar }
+pub fn lists_are_exact<S: IndexStorage>(kit: &ParserKit<S>) -> Option<&Conflicts<S>>
+    ensures value { option_map (λ c. c.now) result ≡ kit.now.parser.table.conflicts }
+    ensures exact { kit.now.kept.ast.precedences ≡ [] → IsSome kit.now.parser.table.conflicts ↔ SomeContested kit.now.parser.grammar.grammar }
 {
-    trees_without_precedences_make_grammars_without();
-    precedences_are_kept();
-    conflicts_are_canonical();
+    kit.conflicts()
 }
 
 /// With any precedences, what is listed is contested: a shift and a reduction on the listed token, a pair of reductions on
 /// some token.
 /// Shown by the same; refused: `every_pair_is_listed`, `second_reduction`.
-pub fn listed_conflicts_are_contested()
-    ensures { (top cap : ℕ) (kind : YaccKind) (text : List ℕ) (k : KitValue) → IsKitOf top kind text cap k → IfSome k.parser.table.conflicts (AreContested k.parser.grammar.grammar) }
+pub fn listed_conflicts_are_contested<S: IndexStorage>(kit: &ParserKit<S>) -> Option<&Conflicts<S>>
+    ensures value { option_map (λ c. c.now) result ≡ kit.now.parser.table.conflicts }
+    ensures contested { IfSome kit.now.parser.table.conflicts (AreContested kit.now.parser.grammar.grammar) }
 {
-    conflicts_are_canonical();
+    kit.conflicts()
 }
 
 /// Where the text declares no precedence, the table does all that the items say exactly where no conflict is listed.
@@ -39,8 +35,5 @@ pub fn complete_where_none_is_listed<S: IndexStorage>(kit: &ParserKit<S>) -> boo
     ensures value { IsTrue result ↔ Complete kit.now.parser.grammar.grammar (automaton_of kit.now.parser.graph kit.now.parser.table) }
     ensures unlisted { kit.now.kept.ast.precedences ≡ [] → IsTrue result ↔ IsNone kit.now.parser.table.conflicts }
 {
-    trees_without_precedences_make_grammars_without();
-    precedences_are_kept();
-    kit.stays_kit();
     kit.complete()
 }

@@ -22,9 +22,7 @@ ghost use Rattle.lrkit.specs.Output.{Word, id, made_up};
 
 use cfg_base::index::IndexStorage;
 use cfg_theory::grammar::well_formed_has_start;
-use cfgrammar::yacc::from_ast::trees_without_precedences_make_grammars_without;
 use lrpar::{FlatTree, Lexeme, Lexer, LexerTypes, ParseError, ParseRefusal, Recoverer};
-use lrtable::laws::precedences_are_kept;
 use parser_kit::ParserKit;
 use parser_kit::laws::{
     kits_of_texts_are_one, kits_of_texts_parse_alike, kits_with_own_lexemes_parse_alike,
@@ -88,9 +86,6 @@ pub fn sentences_get_their_only_tree<
 >
     ensures { kit.now.kept.ast.precedences ≡ [] → IsNone kit.now.parser.table.conflicts → IfOk result (λ r. IfOk r (λ p. ItemsFollowSentences T.LexemeT.lex kit.now.parser.grammar.grammar (X.lexed lexer.now) (HasFlat (span_by T.LexemeT.lex) p.0) p.1.items)) }
 {
-    trees_without_precedences_make_grammars_without();
-    precedences_are_kept();
-    kit.stays_kit();
     kit.parse_flat::<T, X, R>(alloc, lexer, recoverer)
 }
 
@@ -122,8 +117,6 @@ pub fn least_sentences_come_through<
     ensures start_rule { kit.now.kept.ast.precedences ≡ [] → IsNone kit.now.parser.table.conflicts → (cost : ℕ → ℕ) (lexemes : List T.LexemeT) → AreItems (X.lexed lexer.now) lexemes →
         IsCheapest kit.now.parser.grammar.grammar cost 0 (map (token_by T.LexemeT.lex) lexemes) → IfOk result (λ r. IfOk r (λ p. p.1.items ≡ [])) }
 {
-    trees_without_precedences_make_grammars_without();
-    precedences_are_kept();
     well_formed_has_start();
     kit.stays_kit();
     kit.parse_flat::<T, X, R>(alloc, lexer, recoverer)
@@ -154,9 +147,6 @@ pub fn repairs_leave_no_trace<
 >
     ensures { kit.now.kept.ast.precedences ≡ [] → IsNone kit.now.parser.table.conflicts → AllProductive kit.now.parser.grammar.grammar → IfOk result (λ r. IfOk r (λ p. LeavesNoTrace S.number T.LexemeT.lex T.LexemeT.faulty_of kit.now.parser (R.answers recoverer.now) (X.lexed lexer.now) (HasFlat (span_by T.LexemeT.lex) p.0) p.1.items)) }
 {
-    trees_without_precedences_make_grammars_without();
-    precedences_are_kept();
-    kit.stays_kit();
     kit.parse_flat::<T, X, R>(alloc, lexer, recoverer)
 }
 

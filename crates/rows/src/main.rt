@@ -46,7 +46,7 @@ fn answer(alloc: Global, kind: Kind, file: &str) -> Result<String, AllocError> {
         Kind::Report => report_rows::answer_file(alloc, file),
         Kind::Kit => kit_rows::answer_file(alloc, file),
         Kind::Import => import_rows::answer_file(alloc, file),
-        Kind::Hostile => hostile_rows::told(alloc, file),
+        Kind::Hostile => hostile_rows::summary_of(alloc, file),
     }
 }
 

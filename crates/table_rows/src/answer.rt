@@ -84,7 +84,7 @@ fn push_made<S: IndexStorage>(
     }
 }
 
-fn made<S: IndexStorage>(
+fn grammar_of<S: IndexStorage>(
     alloc: Global,
     heading: &str,
     text: &str,
@@ -98,7 +98,7 @@ fn made<S: IndexStorage>(
 /// The answer at one index type.
 fn answer<S: IndexStorage>(alloc: Global, heading: &str, text: &str) -> Result<String, AllocError> {
     let mut out = String::new(alloc);
-    let pushed = match made::<S>(alloc, heading, text) {
+    let pushed = match grammar_of::<S>(alloc, heading, text) {
         Ok(grm) => {
             let pushed = push_made(alloc, &mut out, heading, &grm);
             drop(grm);

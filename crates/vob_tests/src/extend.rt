@@ -8,7 +8,11 @@ use vob::error::VobError;
 use vob::{Vob, Word};
 
 /// Joins two lists, and parts them again where they were joined; returns whether the whole and both parts are right.
-fn joined<T: Word>(alloc: Global, at: usize, to: usize) -> Result<[bool; 3], VobError> {
+fn join_and_part_again<T: Word>(
+    alloc: Global,
+    at: usize,
+    to: usize,
+) -> Result<[bool; 3], VobError> {
     let mut list = list_of::<T>(alloc, Items::Mixed, 0, at)?;
     let other = list_of::<T>(alloc, Items::Mixed, at, to)?;
     let mut whole = list_of::<T>(alloc, Items::Mixed, 0, to)?;
@@ -52,11 +56,11 @@ fn all_joined<T: Word>(
     let (lowest, highest) = lengths;
     'at: for at in lowest..highest {
         'len: for len in lowest..highest {
-            let found = joined::<T>(alloc, at, at.saturating_add(len))?;
+            let found = join_and_part_again::<T>(alloc, at, at.saturating_add(len))?;
             same(rt, "joined", found, [true; 3]);
         }
     }
-    let found = joined::<T>(alloc, one_more.0, one_more.1)?;
+    let found = join_and_part_again::<T>(alloc, one_more.0, one_more.1)?;
     same(rt, "one more", found, [true; 3]);
     Ok(())
 }

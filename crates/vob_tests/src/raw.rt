@@ -55,7 +55,7 @@ fn unused_bits_are_masked(rt: HostRuntime) -> Result<(), Fail> {
     let raw = full(rt.alloc(), 9)?.into_raw();
     let nine = [0xff, 0x01];
     same(&rt, "nine", outcome(raw, 9, nine.as_slice()), (true, true));
-    let raw = masked(raw_of(rt.alloc(), 9, [0xff, 0x03].as_slice())?);
+    let raw = mask_to_nine(raw_of(rt.alloc(), 9, [0xff, 0x03].as_slice())?);
     same(
         &rt,
         "masked",
@@ -65,7 +65,7 @@ fn unused_bits_are_masked(rt: HostRuntime) -> Result<(), Fail> {
     Ok(())
 }
 
-fn masked(mut raw: RawVob<u8>) -> RawVob<u8> {
+fn mask_to_nine(mut raw: RawVob<u8>) -> RawVob<u8> {
     raw.set_len(9);
     if raw.blocks.len() == 2 {
         raw.mask_last_block();

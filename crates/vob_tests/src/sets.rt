@@ -18,7 +18,7 @@ enum Step {
 }
 
 /// Changes a list, and returns whether it was changed; `None` where the other has another length.
-fn changed<T: Word>(list: &mut Vob<T>, other: &Vob<T>, step: Step) -> Option<bool> {
+fn change<T: Word>(list: &mut Vob<T>, other: &Vob<T>, step: Step) -> Option<bool> {
     if list.len() != other.len() {
         return None;
     }
@@ -36,15 +36,15 @@ fn changed<T: Word>(list: &mut Vob<T>, other: &Vob<T>, step: Step) -> Option<boo
 // Whether a step changes a list, how many items are set and unset then, and whether it is the other list.
 type Stepped = (Option<bool>, usize, usize, bool);
 
-fn stepped<T: Word>(list: &mut Vob<T>, other: &Vob<T>, step: Step) -> Stepped {
-    let is_changed = changed(list, other, step);
+fn step_counts<T: Word>(list: &mut Vob<T>, other: &Vob<T>, step: Step) -> Stepped {
+    let is_changed = change(list, other, step);
     (is_changed, set_in(list), unset_in(list), *list == *other)
 }
 
 // The last items of 200, and how many of all are set, and how many from 100 to 150 are set and unset.
 type Counted = ([Option<bool>; 3], usize, usize, usize);
 
-fn counted<T: Word>(list: &Vob<T>) -> Counted {
+fn counts_of<T: Word>(list: &Vob<T>) -> Counted {
     let ends = [list.get(198), list.get(199), list.get(200)];
     let set = list.iter_set_bits(100..150).count();
     let unset = list.iter_unset_bits(100..150).count();
@@ -54,7 +54,7 @@ fn counted<T: Word>(list: &Vob<T>) -> Counted {
 // The first and the last item that is set from 100 to 150, and how many are between.
 type Walked = (Option<usize>, Option<usize>, usize);
 
-fn walked<T: Word>(list: &Vob<T>) -> Walked {
+fn walk_of<T: Word>(list: &Vob<T>) -> Walked {
     let mut walk = list.iter_set_bits(100..150);
     let first = walk.next();
     let last = walk.next_back();
@@ -65,13 +65,13 @@ fn walked<T: Word>(list: &Vob<T>) -> Walked {
 fn as_sets<T: Word>(alloc: Global) -> Result<(Counted, Walked, [Stepped; 5]), VobError> {
     let mut list: Vob<T> = list_of(alloc, Items::Thirds, 0, 200)?;
     let seconds: Vob<T> = list_of(alloc, Items::Seconds, 0, 200)?;
-    let of_thirds = (counted(&list), walked(&list));
+    let of_thirds = (counts_of(&list), walk_of(&list));
     let steps = [
-        stepped(&mut list, &seconds, Step::Or),
-        stepped(&mut list, &seconds, Step::Or),
-        stepped(&mut list, &seconds, Step::And),
-        stepped(&mut list, &seconds, Step::Xor),
-        stepped(&mut list, &seconds, Step::Negate),
+        step_counts(&mut list, &seconds, Step::Or),
+        step_counts(&mut list, &seconds, Step::Or),
+        step_counts(&mut list, &seconds, Step::And),
+        step_counts(&mut list, &seconds, Step::Xor),
+        step_counts(&mut list, &seconds, Step::Negate),
     ];
     Ok((of_thirds.0, of_thirds.1, steps))
 }
@@ -106,7 +106,7 @@ fn pairs_are_compared(rt: HostRuntime) -> Result<(), Fail> {
         let list = Vob::from_slice(rt.alloc(), left)?;
         let other = Vob::from_slice(rt.alloc(), right)?;
         let wanted = Some((*meet, *meet, *hold));
-        same(&rt, "pair", compared(&list, &other), wanted);
+        same(&rt, "pair", comparison(&list, &other), wanted);
     }
     Ok(())
 }
@@ -114,7 +114,7 @@ fn pairs_are_compared(rt: HostRuntime) -> Result<(), Fail> {
 // Whether two lists meet, asked both ways, and whether the first holds the second; `None` where their lengths differ.
 type Compared = Option<(bool, bool, bool)>;
 
-fn compared<T: Word>(list: &Vob<T>, other: &Vob<T>) -> Compared {
+fn comparison<T: Word>(list: &Vob<T>, other: &Vob<T>) -> Compared {
     if list.len() != other.len() {
         return None;
     }
@@ -130,13 +130,13 @@ fn set_at<T: Word>(list: &mut Vob<T>, index: usize) {
 /// Compares a list with another that is negated, emptied, and given two items one after the other.
 fn compared_in_turn<T: Word>(others: &mut Vob<T>, seconds: &Vob<T>) -> [Compared; 4] {
     others.negate();
-    let negated = compared(others, seconds);
+    let negated = comparison(others, seconds);
     others.set_all(false);
-    let emptied = compared(seconds, others);
+    let emptied = comparison(seconds, others);
     set_at(others, 198);
-    let shared = compared(seconds, others);
+    let shared = comparison(seconds, others);
     set_at(others, 199);
-    [negated, emptied, shared, compared(seconds, others)]
+    [negated, emptied, shared, comparison(seconds, others)]
 }
 
 // 200 items, of which the last one that is set in the other list is in the last block.
@@ -146,7 +146,7 @@ fn compared_to_the_end<T: Word>(
     let seconds: Vob<T> = list_of(alloc, Items::Seconds, 0, 200)?;
     let sixths: Vob<T> = list_of(alloc, Items::Sixths, 0, 200)?;
     let mut others: Vob<T> = list_of(alloc, Items::Seconds, 0, 200)?;
-    let found = (compared(&seconds, &sixths), compared(&sixths, &seconds));
+    let found = (comparison(&seconds, &sixths), comparison(&sixths, &seconds));
     Ok((found.0, found.1, compared_in_turn(&mut others, &seconds)))
 }
 

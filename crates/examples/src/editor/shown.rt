@@ -32,7 +32,7 @@ fn advice(
 }
 
 /// Returns an error underlined.
-pub fn underlined(
+pub fn underline_error(
     alloc: Global,
     grm: &NumberedGrammar<u32>,
     formatter: &SpannedDiagnosticFormatter,

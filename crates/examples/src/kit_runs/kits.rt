@@ -9,7 +9,7 @@ use std::alloc::{AllocError, Global};
 const TREE: YaccKind = YaccKind::Original(YaccOriginalActionKind::GenericParseTree);
 
 /// Returns the kit of a text of Yacc's own syntax with trees, or why there is none.
-pub fn made<S: IndexStorage>(alloc: Global, text: &str) -> Result<ParserKit<S>, KitError<S>> {
+pub fn kit_of<S: IndexStorage>(alloc: Global, text: &str) -> Result<ParserKit<S>, KitError<S>> {
     ParserKit::<S>::new(alloc, text, TREE, 1000)
 }
 
@@ -71,7 +71,7 @@ fn answer_of<S: IndexStorage>(
 
 /// Returns what comes of a text of Yacc's own syntax with trees.
 fn answer_to<S: IndexStorage>(alloc: Global, text: &str) -> Result<String, AllocError> {
-    answer_of(alloc, made::<S>(alloc, text))
+    answer_of(alloc, kit_of::<S>(alloc, text))
 }
 
 /// Returns what comes of a text whose section may tell its kind.

@@ -1,6 +1,6 @@
 //! Lines through kits.
 
-use crate::kit_runs::kits::{made, push_answers};
+use crate::kit_runs::kits::{kit_of, push_answers};
 use crate::kit_runs::lexer::lexer_of;
 use crate::kit_runs::spell::{branch, by_rule, flat_text, folded_text, leaf, mapped_text};
 use cfg_base::index::IndexOrder;
@@ -96,7 +96,7 @@ fn line_text<S: IndexOrder>(
     text: &str,
     lexemes: &[(u8, u16, u16)],
 ) -> Result<String, AllocError> {
-    let made = made::<S>(alloc, text);
+    let made = kit_of::<S>(alloc, text);
     let found = match &made {
         Ok(kit) => text_by(alloc, kit, lexemes),
         Err(KitError::Memory(e)) => Err(*e),

@@ -30,8 +30,8 @@ invariant_of-result g c =
       kind = c.args.kind;
       text = c.args.text.now;
       cap = c.args.cap;
-      is_of = kit_of_text g.S.IndexStorage.MAX c.args.cap c.args.kind c.args.text.now c.in_ok-kept.kept c.in-Ok.kit c.in_ok-kept.ensures c.in-Ok.ensures.fits c.in-Ok.ensures.grammar c.in-Ok.ensures.cap c.in-Ok.ensures.tabled;
+      is_of = kit_of_text c.one_answer.ensures.unread g.S.IndexStorage.MAX c.args.cap c.args.kind c.args.text.now c.in_ok-kept.kept c.in-Ok.kit c.in_ok-kept.ensures c.in-Ok.ensures.fits c.in-Ok.ensures.grammar c.in-Ok.ensures.cap c.in-Ok.ensures.tabled;
     }
 
 pub returns-in-Ok-clause-kit : goal.returns-in-Ok-clause-kit
-returns-in-Ok-clause-kit g c = kit_of_text g.S.IndexStorage.MAX c.args.cap c.args.kind c.args.text.now c.in_ok-kept.kept c.in-Ok.kit c.in_ok-kept.ensures c.in-Ok.ensures.fits c.in-Ok.ensures.grammar c.in-Ok.ensures.cap c.in-Ok.ensures.tabled
+returns-in-Ok-clause-kit g c = kit_of_text c.one_answer.ensures.unread g.S.IndexStorage.MAX c.args.cap c.args.kind c.args.text.now c.in_ok-kept.kept c.in-Ok.kit c.in_ok-kept.ensures c.in-Ok.ensures.fits c.in-Ok.ensures.grammar c.in-Ok.ensures.cap c.in-Ok.ensures.tabled

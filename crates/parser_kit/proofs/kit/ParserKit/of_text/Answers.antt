@@ -26,10 +26,10 @@ invariant_of-result g c =
       kind = kept.kind;
       text = c.args.text.now;
       cap = c.args.cap;
-      is_of = kit_of_text g.S.IndexStorage.MAX c.args.cap kept.kind c.args.text.now kept c.in-Ok.kit c.in_ok-kept.ensures.kept c.in-Ok.ensures.fits c.in-Ok.ensures.grammar c.in-Ok.ensures.cap c.in-Ok.ensures.tabled;
+      is_of = kit_of_text c.one_answer.ensures.unread g.S.IndexStorage.MAX c.args.cap kept.kind c.args.text.now kept c.in-Ok.kit c.in_ok-kept.ensures.kept c.in-Ok.ensures.fits c.in-Ok.ensures.grammar c.in-Ok.ensures.cap c.in-Ok.ensures.tabled;
     }
 
 pub returns-in-Ok-clause-kit : goal.returns-in-Ok-clause-kit
 returns-in-Ok-clause-kit g c =
     let kept = c.in_ok-kept.kept in
-    (kept.kind, c.in_ok-kept.ensures.kind, kit_of_text g.S.IndexStorage.MAX c.args.cap kept.kind c.args.text.now kept c.in-Ok.kit c.in_ok-kept.ensures.kept c.in-Ok.ensures.fits c.in-Ok.ensures.grammar c.in-Ok.ensures.cap c.in-Ok.ensures.tabled)
+    (kept.kind, c.in_ok-kept.ensures.kind, kit_of_text c.one_answer.ensures.unread g.S.IndexStorage.MAX c.args.cap kept.kind c.args.text.now kept c.in-Ok.kit c.in_ok-kept.ensures.kept c.in-Ok.ensures.fits c.in-Ok.ensures.grammar c.in-Ok.ensures.cap c.in-Ok.ensures.tabled)

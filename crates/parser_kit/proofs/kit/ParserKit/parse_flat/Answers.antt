@@ -7,7 +7,11 @@ pub returns-clause-refused : goal.returns-clause-refused
 returns-clause-refused g c = rw c.kit.ensures at c.parse_flat.ensures.refused
 
 pub returns-clause-sentences : goal.returns-clause-sentences
-returns-clause-sentences g c = rw c.kit.ensures at c.parse_flat.ensures.sentences
+returns-clause-sentences g c =
+    let sentences = rw c.kit.ensures at c.parse_flat.ensures.sentences in
+    λ none. sentences (c.stays_without_precedences.ensures none)
 
 pub returns-clause-traceless : goal.returns-clause-traceless
-returns-clause-traceless g c = rw c.kit.ensures at c.parse_flat.ensures.traceless
+returns-clause-traceless g c =
+    let traceless = rw c.kit.ensures at c.parse_flat.ensures.traceless in
+    λ none. traceless (c.stays_without_precedences.ensures none)

@@ -45,21 +45,24 @@ fn lines<S: IndexStorage>(
 }
 
 /// Returns a shortest list of each rule: each token costs 1.
-fn lists_told<S: IndexStorage>(alloc: Global, grm: &YaccGrammar<S>) -> Result<String, AllocError> {
+fn lists_report<S: IndexStorage>(
+    alloc: Global,
+    grm: &YaccGrammar<S>,
+) -> Result<String, AllocError> {
     let sentences = grm.sentence_generator(alloc, |_token| 1)?;
-    let told = lines(alloc, grm, &sentences);
+    let report = lines(alloc, grm, &sentences);
     drop(sentences);
-    told
+    report
 }
 
 /// Returns the lists of a text's grammar, or why it has none.
-pub fn told(alloc: Global, text: &str) -> Result<String, AllocError> {
+pub fn report_on(alloc: Global, text: &str) -> Result<String, AllocError> {
     match grammar(alloc, text)? {
         Ok(grm) => {
-            let told = lists_told(alloc, &grm);
+            let report = lists_report(alloc, &grm);
             drop(grm);
-            told
+            report
         }
-        Err(told) => Ok(told),
+        Err(report) => Ok(report),
     }
 }

@@ -99,7 +99,7 @@ fn push_rules<S: IndexStorage>(
 }
 
 /// Returns the sets of each rule, the added start rule `^` among them.
-fn sets_told<S: IndexStorage>(alloc: Global, grm: &YaccGrammar<S>) -> Result<String, AllocError> {
+fn sets_report<S: IndexStorage>(alloc: Global, grm: &YaccGrammar<S>) -> Result<String, AllocError> {
     let mut out = String::new(alloc);
     let firsts = grm.firsts(alloc)?;
     let sets = match grm.follows(alloc) {
@@ -117,13 +117,13 @@ fn sets_told<S: IndexStorage>(alloc: Global, grm: &YaccGrammar<S>) -> Result<Str
 }
 
 /// Returns the sets of a text's grammar, or why it has none.
-pub fn told(alloc: Global, text: &str) -> Result<String, AllocError> {
+pub fn report_on(alloc: Global, text: &str) -> Result<String, AllocError> {
     match grammar(alloc, text)? {
         Ok(grm) => {
-            let told = sets_told(alloc, &grm);
+            let report = sets_report(alloc, &grm);
             drop(grm);
-            told
+            report
         }
-        Err(told) => Ok(told),
+        Err(report) => Ok(report),
     }
 }

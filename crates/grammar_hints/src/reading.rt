@@ -68,7 +68,7 @@ fn is_name_char(c: char) -> bool {
 }
 
 /// Makes a hint with no place of its own.
-fn said(alloc: Global, words: Option<&str>) -> Result<Option<Hint>, AllocError>
+fn hint_of_words(alloc: Global, words: Option<&str>) -> Result<Option<Hint>, AllocError>
     ensures { IfOk result (λ o. IfSome o (λ h. h.span ≡ None)) }
 {
     let Some(words) = words else {
@@ -114,7 +114,7 @@ fn alternative_hint(
         );
     }
     if before.ends_with('}') {
-        return said(
+        return hint_of_words(
             alloc,
             Some(
                 "an action stands at the end of its alternative: put what is before it into a rule of its own",
@@ -136,9 +136,9 @@ pub(crate) fn reading_hint(
     let front = text.get(..offset).unwrap_or("");
     let rest = text.get(offset..).unwrap_or("");
     match kind {
-        YaccGrammarErrorKind::UnknownDeclaration => said(alloc, declaration_words(rest)),
-        YaccGrammarErrorKind::PrematureEnd => said(alloc, Some(NO_RULES)),
-        YaccGrammarErrorKind::IllegalName => said(alloc, list_words(rest.chars().next())),
+        YaccGrammarErrorKind::UnknownDeclaration => hint_of_words(alloc, declaration_words(rest)),
+        YaccGrammarErrorKind::PrematureEnd => hint_of_words(alloc, Some(NO_RULES)),
+        YaccGrammarErrorKind::IllegalName => hint_of_words(alloc, list_words(rest.chars().next())),
         YaccGrammarErrorKind::IncompleteRule => missing_end(alloc, text, front.trim_end()),
         YaccGrammarErrorKind::ProductionNotTerminated => alternative_hint(alloc, text, front, rest),
         _ => Ok(None),

@@ -41,7 +41,7 @@ fn push_set(text: &mut String, kit: &ParserKit<u32>, bits: &Vob) -> Result<(), A
 }
 
 /// Returns what is wrong at a token: its name, or that the line ends, and which tokens may come there.
-fn unexpected(
+fn unexpected_text(
     alloc: Global,
     kit: &ParserKit<u32>,
     lexer: &WordLexer<'_, u32>,
@@ -62,7 +62,7 @@ fn unexpected(
 }
 
 /// A span of a line as one of the file that the line begins in at `start`.
-fn moved(span: Span, start: usize) -> Span {
+fn span_in_file(span: Span, start: usize) -> Span {
     let first = start.saturating_add(span.start());
     let last = start.saturating_add(span.end());
     Span::new(first, first.max(last))
@@ -80,14 +80,14 @@ fn push_error(
 ) -> Result<(), AllocError> {
     match error {
         LexParseError::LexError(e) => {
-            let span = moved(e.span(), start);
+            let span = span_in_file(e.span(), start);
             source.push_message(alloc, text, Severity::Error, span, "no token has this name")
         }
         LexParseError::ParseError(e) => {
             let span = e.lexeme.span;
             let token = TIdx(e.lexeme.token);
-            let message = unexpected(alloc, kit, lexer, token, span.start())?;
-            let span = moved(span, start);
+            let message = unexpected_text(alloc, kit, lexer, token, span.start())?;
+            let span = span_in_file(span, start);
             source.push_message(alloc, text, Severity::Error, span, message.as_str())
         }
     }

@@ -173,7 +173,7 @@ fn push_excerpt(
 ) -> Result<(), AllocError> {
     let inside = source.shown_span(span);
     let start = source.line_start(span);
-    let line = line_at(source.shown(), start);
+    let line = line_at(source.shown_text(), start);
     let from = inside.start().saturating_sub(start).min(line.len());
     let to = inside.end().saturating_sub(start).min(line.len());
     let shown = shown_between(line, from);

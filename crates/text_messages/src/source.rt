@@ -185,7 +185,7 @@ impl<'a> Source<'a> {
     }
 
     /// Returns the text that is shown.
-    pub(crate) fn shown(&self) -> &str
+    pub(crate) fn shown_text(&self) -> &str
         ensures { result.now ≡ self.now.shown }
     {
         self.original.text
@@ -196,14 +196,16 @@ impl<'a> Source<'a> {
         ensures value { result ≡ shown_at self.now at }
         ensures inside { result ≤ length self.now.shown }
     {
-        offset_by(self.original.places, self.shown().len(), at)
+        offset_by(self.original.places, self.shown_text().len(), at)
     }
 
     /// Returns where what is shown for a span ends: at the next byte with a place behind that of the span's last one.
     fn shown_end(&self, span: Span) -> usize {
         let last = self.shown_at(span.end().saturating_sub(1));
         match self.original.places.get(span.end()..) {
-            Some(rest) if !span.is_empty() => first_past(rest, last).unwrap_or(self.shown().len()),
+            Some(rest) if !span.is_empty() => first_past(rest, last).unwrap_or(
+                self.shown_text().len(),
+            ),
             _ => self.shown_at(span.end()),
         }
     }
@@ -214,7 +216,7 @@ impl<'a> Source<'a> {
         ensures inside { result.end ≤ length self.now.shown }
     {
         let first = self.shown_at(span.start());
-        let last = self.shown_end(span).min(self.shown().len());
+        let last = self.shown_end(span).min(self.shown_text().len());
         Span::new(first, last.max(first))
     }
 
@@ -248,7 +250,7 @@ impl<'a> Source<'a> {
         let span = Span::new(offset, offset);
         let byte = self.shown_span(span).start();
         let (line, column) = self.place(span);
-        let ahead = part(self.shown(), self.line_start(span), byte);
+        let ahead = part(self.shown_text(), self.line_start(span), byte);
         Position {
             byte,
             line,

@@ -2,8 +2,8 @@
 
 use crate::errors::{Fault, ImportError};
 use crate::late::late_places;
-use crate::names::{Names, undashed};
-use crate::notes::{Note, NoteKind, Notes, joined, line_end};
+use crate::names::{Names, with_underscores};
+use crate::notes::{Note, NoteKind, Notes, line_end, text_of};
 use crate::roles::{Part, Parts, Role};
 use crate::tokens::Token;
 use indexmap::IndexMap;
@@ -25,8 +25,8 @@ struct Edits<'a, 'b> {
 
 impl<'a> Edits<'a, '_> {
     /// Returns how the profile spells the key of a token.
-    fn spelled(&self, token: Token, key: &'a str) -> Result<String, ImportError> {
-        match self.names.spelled(self.alloc, key)? {
+    fn spelling(&self, token: Token, key: &'a str) -> Result<String, ImportError> {
+        match self.names.spelling_of(self.alloc, key)? {
             Some(text) => Ok(text),
             None => Err(ImportError::Refused(Fault::NotQuotable, token.start)),
         }
@@ -35,7 +35,7 @@ impl<'a> Edits<'a, '_> {
     /// Puts a token's spelling in its place, where that differs.
     fn respell(&self, notes: &mut Notes, token: Token) -> Result<(), ImportError> {
         let key = self.names.key(token);
-        let text = self.spelled(token, key)?;
+        let text = self.spelling(token, key)?;
         if text.as_str() == self.names.raw(token) {
             return Ok(());
         }
@@ -70,7 +70,7 @@ impl<'a> Edits<'a, '_> {
     fn push_tokens(&self, text: &mut String) -> Result<(), ImportError> {
         for name in &self.names.late {
             text.push_str(if text.is_empty() { "%token " } else { " " })?;
-            let spelled = undashed(self.alloc, name)?;
+            let spelled = with_underscores(self.alloc, name)?;
             text.push_str(spelled.as_str())?;
         }
         Ok(())
@@ -81,7 +81,7 @@ impl<'a> Edits<'a, '_> {
         for (token, part) in self.tokens.iter().zip(&self.found.parts) {
             if part.role == Role::LateStart {
                 text.push_str(" %start ")?;
-                let spelled = self.spelled(*token, self.names.key(*token))?;
+                let spelled = self.spelling(*token, self.names.key(*token))?;
                 text.push_str(spelled.as_str())?;
             }
         }
@@ -109,7 +109,7 @@ impl<'a> Edits<'a, '_> {
             match part.role {
                 Role::MovedLevel => {
                     text.push(' ')?;
-                    let spelled = self.spelled(*token, self.names.key(*token))?;
+                    let spelled = self.spelling(*token, self.names.key(*token))?;
                     text.push_str(spelled.as_str())?;
                 }
                 Role::Leave(NoteKind::Moved) => break,
@@ -136,7 +136,7 @@ impl<'a> Edits<'a, '_> {
             "%binary" => "%nonassoc",
             raw => raw,
         };
-        let mut text = joined(self.alloc, &[" ", raw])?;
+        let mut text = text_of(self.alloc, &[" ", raw])?;
         self.push_level(&mut text, word)?;
         notes.put(NoteKind::Moved, (end, end), text)
     }
@@ -149,8 +149,8 @@ impl<'a> Edits<'a, '_> {
         if !self.has_level(at) {
             return Ok(());
         }
-        let spelled = self.spelled(*token, self.names.key(*token))?;
-        let text = joined(self.alloc, &[" %prec ", spelled.as_str()])?;
+        let spelled = self.spelling(*token, self.names.key(*token))?;
+        let text = text_of(self.alloc, &[" %prec ", spelled.as_str()])?;
         notes.put(NoteKind::Moved, (end, end), text)
     }
 
@@ -208,7 +208,7 @@ impl<'a> Edits<'a, '_> {
         if self.names.raw(token) == word {
             return Ok(());
         }
-        let text = joined(self.alloc, &[word])?;
+        let text = text_of(self.alloc, &[word])?;
         notes.put(NoteKind::Word, (token.start, token.end), text)
     }
 
@@ -230,7 +230,11 @@ impl<'a> Edits<'a, '_> {
             self.put_prec(notes, prec, end)?;
         }
         if part.semicolon {
-            notes.put(NoteKind::Semicolon, (end, end), joined(self.alloc, &[";"])?)?;
+            notes.put(
+                NoteKind::Semicolon,
+                (end, end),
+                text_of(self.alloc, &[";"])?,
+            )?;
         }
         if self.found.last == Some(at) {
             return self.put_midrules(notes, end);

@@ -2,7 +2,7 @@
 
 use crate::errors::{Fault, ImportError};
 use crate::levels::next_level;
-use crate::notes::{cut, joined};
+use crate::notes::{cut, text_of};
 use crate::roles::{Part, Role};
 use crate::tokens::{Kind, Token};
 use indexmap::{IndexMap, IndexSet};
@@ -33,7 +33,7 @@ pub(crate) struct Names<'a> {
 }
 
 /// Returns a string without the `_( .. )` around it.
-fn unwrapped(raw: &str) -> &str {
+fn inner_string(raw: &str) -> &str {
     match raw.strip_prefix("_(") {
         Some(rest) => rest.strip_suffix(")").unwrap_or(rest),
         None => raw,
@@ -103,7 +103,7 @@ fn is_predefined(name: &str) -> bool {
 }
 
 /// Returns a name with underscores in place of its dashes.
-pub(crate) fn undashed(alloc: Global, name: &str) -> Result<String, AllocError> {
+pub(crate) fn with_underscores(alloc: Global, name: &str) -> Result<String, AllocError> {
     let mut spelled = String::new(alloc);
     for c in name.chars() {
         spelled.push(if c == '-' { '_' } else { c })?;
@@ -137,7 +137,7 @@ impl<'a> Names<'a> {
         let raw = self.raw(token);
         match token.kind {
             Kind::Text => {
-                let quoted = unwrapped(raw);
+                let quoted = inner_string(raw);
                 match self.aliases.get(&quoted) {
                     Some(name) => *name,
                     None => quoted,
@@ -196,7 +196,7 @@ impl<'a> Names<'a> {
 
     /// Takes an alias, which stands for the name of another token.
     fn take_alias(&mut self, token: Token, of: Token) -> Result<(), ImportError> {
-        let alias = unwrapped(self.raw(token));
+        let alias = inner_string(self.raw(token));
         let name = self.raw(of);
         self.aliases.insert(alias, name)?;
         Ok(())
@@ -285,7 +285,7 @@ impl<'a> Names<'a> {
             if !raw.contains('-') {
                 continue;
             }
-            let spelled = undashed(alloc, raw)?;
+            let spelled = with_underscores(alloc, raw)?;
             let is_taken = self.names.contains(&spelled.as_str());
             let is_other = match self.dashed.insert(spelled, raw)? {
                 Some(name) => name != raw,
@@ -313,12 +313,12 @@ impl<'a> Names<'a> {
     fn character(&self, alloc: Global, key: &'a str) -> Result<Option<String>, AllocError> {
         let text = inner(key);
         if text == "\\'" {
-            return joined(alloc, &["\"\\'\""]).map(Some);
+            return text_of(alloc, &["\"\\'\""]).map(Some);
         }
         if self.is_other(text) {
-            return joined(alloc, &["\"", key, "\""]).map(Some);
+            return text_of(alloc, &["\"", key, "\""]).map(Some);
         }
-        joined(alloc, &[key]).map(Some)
+        text_of(alloc, &[key]).map(Some)
     }
 
     /// Returns how the profile spells a string that stands for a token of its own; none where it can't.
@@ -335,19 +335,19 @@ impl<'a> Names<'a> {
             if text.contains('\'') {
                 return Ok(None);
             }
-            return joined(alloc, &["'", key, "'"]).map(Some);
+            return text_of(alloc, &["'", key, "'"]).map(Some);
         }
         if !text.contains('"') {
-            return joined(alloc, &[key]).map(Some);
+            return text_of(alloc, &[key]).map(Some);
         }
         if text.contains('\'') {
             return Ok(None);
         }
-        joined(alloc, &["'", text, "'"]).map(Some)
+        text_of(alloc, &["'", text, "'"]).map(Some)
     }
 
     /// Returns how the profile spells a key; none where it can't.
-    pub(crate) fn spelled(
+    pub(crate) fn spelling_of(
         &self,
         alloc: Global,
         key: &'a str,
@@ -358,7 +358,7 @@ impl<'a> Names<'a> {
         if key.starts_with('\'') {
             return self.character(alloc, key);
         }
-        undashed(alloc, key).map(Some)
+        with_underscores(alloc, key).map(Some)
     }
 
     /// Returns whether a name of the file begins so.

@@ -140,7 +140,7 @@ pub(crate) fn line_end(bytes: &[u8], start: usize, end: usize) -> usize {
 }
 
 /// A text of bytes that are put behind one another.
-pub(crate) fn joined(alloc: Global, parts: &[&str]) -> Result<String, AllocError> {
+pub(crate) fn text_of(alloc: Global, parts: &[&str]) -> Result<String, AllocError> {
     let mut text = String::new(alloc);
     for part in parts {
         text.push_str(part)?;

@@ -182,7 +182,8 @@ impl<S: IndexStorage> Search<S> {
             by_edge: true,
         };
         if has_needs(source, &before) {
-            self.step(self.visits.len(), left.saturating_sub(1), 0)?;
+            let found = self.visits.len();
+            self.step(found, left.saturating_sub(1), 0)?;
             self.visits.push(before)?;
         }
         Ok(())
@@ -196,7 +197,8 @@ impl<S: IndexStorage> Search<S> {
         index: usize,
         outer: &mut Vec<(PIdx<S>, SIdx<S>)>,
     ) -> Result<(), AllocError> {
-        let (Some((pidx, _)), other) = visit.needs() else {
+        let (need, other) = visit.needs();
+        let Some((pidx, _)) = need else {
             return Ok(());
         };
         if !has_production(source.grm, pidx) {

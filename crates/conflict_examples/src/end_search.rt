@@ -66,7 +66,13 @@ impl<'a, S: IndexStorage> Frames<'a, S> {
 
     /// Appends a frame, unless there is one with the same numbers.
     fn put(&mut self, frame: Frame<S>) -> Result<(), AllocError> {
-        let key = (frame.pidx.0.to_usize(), frame.dot.0.to_usize(), frame.past);
+        let Frame {
+            pidx,
+            dot,
+            past,
+            ..
+        } = frame;
+        let key = (pidx.0.to_usize(), dot.0.to_usize(), past);
         if self.seen.insert(key)? {
             self.list.push(frame)?;
         }

@@ -8,7 +8,7 @@ use crate::productions::symbols_of;
 use crate::source::Source;
 use crate::symbols::reversed;
 use cfg_base::index::IndexStorage;
-use cfg_base::symbol::{PIdx, RIdx, SIdx, Symbol};
+use cfg_base::symbol::{PIdx, SIdx, Symbol};
 use cfg_numbered::yacc::NumberedGrammar;
 use std::alloc::{AllocError, Global};
 use std::collections::BTreeSet;
@@ -37,7 +37,7 @@ struct Corners<S> {
 }
 
 impl<S: IndexStorage> Corners<S> {
-    /// Appends the left corners of a list, up to the token.
+    /// Appends the left corners of a list, up to the token: of rules each new one that may begin with it.
     fn put<'a>(
         &mut self,
         source: &Source<'a, S>,
@@ -59,24 +59,16 @@ impl<S: IndexStorage> Corners<S> {
                         self.list.push(corner)?;
                     }
                 }
-                Symbol::Rule(ridx) => self.put_rule(source, ridx, corner)?,
+                Symbol::Rule(ridx) => {
+                    let begins = source.tables.has_first(ridx, source.token);
+                    if begins && self.seen.insert(ridx.0.to_usize())? {
+                        self.list.push(corner)?;
+                    }
+                }
             }
             if self.done.is_some() || !source.tables.nullable.has(symbols[index]) {
                 return Ok(());
             }
-        }
-        Ok(())
-    }
-
-    /// Appends a corner, if it is a new rule that may begin with the token.
-    fn put_rule<'a>(
-        &mut self,
-        source: &Source<'a, S>,
-        ridx: RIdx<S>,
-        corner: Corner<S>,
-    ) -> Result<(), AllocError> {
-        if source.tables.has_first(ridx, source.token) && self.seen.insert(ridx.0.to_usize())? {
-            self.list.push(corner)?;
         }
         Ok(())
     }

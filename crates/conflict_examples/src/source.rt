@@ -39,11 +39,6 @@ fn skip_to<S: IndexStorage>(edges: &[(Symbol<S>, StIdx<S>)], index: usize, rule:
     edges.len()
 }
 
-/// Returns whether the edge at the index is on the rule.
-fn is_on<S: IndexStorage>(edges: &[(Symbol<S>, StIdx<S>)], index: usize, rule: usize) -> bool {
-    index < edges.len() && rule_number(edges[index].0) == rule
-}
-
 impl<'a, S: IndexStorage> Source<'a, S> {
     /// Returns whether the token is a lookahead of the item in the state.
     pub(crate) fn has_look(&self, stidx: StIdx<S>, pidx: PIdx<S>, dot: SIdx<S>) -> bool {
@@ -105,7 +100,8 @@ impl<'a, S: IndexStorage> Source<'a, S> {
         'items: for k in 0..items.len() {
             let Beginning { rule, pidx, dot } = items[k];
             edge = skip_to(edges, edge, rule);
-            if is_on(edges, edge, rule) && (!is_one_each || rule != last) {
+            let is_on = edge < edges.len() && rule_number(edges[edge].0) == rule;
+            if is_on && (!is_one_each || rule != last) {
                 found.push((pidx, dot))?;
                 last = rule;
             }

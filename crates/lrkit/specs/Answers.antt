@@ -28,24 +28,18 @@ module _ (grammar line_text repair_text : List ℕ) where
   -- failed, is said by no bytes.
   abbrev pub GivesFault : RunFault → Type 0
   GivesFault (Kit (kit.Memory e)) = ⊥
-  GivesFault (Kit e) = IsRefusal (Some grammar) (Some repair_text) (Kit e)
-  GivesFault (Conflicts a b c d) = IsRefusal (Some grammar) (Some repair_text) (Conflicts a b c d)
-  GivesFault (NotARepair n) = IsRefusal (Some grammar) (Some repair_text) (NotARepair n)
   GivesFault (NotUtf8 i) = HasNoText (Some (bytes_of i)) × GoodBefore (Some grammar) (Some repair_text) i
   GivesFault (Read i) = ⊥
   GivesFault (TooLong i) = HasMoreThan most_bytes (Some (bytes_of i)) × GoodBefore (Some grammar) (Some repair_text) i
   GivesFault Write = ⊥
+  GivesFault e = IsRefusal (Some grammar) (Some repair_text) e
 
   -- or it comes of memory, or of a read or a write
   abbrev pub IsFaultOf : RunFault → Type 0
   IsFaultOf (Kit (kit.Memory e)) = Unit {0}
-  IsFaultOf (Kit e) = GivesFault (Kit e)
-  IsFaultOf (Conflicts a b c d) = GivesFault (Conflicts a b c d)
-  IsFaultOf (NotARepair n) = GivesFault (NotARepair n)
-  IsFaultOf (NotUtf8 i) = GivesFault (NotUtf8 i)
   IsFaultOf (Read i) = Unit {0}
-  IsFaultOf (TooLong i) = GivesFault (TooLong i)
   IsFaultOf Write = Unit {0}
+  IsFaultOf e = GivesFault e
 
 -- the same fault; of a grammar's errors the same failures in the same order, wherever they lie in memory
 abbrev pub IsSameFault : RunFault → RunFault → Type 0

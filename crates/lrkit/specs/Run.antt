@@ -48,37 +48,19 @@ pub record WritesBeginning (grammar lines repairs : Option (List ℕ)) (known kn
 abbrev pub IsOutAt : Option (List ℕ) → Option (List ℕ) → Option (List ℕ) → Option (List ℕ) → Option (List ℕ) → RunFault → Type 0
 IsOutAt grammar lines repairs known known' Write = WritesBeginning grammar lines repairs known known'
 IsOutAt grammar lines repairs known known' (Kit (kit.Memory e)) = Keeps known known' ⊎ WritesBeginning grammar lines repairs known known'
-IsOutAt grammar lines repairs known known' (Kit (kit.Grammar es)) = Keeps known known'
-IsOutAt grammar lines repairs known known' (Kit (kit.TooMany n)) = Keeps known known'
-IsOutAt grammar lines repairs known known' (Kit (kit.TooManyStates n)) = Keeps known known'
-IsOutAt grammar lines repairs known known' (Kit (kit.AcceptReduce p)) = Keeps known known'
-IsOutAt grammar lines repairs known known' (Kit kit.TooLarge) = Keeps known known'
-IsOutAt grammar lines repairs known known' (Kit (kit.TooManyReductions s r t c)) = Keeps known known'
-IsOutAt grammar lines repairs known known' (Conflicts a b c d) = Keeps known known'
-IsOutAt grammar lines repairs known known' (NotARepair n) = Keeps known known'
-IsOutAt grammar lines repairs known known' (NotUtf8 input) = Keeps known known'
-IsOutAt grammar lines repairs known known' (Read input) = Keeps known known'
-IsOutAt grammar lines repairs known known' (TooLong input) = Keeps known known'
+IsOutAt grammar lines repairs known known' e = Keeps known known'
 
 -- a fault that names this input: its count of failures went up, it had more bytes than an input may have, or no more, and they are no text
 abbrev pub IsCauseIn : Input → Option (List ℕ) → ℕ → ℕ → RunFault → Type 0
-IsCauseIn input known faults faults' (Kit e) = Unit {0}
-IsCauseIn input known faults faults' (Conflicts a b c d) = Unit {0}
-IsCauseIn input known faults faults' (NotARepair n) = Unit {0}
 IsCauseIn input known faults faults' (NotUtf8 i) = i ≡ input → HasNoText known
 IsCauseIn input known faults faults' (Read i) = i ≡ input → faults' ≡ one_more faults
 IsCauseIn input known faults faults' (TooLong i) = i ≡ input → HasMoreThan most_bytes known
-IsCauseIn input known faults faults' Write = Unit {0}
+IsCauseIn input known faults faults' e = Unit {0}
 
 -- a write failed or took nothing, which raised the count of failures; at any other fault none did
 abbrev pub IsWriteCause : ℕ → ℕ → RunFault → Type 0
 IsWriteCause faults faults' Write = faults' ≡ one_more faults
-IsWriteCause faults faults' (Kit e) = faults' ≡ faults
-IsWriteCause faults faults' (Conflicts a b c d) = faults' ≡ faults
-IsWriteCause faults faults' (NotARepair n) = faults' ≡ faults
-IsWriteCause faults faults' (NotUtf8 i) = faults' ≡ faults
-IsWriteCause faults faults' (Read i) = faults' ≡ faults
-IsWriteCause faults faults' (TooLong i) = faults' ≡ faults
+IsWriteCause faults faults' e = faults' ≡ faults
 
 -- the kit is that of the text that the source held, and its conflicts are expected
 pub record IsGoodKitIn (known : Option (List ℕ)) (k : KitValue) : Type 0 where
@@ -121,10 +103,7 @@ IsRefusal grammar repairs (Kit (kit.Memory e)) = Unit {0}
 IsRefusal grammar repairs (Kit e) = HasKitRefusalIn grammar (λ text. IsRunKitRefusal text e)
 IsRefusal grammar repairs (Conflicts a b c d) = HasCountsIn grammar (Conflicts a b c d)
 IsRefusal grammar repairs (NotARepair n) = HasBadLineIn grammar repairs n
-IsRefusal grammar repairs (NotUtf8 i) = Unit {0}
-IsRefusal grammar repairs (Read i) = Unit {0}
-IsRefusal grammar repairs (TooLong i) = Unit {0}
-IsRefusal grammar repairs Write = Unit {0}
+IsRefusal grammar repairs e = Unit {0}
 
 -- the grammar gives a kit; it does, and the repairs are repairs
 abbrev pub GoodBefore : Option (List ℕ) → Option (List ℕ) → Input → Type 0
@@ -138,31 +117,21 @@ AreGoodBefore grammar repairs (NotUtf8 i) = GoodBefore grammar repairs i
 AreGoodBefore grammar repairs (Read i) = GoodBefore grammar repairs i
 AreGoodBefore grammar repairs (TooLong i) = GoodBefore grammar repairs i
 AreGoodBefore grammar repairs Write = GoodBefore grammar repairs inputs.Lines
-AreGoodBefore grammar repairs (Kit e) = Unit {0}
-AreGoodBefore grammar repairs (Conflicts a b c d) = Unit {0}
-AreGoodBefore grammar repairs (NotARepair n) = Unit {0}
+AreGoodBefore grammar repairs e = Unit {0}
 
 -- a fault of writing, which is all that can come once the inputs are read: of the sink, or memory
 abbrev pub IsLate : RunFault → Type 0
 IsLate Write = Unit {0}
 IsLate (Kit (kit.Memory e)) = Unit {0}
-IsLate (Kit e) = ⊥
-IsLate (Conflicts a b c d) = ⊥
-IsLate (NotARepair n) = ⊥
-IsLate (NotUtf8 i) = ⊥
-IsLate (Read i) = ⊥
-IsLate (TooLong i) = ⊥
+IsLate e = ⊥
 
 -- a fault of reading this input, or memory
 abbrev pub IsReadFaultOf : Input → RunFault → Type 0
 IsReadFaultOf input (Kit (kit.Memory e)) = Unit {0}
-IsReadFaultOf input (Kit e) = ⊥
-IsReadFaultOf input (Conflicts a b c d) = ⊥
-IsReadFaultOf input (NotARepair n) = ⊥
 IsReadFaultOf input (NotUtf8 i) = i ≡ input
 IsReadFaultOf input (Read i) = i ≡ input
 IsReadFaultOf input (TooLong i) = i ≡ input
-IsReadFaultOf input Write = ⊥
+IsReadFaultOf input e = ⊥
 
 -- a fault of reading this input, or of what it says
 abbrev pub IsEarlyIn : Input → RunFault → Type 0

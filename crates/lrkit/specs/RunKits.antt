@@ -45,9 +45,4 @@ AreExpected k = CountsFit k k.parser.table.conflicts
 abbrev pub HasOtherCounts : KitValue → RunFault → Type 0
 HasOtherCounts k (faults.Conflicts sr rr x y) = (AreExpected k → ⊥) × (x ≡ expect_of k) × (y ≡ expect_rr_of k) ×
     ((c : Conflicts) × (k.parser.table.conflicts ≡ Some c) × (sr ≡ length c.shift_reduce) × (rr ≡ length c.reduce_reduce))
-HasOtherCounts k (faults.Kit e) = ⊥
-HasOtherCounts k (faults.NotARepair n) = ⊥
-HasOtherCounts k (faults.NotUtf8 i) = ⊥
-HasOtherCounts k (faults.Read i) = ⊥
-HasOtherCounts k (faults.TooLong i) = ⊥
-HasOtherCounts k faults.Write = ⊥
+HasOtherCounts k e = ⊥

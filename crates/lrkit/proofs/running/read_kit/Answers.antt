@@ -14,3 +14,13 @@ pub returns-clause-refused : goal.returns-clause-refused
 returns-clause-refused g c =
     let (kind, is_kind, is_kit) = rw c.as_str.ensures.value at c.in_ok-kit.ensures.kit in
     IsRefusal-counts _ _ _ _ _ c.in_ok-text.ensures.ok (record { kind = kind; is_kind = is_kind; is_kit = is_kit }) c.in-Err.ensures.err
+
+pub returns-in-Ok-clause-ok : goal.returns-in-Ok-clause-ok
+returns-in-Ok-clause-ok g c =
+    let (kind, is_kind, is_kit) = rw c.as_str.ensures.value at c.in_ok-kit.ensures.kit in
+    record {
+      text = _;
+      input = c.in_ok-text.ensures.ok;
+      is_kit = record { kind = kind; is_kind = is_kind; is_kit = is_kit };
+      expected = c.in-Ok.ensures.ok;
+    }

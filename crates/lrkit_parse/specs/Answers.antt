@@ -28,34 +28,34 @@ use Rattle.lrkit_parse.specs.declared.words.Form.{Form}
 use Rattle.lrkit_parse.specs.declared.words.Form.TheVariants as forms
 
 -- numbers are stored as themselves
-abbrev pub id : ℕ → ℕ
-id n = n
+abbrev pub itself : ℕ → ℕ
+itself n = n
 
-abbrev pub Word : Type 0
-Word = DefaultLexeme ℕ
+abbrev pub TextLexeme : Type 0
+TextLexeme = DefaultLexeme ℕ
 
-abbrev pub word_lex : Word → Lex
-word_lex = lex_of id
+abbrev pub lexeme_lex : TextLexeme → Lex
+lexeme_lex = lex_of itself
 
 -- what a repair makes up
-abbrev pub made_up : ℕ → ℕ → ℕ → Word
-made_up token start len = record { tok_id = token; span = record { start = start; end = start + len }; faulty = true }
+abbrev pub inserted : ℕ → ℕ → ℕ → TextLexeme
+inserted token start len = record { tok_id = token; span = record { start = start; end = start + len }; faulty = true }
 
 -- the lexeme of the first error, if there is one
-abbrev pub first_lexeme : List (ParseError Word ℕ) → Option Word
+abbrev pub first_lexeme : List (ParseError TextLexeme ℕ) → Option TextLexeme
 first_lexeme errors = option_map (λ e. e.lexeme) (slice_get errors 0)
 
 -- the parse of a list's lexemes without repairs has this tree or none, and its first error is at this lexeme, if it has one
-pub record HasParse (d : ParserValue) (items : List (Result Word LRLexError)) (tree : Option (FlatValue Word)) (first : Option Word) : Type 0 where
-  pub errors : List (ParseError Word ℕ)
-  pub parse : IsKitParse id word_lex made_up d (λ state index lexeme offered. offered ≡ []) items (HasFlat (span_by word_lex) tree) errors
+pub record HasParse (d : ParserValue) (items : List (Result TextLexeme LRLexError)) (tree : Option (FlatValue TextLexeme)) (first : Option TextLexeme) : Type 0 where
+  pub errors : List (ParseError TextLexeme ℕ)
+  pub parse : IsKitParse itself lexeme_lex inserted d (λ state index lexeme offered. offered ≡ []) items (HasFlat (span_by lexeme_lex) tree) errors
   pub first_is : first_lexeme errors ≡ first
 
 -- the tree, where the parse has no error; the list's first error, of the lexer; or the lexeme of the first one, of the parser
-abbrev pub IsParsed : ParserValue → List (Result Word LRLexError) → Parsed → Type 0
+abbrev pub IsParsed : ParserValue → List (Result TextLexeme LRLexError) → Parsed → Type 0
 IsParsed d items (found.Tree t) = HasParse d items (Some t) None
 IsParsed d items (found.Unlexed e) = IsFirstLexError items e
-IsParsed d items (found.Unparsed x) = (tree : Option (FlatValue Word)) × HasParse d items tree (Some x)
+IsParsed d items (found.Unparsed x) = (tree : Option (FlatValue TextLexeme)) × HasParse d items tree (Some x)
 
 -- a text with its path
 abbrev pub source_of : List ℕ → List ℕ → SourceValue
@@ -81,20 +81,20 @@ pub record Asked : Type 0 where
   pub text : List ℕ
 
 -- the tree was written in this form: as lines, where its lexemes have texts, or not at all
-abbrev pub WritesTree : Form → GrammarValue → Asked → FlatValue Word → Option (List ℕ) → Option (List ℕ) → Type 0
+abbrev pub WritesTree : Form → GrammarValue → Asked → FlatValue TextLexeme → Option (List ℕ) → Option (List ℕ) → Type 0
 WritesTree forms.Tree g a v known known' =
-    (t : Tree Word) → IsFlat (span_by word_lex) t v.pieces → CanShowTree g word_lex a.text t → Appends known known' (title_of a.named a.path ++ tree_text g word_lex a.text 0 (shape g.grammar t))
+    (t : Tree TextLexeme) → IsFlat (span_by lexeme_lex) t v.pieces → CanShowTree g lexeme_lex a.text t → Appends known known' (title_of a.named a.path ++ tree_text g lexeme_lex a.text 0 (shape g.grammar t))
 WritesTree forms.Sexp g a v known known' = Unit {0}
 WritesTree forms.Quiet g a v known known' = Appends known known' []
 
 -- the lexemes have a tree, which is written; or the first error of the lexer, or of the parser, is told at its place
-pub data Answers (d : ParserValue) (items : List (Result Word LRLexError)) (a : Asked) (known known' : Option (List ℕ)) : Bool → Type 0 where
-  parsed : (v : FlatValue Word) → HasParse d items (Some v) None → WritesTree a.form d.grammar a v known known' → Answers d items a known known' true
+pub data Answers (d : ParserValue) (items : List (Result TextLexeme LRLexError)) (a : Asked) (known known' : Option (List ℕ)) : Bool → Type 0 where
+  parsed : (v : FlatValue TextLexeme) → HasParse d items (Some v) None → WritesTree a.form d.grammar a v known known' → Answers d items a known known' true
   unlexed : (e : LRLexError) → IsFirstLexError items e → TellsError a.path a.text e.span known known' → Answers d items a known known' false
-  unparsed : (x : Word) (tree : Option (FlatValue Word)) → HasParse d items tree (Some x) → TellsError a.path a.text x.span known known' → Answers d items a known known' false
+  unparsed : (x : TextLexeme) (tree : Option (FlatValue TextLexeme)) → HasParse d items tree (Some x) → TellsError a.path a.text x.span known known' → Answers d items a known known' false
 
 -- the same of the text's lexemes by these rules
 pub record AnswersText (d : ParserValue) (rules : RuleSetValue) (meanings : List (Meaning ℕ)) (a : Asked) (known known' : Option (List ℕ)) (well : Bool) : Type 0 where
-  pub items : List (Result Word LRLexError)
+  pub items : List (Result TextLexeme LRLexError)
   pub lexes : Lexes rules meanings a.text items
   pub answers : Answers d items a known known' well

@@ -5,7 +5,7 @@ ghost use Rattle.cfg_theory.specs.Grammar.{head_of};
 ghost use Rattle.parse_trees.specs.FlatLines.{CanShowPiece, piece_line, visit_line};
 ghost use Rattle.parse_trees.specs.FlatTrees.{piece_of, pieces_of};
 ghost use Rattle.parse_trees.specs.Shapes.{HasText, lexeme_line, rule_line};
-ghost use Rattle.lrkit_parse.specs.Answers.{id, word_lex};
+ghost use Rattle.lrkit_parse.specs.Answers.{itself, lexeme_lex};
 
 use crate::names::{Grammar, rule_name, token_name};
 use crate::repeated::push_repeated;
@@ -43,7 +43,7 @@ fn push_lexeme_line(
     depth: usize,
     text: &mut Vec<u8>,
 ) -> Result<(), AllocError>
-    ensures { HasText grm.now word_lex input.now lexeme → OnOk result (text.new.items ≡ text.old.items ++ lexeme_line grm.now word_lex input.now depth lexeme) }
+    ensures { HasText grm.now lexeme_lex input.now lexeme → OnOk result (text.new.items ≡ text.old.items ++ lexeme_line grm.now lexeme_lex input.now depth lexeme) }
 {
     let span = lexeme.span;
     push_repeated(b' ', depth, text)?;
@@ -62,7 +62,7 @@ fn push_line(
     depth: usize,
     text: &mut Vec<u8>,
 ) -> Result<(), AllocError>
-    ensures { CanShowPiece grm.now word_lex input.now (Some (piece_of id node)) → OnOk result (text.new.items ≡ text.old.items ++ piece_line grm.now word_lex input.now depth (Some (piece_of id node))) }
+    ensures { CanShowPiece grm.now lexeme_lex input.now (Some (piece_of itself node)) → OnOk result (text.new.items ≡ text.old.items ++ piece_line grm.now lexeme_lex input.now depth (Some (piece_of itself node))) }
 {
     match node {
         FlatNode::Term { lexeme } => push_lexeme_line(grm, input, lexeme, depth, text),
@@ -89,8 +89,8 @@ pub fn push_visit(
     visit: Visit,
     text: &mut Vec<u8>,
 ) -> Result<(), AllocError>
-    ensures { CanShowPiece grm.now word_lex input.now (slice_get (pieces_of id nodes.now) visit.index) →
-        OnOk result (text.new.items ≡ text.old.items ++ visit_line grm.now word_lex input.now (pieces_of id nodes.now) visit) }
+    ensures { CanShowPiece grm.now lexeme_lex input.now (slice_get (pieces_of itself nodes.now) visit.index) →
+        OnOk result (text.new.items ≡ text.old.items ++ visit_line grm.now lexeme_lex input.now (pieces_of itself nodes.now) visit) }
 {
     match node_at(nodes, visit.index) {
         Some(node) => push_line(grm, input, node, visit.depth, text),

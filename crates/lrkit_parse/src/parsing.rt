@@ -2,7 +2,7 @@
 
 ghost use Rattle.std.specs.Prelude.{◌≡◌, IfErr, IfOk};
 ghost use Rattle.parse_trees.specs.Refusals.{IsParseRefusal};
-ghost use Rattle.lrkit_parse.specs.Answers.{IsParsed, first_lexeme, word_lex};
+ghost use Rattle.lrkit_parse.specs.Answers.{IsParsed, first_lexeme, lexeme_lex};
 
 use lrlex::{DefaultLexeme, DefaultLexerTypes, LRLexError, LRNonStreamingLexer};
 use lrpar::{FlatTree, NoRecovery, ParseError, ParseRefusal};
@@ -49,7 +49,7 @@ pub fn parse_lexed(
     lexer: &WordLexer<'_>,
 ) -> Result<Parsed, ParseRefusal>
     ensures parsed { IfOk result (IsParsed kit.now.parser lexer.now.items) }
-    ensures refused { IfErr result (IsParseRefusal kit.now.parser.grammar.grammar word_lex lexer.now.items) }
+    ensures refused { IfErr result (IsParseRefusal kit.now.parser.grammar.grammar lexeme_lex lexer.now.items) }
 {
     let parsed = kit.parse_flat::<DefaultLexerTypes<u32>, WordLexer<'_>, NoRecovery>(
         alloc,

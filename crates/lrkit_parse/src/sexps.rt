@@ -1,10 +1,12 @@
 //! A node of a tree within an expression: `(RULE ..)`, or `("TOKEN" "TEXT")`.
 
-ghost use Rattle.std.specs.Prelude.{◌≡◌, ◌<◌, ◌++◌, ◌∷◌, [], length, replicate, OnOk};
+ghost use Rattle.std.specs.Prelude.{◌≡◌, ◌<◌, ◌++◌, ◌∷◌, [], length, replicate, Some, OnOk};
 ghost use Rattle.std.specs.List.{flat_map};
+ghost use Rattle.parse_trees.specs.FlatLines.{CanShowPiece};
+ghost use Rattle.parse_trees.specs.FlatTrees.{piece_of};
 ghost use Rattle.parse_trees.specs.Shapes.{HasText};
-ghost use Rattle.lrkit_parse.specs.Answers.{word_lex};
-ghost use Rattle.lrkit_parse.specs.Quoted.{escaped, letter_of, lexeme_head, quoted, rule_head};
+ghost use Rattle.lrkit_parse.specs.Answers.{itself, lexeme_lex};
+ghost use Rattle.lrkit_parse.specs.Quoted.{escaped, letter_of, lexeme_head, node_head, piece_head, quoted, rule_head, space_at};
 
 use crate::lines::WordNode;
 use crate::names::{Grammar, rule_name, token_name};
@@ -79,7 +81,7 @@ fn push_lexeme_head(
     lexeme: DefaultLexeme<u32>,
     text: &mut Vec<u8>,
 ) -> Result<(), AllocError>
-    ensures { HasText grm.now word_lex input.now lexeme → OnOk result (text.new.items ≡ text.old.items ++ lexeme_head grm.now input.now lexeme) }
+    ensures { HasText grm.now lexeme_lex input.now lexeme → OnOk result (text.new.items ≡ text.old.items ++ lexeme_head grm.now input.now lexeme) }
 {
     let span = lexeme.span;
     text.push(b'(')?;
@@ -88,19 +90,25 @@ fn push_lexeme_head(
     push_quoted(part(input, span.start(), span.end()), text)
 }
 
-/// Closes the nodes that are open from a depth on, and adds the beginning of a node there. The root has no space before it.
-pub fn push_head(
-    grm: &Grammar,
-    input: &str,
-    node: WordNode,
-    depth: usize,
-    open: usize,
-    text: &mut Vec<u8>,
-) -> Result<(), AllocError> {
-    push_repeated(b')', open.saturating_sub(depth), text)?;
+/// Adds a space before each node but the root.
+fn push_space(depth: usize, text: &mut Vec<u8>) -> Result<(), AllocError>
+    ensures { OnOk result (text.new.items ≡ text.old.items ++ space_at depth) }
+{
     if depth > 0 {
         text.push(b' ')?;
     }
+    Ok(())
+}
+
+/// Adds the beginning of a node.
+fn push_node_head(
+    grm: &Grammar,
+    input: &str,
+    node: WordNode,
+    text: &mut Vec<u8>,
+) -> Result<(), AllocError>
+    ensures { CanShowPiece grm.now lexeme_lex input.now (Some (piece_of itself node)) → OnOk result (text.new.items ≡ text.old.items ++ piece_head grm.now input.now (Some (piece_of itself node))) }
+{
     match node {
         FlatNode::Term { lexeme } => push_lexeme_head(grm, input, lexeme, text),
         FlatNode::Nonterm {
@@ -109,6 +117,23 @@ pub fn push_head(
             below: _,
         } => push_rule_head(grm, pidx, text),
     }
+}
+
+/// Closes the nodes that are open from a depth on, and adds the beginning of a node there. The root has no space before it.
+pub fn push_head(
+    grm: &Grammar,
+    input: &str,
+    node: WordNode,
+    depth: usize,
+    open_count: usize,
+    text: &mut Vec<u8>,
+) -> Result<(), AllocError>
+    ensures { CanShowPiece grm.now lexeme_lex input.now (Some (piece_of itself node)) →
+        OnOk result (text.new.items ≡ text.old.items ++ node_head grm.now input.now open_count depth (Some (piece_of itself node))) }
+{
+    push_repeated(b')', open_count.saturating_sub(depth), text)?;
+    push_space(depth, text)?;
+    push_node_head(grm, input, node, text)
 }
 
 /// Closes as many nodes, and ends the line.

@@ -9,7 +9,7 @@ ghost use Rattle.parse_trees.specs.FlatLines.{CanShowTree, CanVisit, visit_line}
 ghost use Rattle.parse_trees.specs.FlatTrees.{IsFlat, pieces_of};
 ghost use Rattle.parse_trees.specs.Lex.{span_by};
 ghost use Rattle.parse_trees.specs.Shapes.{shape, tree_text};
-ghost use Rattle.lrkit_parse.specs.Answers.{Word, id, word_lex};
+ghost use Rattle.lrkit_parse.specs.Answers.{TextLexeme, itself, lexeme_lex};
 
 use crate::answer_fault::AnswerFault;
 use crate::lines::{WordNode, node_at, push_visit};
@@ -29,8 +29,8 @@ fn write_visits<W: Sink>(
     text: &mut Vec<u8>,
     out: &mut W,
 ) -> Result<(), AnswerFault>
-    ensures { OnOk result (CanVisit grm.now word_lex input.now (pieces_of id nodes.now) visits.now →
-        IsOutBut (W.known out.old) (W.known out.new) (text.old.items ++ flat_map (visit_line grm.now word_lex input.now (pieces_of id nodes.now)) visits.now) text.new.items) }
+    ensures { OnOk result (CanVisit grm.now lexeme_lex input.now (pieces_of itself nodes.now) visits.now →
+        IsOutBut (W.known out.old) (W.known out.new) (text.old.items ++ flat_map (visit_line grm.now lexeme_lex input.now (pieces_of itself nodes.now)) visits.now) text.new.items) }
 {
     'visits: for visit in visits {
         push_visit(grm, input, nodes, *visit, text)?;
@@ -48,8 +48,8 @@ pub fn write_lines<W: Sink>(
     text: &mut Vec<u8>,
     out: &mut W,
 ) -> Result<(), AnswerFault>
-    ensures { OnOk result ((t : Tree Word) → IsFlat (span_by word_lex) t tree.now.pieces → CanShowTree grm.now word_lex input.now t →
-        Appends (W.known out.old) (W.known out.new) (text.old.items ++ tree_text grm.now word_lex input.now 0 (shape grm.now.grammar t))) }
+    ensures { OnOk result ((t : Tree TextLexeme) → IsFlat (span_by lexeme_lex) t tree.now.pieces → CanShowTree grm.now lexeme_lex input.now t →
+        Appends (W.known out.old) (W.known out.new) (text.old.items ++ tree_text grm.now lexeme_lex input.now 0 (shape grm.now.grammar t))) }
 {
     let visits = tree.preorder(alloc)?;
     write_visits(grm, input, tree.nodes(), visits.as_slice(), text, out)?;

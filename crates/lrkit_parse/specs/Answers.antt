@@ -1,8 +1,7 @@
 -- What is found of a text's lexemes, and what is written of it.
-use Rattle.std.specs.Prelude.{◌≡◌, ℕ, ◌+◌, Bool, true, false, List, [], ◌++◌, codes, Option, None, Some, option_map, slice_get, Result, Ok, Err}
+use Rattle.std.specs.Prelude.{◌≡◌, ℕ, ◌+◌, Bool, true, false, List, [], ◌++◌, codes, Option, None, Some, option_map, slice_get, Result}
 use Rattle.std.specs.Io.KnownBytes.{Appends}
 use Rattle.cfg_base.specs.SpanModel.{SpanModel}
-use Rattle.lr_theory.specs.Repair.{Edit}
 use Rattle.cfg_numbered.specs.Value.{GrammarValue}
 use Rattle.cfg_theory.specs.Tree.{Tree}
 use Rattle.parse_trees.specs.FlatLines.{CanShowTree}

@@ -1,5 +1,5 @@
 -- The paths of a call.
-use Rattle.std.specs.Prelude.{ℕ, List, Option, slice_get, option_map, String, string_bytes}
+use Rattle.std.specs.Prelude.{ℕ, List, slice_get, option_map, String, string_bytes}
 use Rattle.std.specs.declared.alloc.Global.{Global}
 use Rattle.parse_trees.specs.Shapes.{text_or_none}
 

@@ -1,4 +1,3 @@
-use Rattle.lrkit_parse.specs.Answers.{HasParse}
 use Rattle.lrkit_parse.proofs.parsing.parse_lexed.Goals as goal
 
 pub returns-in-None-Some-clause-parsed : goal.returns-in-None-Some-clause-parsed

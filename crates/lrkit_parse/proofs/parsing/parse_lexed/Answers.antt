@@ -1,0 +1,8 @@
+use Rattle.lrkit_parse.proofs.parsing.parse_lexed.Goals as goal
+
+pub returns-in-None-Some-clause-parsed : goal.returns-in-None-Some-clause-parsed
+returns-in-None-Some-clause-parsed c =
+    let parse = rw (c.in-Ok-Ok.field-0-is, c.in-None-Some.is-1) at c.in-Ok-Ok.ensures.parsed in
+    let first = rw c.as_slice.ensures.value at c.first_lexeme-first.ensures in
+    let none = c.in-None-Some.is-0 in
+    record { errors = c.in-Ok-Ok.errors.items; parse = parse; first_is = cc }

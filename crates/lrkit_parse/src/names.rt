@@ -1,0 +1,42 @@
+//! Names of a tree's nodes.
+
+ghost use Rattle.std.specs.Prelude.{◌≡◌, ◌<◌, length};
+ghost use Rattle.cfg_theory.specs.Grammar.{end_token, head_of};
+ghost use Rattle.parse_trees.specs.Shapes.{rule_text, token_text};
+
+use cfg_base::symbol::{PIdx, TIdx};
+use cfg_numbered::yacc::NumberedGrammar;
+
+/// A grammar with its names.
+pub type Grammar = NumberedGrammar<u32>;
+
+/// Returns the name of a token; nothing for the end token, and for one that the grammar lacks.
+pub fn token_name(grm: &Grammar, tidx: TIdx<u32>) -> &str
+    ensures { tidx.0 < end_token grm.now.grammar → result.now ≡ token_text grm.now tidx.0 }
+{
+    // Read, so that the proof may use what is so of each grammar.
+    let _end = grm.eof_token_idx();
+    if !grm.has_token(tidx) {
+        return "";
+    }
+    match grm.token_name(tidx) {
+        Some(name) => name,
+        None => "",
+    }
+}
+
+/// Returns the name of the rule of a production; nothing for one that the grammar lacks.
+pub fn rule_name(grm: &Grammar, pidx: PIdx<u32>) -> &str
+    ensures { pidx.0 < length grm.now.grammar.productions → result.now ≡ rule_text grm.now (head_of grm.now.grammar pidx.0) }
+{
+    // Read, so that the proof may use that rules are in range.
+    let _start = grm.start_prod();
+    if !grm.has_prod(pidx) {
+        return "";
+    }
+    let ridx = grm.prod_to_rule(pidx);
+    if !grm.has_rule(ridx) {
+        return "";
+    }
+    grm.rule_name_str(ridx)
+}

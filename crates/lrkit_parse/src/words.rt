@@ -1,0 +1,122 @@
+//! The arguments.
+
+ghost use Rattle.std.specs.Prelude.{◌≡◌};
+ghost use Rattle.lrkit_parse.specs.Paths.{path_at};
+
+use std::alloc::{AllocError, Global};
+use std::env::Args;
+
+/// How a tree is written.
+#[derive(Clone, Copy, Debug, PartialEq, Eq)]
+pub enum Form {
+    /// A line for each node.
+    Tree,
+    /// One expression, on a line.
+    Sexp,
+    /// Not at all.
+    Quiet,
+}
+
+/// What is to be parsed.
+#[derive(Drop)]
+pub struct Words {
+    /// The paths of the grammar, the lexer and the texts, in this order.
+    pub paths: Vec<String>,
+    /// How trees are written.
+    pub form: Form,
+}
+
+/// What the arguments ask for.
+#[derive(Drop)]
+pub enum Call {
+    /// Parses.
+    Parse(Words),
+    /// How the program is called.
+    Help,
+    /// The form of what it writes.
+    Version,
+    /// Nothing that can be done.
+    Wrong,
+}
+
+impl Words {
+    /// Returns a path, as it was given; nothing where there is none of this number.
+    pub fn path(&self, index: usize) -> &str
+        ensures { result.now ≡ path_at self.now.paths.items index }
+    {
+        match self.paths.as_slice().get(index) {
+            Some(path) => path.as_str(),
+            None => "",
+        }
+    }
+
+    /// Returns whether there is a text, and standard input is no more than one of the files.
+    fn is_complete(&self) -> bool {
+        let mut inputs: usize = 0;
+        'paths: for path in &self.paths {
+            if path.as_str() == "-" {
+                inputs = inputs.saturating_add(1);
+            }
+        }
+        self.paths.len() >= 3 && inputs <= 1
+    }
+}
+
+/// Returns the form that an option asks for, if it asks for one.
+fn form_of(word: &str) -> Option<Form> {
+    match word {
+        "--tree" => Some(Form::Tree),
+        "--sexp" => Some(Form::Sexp),
+        "--quiet" => Some(Form::Quiet),
+        _ => None,
+    }
+}
+
+/// Returns what an option asks for that asks for no form.
+fn call_of(word: &str) -> Call {
+    match word {
+        "--help" => Call::Help,
+        "--version" => Call::Version,
+        _ => Call::Wrong,
+    }
+}
+
+/// Takes the words behind the program's name, and returns another call where they ask for one. Behind `--` each word is a path.
+fn take_words(read: &mut Words, words: Args) -> Result<Option<Call>, AllocError> {
+    let mut only_paths = false;
+    'words: for word in words {
+        if only_paths || !word.as_str().starts_with("--") {
+            read.paths.push(word)?;
+        } else if word.as_str() == "--" {
+            only_paths = true;
+        } else if let Some(form) = form_of(word.as_str()) {
+            read.form = form;
+        } else {
+            return Ok(Some(call_of(word.as_str())));
+        }
+    }
+    if !read.is_complete() {
+        return Ok(Some(Call::Wrong));
+    }
+    Ok(None)
+}
+
+/// Returns what the arguments ask for.
+pub fn read_words(alloc: Global, mut words: Args) -> Result<Call, AllocError> {
+    let _program = words.next();
+    let mut read = Words {
+        paths: Vec::new(alloc),
+        form: Form::Tree,
+    };
+    match take_words(&mut read, words) {
+        Ok(None) => Ok(Call::Parse(read)),
+        Ok(Some(call)) => {
+            drop(read);
+            Ok(call)
+        }
+        Err(e) => {
+            drop(read);
+            Err(e)
+        }
+    }
+}

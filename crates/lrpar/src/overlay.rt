@@ -114,7 +114,6 @@ pub(crate) fn reduce_all<S: IndexStorage>(
 ) -> Result<(), AllocError>
     requires token { S.number tidx.0 < machine.now.stable.now.tokens }
     requires over { IsOver S.number machine.now.stable.now base.now overlay.old }
-    requires some { 0 < length (overlaid S.number base.now overlay.old) }
     ensures rests { OnOk result ((g : GraphValue) → Rests machine.now.grm.now.grammar (automaton_of g machine.now.stable.now) (S.number tidx.0) (overlaid S.number base.now overlay.old) (overlaid S.number base.now overlay.new)) }
     ensures over { OnOk result (IsOver S.number machine.now.stable.now base.now overlay.new) }
 {
@@ -134,7 +133,6 @@ pub(crate) fn shift_on<S: IndexStorage>(
 ) -> Result<bool, AllocError>
     requires token { S.number tidx.0 < machine.now.stable.now.tokens }
     requires over { IsOver S.number machine.now.stable.now base.now overlay.old }
-    requires some { 0 < length (overlaid S.number base.now overlay.old) }
     ensures shifts { IfOk result (λ shifted. (g : GraphValue) → TellsShift machine.now.grm.now.grammar (automaton_of g machine.now.stable.now) (S.number tidx.0) (overlaid S.number base.now overlay.old) (overlaid S.number base.now overlay.new) shifted) }
     ensures over { IfOk result (λ shifted. IsOver S.number machine.now.stable.now base.now overlay.new) }
 {
@@ -156,7 +154,6 @@ pub(crate) fn accepts_on<S: IndexStorage>(
     overlay: &mut Overlay<S>,
 ) -> Result<bool, AllocError>
     requires over { IsOver S.number machine.now.stable.now base.now overlay.old }
-    requires some { 0 < length (overlaid S.number base.now overlay.old) }
     ensures { IfOk result (λ accepts. (g : GraphValue) → TellsAccept machine.now.grm.now.grammar (automaton_of g machine.now.stable.now) (end_token machine.now.grm.now.grammar) (overlaid S.number base.now overlay.old) accepts) }
 {
     let eof = machine.grm.eof_token_idx();

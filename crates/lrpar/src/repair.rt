@@ -1,6 +1,6 @@
 //! Tests the sequences of repairs that are passed at an error.
 
-ghost use Rattle.std.specs.Prelude.{◌<◌, ◌≤◌, length, drop, Some, [], IfOk, IfSome, IsSome};
+ghost use Rattle.std.specs.Prelude.{◌<◌, ◌≤◌, length, drop, Some, [], IfOk, IfSome};
 ghost use Rattle.lrpar.specs.Reducing.{stack_of, AreStates};
 ghost use Rattle.lrpar.specs.Replay.{overlaid, IsOver};
 ghost use Rattle.lrpar.specs.NextStates.{AreInside};
@@ -30,10 +30,8 @@ fn take_insert<S: IndexStorage, L: Lexeme<S>, E: Copy>(
 ) -> Result<Option<usize>, AllocError>
     requires index { index ≤ length lexemes.now }
     requires over { IsOver S.number machine.now.stable.now base.now overlay.old }
-    requires some { 0 < length (overlaid S.number base.now overlay.old) }
     ensures tells { IfOk result (λ next. StepTells S.MAX machine.now.grm.now.grammar machine.now.stable.now (token_by L.lex) (insert (S.number tidx.0)) (overlaid S.number base.now overlay.old) (drop index lexemes.now) (overlaid S.number base.now overlay.new) lexemes.now next) }
     ensures index { IfOk result (λ next. IfSome next (λ i. i ≤ length lexemes.now)) }
-    ensures some { IfOk result (λ next. IsSome next → 0 < length (overlaid S.number base.now overlay.new)) }
     ensures over { IfOk result (λ next. IsOver S.number machine.now.stable.now base.now overlay.new) }
 {
     if tidx.0.to_usize() >= machine.grm.eof_token_idx().0.to_usize() {
@@ -55,10 +53,8 @@ fn take_shift<S: IndexStorage, L: Lexeme<S>, E: Copy>(
 ) -> Result<Option<usize>, AllocError>
     requires inside { AreInside machine.now.grm.now.grammar (token_by L.lex) lexemes.now }
     requires over { IsOver S.number machine.now.stable.now base.now overlay.old }
-    requires some { 0 < length (overlaid S.number base.now overlay.old) }
     ensures tells { IfOk result (λ next. StepTells S.MAX machine.now.grm.now.grammar machine.now.stable.now (token_by L.lex) keep (overlaid S.number base.now overlay.old) (drop index lexemes.now) (overlaid S.number base.now overlay.new) lexemes.now next) }
     ensures index { IfOk result (λ next. IfSome next (λ i. i ≤ length lexemes.now)) }
-    ensures some { IfOk result (λ next. IsSome next → 0 < length (overlaid S.number base.now overlay.new)) }
     ensures over { IfOk result (λ next. IsOver S.number machine.now.stable.now base.now overlay.new) }
 {
     let count = lexemes.len();
@@ -84,10 +80,8 @@ fn take_step<S: IndexStorage, L: Lexeme<S>, E: Copy>(
     requires inside { AreInside machine.now.grm.now.grammar (token_by L.lex) lexemes.now }
     requires index { index ≤ length lexemes.now }
     requires over { IsOver S.number machine.now.stable.now base.now overlay.old }
-    requires some { 0 < length (overlaid S.number base.now overlay.old) }
     ensures tells { IfOk result (λ next. StepTells S.MAX machine.now.grm.now.grammar machine.now.stable.now (token_by L.lex) (edit_of S.number step) (overlaid S.number base.now overlay.old) (drop index lexemes.now) (overlaid S.number base.now overlay.new) lexemes.now next) }
     ensures index { IfOk result (λ next. IfSome next (λ i. i ≤ length lexemes.now)) }
-    ensures some { IfOk result (λ next. IsSome next → 0 < length (overlaid S.number base.now overlay.new)) }
     ensures over { IfOk result (λ next. IsOver S.number machine.now.stable.now base.now overlay.new) }
 {
     let count = lexemes.len();
@@ -114,7 +108,6 @@ fn gets_past<S: IndexStorage, L: Lexeme<S>, E: Copy>(
     requires inside { AreInside machine.now.grm.now.grammar (token_by L.lex) lexemes.now }
     requires index { index ≤ length lexemes.now }
     requires over { IsOver S.number machine.now.stable.now base.now overlay.old }
-    requires some { 0 < length (overlaid S.number base.now overlay.old) }
     ensures { IfOk result (λ past. SequenceTells S.MAX machine.now.grm.now.grammar machine.now.stable.now (token_by L.lex) [] (overlaid S.number base.now overlay.old) (drop index lexemes.now) past) }
 {
     if index >= lexemes.len() {

@@ -7,7 +7,6 @@ use Rattle.lrpar.specs.Replay.{overlaid}
 use Rattle.parse_trees.specs.Lex.{token_by}
 use Rattle.lrpar.specs.declared.overlay.Overlay.{Overlay}
 use Rattle.lrpar.proofs.NextTold.{over_one, over_nothing, one_state, comes_first, comes_on, stops_here}
-use Rattle.lrpar.proofs.Tested.{shifted_some}
 use Rattle.lrpar.proofs.Turning.{slice_read}
 use Rattle.lrpar.proofs.next_tokens.states_behind.Goals as goal
 
@@ -23,8 +22,7 @@ lexemes-init g c =
     let within = c.start_state.ensures.within in
     let n = ap length e in
     record {
-      over = record { within = omega arith; are_states = subst (AreStates v) (sym e) (one_state v (number q.0) (omega (arith, value, within))) };
-      some = omega (arith, n);
+      over = record { within = omega arith; are_states = subst (AreStates v) (sym e) (one_state v (number q.0) (omega (arith, value, within))); some = omega (arith, n) };
       comes = comes_first c.args.machine.now.grm.now.grammar v (token_by g.L.Lexeme.lex) c.args.lexemes.now (overlaid number c.new-base.result.items o) (e ∙ ap (λ s. s ∷ []) value);
     }
 
@@ -51,7 +49,6 @@ lexemes-preserved g c =
     let base = c.new-base.result.items in
     record {
       over = rw c.as_slice.ensures.value at c.in_ok-shift_on.ensures.over;
-      some = shifted_some c.args.machine.now.grm.now.grammar c.args.machine.now.stable.now (number c.tok_id.result) (overlaid number base c.lexemes.overlay) (overlaid number base c.shift_on.new.overlay) (λ x. rw (c.if-not-branch.false, c.as_slice.ensures.value) at (c.in_ok-shift_on.ensures.shifts x));
       comes = comes_on c.args.machine.now.grm.now.grammar c.args.machine.now.stable.now (token_by g.L.Lexeme.lex) c.args.machine.now.table c.args.lexemes.now c.requires.inside c.lexemes.index (number c.tok_id.result) y (overlaid number base c.lexemes.overlay) (overlaid number base c.shift_on.new.overlay) c.lexemes.invariant.comes
           (slice_read c.args.lexemes.now c.lexemes.index y c.lexemes-test.true c.index-lexemes-index.is) c.tok_id.ensures (λ x. rw (c.if-not-branch.false, c.as_slice.ensures.value) at (c.in_ok-shift_on.ensures.shifts x));
     }

@@ -13,7 +13,7 @@ reductions-init g c =
     let ss = overlaid number c.args.base.now c.args.overlay.now in
     record {
       over = c.requires.over;
-      short = λ x. bounded c.args.machine.now.grm.now.grammar (automaton_of x c.args.machine.now.stable.now) c.args.machine.now.limit (number c.args.tidx.0) (length ss) ss (c.args.machine.now.chains x) c.requires.some refl;
+      short = λ x. bounded c.args.machine.now.grm.now.grammar (automaton_of x c.args.machine.now.stable.now) c.args.machine.now.limit (number c.args.tidx.0) (length ss) ss (c.args.machine.now.chains x) c.requires.over.some refl;
       leads = λ x. none;
     }
 

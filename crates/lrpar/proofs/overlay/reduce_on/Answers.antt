@@ -1,4 +1,4 @@
-use Rattle.std.proofs.Common.{◌≡◌, Some, sym, ap, ◌∙◌, arith}
+use Rattle.std.proofs.Common.{◌≡◌, Some, sym, ap, ◌∙◌, arith, length}
 use Rattle.cfg_theory.specs.Grammar.{IsOf}
 use Rattle.lr_theory.specs.Automaton.{reduce}
 use Rattle.state_table.specs.TableValues.{action_at, goto_at}
@@ -33,7 +33,9 @@ returns-clause-over g c =
     let number = g.S.IndexStorage.number in
     let v = c.args.machine.now.stable.now in
     let to : goto_at v (number c.in-Some-under.below.0) (number c.prod_to_rule.result.0) ≡ Some (number c.in-Some-goto.target.0) = sym c.goto.ensures ∙ ap (state_of number) c.in-Some-goto.is in
+    let count = ap length c.in_ok-replace.ensures.stack in
     record {
       within = c.in_ok-replace.ensures.within;
       are_states = rw c.in_ok-replace.ensures.stack (are_replaced v c.to_usize-count.result (overlaid number c.args.base.now c.args.overlay.now) (number c.in-Some-goto.target.0) c.requires.over.are_states (c.args.machine.now.table.is_table.targets _ _ _ to));
+      some = omega (arith, count);
     }

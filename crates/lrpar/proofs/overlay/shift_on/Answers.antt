@@ -1,4 +1,4 @@
-use Rattle.std.proofs.Common.{◌≡◌, ◌≢◌, ℕ, Some, refl, sym, ap, ◌∙◌}
+use Rattle.std.proofs.Common.{◌≡◌, ◌≢◌, ℕ, Some, refl, sym, ap, ◌∙◌, length, arith}
 use Rattle.lr_theory.specs.Automaton.{shift}
 use Rattle.state_table.specs.TableValues.{action_at}
 use Rattle.state_table.specs.CellViews.{action_of, state_of}
@@ -26,9 +26,11 @@ returns-clause-over g c =
     let number = g.S.IndexStorage.number in
     let v = c.args.machine.now.stable.now in
     let cell : action_at v (number c.in-Some.top.0) (number c.args.tidx.0) ≡ shift (number c.in-Shift.target.0) = sym c.action.ensures ∙ ap (action_of number) c.in-Shift.is in
+    let count = ap length c.in_ok-replace.ensures.stack in
     record {
       within = c.in_ok-replace.ensures.within;
       are_states = rw c.in_ok-replace.ensures.stack (are_replaced v 0 (overlaid number c.args.base.now c.reduce_all.new.overlay) (number c.in-Shift.target.0) c.in_ok-reduce_all.ensures.over.are_states (c.args.machine.now.table.is_table.shifts _ _ _ cell));
+      some = omega (arith, count);
     }
 
 pub returns-in_default-action : goal.returns-in_default-action

@@ -1,4 +1,4 @@
-use Rattle.std.proofs.Common.{◌+◌, drop, refl, arith, subst, ap}
+use Rattle.std.proofs.Common.{◌+◌, drop, arith, subst, ap}
 use Rattle.std.proofs.lemmas.List.{drop_all}
 use Rattle.lrpar.specs.Reducing.{stack_of}
 use Rattle.lrpar.specs.Replay.{overlaid}
@@ -33,7 +33,6 @@ steps-preserved g c =
     record {
       within = rw c.in-Some.is at c.in_ok-next.ensures.index;
       over = c.in_ok-next.ensures.over;
-      some = (rw c.in-Some.is at c.in_ok-next.ensures.some) refl;
       follows = follows_on g.S.IndexStorage.MAX c.args.machine.now.grm.now.grammar c.args.machine.now.stable.now tok c.args.machine.now.table (edits_of number c.args.steps.now) ss rest (edit_of number c.step_at-step.result) (edits_of number (drop (c.steps.number + 1) c.args.steps.now)) here (overlaid number c.args.base.now c.take_step.new.overlay) left c.args.lexemes.now c.in-Some.next so (rw c.in-Some.is at c.in_ok-next.ensures.tells);
     }
 

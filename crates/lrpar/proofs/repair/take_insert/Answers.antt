@@ -1,7 +1,7 @@
 use Rattle.std.proofs.Common.{drop, arith}
 use Rattle.lrpar.specs.Replay.{overlaid}
 use Rattle.parse_trees.specs.Lex.{token_by}
-use Rattle.lrpar.proofs.Tested.{insert_tells, insert_tells_not, insert_tells_past, shifted_some}
+use Rattle.lrpar.proofs.Tested.{insert_tells, insert_tells_not, insert_tells_past}
 use Rattle.lrpar.proofs.repair.take_insert.Goals as goal
 
 pub returns-then-to_usize-clause-tells : goal.returns-then-to_usize-clause-tells
@@ -30,8 +30,3 @@ returns-clause-tells g c =
     let eof = c.to_usize-2.ensures.value in
     let end = c.eof_token_idx.ensures.value in
     insert_tells g.S.IndexStorage.MAX c.args.machine.now.grm.now.grammar c.args.machine.now.stable.now (token_by g.L.Lexeme.lex) c.args.machine.now.table (number c.args.tidx.0) c.args.index (overlaid number c.args.base.now c.args.overlay.now) (overlaid number c.args.base.now c.shift_on.new.overlay) c.args.lexemes.now (omega (arith, value, bound)) (omega (arith, value, eof, end)) (λ x. rw c.if-not-branch.false at (c.in_ok-shift_on.ensures.shifts x))
-
-pub returns-clause-some : goal.returns-clause-some
-returns-clause-some g c = λ _.
-    let number = g.S.IndexStorage.number in
-    shifted_some c.args.machine.now.grm.now.grammar c.args.machine.now.stable.now (number c.args.tidx.0) (overlaid number c.args.base.now c.args.overlay.now) (overlaid number c.args.base.now c.shift_on.new.overlay) (λ x. rw c.if-not-branch.false at (c.in_ok-shift_on.ensures.shifts x))

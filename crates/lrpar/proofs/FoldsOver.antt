@@ -104,9 +104,9 @@ acted_at number acts p r s us u i j at vs a b c d h = (
 )
 
 -- the same of an outcome that is answered
-module _ {S L E F : Type 0} (number : S → ℕ) (lex : L → Lex) (faulty : ℕ → ℕ → ℕ → L) (G : Grammar) (v : TableValue) (answers : ℕ → ℕ → L → List (List Edit) → Type 0) (items : List (Result L E)) (Q R : GraphValue → Type 0) where
-  pub results_over : {V : Type 0} (by by' : Answers L V) (r : Result (FoldedOutcome S L E V) F) → IfOk r (λ o. (g : GraphValue) → Q g → R g → IsFoldedOutcome number lex faulty G g v by answers items o) →
+module _ {S L E F : Type 0} (number : S → ℕ) (lex : L → Lex) (faulty : ℕ → ℕ → ℕ → L) (G : Grammar) (g : GraphValue) (v : TableValue) (answers : ℕ → ℕ → L → List (List Edit) → Type 0) (items : List (Result L E)) where
+  pub results_over : {V : Type 0} (by by' : Answers L V) (r : Result (FoldedOutcome S L E V) F) → IfOk r (IsFoldedOutcome number lex faulty G g v by answers items) →
       ((x : L) (u : V) → by.term x u → by'.term x u) → ((p n : ℕ) (s : Span) (us : List V) (u : V) → by.says p n s us u → by'.says p n s us u) →
-      IfOk r (λ o. (g : GraphValue) → Q g → R g → IsFoldedOutcome number lex faulty G g v by' answers items o)
-  results_over by by' (Ok o) h term says = λ g q k. outcome_gives number lex faulty G g v answers items (HasValue G by (span_by lex)) (HasValue G by' (span_by lex)) (value_over G by by' (span_by lex) term says) o (h g q k)
+      IfOk r (IsFoldedOutcome number lex faulty G g v by' answers items)
+  results_over by by' (Ok o) h term says = outcome_gives number lex faulty G g v answers items (HasValue G by (span_by lex)) (HasValue G by' (span_by lex)) (value_over G by by' (span_by lex) term says) o h
   results_over by by' (Err e) h term says = h

@@ -28,12 +28,6 @@ drop_next (x ∷ xs) (suc k) lt =
     let n : suc (k + 1) ≡ suc k + 1 = omega arith in
     (r.0, r.1 ∙ ap (λ j. r.0 ∷ drop j (x ∷ xs)) n)
 
--- after a shift some state is left
-pub shifted_some : (G : Grammar) (v : TableValue) (t : ℕ) (ss ss' : List ℕ) → ((g : GraphValue) → ShiftsTo G (automaton_of g v) t ss ss') → 0 < length ss'
-shifted_some G v t ss ss' shifts =
-    let h = shifts (record { start = 0; cores = []; closed = []; edges = [] }) in
-    rw h.states (omega arith)
-
 -- from each configuration that stands with these states and lexemes left the sequence fs is taken, behind it, exactly where es is
 abbrev pub Follows : {L : Type 0} → ℕ → Grammar → TableValue → (L → ℕ) → List Edit → List ℕ → List L → List Edit → List ℕ → List L → Type 0
 Follows {L} top G v tok es ss rest fs ss' rest' = (g : GraphValue) (make : ℕ → List L → L) (input : List L) (d : Config L) → Safe G (automaton_of g v) → MakesTokens top tok make → Stands G (automaton_of g v) tok input d → d.states ≡ ss → d.rest ≡ rest →

@@ -1,6 +1,7 @@
 pub mod Ranges
 pub mod Pair
 pub mod Reducing
+pub mod OneFit
 pub mod Made
 pub mod Run
 pub mod Safety

@@ -1,5 +1,5 @@
 -- Testing repairs on the states of a run: an overlay over its stack, and what turns on one token come to.
-use Rattle.std.specs.Prelude.{◌≡◌, ◌≢◌, ◌≤◌, ℕ, Bool, true, false, List, [], ◌∷◌, ◌++◌, reverse, take, length, Option, Some, None}
+use Rattle.std.specs.Prelude.{◌≡◌, ◌≢◌, ◌<◌, ◌≤◌, ℕ, Bool, true, false, List, [], ◌∷◌, ◌++◌, reverse, take, length, Option, Some, None}
 use Rattle.cfg_theory.specs.Grammar.{Grammar}
 use Rattle.lr_theory.specs.Automaton.{Action, shift, accept, error, Automaton}
 use Rattle.lr_theory.specs.Chains.{reduction}
@@ -12,10 +12,11 @@ use Rattle.lrpar.specs.declared.overlay.Overlay.{Overlay}
 abbrev pub overlaid : {S : Type 0} → (S → ℕ) → List (StIdx S) → Overlay S → List ℕ
 overlaid number base o = reverse (states_of number o.over.items) ++ reverse (take o.kept (states_of number base))
 
--- an overlay over a base of the table's states
+-- an overlay over a base of the table's states, which leaves some
 pub record IsOver {S : Type 0} (number : S → ℕ) (v : TableValue) (base : List (StIdx S)) (o : Overlay S) : Type 0 where
   pub within : o.kept ≤ length base
   pub are_states : AreStates v (overlaid number base o)
+  pub some : 0 < length (overlaid number base o)
 
 abbrev pub first_of : List ℕ → Option ℕ
 first_of [] = None

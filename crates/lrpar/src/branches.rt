@@ -6,15 +6,26 @@ ghost use Rattle.lr_theory.specs.Chains.{goto_from, reduction};
 ghost use Rattle.state_table.specs.CellViews.{state_of};
 ghost use Rattle.state_table.specs.Graphs.{GraphValue};
 ghost use Rattle.state_table.specs.Tables.{automaton_of};
-ghost use Rattle.lrpar.specs.Reducing.{states_of, stack_of, chain_states, AreStates, IsLong, IsTableFor};
+ghost use Rattle.lrpar.specs.Reducing.{states_of, stack_of, chain_states, AreStates, IsLong};
 ghost use Rattle.lrpar.specs.Branching.{Lists, AreAllReducers, Stacked, HoldsStates, AllHoldStates};
 
+use crate::machine::Chains;
 use crate::reducers::{prod_of_list, reducers_at};
 use cfg_base::index::IndexStorage;
 use cfg_base::symbol::PIdx;
-use cfg_numbered::yacc::grammar::NumberedGrammar;
-use state_table::{StIdx, StateTable};
+use state_table::StIdx;
 use std::alloc::{AllocError, Global};
+
+/// Buffers of the search for a long chain.
+#[derive(Drop)]
+pub(crate) struct Rooms<S: IndexStorage> {
+    /// A stack that is run on one token.
+    pub stack: Vec<StIdx<S>>,
+    /// Stacks that are followed on all tokens.
+    pub stacks: Vec<Vec<StIdx<S>>>,
+    /// Stacks whose memory is used again.
+    pub spare: Vec<Vec<StIdx<S>>>,
+}
 
 /// Returns a stack without states: one of the spare ones, whose room it keeps, where there is one.
 fn empty_stack<S: IndexStorage>(alloc: Global, spare: &mut Vec<Vec<StIdx<S>>>) -> Vec<StIdx<S>>
@@ -33,25 +44,23 @@ fn empty_stack<S: IndexStorage>(alloc: Global, spare: &mut Vec<Vec<StIdx<S>>>) -
 /// top is last.
 fn reduced<S: IndexStorage>(
     alloc: Global,
-    grm: &NumberedGrammar<S>,
-    stable: &StateTable<S>,
+    chains: &Chains<'_, S>,
     spare: &mut Vec<Vec<StIdx<S>>>,
     stack: &[StIdx<S>],
     pidx: PIdx<S>,
 ) -> Result<Option<Vec<StIdx<S>>>, AllocError>
-    requires table { IsTableFor grm.now.grammar stable.now }
-    requires production { S.number pidx.0 < length grm.now.grammar.productions }
-    requires states { AreStates stable.now (states_of S.number stack.now) }
-    ensures value { IfOk result (λ next. (g : GraphValue) → option_map (λ v. stack_of S.number v.items) next ≡ goto_from grm.now.grammar (automaton_of g stable.now) (S.number pidx.0) (drop (length (body_of grm.now.grammar (S.number pidx.0))) (stack_of S.number stack.now))) }
-    ensures states { IfOk result (λ next. IfSome next (λ v. HoldsStates S.number stable.now v.items)) }
+    requires production { S.number pidx.0 < length chains.now.grm.now.grammar.productions }
+    requires states { AreStates chains.now.stable.now (states_of S.number stack.now) }
+    ensures value { IfOk result (λ next. (g : GraphValue) → option_map (λ v. stack_of S.number v.items) next ≡ goto_from chains.now.grm.now.grammar (automaton_of g chains.now.stable.now) (S.number pidx.0) (drop (length (body_of chains.now.grm.now.grammar (S.number pidx.0))) (stack_of S.number stack.now))) }
+    ensures states { IfOk result (λ next. IfSome next (λ v. HoldsStates S.number chains.now.stable.now v.items)) }
 {
-    let count = grm.prod_len(pidx).0.to_usize();
+    let count = chains.grm.prod_len(pidx).0.to_usize();
     if count >= stack.len() {
         return Ok(None);
     }
     let left = stack.len() - count;
     let below = stack[left - 1];
-    let Some(target) = stable.goto(below, grm.prod_to_rule(pidx)) else {
+    let Some(target) = chains.stable.goto(below, chains.grm.prod_to_rule(pidx)) else {
         return Ok(None);
     };
     let mut next = empty_stack(alloc, spare);
@@ -63,24 +72,22 @@ fn reduced<S: IndexStorage>(
 /// Puts the stacks after a reduction by each of these productions on the others.
 fn follow<S: IndexStorage>(
     alloc: Global,
-    grm: &NumberedGrammar<S>,
-    stable: &StateTable<S>,
+    chains: &Chains<'_, S>,
     spare: &mut Vec<Vec<StIdx<S>>>,
     list: &[PIdx<S>],
     stack: &[StIdx<S>],
     stacks: &mut Vec<Vec<StIdx<S>>>,
 ) -> Result<(), AllocError>
-    requires table { IsTableFor grm.now.grammar stable.now }
-    requires list { (p : ℕ) → Lists S.number list.now p → p < length grm.now.grammar.productions }
-    requires states { AreStates stable.now (states_of S.number stack.now) }
-    requires stacks { AllHoldStates S.number stable.now stacks.old.items }
+    requires list { (p : ℕ) → Lists S.number list.now p → p < length chains.now.grm.now.grammar.productions }
+    requires states { AreStates chains.now.stable.now (states_of S.number stack.now) }
+    requires stacks { AllHoldStates S.number chains.now.stable.now stacks.old.items }
     ensures kept { OnOk result ((ss : List ℕ) → Stacked S.number stacks.old.items ss → Stacked S.number stacks.new.items ss) }
-    ensures put { OnOk result ((g : GraphValue) (p : ℕ) (ss : List ℕ) → Lists S.number list.now p → goto_from grm.now.grammar (automaton_of g stable.now) p (drop (length (body_of grm.now.grammar p)) (stack_of S.number stack.now)) ≡ Some ss → Stacked S.number stacks.new.items ss) }
-    ensures stacks { OnOk result (AllHoldStates S.number stable.now stacks.new.items) }
+    ensures put { OnOk result ((g : GraphValue) (p : ℕ) (ss : List ℕ) → Lists S.number list.now p → goto_from chains.now.grm.now.grammar (automaton_of g chains.now.stable.now) p (drop (length (body_of chains.now.grm.now.grammar p)) (stack_of S.number stack.now)) ≡ Some ss → Stacked S.number stacks.new.items ss) }
+    ensures stacks { OnOk result (AllHoldStates S.number chains.now.stable.now stacks.new.items) }
 {
     'prods: for index in 0..list.len() {
         let pidx = prod_of_list(list, index);
-        let Some(next) = reduced(alloc, grm, stable, spare, stack, pidx)? else {
+        let Some(next) = reduced(alloc, chains, spare, stack, pidx)? else {
             continue;
         };
         stacks.push(next)?;
@@ -91,24 +98,22 @@ fn follow<S: IndexStorage>(
 /// Puts the stacks after one reduction, on whatever token, on the others.
 fn take_stack<S: IndexStorage>(
     alloc: Global,
-    grm: &NumberedGrammar<S>,
-    stable: &StateTable<S>,
+    chains: &Chains<'_, S>,
     reducers: &[Vec<PIdx<S>>],
     spare: &mut Vec<Vec<StIdx<S>>>,
     stack: &[StIdx<S>],
     stacks: &mut Vec<Vec<StIdx<S>>>,
 ) -> Result<(), AllocError>
-    requires table { IsTableFor grm.now.grammar stable.now }
-    requires reducers { AreAllReducers S.number grm.now.grammar stable.now reducers.now }
-    requires states { HoldsStates S.number stable.now stack.now }
-    requires stacks { AllHoldStates S.number stable.now stacks.old.items }
+    requires reducers { AreAllReducers S.number chains.now.grm.now.grammar chains.now.stable.now reducers.now }
+    requires states { HoldsStates S.number chains.now.stable.now stack.now }
+    requires stacks { AllHoldStates S.number chains.now.stable.now stacks.old.items }
     ensures kept { OnOk result ((ss : List ℕ) → Stacked S.number stacks.old.items ss → Stacked S.number stacks.new.items ss) }
-    ensures put { OnOk result ((g : GraphValue) (t : ℕ) (ss : List ℕ) → reduction grm.now.grammar (automaton_of g stable.now) t (stack_of S.number stack.now) ≡ Some ss → Stacked S.number stacks.new.items ss) }
-    ensures stacks { OnOk result (AllHoldStates S.number stable.now stacks.new.items) }
+    ensures put { OnOk result ((g : GraphValue) (t : ℕ) (ss : List ℕ) → reduction chains.now.grm.now.grammar (automaton_of g chains.now.stable.now) t (stack_of S.number stack.now) ≡ Some ss → Stacked S.number stacks.new.items ss) }
+    ensures stacks { OnOk result (AllHoldStates S.number chains.now.stable.now stacks.new.items) }
 {
     let top = stack[stack.len() - 1];
-    let list = reducers_at(grm, stable, reducers, top);
-    follow(alloc, grm, stable, spare, list, stack, stacks)?;
+    let list = reducers_at(chains, reducers, top);
+    follow(alloc, chains, spare, list, stack, stacks)?;
     Ok(())
 }
 
@@ -144,41 +149,30 @@ fn most_stacks(limit: u16) -> usize
 }
 
 /// Returns whether it is known, without looking at tokens, that no chain of the state passes the limit: alone, or
-/// with `above` on it. All reductions on some token are followed, for at most as many stacks as a chain may have. The
-/// stacks that are passed are used as buffers, and the spare ones are overwritten.
+/// with `above` on it. All reductions on some token are followed, for at most as many stacks as a chain may have.
 pub(crate) fn ends_soon<S: IndexStorage>(
     alloc: Global,
-    grm: &NumberedGrammar<S>,
-    stable: &StateTable<S>,
+    chains: &Chains<'_, S>,
     reducers: &[Vec<PIdx<S>>],
-    limit: u16,
-    stacks: &mut Vec<Vec<StIdx<S>>>,
-    spare: &mut Vec<Vec<StIdx<S>>>,
+    rooms: &mut Rooms<S>,
     state: StIdx<S>,
     above: Option<StIdx<S>>,
 ) -> Result<bool, AllocError>
-    requires table { IsTableFor grm.now.grammar stable.now }
-    requires reducers { AreAllReducers S.number grm.now.grammar stable.now reducers.now }
-    requires state { S.number state.0 < stable.now.states }
-    requires above { (q : ℕ) → state_of S.number above ≡ Some q → q < stable.now.states }
-    ensures { IfOk result (λ ends. ends ≡ true → (g : GraphValue) (t : ℕ) → IsLong grm.now.grammar (automaton_of g stable.now) limit (S.number state.0) (state_of S.number above) t → ⊥) }
+    requires reducers { AreAllReducers S.number chains.now.grm.now.grammar chains.now.stable.now reducers.now }
+    requires state { S.number state.0 < chains.now.stable.now.states }
+    requires above { (q : ℕ) → state_of S.number above ≡ Some q → q < chains.now.stable.now.states }
+    ensures { IfOk result (λ ends. ends ≡ true → (g : GraphValue) (t : ℕ) → IsLong chains.now.grm.now.grammar (automaton_of g chains.now.stable.now) chains.now.limit (S.number state.0) (state_of S.number above) t → ⊥) }
 {
+    let stacks = &mut rooms.stacks;
+    let spare = &mut rooms.spare;
     stacks.clear();
     stacks.push(first_stack(alloc, spare, state, above)?)?;
-    let most = most_stacks(limit);
+    let most = most_stacks(chains.limit);
     'stacks: for _ in 0..most {
         let Some(stack) = stacks.pop() else {
             return Ok(true);
         };
-        take_stack(
-            alloc,
-            grm,
-            stable,
-            reducers,
-            spare,
-            stack.as_slice(),
-            stacks,
-        )?;
+        take_stack(alloc, chains, reducers, spare, stack.as_slice(), stacks)?;
         spare.push(stack)?;
     }
     Ok(false)

@@ -105,13 +105,10 @@ impl<'a, T: LexerTypes, R: Recoverer<T::StorageT, T::LexemeT>> RTParserBuilder<'
         ensures parsed { IfOk result (IsFoldedOutcome T.StorageT.number T.LexemeT.lex T.LexemeT.faulty_of self.now.checked.now.grammar.grammar self.now.checked.now.graph self.now.checked.now.table (values_by T.StorageT.number (F.post fterm.now) (H.post fnonterm.now)) (R.answers self.now.recoverer.now) (X.lexed lexer.now)) }
         ensures refused { IfErr result (IsParseRefusal self.now.checked.now.grammar.grammar T.LexemeT.lex (X.lexed lexer.now)) }
     {
-        self.checked.facts();
         let items = lexer.iter().as_slice();
         parse_folded(
             alloc,
-            self.checked.grm(),
-            self.checked.full(),
-            self.checked.cap(),
+            &self.checked.machine(),
             items,
             self.recoverer,
             fterm,
@@ -140,16 +137,8 @@ impl<'a, T: LexerTypes, R: Recoverer<T::StorageT, T::LexemeT>> RTParserBuilder<'
         ensures tree { IfOk result (λ r. IfOk r (λ p. IfSome p.0 (IsFlatTree self.now.checked.now.grammar.grammar (token_by T.LexemeT.lex) (span_by T.LexemeT.lex)))) }
         ensures refused { IfErr result (IsParseRefusal self.now.checked.now.grammar.grammar T.LexemeT.lex (X.lexed lexer.now)) }
     {
-        self.checked.facts();
         let items = lexer.iter().as_slice();
-        flat_parse::parse_flat(
-            alloc,
-            self.checked.grm(),
-            self.checked.full(),
-            self.checked.cap(),
-            items,
-            self.recoverer,
-        )
+        flat_parse::parse_flat(alloc, &self.checked.machine(), items, self.recoverer)
     }
 
     /// Parses, and makes the value by two functions: `fterm` for each lexeme that is shifted, `fnonterm` for each
@@ -170,13 +159,10 @@ impl<'a, T: LexerTypes, R: Recoverer<T::StorageT, T::LexemeT>> RTParserBuilder<'
         ensures parsed { IfOk result (λ r. IsHandedOut errors.LexError errors.ParseError T.StorageT.number T.LexemeT.lex T.LexemeT.faulty_of self.now.checked.now.grammar.grammar self.now.checked.now.graph self.now.checked.now.table (HasValue self.now.checked.now.grammar.grammar (mapped_by T.StorageT.number (F.post fterm.now) (H.post fnonterm.now)) (span_by T.LexemeT.lex)) (R.answers self.now.recoverer.now) (X.lexed lexer.now) r.0 r.1.items) }
         ensures refused { IfErr result (IsParseRefusal self.now.checked.now.grammar.grammar T.LexemeT.lex (X.lexed lexer.now)) }
     {
-        self.checked.facts();
         let items = lexer.iter().as_slice();
         let outcome = parse_mapped(
             alloc,
-            self.checked.grm(),
-            self.checked.full(),
-            self.checked.cap(),
+            &self.checked.machine(),
             items,
             self.recoverer,
             fterm,
@@ -198,16 +184,8 @@ impl<'a, T: LexerTypes, R: Recoverer<T::StorageT, T::LexemeT>> RTParserBuilder<'
         ensures parsed { IfOk result (λ r. IsHandedOut errors.LexError errors.ParseError T.StorageT.number T.LexemeT.lex T.LexemeT.faulty_of self.now.checked.now.grammar.grammar self.now.checked.now.graph self.now.checked.now.table (HasNode T.StorageT.number self.now.checked.now.grammar.grammar) (R.answers self.now.recoverer.now) (X.lexed lexer.now) r.0 r.1.items) }
         ensures refused { IfErr result (IsParseRefusal self.now.checked.now.grammar.grammar T.LexemeT.lex (X.lexed lexer.now)) }
     {
-        self.checked.facts();
         let items = lexer.iter().as_slice();
-        let outcome = parse_nodes(
-            alloc,
-            self.checked.grm(),
-            self.checked.full(),
-            self.checked.cap(),
-            items,
-            self.recoverer,
-        )?;
+        let outcome = parse_nodes(alloc, &self.checked.machine(), items, self.recoverer)?;
         match hand_out::<T, Node<T::LexemeT, T::StorageT>>(alloc, outcome) {
             Ok(told) => Ok(told),
             Err(e) => Err(ParseRefusal::Memory(e)),
@@ -231,13 +209,10 @@ impl<'a, T: LexerTypes, R: Recoverer<T::StorageT, T::LexemeT>> RTParserBuilder<'
         ensures parsed { IfOk result (λ r. IsHandedOut errors.LexError errors.ParseError T.StorageT.number T.LexemeT.lex T.LexemeT.faulty_of self.now.checked.now.grammar.grammar self.now.checked.now.graph self.now.checked.now.table (HasAction self.now.checked.now.grammar.grammar (A.answers actions.now lexer.now) (span_by T.LexemeT.lex)) (R.answers self.now.recoverer.now) (X.lexed lexer.now) r.0 r.1.items) }
         ensures refused { IfErr result (IsParseRefusal self.now.checked.now.grammar.grammar T.LexemeT.lex (X.lexed lexer.now)) }
     {
-        self.checked.facts();
         let items = lexer.iter().as_slice();
         let outcome = parse_acted::<T, X, A, R>(
             alloc,
-            self.checked.grm(),
-            self.checked.full(),
-            self.checked.cap(),
+            &self.checked.machine(),
             items,
             self.recoverer,
             lexer,
@@ -259,16 +234,8 @@ impl<'a, T: LexerTypes, R: Recoverer<T::StorageT, T::LexemeT>> RTParserBuilder<'
         ensures parsed { IfOk result (λ r. (value : Option (Unit {0})) × IsHandedOut errors.LexError errors.ParseError T.StorageT.number T.LexemeT.lex T.LexemeT.faulty_of self.now.checked.now.grammar.grammar self.now.checked.now.graph self.now.checked.now.table (λ value tree. Unit {0}) (R.answers self.now.recoverer.now) (X.lexed lexer.now) value r.items) }
         ensures refused { IfErr result (IsParseRefusal self.now.checked.now.grammar.grammar T.LexemeT.lex (X.lexed lexer.now)) }
     {
-        self.checked.facts();
         let items = lexer.iter().as_slice();
-        let outcome = parse_unvalued(
-            alloc,
-            self.checked.grm(),
-            self.checked.full(),
-            self.checked.cap(),
-            items,
-            self.recoverer,
-        )?;
+        let outcome = parse_unvalued(alloc, &self.checked.machine(), items, self.recoverer)?;
         match hand_out::<T, ()>(alloc, outcome) {
             Ok(told) => {
                 let (_, errors) = told;

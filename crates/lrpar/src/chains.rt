@@ -3,12 +3,13 @@
 ghost use Rattle.std.specs.Prelude.{◌≡◌, ◌<◌, ◌+◌, ℕ, false, Some, None, IfOk, OnOk, length};
 ghost use Rattle.lr_theory.specs.Automaton.{reduce};
 ghost use Rattle.state_table.specs.Tables.{automaton_of};
-ghost use Rattle.lrpar.specs.Reducing.{states_of, stack_of, IsTableFor, AreStates, ReducesTo, TellsLong, TellsToken, TellsAbove, TellsOf, TellsChain, AreShorts, BeginsNone, token_number, chain_states, chain_top, chain_depth};
+ghost use Rattle.lrpar.specs.Reducing.{states_of, stack_of, AreStates, ReducesTo, TellsLong, TellsToken, TellsAbove, TellsOf, TellsChain, AreShorts, BeginsNone, token_number, chain_states, chain_top, chain_depth};
 ghost use Rattle.lrpar.specs.Branching.{AreAllReducers};
 ghost use Rattle.state_table.specs.Graphs.{GraphValue};
 ghost use Rattle.state_table.specs.CellViews.{action_of, state_of};
 
-use crate::branches::ends_soon;
+use crate::branches::{Rooms, ends_soon};
+use crate::machine::Chains;
 use crate::numbers::index_below;
 use crate::reducers::all_reducers;
 use crate::rows::{cell_of_row, goto_of_row};
@@ -16,7 +17,7 @@ use crate::shorts::{Short, all_shorts, is_quiet, short_at};
 use cfg_base::index::IndexStorage;
 use cfg_base::symbol::{PIdx, RIdx, TIdx};
 use cfg_numbered::yacc::grammar::NumberedGrammar;
-use state_table::{Action, StIdx, StateTable};
+use state_table::{Action, StIdx};
 use std::alloc::{AllocError, Global};
 
 /// A chain of reductions on a token that leave a state: from the state alone, or with its goto on the rule above it.
@@ -30,44 +31,31 @@ pub struct LongChain<S> {
     pub tidx: TIdx<S>,
 }
 
-/// Buffers of the search for a long chain.
-#[derive(Drop)]
-struct Rooms<S: IndexStorage> {
-    /// A stack that is run on one token.
-    stack: Vec<StIdx<S>>,
-    /// Stacks that are followed on all tokens.
-    stacks: Vec<Vec<StIdx<S>>>,
-    /// Stacks whose memory is used again.
-    spare: Vec<Vec<StIdx<S>>>,
-}
-
 /// Makes one reduction on the token, where one is made that leaves a state on the stack, and returns whether it did.
 /// The stack's top is last.
 pub(crate) fn reduce_once<S: IndexStorage>(
-    grm: &NumberedGrammar<S>,
-    stable: &StateTable<S>,
+    chains: &Chains<'_, S>,
     stack: &mut Vec<StIdx<S>>,
     tidx: TIdx<S>,
 ) -> Result<bool, AllocError>
-    requires table { IsTableFor grm.now.grammar stable.now }
-    requires token { S.number tidx.0 < stable.now.tokens }
-    requires states { AreStates stable.now (states_of S.number stack.old.items) }
+    requires token { S.number tidx.0 < chains.now.stable.now.tokens }
+    requires states { AreStates chains.now.stable.now (states_of S.number stack.old.items) }
     requires some { 0 < length stack.old.items }
-    ensures ok { IfOk result (λ made. (g : GraphValue) → ReducesTo grm.now.grammar (automaton_of g stable.now) (S.number tidx.0) (stack_of S.number stack.old.items) (stack_of S.number stack.new.items) made) }
-    ensures states { IfOk result (λ made. AreStates stable.now (states_of S.number stack.new.items)) }
+    ensures ok { IfOk result (λ made. (g : GraphValue) → ReducesTo chains.now.grm.now.grammar (automaton_of g chains.now.stable.now) (S.number tidx.0) (stack_of S.number stack.old.items) (stack_of S.number stack.new.items) made) }
+    ensures states { IfOk result (λ made. AreStates chains.now.stable.now (states_of S.number stack.new.items)) }
     ensures some { IfOk result (λ made. 0 < length stack.new.items) }
 {
     let top = stack[stack.len() - 1];
-    let Action::Reduce(pidx) = stable.action(top, tidx) else {
+    let Action::Reduce(pidx) = chains.stable.action(top, tidx) else {
         return Ok(false);
     };
-    let count = grm.prod_len(pidx).0.to_usize();
+    let count = chains.grm.prod_len(pidx).0.to_usize();
     if count >= stack.len() {
         return Ok(false);
     }
     let left = stack.len() - count;
     let below = stack[left - 1];
-    let Some(target) = stable.goto(below, grm.prod_to_rule(pidx)) else {
+    let Some(target) = chains.stable.goto(below, chains.grm.prod_to_rule(pidx)) else {
         return Ok(false);
     };
     stack.truncate(left);
@@ -94,27 +82,24 @@ fn refill<S: IndexStorage>(
     }
 }
 
-/// Returns whether more than `limit` reductions come on the token that leave the state at the bottom: `state` alone,
+/// Returns whether more reductions than the limit come on the token that leave the state at the bottom: `state` alone,
 /// or with `above` on it. The stack serves as room.
 pub(crate) fn is_long<S: IndexStorage>(
-    grm: &NumberedGrammar<S>,
-    stable: &StateTable<S>,
-    limit: u16,
+    chains: &Chains<'_, S>,
     stack: &mut Vec<StIdx<S>>,
     state: StIdx<S>,
     above: Option<StIdx<S>>,
     tidx: TIdx<S>,
 ) -> Result<bool, AllocError>
-    requires table { IsTableFor grm.now.grammar stable.now }
-    requires token { S.number tidx.0 < stable.now.tokens }
-    requires state { S.number state.0 < stable.now.states }
-    requires above { (q : ℕ) → state_of S.number above ≡ Some q → q < stable.now.states }
-    ensures { IfOk result (λ long. (g : GraphValue) → TellsLong grm.now.grammar (automaton_of g stable.now) limit (S.number state.0) (state_of S.number above) (S.number tidx.0) long) }
+    requires token { S.number tidx.0 < chains.now.stable.now.tokens }
+    requires state { S.number state.0 < chains.now.stable.now.states }
+    requires above { (q : ℕ) → state_of S.number above ≡ Some q → q < chains.now.stable.now.states }
+    ensures { IfOk result (λ long. (g : GraphValue) → TellsLong chains.now.grm.now.grammar (automaton_of g chains.now.stable.now) chains.now.limit (S.number state.0) (state_of S.number above) (S.number tidx.0) long) }
 {
     refill(stack, state, above)?;
-    let most = limit as usize + 1;
+    let most = chains.limit as usize + 1;
     'chain: for _ in 0..most {
-        if !reduce_once(grm, stable, stack, tidx)? {
+        if !reduce_once(chains, stack, tidx)? {
             return Ok(false);
         }
     }
@@ -153,62 +138,52 @@ fn may_begin<S: IndexStorage>(grm: &NumberedGrammar<S>, depth: usize, action: Ac
     }
 }
 
-/// Returns the least token on which more than `limit` reductions come.
+/// Returns the least token on which more reductions than the limit come.
 pub(crate) fn long_token<S: IndexStorage>(
-    grm: &NumberedGrammar<S>,
-    stable: &StateTable<S>,
-    limit: u16,
+    chains: &Chains<'_, S>,
     stack: &mut Vec<StIdx<S>>,
     state: StIdx<S>,
     above: Option<StIdx<S>>,
 ) -> Result<Option<TIdx<S>>, AllocError>
-    requires table { IsTableFor grm.now.grammar stable.now }
-    requires state { S.number state.0 < stable.now.states }
-    requires above { (q : ℕ) → state_of S.number above ≡ Some q → q < stable.now.states }
-    ensures { IfOk result (λ found. (g : GraphValue) → TellsToken grm.now.grammar (automaton_of g stable.now) limit stable.now.tokens (S.number state.0) (state_of S.number above) (token_number S.number found)) }
+    requires state { S.number state.0 < chains.now.stable.now.states }
+    requires above { (q : ℕ) → state_of S.number above ≡ Some q → q < chains.now.stable.now.states }
+    ensures { IfOk result (λ found. (g : GraphValue) → TellsToken chains.now.grm.now.grammar (automaton_of g chains.now.stable.now) chains.now.limit chains.now.stable.now.tokens (S.number state.0) (state_of S.number above) (token_number S.number found)) }
 {
-    let tokens = stable.tokens_len().0;
+    let tokens = chains.stable.tokens_len().0;
     let depth = depth_of(above);
-    let row = stable.state_cells(top_of(state, above));
+    let row = chains.stable.state_cells(top_of(state, above));
     'cells: for index in 0..row.len() {
         let (number, action) = cell_of_row(row, index);
-        if !may_begin(grm, depth, action) {
+        if !may_begin(chains.grm, depth, action) {
             continue;
         }
         let tidx = TIdx(index_below(number, tokens));
-        if is_long(grm, stable, limit, stack, state, above, tidx)? {
+        if is_long(chains, stack, state, above, tidx)? {
             return Ok(Some(tidx));
         }
     }
     Ok(None)
 }
 
-/// Returns the least token on which more than `limit` reductions come. Tokens are tried only where following all
+/// Returns the least token on which more reductions than the limit come. Tokens are tried only where following all
 /// reductions, on whatever token, doesn't show that no chain is long.
 fn least_long<S: IndexStorage>(
     alloc: Global,
-    grm: &NumberedGrammar<S>,
-    stable: &StateTable<S>,
+    chains: &Chains<'_, S>,
     reducers: &[Vec<PIdx<S>>],
-    limit: u16,
     rooms: &mut Rooms<S>,
     state: StIdx<S>,
     above: Option<StIdx<S>>,
 ) -> Result<Option<TIdx<S>>, AllocError>
-    requires table { IsTableFor grm.now.grammar stable.now }
-    requires reducers { AreAllReducers S.number grm.now.grammar stable.now reducers.now }
-    requires state { S.number state.0 < stable.now.states }
-    requires above { (q : ℕ) → state_of S.number above ≡ Some q → q < stable.now.states }
-    ensures { IfOk result (λ found. (g : GraphValue) → TellsToken grm.now.grammar (automaton_of g stable.now) limit stable.now.tokens (S.number state.0) (state_of S.number above) (token_number S.number found)) }
+    requires reducers { AreAllReducers S.number chains.now.grm.now.grammar chains.now.stable.now reducers.now }
+    requires state { S.number state.0 < chains.now.stable.now.states }
+    requires above { (q : ℕ) → state_of S.number above ≡ Some q → q < chains.now.stable.now.states }
+    ensures { IfOk result (λ found. (g : GraphValue) → TellsToken chains.now.grm.now.grammar (automaton_of g chains.now.stable.now) chains.now.limit chains.now.stable.now.tokens (S.number state.0) (state_of S.number above) (token_number S.number found)) }
 {
-    let stacks = &mut rooms.stacks;
-    let spare = &mut rooms.spare;
-    if ends_soon(
-        alloc, grm, stable, reducers, limit, stacks, spare, state, above,
-    )? {
+    if ends_soon(alloc, chains, reducers, rooms, state, above)? {
         return Ok(None);
     }
-    let found = long_token(grm, stable, limit, &mut rooms.stack, state, above)?;
+    let found = long_token(chains, &mut rooms.stack, state, above)?;
     Ok(found)
 }
 
@@ -216,25 +191,22 @@ fn least_long<S: IndexStorage>(
 /// reduction.
 fn long_alone<S: IndexStorage>(
     alloc: Global,
-    grm: &NumberedGrammar<S>,
-    stable: &StateTable<S>,
+    chains: &Chains<'_, S>,
     shorts: &[Short<S>],
     reducers: &[Vec<PIdx<S>>],
-    limit: u16,
     rooms: &mut Rooms<S>,
     state: StIdx<S>,
 ) -> Result<Option<TIdx<S>>, AllocError>
-    requires table { IsTableFor grm.now.grammar stable.now }
-    requires shorts { AreShorts S.number grm.now.grammar stable.now shorts.now }
-    requires reducers { AreAllReducers S.number grm.now.grammar stable.now reducers.now }
-    requires state { S.number state.0 < stable.now.states }
-    ensures { IfOk result (λ found. (g : GraphValue) → TellsToken grm.now.grammar (automaton_of g stable.now) limit stable.now.tokens (S.number state.0) None (token_number S.number found)) }
+    requires shorts { AreShorts S.number chains.now.grm.now.grammar chains.now.stable.now shorts.now }
+    requires reducers { AreAllReducers S.number chains.now.grm.now.grammar chains.now.stable.now reducers.now }
+    requires state { S.number state.0 < chains.now.stable.now.states }
+    ensures { IfOk result (λ found. (g : GraphValue) → TellsToken chains.now.grm.now.grammar (automaton_of g chains.now.stable.now) chains.now.limit chains.now.stable.now.tokens (S.number state.0) None (token_number S.number found)) }
 {
     match short_at(shorts, state) {
         Short::Nothing => Ok(None),
         Short::Unit(_) => Ok(None),
         Short::Other => {
-            let found = least_long(alloc, grm, stable, reducers, limit, rooms, state, None)?;
+            let found = least_long(alloc, chains, reducers, rooms, state, None)?;
             Ok(found)
         }
     }
@@ -243,29 +215,26 @@ fn long_alone<S: IndexStorage>(
 /// Returns the least chain of the state with a goto above it that passes the limit.
 fn long_above<S: IndexStorage>(
     alloc: Global,
-    grm: &NumberedGrammar<S>,
-    stable: &StateTable<S>,
+    chains: &Chains<'_, S>,
     shorts: &[Short<S>],
     reducers: &[Vec<PIdx<S>>],
-    limit: u16,
     rooms: &mut Rooms<S>,
     state: StIdx<S>,
 ) -> Result<Option<LongChain<S>>, AllocError>
-    requires table { IsTableFor grm.now.grammar stable.now }
-    requires shorts { AreShorts S.number grm.now.grammar stable.now shorts.now }
-    requires reducers { AreAllReducers S.number grm.now.grammar stable.now reducers.now }
-    requires state { S.number state.0 < stable.now.states }
-    ensures { IfOk result (λ found. (g : GraphValue) → TellsAbove S.number grm.now.grammar (automaton_of g stable.now) limit (S.number state.0) found) }
+    requires shorts { AreShorts S.number chains.now.grm.now.grammar chains.now.stable.now shorts.now }
+    requires reducers { AreAllReducers S.number chains.now.grm.now.grammar chains.now.stable.now reducers.now }
+    requires state { S.number state.0 < chains.now.stable.now.states }
+    ensures { IfOk result (λ found. (g : GraphValue) → TellsAbove S.number chains.now.grm.now.grammar (automaton_of g chains.now.stable.now) chains.now.limit (S.number state.0) found) }
 {
-    let rules = stable.rules_len().0;
-    let row = stable.state_gotos(state);
+    let rules = chains.stable.rules_len().0;
+    let row = chains.stable.state_gotos(state);
     'gotos: for index in 0..row.len() {
         let (number, above) = goto_of_row(row, index);
-        if is_quiet(grm, stable, shorts, limit, state, above) {
+        if is_quiet(chains, shorts, state, above) {
             continue;
         }
         let onto = Some(above);
-        if let Some(tidx) = least_long(alloc, grm, stable, reducers, limit, rooms, state, onto)? {
+        if let Some(tidx) = least_long(alloc, chains, reducers, rooms, state, onto)? {
             let ridx = RIdx(index_below(number, rules));
             return Ok(Some(LongChain {
                 state,
@@ -280,50 +249,44 @@ fn long_above<S: IndexStorage>(
 /// Returns the least chain of the state that passes the limit.
 fn long_of<S: IndexStorage>(
     alloc: Global,
-    grm: &NumberedGrammar<S>,
-    stable: &StateTable<S>,
+    chains: &Chains<'_, S>,
     shorts: &[Short<S>],
     reducers: &[Vec<PIdx<S>>],
-    limit: u16,
     rooms: &mut Rooms<S>,
     state: StIdx<S>,
 ) -> Result<Option<LongChain<S>>, AllocError>
-    requires table { IsTableFor grm.now.grammar stable.now }
-    requires shorts { AreShorts S.number grm.now.grammar stable.now shorts.now }
-    requires reducers { AreAllReducers S.number grm.now.grammar stable.now reducers.now }
-    requires state { S.number state.0 < stable.now.states }
-    ensures { IfOk result (λ found. (g : GraphValue) → TellsOf S.number grm.now.grammar (automaton_of g stable.now) limit (S.number state.0) found) }
+    requires shorts { AreShorts S.number chains.now.grm.now.grammar chains.now.stable.now shorts.now }
+    requires reducers { AreAllReducers S.number chains.now.grm.now.grammar chains.now.stable.now reducers.now }
+    requires state { S.number state.0 < chains.now.stable.now.states }
+    ensures { IfOk result (λ found. (g : GraphValue) → TellsOf S.number chains.now.grm.now.grammar (automaton_of g chains.now.stable.now) chains.now.limit (S.number state.0) found) }
 {
-    if let Some(tidx) = long_alone(alloc, grm, stable, shorts, reducers, limit, rooms, state)? {
+    if let Some(tidx) = long_alone(alloc, chains, shorts, reducers, rooms, state)? {
         return Ok(Some(LongChain {
             state,
             ridx: None,
             tidx,
         }));
     }
-    let found = long_above(alloc, grm, stable, shorts, reducers, limit, rooms, state)?;
+    let found = long_above(alloc, chains, shorts, reducers, rooms, state)?;
     Ok(found)
 }
 
 /// Returns the least chain of all states that passes the limit.
 fn long_among<S: IndexStorage>(
     alloc: Global,
-    grm: &NumberedGrammar<S>,
-    stable: &StateTable<S>,
+    chains: &Chains<'_, S>,
     shorts: &[Short<S>],
     reducers: &[Vec<PIdx<S>>],
-    limit: u16,
     rooms: &mut Rooms<S>,
 ) -> Result<Option<LongChain<S>>, AllocError>
-    requires table { IsTableFor grm.now.grammar stable.now }
-    requires shorts { AreShorts S.number grm.now.grammar stable.now shorts.now }
-    requires reducers { AreAllReducers S.number grm.now.grammar stable.now reducers.now }
-    ensures { IfOk result (λ found. (g : GraphValue) → TellsChain S.number grm.now.grammar (automaton_of g stable.now) limit found) }
+    requires shorts { AreShorts S.number chains.now.grm.now.grammar chains.now.stable.now shorts.now }
+    requires reducers { AreAllReducers S.number chains.now.grm.now.grammar chains.now.stable.now reducers.now }
+    ensures { IfOk result (λ found. (g : GraphValue) → TellsChain S.number chains.now.grm.now.grammar (automaton_of g chains.now.stable.now) chains.now.limit found) }
 {
-    let states = stable.states_len().0;
+    let states = chains.stable.states_len().0;
     'states: for number in 0..states.to_usize() {
         let state = StIdx(index_below(number, states));
-        if let Some(found) = long_of(alloc, grm, stable, shorts, reducers, limit, rooms, state)? {
+        if let Some(found) = long_of(alloc, chains, shorts, reducers, rooms, state)? {
             return Ok(Some(found));
         }
     }
@@ -333,15 +296,12 @@ fn long_among<S: IndexStorage>(
 /// Returns the least chain of reductions that passes the limit; none where all chains are within it.
 pub(crate) fn long_chain<S: IndexStorage>(
     alloc: Global,
-    grm: &NumberedGrammar<S>,
-    stable: &StateTable<S>,
-    limit: u16,
+    chains: &Chains<'_, S>,
 ) -> Result<Option<LongChain<S>>, AllocError>
-    requires table { IsTableFor grm.now.grammar stable.now }
-    ensures { IfOk result (λ found. (g : GraphValue) → TellsChain S.number grm.now.grammar (automaton_of g stable.now) limit found) }
+    ensures { IfOk result (λ found. (g : GraphValue) → TellsChain S.number chains.now.grm.now.grammar (automaton_of g chains.now.stable.now) chains.now.limit found) }
 {
-    let reducers = all_reducers(alloc, grm, stable)?;
-    let shorts = all_shorts(alloc, grm, stable, reducers.as_slice())?;
+    let reducers = all_reducers(alloc, chains)?;
+    let shorts = all_shorts(alloc, chains, reducers.as_slice())?;
     let mut rooms = Rooms {
         stack: Vec::new(alloc),
         stacks: Vec::new(alloc),
@@ -349,11 +309,9 @@ pub(crate) fn long_chain<S: IndexStorage>(
     };
     long_among(
         alloc,
-        grm,
-        stable,
+        chains,
         shorts.as_slice(),
         reducers.as_slice(),
-        limit,
         &mut rooms,
     )
 }

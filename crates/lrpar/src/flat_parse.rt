@@ -1,28 +1,22 @@
 //! Parses whose value is a flat tree.
 
-ghost use Rattle.std.specs.Prelude.{◌≡◌, ℕ, List, Option, IfOk, IfErr, Err, MatchOption};
+ghost use Rattle.std.specs.Prelude.{Option, IfOk, IfErr, Err};
 ghost use Rattle.cfg_theory.specs.Tree.{Tree};
-ghost use Rattle.lr_theory.specs.Automaton.{Safe};
-ghost use Rattle.lr_theory.specs.Chains.{ChainsWithin};
-ghost use Rattle.state_table.specs.Graphs.{GraphValue};
-ghost use Rattle.state_table.specs.Tables.{automaton_of};
 ghost use Rattle.lrpar.specs.FlatParses.{HasFlat, IsFlatParse};
 ghost use Rattle.parse_trees.specs.FlatTrees.{pieces_of};
 ghost use Rattle.parse_trees.specs.FlatValues.{FlatStand};
 ghost use Rattle.parse_trees.specs.Lexemes.{IsFirstLexError};
 ghost use Rattle.lrpar.specs.Parses.{HoldsValue};
-ghost use Rattle.lrpar.specs.Reducing.{IsTableFor};
 ghost use Rattle.parse_trees.specs.Refusals.{IsParseRefusal};
 ghost use Rattle.parse_trees.specs.Lex.{span_by};
 
 use crate::folded_parse::tell_errors;
-use crate::full_table::FullTable;
+use crate::machine::Machine;
 use crate::parse::Parsed;
 use crate::parse_error::ParseError;
 use crate::parser::{Outcome, parse_items};
 use crate::recoverer::Recoverer;
 use cfg_base::index::IndexStorage;
-use cfg_numbered::yacc::grammar::NumberedGrammar;
 use parse_trees::flat::FlatTree;
 use parse_trees::flat_values::FlatValues;
 use parse_trees::lex_api::Lexeme;
@@ -47,26 +41,20 @@ fn tree_left<S: IndexStorage, L: Lexeme<S>>(
 /// Returns the first fault of a lexer's list; else the flat tree of its parse, if it has one, and the errors.
 pub(crate) fn parse_flat<S: IndexStorage, L: Lexeme<S>, E: Copy, R: Recoverer<S, L>>(
     alloc: Global,
-    grm: &NumberedGrammar<S>,
-    stable: &FullTable<S>,
-    limit: u16,
+    machine: &Machine<'_, S>,
     items: &[Result<L, E>],
     recoverer: &R,
 ) -> Result<Result<(Option<FlatTree<S, L>>, Vec<ParseError<L, S>>), E>, ParseRefusal>
-    requires table { IsTableFor grm.now.grammar stable.now }
-    requires chains { (g : GraphValue) → ChainsWithin grm.now.grammar (automaton_of g stable.now) limit }
-    requires safe { (g : GraphValue) × Safe grm.now.grammar (automaton_of g stable.now) × (stable.now.start ≡ g.start) }
     ensures fault { IfOk result (λ r. IfErr r (IsFirstLexError items.now)) }
-    ensures parsed { IfOk result (λ r. IfOk r (λ p. (g : GraphValue) → Safe grm.now.grammar (automaton_of g stable.now) → stable.now.start ≡ g.start →
-        IsFlatParse S.number L.lex L.faulty_of grm.now.grammar g stable.now (R.answers recoverer.now) items.now p.0 p.1.items)) }
-    ensures refused { IfErr result (IsParseRefusal grm.now.grammar L.lex items.now) }
+    ensures parsed { IfOk result (λ r. IfOk r (λ p. IsFlatParse S.number L.lex L.faulty_of machine.now.grm.now.grammar machine.now.sgraph.now machine.now.stable.now (R.answers recoverer.now) items.now p.0 p.1.items)) }
+    ensures refused { IfErr result (IsParseRefusal machine.now.grm.now.grammar L.lex items.now) }
 {
     // Room for three nodes a lexeme; where there are more, the list grows.
     let values = match FlatValues::with_room(alloc, items.len().saturating_mul(3)) {
         Ok(values) => values,
         Err(e) => return Err(ParseRefusal::Memory(e)),
     };
-    match parse_items(alloc, grm, stable, limit, items, recoverer, values)? {
+    match parse_items(alloc, machine, items, recoverer, values)? {
         Outcome::Fault(fault) => Ok(Err(fault)),
         Outcome::Parsed(lexemes, parsed) => {
             let Parsed {

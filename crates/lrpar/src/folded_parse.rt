@@ -1,21 +1,16 @@
 //! Parses whose value is a fold by functions that are passed.
 
-ghost use Rattle.std.specs.Prelude.{◌≡◌, ℕ, List, Option, map, IfOk, IfErr};
+ghost use Rattle.std.specs.Prelude.{◌≡◌, Option, map, IfOk, IfErr};
 ghost use Rattle.cfg_theory.specs.Grammar.{Grammar};
 ghost use Rattle.cfg_theory.specs.Tree.{Tree};
-ghost use Rattle.lr_theory.specs.Automaton.{Safe};
-ghost use Rattle.lr_theory.specs.Chains.{ChainsWithin};
-ghost use Rattle.state_table.specs.Graphs.{GraphValue};
-ghost use Rattle.state_table.specs.Tables.{automaton_of};
 ghost use Rattle.lrpar.specs.Parses.{HasValue, HoldsValue};
 ghost use Rattle.lrpar.specs.Parsing.{errors_of};
-ghost use Rattle.lrpar.specs.Reducing.{IsTableFor};
 ghost use Rattle.parse_trees.specs.Refusals.{IsParseRefusal};
 ghost use Rattle.parse_trees.specs.Lex.{span_by};
 ghost use Rattle.parse_trees.specs.Stacks.{FoldedStand, values_by};
 ghost use Rattle.lrpar.specs.Told.{told_of, as_told, IsFoldedOutcome};
 
-use crate::full_table::FullTable;
+use crate::machine::Machine;
 use crate::parse::{ErrorFound, Parsed};
 use crate::parse_error::ParseError;
 use crate::parser::{Outcome, parse_items};
@@ -23,7 +18,6 @@ use crate::recoverer::Recoverer;
 use cfg_base::index::IndexStorage;
 use cfg_base::span::Span;
 use cfg_base::symbol::{PIdx, RIdx};
-use cfg_numbered::yacc::grammar::NumberedGrammar;
 use parse_trees::folded::{FoldedValues, folded_value, no_folds};
 use parse_trees::lex_api::Lexeme;
 use parse_trees::lexeme_list::LexemeList;
@@ -89,9 +83,7 @@ pub(crate) fn parse_folded<
     R: Recoverer<S, L>,
 >(
     alloc: Global,
-    grm: &NumberedGrammar<S>,
-    stable: &FullTable<S>,
-    limit: u16,
+    machine: &Machine<'_, S>,
     items: &[Result<L, E>],
     recoverer: &R,
     fterm: &F,
@@ -102,15 +94,11 @@ where
     H: Fn(Global, PIdx<S>, RIdx<S>, Span, Vec<V>) -> Result<V, AllocError>,
     requires term { F.IsAlwaysCallable fterm.now }
     requires nonterm { H.IsAlwaysCallable fnonterm.now }
-    requires table { IsTableFor grm.now.grammar stable.now }
-    requires chains { (g : GraphValue) → ChainsWithin grm.now.grammar (automaton_of g stable.now) limit }
-    requires safe { (g : GraphValue) × Safe grm.now.grammar (automaton_of g stable.now) × (stable.now.start ≡ g.start) }
-    ensures parsed { IfOk result (λ o. (g : GraphValue) → Safe grm.now.grammar (automaton_of g stable.now) → stable.now.start ≡ g.start →
-        IsFoldedOutcome S.number L.lex L.faulty_of grm.now.grammar g stable.now (values_by S.number (F.post fterm.now) (H.post fnonterm.now)) (R.answers recoverer.now) items.now o) }
-    ensures refused { IfErr result (IsParseRefusal grm.now.grammar L.lex items.now) }
+    ensures parsed { IfOk result (λ o. IsFoldedOutcome S.number L.lex L.faulty_of machine.now.grm.now.grammar machine.now.sgraph.now machine.now.stable.now (values_by S.number (F.post fterm.now) (H.post fnonterm.now)) (R.answers recoverer.now) items.now o) }
+    ensures refused { IfErr result (IsParseRefusal machine.now.grm.now.grammar L.lex items.now) }
 {
     let values = no_folds::<S, L, V, F, H>(alloc, fterm, fnonterm);
-    match parse_items(alloc, grm, stable, limit, items, recoverer, values)? {
+    match parse_items(alloc, machine, items, recoverer, values)? {
         Outcome::Fault(fault) => Ok(FoldedOutcome::Fault(fault)),
         Outcome::Parsed(lexemes, parsed) => {
             let Parsed {

@@ -48,6 +48,7 @@ mod full_table;
 mod handed_out;
 pub mod laws;
 pub mod list_lexer;
+mod machine;
 mod next_tokens;
 mod numbers;
 mod overlay;

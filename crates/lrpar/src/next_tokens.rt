@@ -1,19 +1,18 @@
 //! The tokens that may come after some lexemes.
 
-ghost use Rattle.std.specs.Prelude.{◌≡◌, ◌<◌, ◌↔◌, ℕ, [], ◌∷◌, ◌++◌, length, map, IfOk, IfSome, IsNone, IsSome};
+ghost use Rattle.std.specs.Prelude.{◌<◌, ◌↔◌, ℕ, [], ◌∷◌, ◌++◌, length, map, IfOk, IfSome, IsNone, IsSome};
 ghost use Rattle.cfg_theory.specs.Derivation.{AllProductive, BeginsSentence, IsSentence};
 ghost use Rattle.cfg_theory.specs.Grammar.{end_token, start_symbol};
-ghost use Rattle.lr_theory.specs.Automaton.{Complete, Safe};
-ghost use Rattle.lr_theory.specs.Chains.{ChainsWithin};
+ghost use Rattle.lr_theory.specs.Automaton.{Complete};
 ghost use Rattle.lr_theory.specs.Machine.{Config};
 ghost use Rattle.state_table.specs.Graphs.{GraphValue};
 ghost use Rattle.state_table.specs.Tables.{IsTableOf, automaton_of};
 ghost use Rattle.lrpar.specs.NextStates.{AreInside, TellsInside, TellsNext, TellBelow, TellsStates, TellsAfter};
 ghost use Rattle.lrpar.specs.NextTokens.{Reaches, HasError, IsSet, AreNext};
-ghost use Rattle.lrpar.specs.Reducing.{IsTableFor, AreStates, stack_of};
+ghost use Rattle.lrpar.specs.Reducing.{AreStates, stack_of};
 ghost use Rattle.parse_trees.specs.Lex.{token_by};
 
-use crate::full_table::FullTable;
+use crate::machine::Machine;
 use crate::overlay::{Overlay, accepts_on, shift_on};
 use crate::parserdata::ParserData;
 use cfg_base::index::IndexStorage;
@@ -41,26 +40,21 @@ fn are_inside<S: IndexStorage, L: Lexeme<S>>(grm: &NumberedGrammar<S>, lexemes: 
 /// before one.
 fn states_behind<S: IndexStorage, L: Lexeme<S>>(
     alloc: Global,
-    grm: &NumberedGrammar<S>,
-    stable: &FullTable<S>,
-    limit: u16,
+    machine: &Machine<'_, S>,
     lexemes: &[L],
 ) -> Result<Option<Vec<StIdx<S>>>, AllocError>
-    requires table { IsTableFor grm.now.grammar stable.now }
-    requires chains { (g : GraphValue) → ChainsWithin grm.now.grammar (automaton_of g stable.now) limit }
-    requires inside { AreInside grm.now.grammar (token_by L.lex) lexemes.now }
-    ensures reaches { IfOk result (λ o. (g : GraphValue) → Safe grm.now.grammar (automaton_of g stable.now) → stable.now.start ≡ g.start →
-        TellsStates S.number grm.now.grammar (automaton_of g stable.now) (token_by L.lex) lexemes.now o) }
-    ensures states { IfOk result (λ o. IfSome o (λ ss. AreStates stable.now (stack_of S.number ss.items))) }
+    requires inside { AreInside machine.now.grm.now.grammar (token_by L.lex) lexemes.now }
+    ensures reaches { IfOk result (λ o. TellsStates S.number machine.now.grm.now.grammar (automaton_of machine.now.sgraph.now machine.now.stable.now) (token_by L.lex) lexemes.now o) }
+    ensures states { IfOk result (λ o. IfSome o (λ ss. AreStates machine.now.stable.now (stack_of S.number ss.items))) }
     ensures some { IfOk result (λ o. IfSome o (λ ss. 0 < length ss.items)) }
 {
     let mut over = Vec::new(alloc);
-    over.push(stable.start_state())?;
+    over.push(machine.stable.start_state())?;
     let mut overlay = Overlay { kept: 0, over };
     let base = Vec::new(alloc);
     'lexemes: for index in 0..lexemes.len() {
         let tidx = TIdx(lexemes[index].tok_id());
-        if !shift_on(grm, stable, limit, base.as_slice(), &mut overlay, tidx)? {
+        if !shift_on(machine, base.as_slice(), &mut overlay, tidx)? {
             return Ok(None);
         }
     }
@@ -70,53 +64,45 @@ fn states_behind<S: IndexStorage, L: Lexeme<S>>(
 /// Returns whether a token may come next on the base: it is shifted after the reductions that it asks for, or for the
 /// end token the run accepts. What the overlay held is let go.
 fn may_follow<S: IndexStorage>(
-    grm: &NumberedGrammar<S>,
-    stable: &FullTable<S>,
-    limit: u16,
+    machine: &Machine<'_, S>,
     base: &[StIdx<S>],
     overlay: &mut Overlay<S>,
     tidx: TIdx<S>,
 ) -> Result<bool, AllocError>
-    requires table { IsTableFor grm.now.grammar stable.now }
-    requires chains { (g : GraphValue) → ChainsWithin grm.now.grammar (automaton_of g stable.now) limit }
-    requires token { S.number tidx.0 < stable.now.tokens }
-    requires states { AreStates stable.now (stack_of S.number base.now) }
+    requires token { S.number tidx.0 < machine.now.stable.now.tokens }
+    requires states { AreStates machine.now.stable.now (stack_of S.number base.now) }
     requires some { 0 < length base.now }
-    ensures { IfOk result (λ told. (g : GraphValue) → TellsNext grm.now.grammar (automaton_of g stable.now) (S.number tidx.0) (stack_of S.number base.now) told) }
+    ensures { IfOk result (λ told. (g : GraphValue) → TellsNext machine.now.grm.now.grammar (automaton_of g machine.now.stable.now) (S.number tidx.0) (stack_of S.number base.now) told) }
 {
     overlay.kept = base.len();
     overlay.over.clear();
-    if tidx.0.to_usize() == grm.eof_token_idx().0.to_usize() {
-        let accepts = accepts_on(grm, stable, limit, base, overlay)?;
+    if tidx.0.to_usize() == machine.grm.eof_token_idx().0.to_usize() {
+        let accepts = accepts_on(machine, base, overlay)?;
         return Ok(accepts);
     }
-    let shifts = shift_on(grm, stable, limit, base, overlay, tidx)?;
+    let shifts = shift_on(machine, base, overlay, tidx)?;
     Ok(shifts)
 }
 
 /// Returns a bit for each token: whether it may come next on the base.
 pub(crate) fn tokens_behind<S: IndexStorage>(
     alloc: Global,
-    grm: &NumberedGrammar<S>,
-    stable: &FullTable<S>,
-    limit: u16,
+    machine: &Machine<'_, S>,
     base: &[StIdx<S>],
 ) -> Result<Vob, AllocError>
-    requires table { IsTableFor grm.now.grammar stable.now }
-    requires chains { (g : GraphValue) → ChainsWithin grm.now.grammar (automaton_of g stable.now) limit }
-    requires states { AreStates stable.now (stack_of S.number base.now) }
+    requires states { AreStates machine.now.stable.now (stack_of S.number base.now) }
     requires some { 0 < length base.now }
-    ensures { IfOk result (λ v. (g : GraphValue) → TellBelow grm.now.grammar (automaton_of g stable.now) (stack_of S.number base.now) grm.now.grammar.tokens v.bits) }
+    ensures { IfOk result (λ v. (g : GraphValue) → TellBelow machine.now.grm.now.grammar (automaton_of g machine.now.stable.now) (stack_of S.number base.now) machine.now.grm.now.grammar.tokens v.bits) }
 {
-    let count = grm.tokens_len().0.to_usize();
+    let count = machine.grm.tokens_len().0.to_usize();
     let mut bits = Vob::from_elem(alloc, false, count)?;
     let mut overlay = Overlay {
         kept: 0,
         over: Vec::new(alloc),
     };
     'tokens: for number in 0..count {
-        let tidx = grm.token_at(number);
-        let told = may_follow(grm, stable, limit, base, &mut overlay, tidx)?;
+        let tidx = machine.grm.token_at(number);
+        let told = may_follow(machine, base, &mut overlay, tidx)?;
         bits.set(number, told);
     }
     Ok(bits)
@@ -125,23 +111,18 @@ pub(crate) fn tokens_behind<S: IndexStorage>(
 /// Returns a bit for each token: whether it may come after the lexemes. None where these have an error themselves.
 fn told_behind<S: IndexStorage, L: Lexeme<S>>(
     alloc: Global,
-    grm: &NumberedGrammar<S>,
-    stable: &FullTable<S>,
-    limit: u16,
+    machine: &Machine<'_, S>,
     lexemes: &[L],
 ) -> Result<Option<Vob>, AllocError>
-    requires table { IsTableFor grm.now.grammar stable.now }
-    requires chains { (g : GraphValue) → ChainsWithin grm.now.grammar (automaton_of g stable.now) limit }
-    ensures { IfOk result (λ o. (g : GraphValue) → Safe grm.now.grammar (automaton_of g stable.now) → stable.now.start ≡ g.start →
-        TellsAfter grm.now.grammar (automaton_of g stable.now) (token_by L.lex) lexemes.now o) }
+    ensures { IfOk result (λ o. TellsAfter machine.now.grm.now.grammar (automaton_of machine.now.sgraph.now machine.now.stable.now) (token_by L.lex) lexemes.now o) }
 {
-    if !are_inside(grm, lexemes) {
+    if !are_inside(machine.grm, lexemes) {
         return Ok(None);
     }
-    let Some(states) = states_behind(alloc, grm, stable, limit, lexemes)? else {
+    let Some(states) = states_behind(alloc, machine, lexemes)? else {
         return Ok(None);
     };
-    let bits = tokens_behind(alloc, grm, stable, limit, states.as_slice())?;
+    let bits = tokens_behind(alloc, machine, states.as_slice())?;
     Ok(Some(bits))
 }
 
@@ -175,6 +156,6 @@ impl<S: IndexStorage> ParserData<S> {
         self.facts();
         // For the proof alone: this read shows that each token's number is one.
         let _end = self.grm().eof_token_idx().0.to_usize();
-        told_behind(alloc, self.grm(), self.full(), self.cap(), lexemes)
+        told_behind(alloc, &self.machine(), lexemes)
     }
 }

@@ -1,19 +1,17 @@
 //! An overlay over the states of a run, on which turns are made without touching or copying the run's own stack.
 
-ghost use Rattle.std.specs.Prelude.{◌≡◌, ◌<◌, ◌≤◌, ◌∷◌, ℕ, false, length, drop, IfOk, OnOk};
+ghost use Rattle.std.specs.Prelude.{◌≡◌, ◌<◌, ◌≤◌, ◌∷◌, false, length, drop, IfOk, OnOk};
 ghost use Rattle.cfg_theory.specs.Grammar.{end_token};
-ghost use Rattle.lr_theory.specs.Chains.{ChainsWithin};
 ghost use Rattle.state_table.specs.Tables.{automaton_of};
-ghost use Rattle.lrpar.specs.Reducing.{IsTableFor, ReducesTo};
+ghost use Rattle.lrpar.specs.Reducing.{ReducesTo};
 ghost use Rattle.lrpar.specs.Replay.{overlaid, IsOver, first_of, Rests, TellsShift, TellsAccept};
 ghost use Rattle.lrpar.specs.Taking.{EditsAreTaken};
 ghost use Rattle.state_table.specs.Graphs.{GraphValue};
 ghost use Rattle.state_table.specs.CellViews.{state_of};
 
-use crate::full_table::FullTable;
+use crate::machine::Machine;
 use cfg_base::index::IndexStorage;
 use cfg_base::symbol::TIdx;
-use cfg_numbered::yacc::grammar::NumberedGrammar;
 use state_table::{Action, StIdx};
 use std::alloc::AllocError;
 
@@ -79,55 +77,48 @@ pub(crate) fn replace<S: IndexStorage>(
 
 /// Makes one reduction on the token, where one is made that leaves a state, and returns whether it did.
 pub(crate) fn reduce_on<S: IndexStorage>(
-    grm: &NumberedGrammar<S>,
-    stable: &FullTable<S>,
+    machine: &Machine<'_, S>,
     base: &[StIdx<S>],
     overlay: &mut Overlay<S>,
     tidx: TIdx<S>,
 ) -> Result<bool, AllocError>
-    requires table { IsTableFor grm.now.grammar stable.now }
-    requires token { S.number tidx.0 < stable.now.tokens }
-    requires over { IsOver S.number stable.now base.now overlay.old }
-    ensures made { IfOk result (λ made. (g : GraphValue) → ReducesTo grm.now.grammar (automaton_of g stable.now) (S.number tidx.0) (overlaid S.number base.now overlay.old) (overlaid S.number base.now overlay.new) made) }
+    requires token { S.number tidx.0 < machine.now.stable.now.tokens }
+    requires over { IsOver S.number machine.now.stable.now base.now overlay.old }
+    ensures made { IfOk result (λ made. (g : GraphValue) → ReducesTo machine.now.grm.now.grammar (automaton_of g machine.now.stable.now) (S.number tidx.0) (overlaid S.number base.now overlay.old) (overlaid S.number base.now overlay.new) made) }
     ensures same { IfOk result (λ made. made ≡ false → overlaid S.number base.now overlay.new ≡ overlaid S.number base.now overlay.old) }
-    ensures over { IfOk result (λ made. IsOver S.number stable.now base.now overlay.new) }
+    ensures over { IfOk result (λ made. IsOver S.number machine.now.stable.now base.now overlay.new) }
 {
     let Some(top) = under(base, overlay, 0) else {
         return Ok(false);
     };
-    let Action::Reduce(pidx) = stable.action(top, tidx) else {
+    let Action::Reduce(pidx) = machine.stable.action(top, tidx) else {
         return Ok(false);
     };
-    let count = grm.prod_len(pidx).0.to_usize();
+    let count = machine.grm.prod_len(pidx).0.to_usize();
     let Some(below) = under(base, overlay, count) else {
         return Ok(false);
     };
-    let Some(target) = stable.goto(below, grm.prod_to_rule(pidx)) else {
+    let Some(target) = machine.stable.goto(below, machine.grm.prod_to_rule(pidx)) else {
         return Ok(false);
     };
     replace(base, overlay, count, target)?;
     Ok(true)
 }
 
-/// Reduces on the token until it has no more reductions. As chains of them are within `limit`, this ends.
+/// Reduces on the token until it has no more reductions. As chains of them are within the limit, this ends.
 pub(crate) fn reduce_all<S: IndexStorage>(
-    grm: &NumberedGrammar<S>,
-    stable: &FullTable<S>,
-    limit: u16,
+    machine: &Machine<'_, S>,
     base: &[StIdx<S>],
     overlay: &mut Overlay<S>,
     tidx: TIdx<S>,
 ) -> Result<(), AllocError>
-    requires table { IsTableFor grm.now.grammar stable.now }
-    requires chains { (g : GraphValue) → ChainsWithin grm.now.grammar (automaton_of g stable.now) limit }
-    requires token { S.number tidx.0 < stable.now.tokens }
-    requires over { IsOver S.number stable.now base.now overlay.old }
-    requires some { 0 < length (overlaid S.number base.now overlay.old) }
-    ensures rests { OnOk result ((g : GraphValue) → Rests grm.now.grammar (automaton_of g stable.now) (S.number tidx.0) (overlaid S.number base.now overlay.old) (overlaid S.number base.now overlay.new)) }
-    ensures over { OnOk result (IsOver S.number stable.now base.now overlay.new) }
+    requires token { S.number tidx.0 < machine.now.stable.now.tokens }
+    requires over { IsOver S.number machine.now.stable.now base.now overlay.old }
+    ensures rests { OnOk result ((g : GraphValue) → Rests machine.now.grm.now.grammar (automaton_of g machine.now.stable.now) (S.number tidx.0) (overlaid S.number base.now overlay.old) (overlaid S.number base.now overlay.new)) }
+    ensures over { OnOk result (IsOver S.number machine.now.stable.now base.now overlay.new) }
 {
     'reductions: loop {
-        if !reduce_on(grm, stable, base, overlay, tidx)? {
+        if !reduce_on(machine, base, overlay, tidx)? {
             return Ok(());
         }
     }
@@ -135,26 +126,21 @@ pub(crate) fn reduce_all<S: IndexStorage>(
 
 /// Returns whether the token is shifted after reductions on it; where it is, that is done.
 pub(crate) fn shift_on<S: IndexStorage>(
-    grm: &NumberedGrammar<S>,
-    stable: &FullTable<S>,
-    limit: u16,
+    machine: &Machine<'_, S>,
     base: &[StIdx<S>],
     overlay: &mut Overlay<S>,
     tidx: TIdx<S>,
 ) -> Result<bool, AllocError>
-    requires table { IsTableFor grm.now.grammar stable.now }
-    requires chains { (g : GraphValue) → ChainsWithin grm.now.grammar (automaton_of g stable.now) limit }
-    requires token { S.number tidx.0 < stable.now.tokens }
-    requires over { IsOver S.number stable.now base.now overlay.old }
-    requires some { 0 < length (overlaid S.number base.now overlay.old) }
-    ensures shifts { IfOk result (λ shifted. (g : GraphValue) → TellsShift grm.now.grammar (automaton_of g stable.now) (S.number tidx.0) (overlaid S.number base.now overlay.old) (overlaid S.number base.now overlay.new) shifted) }
-    ensures over { IfOk result (λ shifted. IsOver S.number stable.now base.now overlay.new) }
+    requires token { S.number tidx.0 < machine.now.stable.now.tokens }
+    requires over { IsOver S.number machine.now.stable.now base.now overlay.old }
+    ensures shifts { IfOk result (λ shifted. (g : GraphValue) → TellsShift machine.now.grm.now.grammar (automaton_of g machine.now.stable.now) (S.number tidx.0) (overlaid S.number base.now overlay.old) (overlaid S.number base.now overlay.new) shifted) }
+    ensures over { IfOk result (λ shifted. IsOver S.number machine.now.stable.now base.now overlay.new) }
 {
-    reduce_all(grm, stable, limit, base, overlay, tidx)?;
+    reduce_all(machine, base, overlay, tidx)?;
     let Some(top) = under(base, overlay, 0) else {
         return Ok(false);
     };
-    let Action::Shift(target) = stable.action(top, tidx) else {
+    let Action::Shift(target) = machine.stable.action(top, tidx) else {
         return Ok(false);
     };
     replace(base, overlay, 0, target)?;
@@ -163,24 +149,19 @@ pub(crate) fn shift_on<S: IndexStorage>(
 
 /// Returns whether the run accepts after reductions on the end token.
 pub(crate) fn accepts_on<S: IndexStorage>(
-    grm: &NumberedGrammar<S>,
-    stable: &FullTable<S>,
-    limit: u16,
+    machine: &Machine<'_, S>,
     base: &[StIdx<S>],
     overlay: &mut Overlay<S>,
 ) -> Result<bool, AllocError>
-    requires table { IsTableFor grm.now.grammar stable.now }
-    requires chains { (g : GraphValue) → ChainsWithin grm.now.grammar (automaton_of g stable.now) limit }
-    requires over { IsOver S.number stable.now base.now overlay.old }
-    requires some { 0 < length (overlaid S.number base.now overlay.old) }
-    ensures { IfOk result (λ accepts. (g : GraphValue) → TellsAccept grm.now.grammar (automaton_of g stable.now) (end_token grm.now.grammar) (overlaid S.number base.now overlay.old) accepts) }
+    requires over { IsOver S.number machine.now.stable.now base.now overlay.old }
+    ensures { IfOk result (λ accepts. (g : GraphValue) → TellsAccept machine.now.grm.now.grammar (automaton_of g machine.now.stable.now) (end_token machine.now.grm.now.grammar) (overlaid S.number base.now overlay.old) accepts) }
 {
-    let eof = grm.eof_token_idx();
-    reduce_all(grm, stable, limit, base, overlay, eof)?;
+    let eof = machine.grm.eof_token_idx();
+    reduce_all(machine, base, overlay, eof)?;
     let Some(top) = under(base, overlay, 0) else {
         return Ok(false);
     };
-    match stable.action(top, eof) {
+    match machine.stable.action(top, eof) {
         Action::Accept => Ok(true),
         _ => Ok(false),
     }

@@ -1,23 +1,19 @@
 //! Parses with repairs: a run, and at each of its errors the first passed sequence that can be taken.
 
 ghost use Rattle.std.specs.Prelude.{◌≡◌, ◌≤◌, ◌<◌, ℕ, List, [], length, drop, IfOk, OnOk};
-ghost use Rattle.cfg_theory.specs.Grammar.{end_token};
-ghost use Rattle.lr_theory.specs.Automaton.{Safe};
-ghost use Rattle.lr_theory.specs.Chains.{ChainsWithin};
 ghost use Rattle.lr_theory.specs.Machine.{Config};
 ghost use Rattle.lr_theory.specs.Stack.{Stands};
-ghost use Rattle.state_table.specs.Graphs.{GraphValue};
 ghost use Rattle.state_table.specs.Tables.{automaton_of};
 ghost use Rattle.lrpar.specs.Made.{end_of, made_by, next_lexeme};
 ghost use Rattle.lrpar.specs.Parses.{HoldsValue, IsParse};
 ghost use Rattle.lrpar.specs.Parsing.{error_of, errors_of, IsFoundAt, ComesOf, StacksResume};
-ghost use Rattle.lrpar.specs.Reducing.{IsTableFor, stack_of, AreStates};
+ghost use Rattle.lrpar.specs.Reducing.{stack_of, AreStates};
 ghost use Rattle.parse_trees.specs.Lexemes.{AreLexemes};
 ghost use Rattle.lrpar.specs.Run.{StartsByNext, StandFor, AreStacks};
 ghost use Rattle.parse_trees.specs.Lex.{token_by};
 
-use crate::apply::apply_steps;
-use crate::full_table::FullTable;
+use crate::apply::{apply_steps, end_offset};
+use crate::machine::Machine;
 use crate::recoverer::{Recoverer, RepairStep};
 use crate::repair::taken_of;
 use crate::run::{Ending, run_from};
@@ -58,60 +54,40 @@ pub(crate) struct Parsed<S: IndexStorage, L, V> {
     pub errors: Vec<ErrorFound<S, L>>,
 }
 
-/// Returns the offset at which the last lexeme ends, 0 where there is none.
-pub(crate) fn end_offset<S: IndexStorage, L: Lexeme<S>, E: Copy>(
-    lexemes: &LexemeList<'_, L, E>,
-) -> usize
-    ensures { result ≡ end_of L.lex lexemes.now }
-{
-    let count = lexemes.len();
-    if count == 0 {
-        return 0;
-    }
-    lexemes.at(count - 1).span().end()
-}
-
 /// Returns the lexeme at the index, or past the last one a faulty lexeme of the end token.
 fn lexeme_or_end<S: IndexStorage, L: Lexeme<S>, E: Copy>(
     grm: &NumberedGrammar<S>,
     lexemes: &LexemeList<'_, L, E>,
     index: usize,
-    end: usize,
 ) -> L
-    ensures { result ≡ next_lexeme grm.now.grammar (made_by L.faulty_of L.lex end) (drop index lexemes.now) }
+    ensures { result ≡ next_lexeme grm.now.grammar (made_by L.faulty_of L.lex (end_of L.lex lexemes.now)) (drop index lexemes.now) }
 {
     match lexemes.get(index) {
         Some(lexeme) => lexeme,
-        None => L::new_faulty(grm.eof_token_idx().0, end, 0),
+        None => L::new_faulty(grm.eof_token_idx().0, end_offset(lexemes), 0),
     }
 }
 
 /// Returns the error of a run that failed at the index: asks the recoverer, and lists what can be taken.
 fn find_error<S: IndexStorage, L: Lexeme<S>, E: Copy, R: Recoverer<S, L>>(
     alloc: Global,
-    grm: &NumberedGrammar<S>,
-    stable: &FullTable<S>,
-    limit: u16,
+    machine: &Machine<'_, S>,
     states: &[StIdx<S>],
     lexemes: &LexemeList<'_, L, E>,
     index: usize,
-    end: usize,
     recoverer: &R,
 ) -> Result<ErrorFound<S, L>, AllocError>
-    requires table { IsTableFor grm.now.grammar stable.now }
-    requires chains { (g : GraphValue) → ChainsWithin grm.now.grammar (automaton_of g stable.now) limit }
-    requires lexemes { AreLexemes grm.now.grammar L.lex lexemes.now }
+    requires lexemes { AreLexemes machine.now.grm.now.grammar L.lex lexemes.now }
     requires index { index ≤ length lexemes.now }
-    requires states { AreStates stable.now (stack_of S.number states.now) }
+    requires states { AreStates machine.now.stable.now (stack_of S.number states.now) }
     requires some { 0 < length states.now }
-    ensures { IfOk result (λ e. (g : GraphValue) (input : List L) (d : Config L) → Safe grm.now.grammar (automaton_of g stable.now) →
-        Stands grm.now.grammar (automaton_of g stable.now) (token_by L.lex) input d → d.states ≡ stack_of S.number states.now → d.rest ≡ drop index lexemes.now →
-        IsFoundAt grm.now.grammar (automaton_of g stable.now) (token_by L.lex) (made_by L.faulty_of L.lex end) (R.answers recoverer.now) lexemes.now d (error_of S.number e)) }
+    ensures { IfOk result (λ e. (input : List L) (d : Config L) → Stands machine.now.grm.now.grammar (automaton_of machine.now.sgraph.now machine.now.stable.now) (token_by L.lex) input d → d.states ≡ stack_of S.number states.now → d.rest ≡ drop index lexemes.now →
+        IsFoundAt machine.now.grm.now.grammar (automaton_of machine.now.sgraph.now machine.now.stable.now) (token_by L.lex) (made_by L.faulty_of L.lex (end_of L.lex lexemes.now)) (R.answers recoverer.now) lexemes.now d (error_of S.number e)) }
 {
     let stidx = states[states.len() - 1];
-    let lexeme = lexeme_or_end(grm, lexemes, index, end);
+    let lexeme = lexeme_or_end(machine.grm, lexemes, index);
     let offered = recoverer.sequences(alloc, stidx, index, lexeme)?;
-    let repairs = taken_of(alloc, grm, stable, limit, states, lexemes, index, offered)?;
+    let repairs = taken_of(alloc, machine, states, lexemes, index, offered)?;
     Ok(ErrorFound {
         stidx,
         lexeme,
@@ -123,53 +99,33 @@ fn find_error<S: IndexStorage, L: Lexeme<S>, E: Copy, R: Recoverer<S, L>>(
 /// Finds the error of a run that failed at the index, and applies the first sequence that can be taken there.
 fn mend<S: IndexStorage, L: Lexeme<S>, E: Copy, V: ValueStack<S, L>, R: Recoverer<S, L>>(
     alloc: Global,
-    grm: &NumberedGrammar<S>,
-    stable: &FullTable<S>,
-    limit: u16,
+    machine: &Machine<'_, S>,
     stacks: &mut Stacks<S, V>,
     lexemes: &LexemeList<'_, L, E>,
     index: usize,
-    end: usize,
     recoverer: &R,
 ) -> Result<Mended<S, L>, AllocError>
-    requires table { IsTableFor grm.now.grammar stable.now }
-    requires chains { (g : GraphValue) → ChainsWithin grm.now.grammar (automaton_of g stable.now) limit }
-    requires lexemes { AreLexemes grm.now.grammar L.lex lexemes.now }
+    requires lexemes { AreLexemes machine.now.grm.now.grammar L.lex lexemes.now }
     requires index { index ≤ length lexemes.now }
-    requires end { end ≡ end_of L.lex lexemes.now }
-    requires stacks { AreStacks S.number stable.now stacks.old }
+    requires stacks { AreStacks S.number machine.now.stable.now stacks.old }
     requires starts { StartsByNext L.lex (V.starts_by stacks.old.values) lexemes.now index }
-    requires stand { (g : GraphValue) × (input : List L) × (d : Config L) × Safe grm.now.grammar (automaton_of g stable.now) × StandFor S.number L.lex grm.now.grammar g stable.now (V.stands grm.now.grammar) input stacks.old d × (d.rest ≡ drop index lexemes.now) }
-    ensures mended { IfOk result (λ m. (g : GraphValue) (input : List L) (d : Config L) → Safe grm.now.grammar (automaton_of g stable.now) →
-        StandFor S.number L.lex grm.now.grammar g stable.now (V.stands grm.now.grammar) input stacks.old d → d.rest ≡ drop index lexemes.now →
-        ComesOf S.number L.lex grm.now.grammar g stable.now (V.stands grm.now.grammar) (made_by L.faulty_of L.lex end) (R.answers recoverer.now) lexemes.now d stacks.new m) }
+    requires stand { (input : List L) × (d : Config L) × StandFor S.number L.lex machine.now.grm.now.grammar machine.now.sgraph.now machine.now.stable.now (V.stands machine.now.grm.now.grammar) input stacks.old d × (d.rest ≡ drop index lexemes.now) }
+    ensures mended { IfOk result (λ m. (input : List L) (d : Config L) → StandFor S.number L.lex machine.now.grm.now.grammar machine.now.sgraph.now machine.now.stable.now (V.stands machine.now.grm.now.grammar) input stacks.old d → d.rest ≡ drop index lexemes.now →
+        ComesOf S.number L.lex machine.now.grm.now.grammar machine.now.sgraph.now machine.now.stable.now (V.stands machine.now.grm.now.grammar) (made_by L.faulty_of L.lex (end_of L.lex lexemes.now)) (R.answers recoverer.now) lexemes.now d stacks.new m) }
     ensures keeps { OnOk result (V.keeps stacks.old.values stacks.new.values) }
-    ensures stacks { IfOk result (λ m. StacksResume S.number L.lex stable.now (V.starts_by stacks.new.values) stacks.new lexemes.now m.next) }
+    ensures stacks { IfOk result (λ m. StacksResume S.number L.lex machine.now.stable.now (V.starts_by stacks.new.values) stacks.new lexemes.now m.next) }
 {
     let found = find_error(
         alloc,
-        grm,
-        stable,
-        limit,
+        machine,
         stacks.states.as_slice(),
         lexemes,
         index,
-        end,
         recoverer,
     )?;
     match found.repairs.first() {
         Some(steps) => {
-            let applied = apply_steps(
-                alloc,
-                grm,
-                stable,
-                limit,
-                stacks,
-                lexemes,
-                index,
-                end,
-                steps.as_slice(),
-            );
+            let applied = apply_steps(alloc, machine, stacks, lexemes, index, steps.as_slice());
             match applied {
                 Ok(next) => Ok(Mended {
                     found,
@@ -195,29 +151,22 @@ pub(crate) fn parse_lexemes<
     R: Recoverer<S, L>,
 >(
     alloc: Global,
-    grm: &NumberedGrammar<S>,
-    stable: &FullTable<S>,
-    limit: u16,
+    machine: &Machine<'_, S>,
     lexemes: &LexemeList<'_, L, E>,
     recoverer: &R,
     values: V,
 ) -> Result<Parsed<S, L, V>, AllocError>
-    requires table { IsTableFor grm.now.grammar stable.now }
-    requires chains { (g : GraphValue) → ChainsWithin grm.now.grammar (automaton_of g stable.now) limit }
-    requires lexemes { AreLexemes grm.now.grammar L.lex lexemes.now }
-    requires safe { (g : GraphValue) × Safe grm.now.grammar (automaton_of g stable.now) × (stable.now.start ≡ g.start) }
-    requires empty { V.stands grm.now.grammar values [] }
+    requires lexemes { AreLexemes machine.now.grm.now.grammar L.lex lexemes.now }
+    requires empty { V.stands machine.now.grm.now.grammar values [] }
     requires starts { (n : ℕ) → V.starts_by values n }
     ensures keeps { IfOk result (λ p. V.keeps values p.values) }
-    ensures parse { IfOk result (λ p. (g : GraphValue) → Safe grm.now.grammar (automaton_of g stable.now) → stable.now.start ≡ g.start →
-        IsParse grm.now.grammar (automaton_of g stable.now) (token_by L.lex) (made_by L.faulty_of L.lex (end_of L.lex lexemes.now)) (R.answers recoverer.now) (HoldsValue (V.stands grm.now.grammar p.values) p.accepted) lexemes.now (errors_of S.number p.errors.items)) }
+    ensures parse { IfOk result (λ p. IsParse machine.now.grm.now.grammar (automaton_of machine.now.sgraph.now machine.now.stable.now) (token_by L.lex) (made_by L.faulty_of L.lex (end_of L.lex lexemes.now)) (R.answers recoverer.now) (HoldsValue (V.stands machine.now.grm.now.grammar p.values) p.accepted) lexemes.now (errors_of S.number p.errors.items)) }
 {
-    let end = end_offset(lexemes);
-    let mut stack = Stacks::start(alloc, stable.start_state(), values)?;
+    let mut stack = Stacks::start(alloc, machine.stable.start_state(), values)?;
     let mut errors = Vec::new(alloc);
     let mut at = 0;
     'errors: loop {
-        let ending = match run_from(alloc, grm, stable, limit, &mut stack, lexemes, at) {
+        let ending = match run_from(alloc, machine, &mut stack, lexemes, at) {
             Ok(ending) => ending,
             Err(e) => {
                 drop(stack);
@@ -234,9 +183,7 @@ pub(crate) fn parse_lexemes<
                 });
             }
             Ending::Failed(index) => {
-                let mended = mend(
-                    alloc, grm, stable, limit, &mut stack, lexemes, index, end, recoverer,
-                );
+                let mended = mend(alloc, machine, &mut stack, lexemes, index, recoverer);
                 let Mended { found, next } = match mended {
                     Ok(mended) => mended,
                     Err(e) => {

@@ -2,12 +2,7 @@
 
 ghost use Rattle.std.specs.Prelude.{◌≡◌, ℕ, List, map, Ok, IfOk, IfErr};
 ghost use Rattle.cfg_theory.specs.Fold.{Span as Extent};
-ghost use Rattle.lr_theory.specs.Automaton.{Safe};
-ghost use Rattle.lr_theory.specs.Chains.{ChainsWithin};
-ghost use Rattle.state_table.specs.Graphs.{GraphValue};
-ghost use Rattle.state_table.specs.Tables.{automaton_of};
 ghost use Rattle.lrpar.specs.Acting.{HasAction, action_in, node_in, IsNodeOver};
-ghost use Rattle.lrpar.specs.Reducing.{IsTableFor};
 ghost use Rattle.parse_trees.specs.Refusals.{IsParseRefusal};
 ghost use Rattle.parse_trees.specs.Lex.{span_by};
 ghost use Rattle.parse_trees.specs.Stacks.{span_of_places};
@@ -15,12 +10,11 @@ ghost use Rattle.lrpar.specs.Told.{IsToldOutcome};
 ghost use Rattle.lrpar.specs.declared.parse_actions.AStackType.TheVariants as variants;
 
 use crate::folded_parse::{FoldedOutcome, parse_folded};
-use crate::full_table::FullTable;
+use crate::machine::Machine;
 use crate::recoverer::Recoverer;
 use cfg_base::index::IndexStorage;
 use cfg_base::span::Span;
 use cfg_base::symbol::{PIdx, RIdx};
-use cfg_numbered::yacc::grammar::NumberedGrammar;
 use parse_trees::lex_api::{Lexeme, Lexer, LexerTypes};
 use parse_trees::lexemes::ParseRefusal;
 use parse_trees::node::Node;
@@ -122,20 +116,14 @@ pub(crate) fn parse_acted<
     R: Recoverer<T::StorageT, T::LexemeT>,
 >(
     alloc: Global,
-    grm: &NumberedGrammar<T::StorageT>,
-    stable: &FullTable<T::StorageT>,
-    limit: u16,
+    machine: &Machine<'_, T::StorageT>,
     items: &[Result<T::LexemeT, T::LexErrorT>],
     recoverer: &R,
     lexer: &X,
     actions: &A,
 ) -> Result<FoldedOutcome<T::StorageT, T::LexemeT, T::LexErrorT, A::ActionT>, ParseRefusal>
-    requires table { IsTableFor grm.now.grammar stable.now }
-    requires chains { (g : GraphValue) → ChainsWithin grm.now.grammar (automaton_of g stable.now) limit }
-    requires safe { (g : GraphValue) × Safe grm.now.grammar (automaton_of g stable.now) × (stable.now.start ≡ g.start) }
-    ensures parsed { IfOk result (λ o. (g : GraphValue) → Safe grm.now.grammar (automaton_of g stable.now) → stable.now.start ≡ g.start →
-        IsToldOutcome T.StorageT.number T.LexemeT.lex T.LexemeT.faulty_of grm.now.grammar g stable.now (HasAction grm.now.grammar (A.answers actions.now lexer.now) (span_by T.LexemeT.lex)) (R.answers recoverer.now) items.now o) }
-    ensures refused { IfErr result (IsParseRefusal grm.now.grammar T.LexemeT.lex items.now) }
+    ensures parsed { IfOk result (λ o. IsToldOutcome T.StorageT.number T.LexemeT.lex T.LexemeT.faulty_of machine.now.grm.now.grammar machine.now.sgraph.now machine.now.stable.now (HasAction machine.now.grm.now.grammar (A.answers actions.now lexer.now) (span_by T.LexemeT.lex)) (R.answers recoverer.now) items.now o) }
+    ensures refused { IfErr result (IsParseRefusal machine.now.grm.now.grammar T.LexemeT.lex items.now) }
 {
     let term = |_alloc: Global, lexeme: T::LexemeT| -> Acted<T::LexemeT, A::ActionT>
         ensures { result ≡ Ok (variants.Lexeme lexeme) }
@@ -148,7 +136,7 @@ pub(crate) fn parse_acted<
         let answer = actions.act(alloc, pidx, ridx, lexer, span, args)?;
         Ok(AStackType::ActionType(answer))
     };
-    match parse_folded(alloc, grm, stable, limit, items, recoverer, &term, &nonterm)? {
+    match parse_folded(alloc, machine, items, recoverer, &term, &nonterm)? {
         FoldedOutcome::Fault(fault) => Ok(FoldedOutcome::Fault(fault)),
         FoldedOutcome::Parsed(value, errors) => {
             Ok(FoldedOutcome::Parsed(answer_of(value), errors))

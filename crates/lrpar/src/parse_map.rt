@@ -1,22 +1,16 @@
 //! Parses whose value is given by functions of rules alone.
 
-ghost use Rattle.std.specs.Prelude.{◌≡◌, IfOk, IfErr};
-ghost use Rattle.lr_theory.specs.Automaton.{Safe};
-ghost use Rattle.lr_theory.specs.Chains.{ChainsWithin};
-ghost use Rattle.state_table.specs.Graphs.{GraphValue};
-ghost use Rattle.state_table.specs.Tables.{automaton_of};
-ghost use Rattle.lrpar.specs.Reducing.{IsTableFor};
+ghost use Rattle.std.specs.Prelude.{IfOk, IfErr};
 ghost use Rattle.parse_trees.specs.Refusals.{IsParseRefusal};
 ghost use Rattle.parse_trees.specs.Stacks.{mapped_by};
 ghost use Rattle.lrpar.specs.Told.{IsFoldedOutcome};
 
 use crate::folded_parse::{FoldedOutcome, parse_folded};
-use crate::full_table::FullTable;
+use crate::machine::Machine;
 use crate::recoverer::Recoverer;
 use cfg_base::index::IndexStorage;
 use cfg_base::span::Span;
 use cfg_base::symbol::{PIdx, RIdx};
-use cfg_numbered::yacc::grammar::NumberedGrammar;
 use parse_trees::lex_api::Lexeme;
 use parse_trees::lexemes::ParseRefusal;
 use std::alloc::{AllocError, Global};
@@ -32,9 +26,7 @@ pub(crate) fn parse_mapped<
     R: Recoverer<S, L>,
 >(
     alloc: Global,
-    grm: &NumberedGrammar<S>,
-    stable: &FullTable<S>,
-    limit: u16,
+    machine: &Machine<'_, S>,
     items: &[Result<L, E>],
     recoverer: &R,
     fterm: &F,
@@ -45,15 +37,11 @@ where
     H: Fn(Global, RIdx<S>, Vec<N>) -> Result<N, AllocError>,
     requires term { F.IsAlwaysCallable fterm.now }
     requires nonterm { H.IsAlwaysCallable fnonterm.now }
-    requires table { IsTableFor grm.now.grammar stable.now }
-    requires chains { (g : GraphValue) → ChainsWithin grm.now.grammar (automaton_of g stable.now) limit }
-    requires safe { (g : GraphValue) × Safe grm.now.grammar (automaton_of g stable.now) × (stable.now.start ≡ g.start) }
-    ensures parsed { IfOk result (λ o. (g : GraphValue) → Safe grm.now.grammar (automaton_of g stable.now) → stable.now.start ≡ g.start →
-        IsFoldedOutcome S.number L.lex L.faulty_of grm.now.grammar g stable.now (mapped_by S.number (F.post fterm.now) (H.post fnonterm.now)) (R.answers recoverer.now) items.now o) }
-    ensures refused { IfErr result (IsParseRefusal grm.now.grammar L.lex items.now) }
+    ensures parsed { IfOk result (λ o. IsFoldedOutcome S.number L.lex L.faulty_of machine.now.grm.now.grammar machine.now.sgraph.now machine.now.stable.now (mapped_by S.number (F.post fterm.now) (H.post fnonterm.now)) (R.answers recoverer.now) items.now o) }
+    ensures refused { IfErr result (IsParseRefusal machine.now.grm.now.grammar L.lex items.now) }
 {
     let by_rule = |alloc: Global, _pidx: PIdx<S>, ridx: RIdx<S>, _span: Span, args: Vec<N>| {
         fnonterm(alloc, ridx, args)
     };
-    parse_folded(alloc, grm, stable, limit, items, recoverer, fterm, &by_rule)
+    parse_folded(alloc, machine, items, recoverer, fterm, &by_rule)
 }

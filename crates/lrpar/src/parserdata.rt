@@ -23,6 +23,7 @@ mod safety;
 
 use crate::chains::{LongChain, long_chain};
 use crate::full_table::FullTable;
+use crate::machine::{Chains, Machine};
 use crate::parserdata::complete::is_complete;
 pub use crate::parserdata::fitting::Cell;
 use crate::parserdata::fitting::Misfit;
@@ -169,10 +170,21 @@ fn judge<S: IndexStorage>(
     if let Some(misfit) = least_misfit(alloc, grm, sgraph, rows)? {
         return Ok(Verdict::Unsafe(misfit));
     }
-    if let Some(chain) = long_chain(alloc, grm, rows, cap)? {
+    let chains = Chains {
+        grm,
+        stable: rows,
+        limit: cap,
+    };
+    if let Some(chain) = long_chain(alloc, &chains)? {
         return Ok(Verdict::Long(chain));
     }
-    let complete = is_complete(grm, sgraph, stable);
+    let machine = Machine {
+        grm,
+        sgraph,
+        stable,
+        limit: cap,
+    };
+    let complete = is_complete(&machine);
     Ok(Verdict::Checked(complete))
 }
 
@@ -282,11 +294,19 @@ impl<S: IndexStorage> ParserData<S> {
         self.stable.stable()
     }
 
-    /// Lends the table with its full rows.
-    pub(crate) fn full(&self) -> &FullTable<S>
-        ensures { result.now ≡ self.now.table }
+    /// Returns the machine of a run.
+    pub(crate) fn machine(&self) -> Machine<'_, S>
+        ensures grammar { result.grm.now ≡ self.now.grammar }
+        ensures graph { result.sgraph.now ≡ self.now.graph }
+        ensures table { result.stable.now ≡ self.now.table }
+        ensures limit { result.limit ≡ self.now.cap }
     {
-        &self.stable
+        Machine {
+            grm: &self.grm,
+            sgraph: &self.sgraph,
+            stable: &self.stable,
+            limit: self.cap,
+        }
     }
 
     /// Returns how many reductions a chain has at most.

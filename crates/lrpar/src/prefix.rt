@@ -4,22 +4,20 @@ ghost use Rattle.std.specs.Prelude.{◌≡◌, ◌<◌, ◌≤◌, ◌↔◌, �
 ghost use Rattle.cfg_theory.specs.Derivation.{AllProductive, BeginsSentence, IsSentence};
 ghost use Rattle.cfg_theory.specs.Grammar.{end_token, start_symbol};
 ghost use Rattle.lr_theory.specs.Automaton.{Complete};
-ghost use Rattle.lr_theory.specs.Chains.{ChainsWithin};
 ghost use Rattle.lr_theory.specs.Machine.{Config};
 ghost use Rattle.state_table.specs.Graphs.{GraphValue};
 ghost use Rattle.state_table.specs.Tables.{automaton_of};
 ghost use Rattle.lrpar.specs.NextTokens.{Reaches, HasError, IsSet, AreNext};
 ghost use Rattle.lrpar.specs.Prefixes.{grammar_in, machine_in, IsTableIn, own, tokens_of};
-ghost use Rattle.lrpar.specs.Reducing.{IsTableFor, AreStates, stack_of};
+ghost use Rattle.lrpar.specs.Reducing.{AreStates, stack_of};
 ghost use Rattle.lrpar.specs.Replay.{overlaid, TellsShift};
 
-use crate::full_table::FullTable;
+use crate::machine::Machine;
 use crate::next_tokens::tokens_behind;
 use crate::overlay::{Overlay, shift_on};
 use crate::parserdata::ParserData;
 use cfg_base::index::IndexStorage;
 use cfg_base::symbol::TIdx;
-use cfg_numbered::yacc::grammar::NumberedGrammar;
 use state_table::StIdx;
 use std::alloc::{AllocError, Global};
 use std::marker::Model;
@@ -70,26 +68,22 @@ fn settle<S: IndexStorage>(
 /// Shifts a token on a stack after the reductions that it asks for. Where it isn't shifted, or there is no memory, the stack
 /// stays. What the overlay held is let go.
 fn shift_whole<S: IndexStorage>(
-    grm: &NumberedGrammar<S>,
-    stable: &FullTable<S>,
-    limit: u16,
+    machine: &Machine<'_, S>,
     states: &mut Vec<StIdx<S>>,
     overlay: &mut Overlay<S>,
     tidx: TIdx<S>,
 ) -> Result<bool, AllocError>
-    requires table { IsTableFor grm.now.grammar stable.now }
-    requires chains { (g : GraphValue) → ChainsWithin grm.now.grammar (automaton_of g stable.now) limit }
-    requires token { S.number tidx.0 < stable.now.tokens }
-    requires states { AreStates stable.now (stack_of S.number states.old.items) }
+    requires token { S.number tidx.0 < machine.now.stable.now.tokens }
+    requires states { AreStates machine.now.stable.now (stack_of S.number states.old.items) }
     requires some { 0 < length states.old.items }
-    ensures shifts { IfOk result (λ told. (g : GraphValue) → TellsShift grm.now.grammar (automaton_of g stable.now) (S.number tidx.0) (stack_of S.number states.old.items) (stack_of S.number states.new.items) told) }
-    ensures states { IfOk result (λ told. AreStates stable.now (stack_of S.number states.new.items)) }
+    ensures shifts { IfOk result (λ told. (g : GraphValue) → TellsShift machine.now.grm.now.grammar (automaton_of g machine.now.stable.now) (S.number tidx.0) (stack_of S.number states.old.items) (stack_of S.number states.new.items) told) }
+    ensures states { IfOk result (λ told. AreStates machine.now.stable.now (stack_of S.number states.new.items)) }
     ensures stays { IfOk result (λ told. told ≡ false → states.new.items ≡ states.old.items) }
     ensures same { OnErr result (states.new.items ≡ states.old.items) }
 {
     overlay.kept = states.len();
     overlay.over.clear();
-    if !shift_on(grm, stable, limit, states.as_slice(), overlay, tidx)? {
+    if !shift_on(machine, states.as_slice(), overlay, tidx)? {
         return Ok(false);
     }
     settle(states, overlay)?;
@@ -141,9 +135,8 @@ impl<'a, S: IndexStorage> Prefix<'a, S> {
             return Ok(false);
         }
         self.tokens.reserve(1)?;
-        let stable = self.data.full();
-        let cap = self.data.cap();
-        if !shift_whole(grm, stable, cap, &mut self.states, &mut self.overlay, tidx)? {
+        let machine = self.data.machine();
+        if !shift_whole(&machine, &mut self.states, &mut self.overlay, tidx)? {
             return Ok(false);
         }
         self.tokens.push(tidx).unwrap();
@@ -164,13 +157,6 @@ impl<'a, S: IndexStorage> Prefix<'a, S> {
             IsSet v.bits (end_token (grammar_in self.now.parser)) ↔ IsSentence (grammar_in self.now.parser) (start_symbol (grammar_in self.now.parser)) self.now.tokens) }
     {
         self.data.facts();
-        let grm = self.data.grm();
-        tokens_behind(
-            alloc,
-            grm,
-            self.data.full(),
-            self.data.cap(),
-            self.states.as_slice(),
-        )
+        tokens_behind(alloc, &self.data.machine(), self.states.as_slice())
     }
 }

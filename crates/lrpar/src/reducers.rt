@@ -3,15 +3,14 @@
 ghost use Rattle.std.specs.Prelude.{◌≡◌, ◌<◌, ℕ, true, Some, length, slice_get, IfOk, OnOk};
 ghost use Rattle.lr_theory.specs.Automaton.{reduce};
 ghost use Rattle.state_table.specs.CellViews.{action_of};
-ghost use Rattle.lrpar.specs.Reducing.{IsTableFor};
 ghost use Rattle.lrpar.specs.Branching.{Lists, AreReducers, AreAllReducers};
 
+use crate::machine::Chains;
 use crate::numbers::index_below;
 use crate::rows::cell_of_row;
 use cfg_base::index::IndexStorage;
 use cfg_base::symbol::PIdx;
-use cfg_numbered::yacc::grammar::NumberedGrammar;
-use state_table::{Action, StIdx, StateTable};
+use state_table::{Action, StIdx};
 use std::alloc::{AllocError, Global};
 
 /// Returns the production at an index.
@@ -56,16 +55,14 @@ fn put_reducer<S: IndexStorage>(
 /// Returns the productions by which a state reduces.
 fn reducers_of<S: IndexStorage>(
     alloc: Global,
-    grm: &NumberedGrammar<S>,
-    stable: &StateTable<S>,
+    chains: &Chains<'_, S>,
     state: StIdx<S>,
 ) -> Result<Vec<PIdx<S>>, AllocError>
-    requires table { IsTableFor grm.now.grammar stable.now }
-    requires state { S.number state.0 < stable.now.states }
-    ensures { IfOk result (λ v. AreReducers S.number grm.now.grammar stable.now (S.number state.0) v.items) }
+    requires state { S.number state.0 < chains.now.stable.now.states }
+    ensures { IfOk result (λ v. AreReducers S.number chains.now.grm.now.grammar chains.now.stable.now (S.number state.0) v.items) }
 {
-    let _prods = grm.prods_len();
-    let row = stable.state_cells(state);
+    let _prods = chains.grm.prods_len();
+    let row = chains.stable.state_cells(state);
     let mut list = Vec::new(alloc);
     'cells: for index in 0..row.len() {
         let (_, action) = cell_of_row(row, index);
@@ -77,31 +74,28 @@ fn reducers_of<S: IndexStorage>(
 /// Returns the productions by which each state reduces.
 pub(crate) fn all_reducers<S: IndexStorage>(
     alloc: Global,
-    grm: &NumberedGrammar<S>,
-    stable: &StateTable<S>,
+    chains: &Chains<'_, S>,
 ) -> Result<Vec<Vec<PIdx<S>>>, AllocError>
-    requires table { IsTableFor grm.now.grammar stable.now }
-    ensures { IfOk result (λ v. AreAllReducers S.number grm.now.grammar stable.now v.items) }
+    ensures { IfOk result (λ v. AreAllReducers S.number chains.now.grm.now.grammar chains.now.stable.now v.items) }
 {
-    let states = stable.states_len().0;
+    let states = chains.stable.states_len().0;
     let mut all = Vec::with_capacity(alloc, states.to_usize())?;
     'states: for number in 0..states.to_usize() {
         let state = StIdx(index_below(number, states));
-        all.push(reducers_of(alloc, grm, stable, state)?)?;
+        all.push(reducers_of(alloc, chains, state)?)?;
     }
     Ok(all)
 }
 
 /// Returns the ones of a state among those of all.
 pub(crate) fn reducers_at<'a, S: IndexStorage>(
-    grm: &NumberedGrammar<S>,
-    stable: &StateTable<S>,
+    chains: &Chains<'_, S>,
     all: &'a [Vec<PIdx<S>>],
     state: StIdx<S>,
 ) -> &'a [PIdx<S>]
-    requires all { AreAllReducers S.number grm.now.grammar stable.now all.now }
-    requires state { S.number state.0 < stable.now.states }
-    ensures { AreReducers S.number grm.now.grammar stable.now (S.number state.0) result.now }
+    requires all { AreAllReducers S.number chains.now.grm.now.grammar chains.now.stable.now all.now }
+    requires state { S.number state.0 < chains.now.stable.now.states }
+    ensures { AreReducers S.number chains.now.grm.now.grammar chains.now.stable.now (S.number state.0) result.now }
 {
     all[state.0.to_usize()].as_slice()
 }

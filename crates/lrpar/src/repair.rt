@@ -1,22 +1,18 @@
 //! Tests the sequences of repairs that are passed at an error.
 
-ghost use Rattle.std.specs.Prelude.{◌≡◌, ◌<◌, ◌≤◌, ℕ, length, drop, map, slice_get, Some, List, [], IfOk, IfSome, IsSome};
-ghost use Rattle.lr_theory.specs.Chains.{ChainsWithin};
-ghost use Rattle.state_table.specs.Graphs.{GraphValue};
-ghost use Rattle.state_table.specs.Tables.{automaton_of};
-ghost use Rattle.lrpar.specs.Reducing.{IsTableFor, stack_of, AreStates};
+ghost use Rattle.std.specs.Prelude.{◌<◌, ◌≤◌, length, drop, Some, [], IfOk, IfSome};
+ghost use Rattle.lrpar.specs.Reducing.{stack_of, AreStates};
 ghost use Rattle.lrpar.specs.Replay.{overlaid, IsOver};
-ghost use Rattle.parse_trees.specs.Lexemes.{AreLexemes};
+ghost use Rattle.lrpar.specs.NextStates.{AreInside};
 ghost use Rattle.parse_trees.specs.Lex.{token_by};
 ghost use Rattle.parse_trees.specs.Edits.{edit_of, edits_of, sequences_of};
 ghost use Rattle.lrpar.specs.Taking.{StepTells, SequenceTells, ListTells};
 ghost use Rattle.lr_theory.specs.Repair.{insert, keep};
 
-use crate::full_table::FullTable;
+use crate::machine::Machine;
 use crate::overlay::{Overlay, accepts_on, shift_on};
 use cfg_base::index::IndexStorage;
 use cfg_base::symbol::TIdx;
-use cfg_numbered::yacc::grammar::NumberedGrammar;
 use parse_trees::lex_api::Lexeme;
 use parse_trees::lexeme_list::LexemeList;
 use parse_trees::parse_repair::{RepairStep, step_at};
@@ -25,29 +21,23 @@ use std::alloc::{AllocError, Global};
 
 /// Returns the index of the next lexeme after an insertion, where it can be made.
 fn take_insert<S: IndexStorage, L: Lexeme<S>, E: Copy>(
-    grm: &NumberedGrammar<S>,
-    stable: &FullTable<S>,
-    limit: u16,
+    machine: &Machine<'_, S>,
     base: &[StIdx<S>],
     overlay: &mut Overlay<S>,
     lexemes: &LexemeList<'_, L, E>,
     index: usize,
     tidx: TIdx<S>,
 ) -> Result<Option<usize>, AllocError>
-    requires table { IsTableFor grm.now.grammar stable.now }
-    requires chains { (g : GraphValue) → ChainsWithin grm.now.grammar (automaton_of g stable.now) limit }
     requires index { index ≤ length lexemes.now }
-    requires over { IsOver S.number stable.now base.now overlay.old }
-    requires some { 0 < length (overlaid S.number base.now overlay.old) }
-    ensures tells { IfOk result (λ next. StepTells S.MAX grm.now.grammar stable.now (token_by L.lex) (insert (S.number tidx.0)) (overlaid S.number base.now overlay.old) (drop index lexemes.now) (overlaid S.number base.now overlay.new) lexemes.now next) }
+    requires over { IsOver S.number machine.now.stable.now base.now overlay.old }
+    ensures tells { IfOk result (λ next. StepTells S.MAX machine.now.grm.now.grammar machine.now.stable.now (token_by L.lex) (insert (S.number tidx.0)) (overlaid S.number base.now overlay.old) (drop index lexemes.now) (overlaid S.number base.now overlay.new) lexemes.now next) }
     ensures index { IfOk result (λ next. IfSome next (λ i. i ≤ length lexemes.now)) }
-    ensures some { IfOk result (λ next. IsSome next → 0 < length (overlaid S.number base.now overlay.new)) }
-    ensures over { IfOk result (λ next. IsOver S.number stable.now base.now overlay.new) }
+    ensures over { IfOk result (λ next. IsOver S.number machine.now.stable.now base.now overlay.new) }
 {
-    if tidx.0.to_usize() >= grm.eof_token_idx().0.to_usize() {
+    if tidx.0.to_usize() >= machine.grm.eof_token_idx().0.to_usize() {
         return Ok(None);
     }
-    if !shift_on(grm, stable, limit, base, overlay, tidx)? {
+    if !shift_on(machine, base, overlay, tidx)? {
         return Ok(None);
     }
     Ok(Some(index))
@@ -55,30 +45,24 @@ fn take_insert<S: IndexStorage, L: Lexeme<S>, E: Copy>(
 
 /// Returns the index of the next lexeme after the one at an index is shifted, where it can be.
 fn take_shift<S: IndexStorage, L: Lexeme<S>, E: Copy>(
-    grm: &NumberedGrammar<S>,
-    stable: &FullTable<S>,
-    limit: u16,
+    machine: &Machine<'_, S>,
     base: &[StIdx<S>],
     overlay: &mut Overlay<S>,
     lexemes: &LexemeList<'_, L, E>,
     index: usize,
 ) -> Result<Option<usize>, AllocError>
-    requires table { IsTableFor grm.now.grammar stable.now }
-    requires chains { (g : GraphValue) → ChainsWithin grm.now.grammar (automaton_of g stable.now) limit }
-    requires lexemes { AreLexemes grm.now.grammar L.lex lexemes.now }
-    requires over { IsOver S.number stable.now base.now overlay.old }
-    requires some { 0 < length (overlaid S.number base.now overlay.old) }
-    ensures tells { IfOk result (λ next. StepTells S.MAX grm.now.grammar stable.now (token_by L.lex) keep (overlaid S.number base.now overlay.old) (drop index lexemes.now) (overlaid S.number base.now overlay.new) lexemes.now next) }
+    requires inside { AreInside machine.now.grm.now.grammar (token_by L.lex) lexemes.now }
+    requires over { IsOver S.number machine.now.stable.now base.now overlay.old }
+    ensures tells { IfOk result (λ next. StepTells S.MAX machine.now.grm.now.grammar machine.now.stable.now (token_by L.lex) keep (overlaid S.number base.now overlay.old) (drop index lexemes.now) (overlaid S.number base.now overlay.new) lexemes.now next) }
     ensures index { IfOk result (λ next. IfSome next (λ i. i ≤ length lexemes.now)) }
-    ensures some { IfOk result (λ next. IsSome next → 0 < length (overlaid S.number base.now overlay.new)) }
-    ensures over { IfOk result (λ next. IsOver S.number stable.now base.now overlay.new) }
+    ensures over { IfOk result (λ next. IsOver S.number machine.now.stable.now base.now overlay.new) }
 {
     let count = lexemes.len();
     if index >= count {
         return Ok(None);
     }
     let tidx = TIdx(lexemes.at(index).tok_id());
-    if !shift_on(grm, stable, limit, base, overlay, tidx)? {
+    if !shift_on(machine, base, overlay, tidx)? {
         return Ok(None);
     }
     Ok(Some(index + 1))
@@ -86,32 +70,24 @@ fn take_shift<S: IndexStorage, L: Lexeme<S>, E: Copy>(
 
 /// Returns the index of the next lexeme after a step, where it can be made.
 fn take_step<S: IndexStorage, L: Lexeme<S>, E: Copy>(
-    grm: &NumberedGrammar<S>,
-    stable: &FullTable<S>,
-    limit: u16,
+    machine: &Machine<'_, S>,
     base: &[StIdx<S>],
     overlay: &mut Overlay<S>,
     lexemes: &LexemeList<'_, L, E>,
     index: usize,
     step: RepairStep<S>,
 ) -> Result<Option<usize>, AllocError>
-    requires table { IsTableFor grm.now.grammar stable.now }
-    requires chains { (g : GraphValue) → ChainsWithin grm.now.grammar (automaton_of g stable.now) limit }
-    requires lexemes { AreLexemes grm.now.grammar L.lex lexemes.now }
+    requires inside { AreInside machine.now.grm.now.grammar (token_by L.lex) lexemes.now }
     requires index { index ≤ length lexemes.now }
-    requires over { IsOver S.number stable.now base.now overlay.old }
-    requires some { 0 < length (overlaid S.number base.now overlay.old) }
-    ensures tells { IfOk result (λ next. StepTells S.MAX grm.now.grammar stable.now (token_by L.lex) (edit_of S.number step) (overlaid S.number base.now overlay.old) (drop index lexemes.now) (overlaid S.number base.now overlay.new) lexemes.now next) }
+    requires over { IsOver S.number machine.now.stable.now base.now overlay.old }
+    ensures tells { IfOk result (λ next. StepTells S.MAX machine.now.grm.now.grammar machine.now.stable.now (token_by L.lex) (edit_of S.number step) (overlaid S.number base.now overlay.old) (drop index lexemes.now) (overlaid S.number base.now overlay.new) lexemes.now next) }
     ensures index { IfOk result (λ next. IfSome next (λ i. i ≤ length lexemes.now)) }
-    ensures some { IfOk result (λ next. IsSome next → 0 < length (overlaid S.number base.now overlay.new)) }
-    ensures over { IfOk result (λ next. IsOver S.number stable.now base.now overlay.new) }
+    ensures over { IfOk result (λ next. IsOver S.number machine.now.stable.now base.now overlay.new) }
 {
     let count = lexemes.len();
     match step {
-        RepairStep::Insert(tidx) => take_insert(
-            grm, stable, limit, base, overlay, lexemes, index, tidx,
-        ),
-        RepairStep::Shift => take_shift(grm, stable, limit, base, overlay, lexemes, index),
+        RepairStep::Insert(tidx) => take_insert(machine, base, overlay, lexemes, index, tidx),
+        RepairStep::Shift => take_shift(machine, base, overlay, lexemes, index),
         RepairStep::Delete => {
             if index >= count {
                 return Ok(None);
@@ -123,83 +99,70 @@ fn take_step<S: IndexStorage, L: Lexeme<S>, E: Copy>(
 
 /// Returns whether the next lexeme is shifted, or past the last one the run accepts.
 fn gets_past<S: IndexStorage, L: Lexeme<S>, E: Copy>(
-    grm: &NumberedGrammar<S>,
-    stable: &FullTable<S>,
-    limit: u16,
+    machine: &Machine<'_, S>,
     base: &[StIdx<S>],
     overlay: &mut Overlay<S>,
     lexemes: &LexemeList<'_, L, E>,
     index: usize,
 ) -> Result<bool, AllocError>
-    requires table { IsTableFor grm.now.grammar stable.now }
-    requires chains { (g : GraphValue) → ChainsWithin grm.now.grammar (automaton_of g stable.now) limit }
-    requires lexemes { AreLexemes grm.now.grammar L.lex lexemes.now }
+    requires inside { AreInside machine.now.grm.now.grammar (token_by L.lex) lexemes.now }
     requires index { index ≤ length lexemes.now }
-    requires over { IsOver S.number stable.now base.now overlay.old }
-    requires some { 0 < length (overlaid S.number base.now overlay.old) }
-    ensures { IfOk result (λ past. SequenceTells S.MAX grm.now.grammar stable.now (token_by L.lex) [] (overlaid S.number base.now overlay.old) (drop index lexemes.now) past) }
+    requires over { IsOver S.number machine.now.stable.now base.now overlay.old }
+    ensures { IfOk result (λ past. SequenceTells S.MAX machine.now.grm.now.grammar machine.now.stable.now (token_by L.lex) [] (overlaid S.number base.now overlay.old) (drop index lexemes.now) past) }
 {
     if index >= lexemes.len() {
-        let past = accepts_on(grm, stable, limit, base, overlay)?;
+        let past = accepts_on(machine, base, overlay)?;
         return Ok(past);
     }
     let tidx = TIdx(lexemes.at(index).tok_id());
-    let past = shift_on(grm, stable, limit, base, overlay, tidx)?;
+    let past = shift_on(machine, base, overlay, tidx)?;
     Ok(past)
 }
 
 /// Returns whether the sequence can be taken where the lexeme at an index is next. Its steps can be made, and then
 /// the next lexeme is shifted, or the run accepts where none is left.
 fn is_taken<S: IndexStorage, L: Lexeme<S>, E: Copy>(
-    grm: &NumberedGrammar<S>,
-    stable: &FullTable<S>,
-    limit: u16,
+    machine: &Machine<'_, S>,
     base: &[StIdx<S>],
     overlay: &mut Overlay<S>,
     lexemes: &LexemeList<'_, L, E>,
     index: usize,
     steps: &[RepairStep<S>],
 ) -> Result<bool, AllocError>
-    requires table { IsTableFor grm.now.grammar stable.now }
-    requires chains { (g : GraphValue) → ChainsWithin grm.now.grammar (automaton_of g stable.now) limit }
-    requires lexemes { AreLexemes grm.now.grammar L.lex lexemes.now }
+    requires inside { AreInside machine.now.grm.now.grammar (token_by L.lex) lexemes.now }
     requires index { index ≤ length lexemes.now }
-    requires states { AreStates stable.now (stack_of S.number base.now) }
+    requires states { AreStates machine.now.stable.now (stack_of S.number base.now) }
     requires some { 0 < length base.now }
-    ensures { IfOk result (λ taken. SequenceTells S.MAX grm.now.grammar stable.now (token_by L.lex) (edits_of S.number steps.now) (stack_of S.number base.now) (drop index lexemes.now) taken) }
+    ensures { IfOk result (λ taken. SequenceTells S.MAX machine.now.grm.now.grammar machine.now.stable.now (token_by L.lex) (edits_of S.number steps.now) (stack_of S.number base.now) (drop index lexemes.now) taken) }
 {
     overlay.kept = base.len();
     overlay.over.clear();
     let mut at = index;
     'steps: for number in 0..steps.len() {
         let step = step_at(steps, number);
-        let Some(next) = take_step(grm, stable, limit, base, overlay, lexemes, at, step)? else {
+        let Some(next) = take_step(machine, base, overlay, lexemes, at, step)? else {
             return Ok(false);
         };
         at = next;
     }
-    let taken = gets_past(grm, stable, limit, base, overlay, lexemes, at)?;
+    let taken = gets_past(machine, base, overlay, lexemes, at)?;
     Ok(taken)
 }
 
 /// Returns those of the passed sequences that can be taken where the lexeme at an index is next, in their order.
 pub(crate) fn taken_of<S: IndexStorage, L: Lexeme<S>, E: Copy>(
     alloc: Global,
-    grm: &NumberedGrammar<S>,
-    stable: &FullTable<S>,
-    limit: u16,
+    machine: &Machine<'_, S>,
     base: &[StIdx<S>],
     lexemes: &LexemeList<'_, L, E>,
     index: usize,
     offered: Vec<Vec<RepairStep<S>>>,
 ) -> Result<Vec<Vec<RepairStep<S>>>, AllocError>
-    requires table { IsTableFor grm.now.grammar stable.now }
-    requires chains { (g : GraphValue) → ChainsWithin grm.now.grammar (automaton_of g stable.now) limit }
-    requires lexemes { AreLexemes grm.now.grammar L.lex lexemes.now }
+    requires inside { AreInside machine.now.grm.now.grammar (token_by L.lex) lexemes.now }
     requires index { index ≤ length lexemes.now }
-    requires states { AreStates stable.now (stack_of S.number base.now) }
+    requires states { AreStates machine.now.stable.now (stack_of S.number base.now) }
     requires some { 0 < length base.now }
-    ensures { IfOk result (λ taken. ListTells S.MAX grm.now.grammar stable.now (token_by L.lex) (stack_of S.number base.now) (drop index lexemes.now) (sequences_of S.number offered.items) (sequences_of S.number taken.items)) }
+    ensures { IfOk result (λ taken. ListTells S.MAX machine.now.grm.now.grammar machine.now.stable.now (token_by L.lex) (stack_of S.number base.now) (drop index lexemes.now) (sequences_of S.number offered.items) (sequences_of S.number taken.items)) }
 {
     let mut overlay = Overlay {
         kept: 0,
@@ -208,9 +171,7 @@ pub(crate) fn taken_of<S: IndexStorage, L: Lexeme<S>, E: Copy>(
     let mut taken = Vec::new(alloc);
     'sequences: for steps in offered {
         if is_taken(
-            grm,
-            stable,
-            limit,
+            machine,
             base,
             &mut overlay,
             lexemes,

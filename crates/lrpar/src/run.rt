@@ -1,18 +1,16 @@
 //! The run over checked tables: shifts and reductions, with values from functions that are passed.
 
-ghost use Rattle.std.specs.Prelude.{◌≡◌, ◌≤◌, ◌+◌, ℕ, List, length, drop, slice_get, IfOk, OnOk};
-ghost use Rattle.lr_theory.specs.Automaton.{Safe};
+ghost use Rattle.std.specs.Prelude.{◌≡◌, ◌≤◌, ◌+◌, List, length, drop, IfOk, OnOk};
 ghost use Rattle.lr_theory.specs.Machine.{Config};
 ghost use Rattle.state_table.specs.Graphs.{GraphValue};
 ghost use Rattle.state_table.specs.Tables.{automaton_of};
-ghost use Rattle.lrpar.specs.Reducing.{IsTableFor, stack_of};
+ghost use Rattle.lrpar.specs.Reducing.{stack_of};
 ghost use Rattle.parse_trees.specs.Lexemes.{AreLexemes};
 ghost use Rattle.lrpar.specs.Run.{StartsByNext, StandFor, AreStacks, token_of, NextOf, NextInside, StartsBefore, Turned, StacksAfter, StartsAfter, TurnReduces, Advanced, StacksAdvanced, Ended, StacksEnded};
 ghost use Rattle.parse_trees.specs.Lex.{token_by};
-ghost use Rattle.lr_theory.specs.Chains.{ChainsWithin};
 ghost use Rattle.cfg_theory.specs.Grammar.{end_token};
 
-use crate::full_table::FullTable;
+use crate::machine::Machine;
 use crate::stacks::{Stacks, reduce_onto, shift_onto};
 use cfg_base::index::IndexStorage;
 use cfg_base::symbol::TIdx;
@@ -59,28 +57,25 @@ fn next_token<S: IndexStorage, L: Lexeme<S>>(grm: &NumberedGrammar<S>, next: Opt
 #[inline(always)]
 fn take_turn<S: IndexStorage, L: Lexeme<S>, V: ValueStack<S, L>>(
     alloc: Global,
-    grm: &NumberedGrammar<S>,
-    stable: &FullTable<S>,
+    machine: &Machine<'_, S>,
     stacks: &mut Stacks<S, V>,
     next: Option<L>,
     tidx: TIdx<S>,
 ) -> Result<Turn, AllocError>
-    requires table { IsTableFor grm.now.grammar stable.now }
-    requires inside { NextInside grm.now.grammar L.lex next }
-    requires token { S.number tidx.0 ≡ token_of (token_by L.lex) (end_token grm.now.grammar) next }
-    requires stacks { AreStacks S.number stable.now stacks.old }
+    requires inside { NextInside machine.now.grm.now.grammar L.lex next }
+    requires token { S.number tidx.0 ≡ token_of (token_by L.lex) (end_token machine.now.grm.now.grammar) next }
+    requires stacks { AreStacks S.number machine.now.stable.now stacks.old }
     requires starts { StartsBefore L.lex (V.starts_by stacks.old.values) next }
-    requires stand { (g : GraphValue) × (input : List L) × (d : Config L) × Safe grm.now.grammar (automaton_of g stable.now) × StandFor S.number L.lex grm.now.grammar g stable.now (V.stands grm.now.grammar) input stacks.old d × NextOf next d.rest }
-    ensures turned { IfOk result (λ t. (g : GraphValue) (input : List L) (d : Config L) → Safe grm.now.grammar (automaton_of g stable.now) →
-        StandFor S.number L.lex grm.now.grammar g stable.now (V.stands grm.now.grammar) input stacks.old d → NextOf next d.rest →
-        Turned S.number L.lex grm.now.grammar g stable.now (V.stands grm.now.grammar) input d stacks.new next t) }
-    ensures stacks { IfOk result (StacksAfter S.number stable.now stacks.new) }
+    requires stand { (input : List L) × (d : Config L) × StandFor S.number L.lex machine.now.grm.now.grammar machine.now.sgraph.now machine.now.stable.now (V.stands machine.now.grm.now.grammar) input stacks.old d × NextOf next d.rest }
+    ensures turned { IfOk result (λ t. (input : List L) (d : Config L) → StandFor S.number L.lex machine.now.grm.now.grammar machine.now.sgraph.now machine.now.stable.now (V.stands machine.now.grm.now.grammar) input stacks.old d → NextOf next d.rest →
+        Turned S.number L.lex machine.now.grm.now.grammar machine.now.sgraph.now machine.now.stable.now (V.stands machine.now.grm.now.grammar) input d stacks.new next t) }
+    ensures stacks { IfOk result (StacksAfter S.number machine.now.stable.now stacks.new) }
     ensures starts { IfOk result (StartsAfter L.lex (V.starts_by stacks.old.values) (V.starts_by stacks.new.values) next) }
     ensures keeps { OnOk result (V.keeps stacks.old.values stacks.new.values) }
-    ensures reduces { IfOk result (λ t. (g : GraphValue) → TurnReduces grm.now.grammar (automaton_of g stable.now) (token_of (token_by L.lex) (end_token grm.now.grammar) next) (stack_of S.number stacks.old.states.items) (stack_of S.number stacks.new.states.items) t) }
+    ensures reduces { IfOk result (λ t. (g : GraphValue) → TurnReduces machine.now.grm.now.grammar (automaton_of g machine.now.stable.now) (token_of (token_by L.lex) (end_token machine.now.grm.now.grammar) next) (stack_of S.number stacks.old.states.items) (stack_of S.number stacks.new.states.items) t) }
 {
     let top = stacks.states[stacks.states.len() - 1];
-    match stable.action(top, tidx) {
+    match machine.stable.action(top, tidx) {
         Action::Shift(target) => match next {
             Some(lexeme) => {
                 shift_onto(alloc, stacks, lexeme, target)?;
@@ -89,7 +84,7 @@ fn take_turn<S: IndexStorage, L: Lexeme<S>, V: ValueStack<S, L>>(
             None => unreachable!(),
         },
         Action::Reduce(pidx) => {
-            reduce_onto(alloc, grm, stable, stacks, pidx)?;
+            reduce_onto(alloc, machine, stacks, pidx)?;
             Ok(Turn::Reduced)
         }
         Action::Accept => Ok(Turn::Accepted),
@@ -97,30 +92,25 @@ fn take_turn<S: IndexStorage, L: Lexeme<S>, V: ValueStack<S, L>>(
     }
 }
 
-/// Turns until a lexeme is shifted, the run accepts or it fails. As chains of reductions are within `limit`, it ends.
+/// Turns until a lexeme is shifted, the run accepts or it fails. As chains of reductions are within the limit, it ends.
 pub(crate) fn advance_to<S: IndexStorage, L: Lexeme<S>, V: ValueStack<S, L>>(
     alloc: Global,
-    grm: &NumberedGrammar<S>,
-    stable: &FullTable<S>,
-    limit: u16,
+    machine: &Machine<'_, S>,
     stacks: &mut Stacks<S, V>,
     next: Option<L>,
 ) -> Result<Advance, AllocError>
-    requires table { IsTableFor grm.now.grammar stable.now }
-    requires chains { (g : GraphValue) → ChainsWithin grm.now.grammar (automaton_of g stable.now) limit }
-    requires inside { NextInside grm.now.grammar L.lex next }
-    requires stacks { AreStacks S.number stable.now stacks.old }
+    requires inside { NextInside machine.now.grm.now.grammar L.lex next }
+    requires stacks { AreStacks S.number machine.now.stable.now stacks.old }
     requires starts { StartsBefore L.lex (V.starts_by stacks.old.values) next }
-    requires stand { (g : GraphValue) × (input : List L) × (d : Config L) × Safe grm.now.grammar (automaton_of g stable.now) × StandFor S.number L.lex grm.now.grammar g stable.now (V.stands grm.now.grammar) input stacks.old d × NextOf next d.rest }
-    ensures advanced { IfOk result (λ t. (g : GraphValue) (input : List L) (d : Config L) → Safe grm.now.grammar (automaton_of g stable.now) →
-        StandFor S.number L.lex grm.now.grammar g stable.now (V.stands grm.now.grammar) input stacks.old d → NextOf next d.rest →
-        Advanced S.number L.lex grm.now.grammar g stable.now (V.stands grm.now.grammar) input d stacks.new next t) }
-    ensures stacks { IfOk result (StacksAdvanced S.number L.lex stable.now (V.starts_by stacks.old.values) (V.starts_by stacks.new.values) stacks.new next) }
+    requires stand { (input : List L) × (d : Config L) × StandFor S.number L.lex machine.now.grm.now.grammar machine.now.sgraph.now machine.now.stable.now (V.stands machine.now.grm.now.grammar) input stacks.old d × NextOf next d.rest }
+    ensures advanced { IfOk result (λ t. (input : List L) (d : Config L) → StandFor S.number L.lex machine.now.grm.now.grammar machine.now.sgraph.now machine.now.stable.now (V.stands machine.now.grm.now.grammar) input stacks.old d → NextOf next d.rest →
+        Advanced S.number L.lex machine.now.grm.now.grammar machine.now.sgraph.now machine.now.stable.now (V.stands machine.now.grm.now.grammar) input d stacks.new next t) }
+    ensures stacks { IfOk result (StacksAdvanced S.number L.lex machine.now.stable.now (V.starts_by stacks.old.values) (V.starts_by stacks.new.values) stacks.new next) }
     ensures keeps { OnOk result (V.keeps stacks.old.values stacks.new.values) }
 {
-    let tidx = next_token(grm, next);
+    let tidx = next_token(machine.grm, next);
     'turns: loop {
-        match take_turn(alloc, grm, stable, stacks, next, tidx)? {
+        match take_turn(alloc, machine, stacks, next, tidx)? {
             Turn::Reduced => {}
             Turn::Shifted => return Ok(Advance::Shifted),
             Turn::Accepted => return Ok(Advance::Accepted),
@@ -132,24 +122,19 @@ pub(crate) fn advance_to<S: IndexStorage, L: Lexeme<S>, V: ValueStack<S, L>>(
 /// Runs from an index on until the run accepts or fails.
 pub(crate) fn run_from<S: IndexStorage, L: Lexeme<S>, E: Copy, V: ValueStack<S, L>>(
     alloc: Global,
-    grm: &NumberedGrammar<S>,
-    stable: &FullTable<S>,
-    limit: u16,
+    machine: &Machine<'_, S>,
     stacks: &mut Stacks<S, V>,
     lexemes: &LexemeList<'_, L, E>,
     index: usize,
 ) -> Result<Ending, AllocError>
-    requires table { IsTableFor grm.now.grammar stable.now }
-    requires chains { (g : GraphValue) → ChainsWithin grm.now.grammar (automaton_of g stable.now) limit }
-    requires lexemes { AreLexemes grm.now.grammar L.lex lexemes.now }
+    requires lexemes { AreLexemes machine.now.grm.now.grammar L.lex lexemes.now }
     requires index { index ≤ length lexemes.now }
-    requires stacks { AreStacks S.number stable.now stacks.old }
+    requires stacks { AreStacks S.number machine.now.stable.now stacks.old }
     requires starts { StartsByNext L.lex (V.starts_by stacks.old.values) lexemes.now index }
-    requires stand { (g : GraphValue) × (input : List L) × (d : Config L) × Safe grm.now.grammar (automaton_of g stable.now) × StandFor S.number L.lex grm.now.grammar g stable.now (V.stands grm.now.grammar) input stacks.old d × (d.rest ≡ drop index lexemes.now) }
-    ensures ended { IfOk result (λ e. (g : GraphValue) (input : List L) (d : Config L) → Safe grm.now.grammar (automaton_of g stable.now) →
-        StandFor S.number L.lex grm.now.grammar g stable.now (V.stands grm.now.grammar) input stacks.old d → d.rest ≡ drop index lexemes.now →
-        Ended S.number L.lex grm.now.grammar g stable.now (V.stands grm.now.grammar) input d stacks.new lexemes.now e) }
-    ensures stacks { IfOk result (StacksEnded S.number L.lex stable.now (V.starts_by stacks.new.values) stacks.new lexemes.now) }
+    requires stand { (input : List L) × (d : Config L) × StandFor S.number L.lex machine.now.grm.now.grammar machine.now.sgraph.now machine.now.stable.now (V.stands machine.now.grm.now.grammar) input stacks.old d × (d.rest ≡ drop index lexemes.now) }
+    ensures ended { IfOk result (λ e. (input : List L) (d : Config L) → StandFor S.number L.lex machine.now.grm.now.grammar machine.now.sgraph.now machine.now.stable.now (V.stands machine.now.grm.now.grammar) input stacks.old d → d.rest ≡ drop index lexemes.now →
+        Ended S.number L.lex machine.now.grm.now.grammar machine.now.sgraph.now machine.now.stable.now (V.stands machine.now.grm.now.grammar) input d stacks.new lexemes.now e) }
+    ensures stacks { IfOk result (StacksEnded S.number L.lex machine.now.stable.now (V.starts_by stacks.new.values) stacks.new lexemes.now) }
     ensures keeps { OnOk result (V.keeps stacks.old.values stacks.new.values) }
 {
     // For the proof alone: this read shows that the number of lexemes fits.
@@ -157,7 +142,7 @@ pub(crate) fn run_from<S: IndexStorage, L: Lexeme<S>, E: Copy, V: ValueStack<S, 
     let mut at = index;
     'lexemes: loop {
         let next = lexemes.get(at);
-        match advance_to(alloc, grm, stable, limit, stacks, next)? {
+        match advance_to(alloc, machine, stacks, next)? {
             Advance::Shifted => at += 1,
             Advance::Accepted => return Ok(Ending::Accepted),
             Advance::Failed => return Ok(Ending::Failed(at)),

@@ -5,15 +5,16 @@ ghost use Rattle.std.specs.Prelude.{◌≡◌, ◌<◌, ◌+◌, ℕ, List, true
 ghost use Rattle.state_table.specs.Graphs.{GraphValue};
 ghost use Rattle.state_table.specs.TableValues.{TableValue};
 ghost use Rattle.state_table.specs.Tables.{automaton_of};
-ghost use Rattle.lrpar.specs.Reducing.{IsLong, IsTableFor, ShortAt, ShortIn, AreShorts};
+ghost use Rattle.lrpar.specs.Reducing.{IsLong, ShortAt, ShortIn, AreShorts};
 ghost use Rattle.lrpar.specs.Branching.{Lists, AreReducers, AreAllReducers};
 
+use crate::machine::Chains;
 use crate::numbers::index_below;
 use crate::reducers::{prod_of_list, reducers_at};
 use cfg_base::index::IndexStorage;
 use cfg_base::symbol::PIdx;
 use cfg_numbered::yacc::grammar::NumberedGrammar;
-use state_table::{StIdx, StateTable};
+use state_table::StIdx;
 use std::alloc::{AllocError, Global};
 
 /// The reductions of at most one symbol that a state makes: none, by one production of one symbol alone, or others.
@@ -64,19 +65,18 @@ fn short_of<S: IndexStorage>(grm: &NumberedGrammar<S>, list: &[PIdx<S>]) -> Shor
 /// Returns the kind of each state's reductions.
 pub(crate) fn all_shorts<S: IndexStorage>(
     alloc: Global,
-    grm: &NumberedGrammar<S>,
-    stable: &StateTable<S>,
+    chains: &Chains<'_, S>,
     reducers: &[Vec<PIdx<S>>],
 ) -> Result<Vec<Short<S>>, AllocError>
-    requires { AreAllReducers S.number grm.now.grammar stable.now reducers.now }
-    ensures { IfOk result (λ v. AreShorts S.number grm.now.grammar stable.now v.items) }
+    requires { AreAllReducers S.number chains.now.grm.now.grammar chains.now.stable.now reducers.now }
+    ensures { IfOk result (λ v. AreShorts S.number chains.now.grm.now.grammar chains.now.stable.now v.items) }
 {
-    let states = stable.states_len().0;
+    let states = chains.stable.states_len().0;
     let mut shorts = Vec::with_capacity(alloc, states.to_usize())?;
     'states: for number in 0..states.to_usize() {
         let state = StIdx(index_below(number, states));
-        let list = reducers_at(grm, stable, reducers, state);
-        shorts.push(short_of(grm, list))?;
+        let list = reducers_at(chains, reducers, state);
+        shorts.push(short_of(chains.grm, list))?;
     }
     Ok(shorts)
 }
@@ -92,27 +92,24 @@ pub(crate) fn short_at<S: IndexStorage>(shorts: &[Short<S>], state: StIdx<S>) ->
 /// Returns whether it is seen, without looking at tokens, that no chain from the state with another one above it
 /// passes the limit.
 pub(crate) fn is_quiet<S: IndexStorage>(
-    grm: &NumberedGrammar<S>,
-    stable: &StateTable<S>,
+    chains: &Chains<'_, S>,
     shorts: &[Short<S>],
-    limit: u16,
     state: StIdx<S>,
     above: StIdx<S>,
 ) -> bool
-    requires table { IsTableFor grm.now.grammar stable.now }
-    requires shorts { AreShorts S.number grm.now.grammar stable.now shorts.now }
-    requires state { S.number state.0 < stable.now.states }
-    requires above { S.number above.0 < stable.now.states }
-    ensures { result ≡ true → (g : GraphValue) (t : ℕ) → IsLong grm.now.grammar (automaton_of g stable.now) limit (S.number state.0) (Some (S.number above.0)) t → ⊥ }
+    requires shorts { AreShorts S.number chains.now.grm.now.grammar chains.now.stable.now shorts.now }
+    requires state { S.number state.0 < chains.now.stable.now.states }
+    requires above { S.number above.0 < chains.now.stable.now.states }
+    ensures { result ≡ true → (g : GraphValue) (t : ℕ) → IsLong chains.now.grm.now.grammar (automaton_of g chains.now.stable.now) chains.now.limit (S.number state.0) (Some (S.number above.0)) t → ⊥ }
 {
     let mut top = above;
-    let most = limit as usize + 1;
+    let most = chains.limit as usize + 1;
     'links: for _ in 0..most {
         match short_at(shorts, top) {
             Short::Nothing => return true,
             Short::Other => return false,
             Short::Unit(pidx) => {
-                let Some(next) = stable.goto(state, grm.prod_to_rule(pidx)) else {
+                let Some(next) = chains.stable.goto(state, chains.grm.prod_to_rule(pidx)) else {
                     return true;
                 };
                 top = next;

@@ -7,13 +7,12 @@ ghost use Rattle.lr_theory.specs.Automaton.{reduce};
 ghost use Rattle.lr_theory.specs.Chains.{reduce_by};
 ghost use Rattle.lr_theory.specs.Machine.{pop};
 ghost use Rattle.state_table.specs.Tables.{automaton_of};
-ghost use Rattle.lrpar.specs.Reducing.{states_of, stack_of, IsTableFor, AreStates};
+ghost use Rattle.lrpar.specs.Reducing.{states_of, stack_of, AreStates};
 ghost use Rattle.state_table.specs.Graphs.{GraphValue};
 
-use crate::full_table::FullTable;
+use crate::machine::Machine;
 use cfg_base::index::IndexStorage;
 use cfg_base::symbol::PIdx;
-use cfg_numbered::yacc::grammar::NumberedGrammar;
 use parse_trees::lex_api::Lexeme;
 use parse_trees::tops::put_above;
 use parse_trees::values::ValueStack;
@@ -61,29 +60,27 @@ pub(crate) fn shift_onto<S: IndexStorage, L: Lexeme<S>, V: ValueStack<S, L>>(
 /// Reduces by a production: the entry for its node and the state after its rule take the place of its symbols.
 pub(crate) fn reduce_onto<S: IndexStorage, L: Lexeme<S>, V: ValueStack<S, L>>(
     alloc: Global,
-    grm: &NumberedGrammar<S>,
-    stable: &FullTable<S>,
+    machine: &Machine<'_, S>,
     stacks: &mut Stacks<S, V>,
     pidx: PIdx<S>,
 ) -> Result<(), AllocError>
-    requires table { IsTableFor grm.now.grammar stable.now }
-    requires production { S.number pidx.0 < length grm.now.grammar.productions }
-    requires states { AreStates stable.now (states_of S.number stacks.old.states.items) }
-    requires held { (ts : List (Tree L)) × V.stands grm.now.grammar stacks.old.values ts × (length (body_of grm.now.grammar (S.number pidx.0)) ≤ length ts) }
-    requires goes { (g : GraphValue) → (next : List ℕ) × (reduce_by grm.now.grammar (automaton_of g stable.now) (reduce (S.number pidx.0)) (stack_of S.number stacks.old.states.items) ≡ Some next) }
-    ensures goes { OnOk result ((g : GraphValue) → reduce_by grm.now.grammar (automaton_of g stable.now) (reduce (S.number pidx.0)) (stack_of S.number stacks.old.states.items) ≡ Some (stack_of S.number stacks.new.states.items)) }
-    ensures held { OnOk result ((ts below : List (Tree L)) (f : Forest L) → V.stands grm.now.grammar stacks.old.values ts → pop (length (body_of grm.now.grammar (S.number pidx.0))) ts none ≡ Some (f, below) → V.stands grm.now.grammar stacks.new.values (node (S.number pidx.0) f ∷ below)) }
-    ensures states { OnOk result (AreStates stable.now (states_of S.number stacks.new.states.items)) }
+    requires production { S.number pidx.0 < length machine.now.grm.now.grammar.productions }
+    requires states { AreStates machine.now.stable.now (states_of S.number stacks.old.states.items) }
+    requires held { (ts : List (Tree L)) × V.stands machine.now.grm.now.grammar stacks.old.values ts × (length (body_of machine.now.grm.now.grammar (S.number pidx.0)) ≤ length ts) }
+    requires goes { (g : GraphValue) → (next : List ℕ) × (reduce_by machine.now.grm.now.grammar (automaton_of g machine.now.stable.now) (reduce (S.number pidx.0)) (stack_of S.number stacks.old.states.items) ≡ Some next) }
+    ensures goes { OnOk result ((g : GraphValue) → reduce_by machine.now.grm.now.grammar (automaton_of g machine.now.stable.now) (reduce (S.number pidx.0)) (stack_of S.number stacks.old.states.items) ≡ Some (stack_of S.number stacks.new.states.items)) }
+    ensures held { OnOk result ((ts below : List (Tree L)) (f : Forest L) → V.stands machine.now.grm.now.grammar stacks.old.values ts → pop (length (body_of machine.now.grm.now.grammar (S.number pidx.0))) ts none ≡ Some (f, below) → V.stands machine.now.grm.now.grammar stacks.new.values (node (S.number pidx.0) f ∷ below)) }
+    ensures states { OnOk result (AreStates machine.now.stable.now (states_of S.number stacks.new.states.items)) }
     ensures some { OnOk result (0 < length stacks.new.states.items) }
     ensures start { OnOk result ((offset : ℕ) → V.starts_by stacks.old.values offset → V.starts_by stacks.new.values offset) }
     ensures keeps { OnOk result (V.keeps stacks.old.values stacks.new.values) }
 {
-    let count = grm.prod_len(pidx).0.to_usize();
-    let ridx = grm.prod_to_rule(pidx);
+    let count = machine.grm.prod_len(pidx).0.to_usize();
+    let ridx = machine.grm.prod_to_rule(pidx);
     stacks.values.reduce(alloc, pidx, ridx, count)?;
     let left = stacks.states.len() - count;
     let below = stacks.states[left - 1];
-    let next = stable.target(below, ridx);
+    let next = machine.stable.target(below, ridx);
     put_above(&mut stacks.states, left, next)?;
     Ok(())
 }

@@ -8,18 +8,15 @@ ghost use Rattle.state_table.specs.CellViews.{action_of};
 ghost use Rattle.state_table.specs.TableValues.{action_at};
 ghost use Rattle.state_table.specs.Tables.{automaton_of};
 ghost use Rattle.cfg_numbered.specs.Symbols.{sym_of};
-ghost use Rattle.lrpar.specs.Ranges.{IsTable};
-ghost use Rattle.lrpar.specs.Pair.{IsSafePair};
-ghost use Rattle.lrpar.specs.Reducing.{IsTableFor};
 ghost use Rattle.lrpar.specs.Fitting.{Tells, OfGrammar};
 ghost use Rattle.lrpar.specs.Completing.{ItemStands};
 
-use crate::full_table::FullTable;
+use crate::machine::Machine;
 use crate::numbers::index_below;
 use cfg_base::index::IndexStorage;
 use cfg_base::symbol::{PIdx, SIdx, Symbol, TIdx};
 use cfg_numbered::yacc::grammar::NumberedGrammar;
-use state_table::{Action, Itemset, StIdx, StateGraph};
+use state_table::{Action, Itemset, StIdx};
 use vob::Vob;
 
 /// Returns whether an action shifts.
@@ -71,42 +68,39 @@ fn next_of<S: IndexStorage>(
 
 /// Returns whether a token behind the dot of an item is shifted.
 fn next_is_shifted<S: IndexStorage>(
-    grm: &NumberedGrammar<S>,
-    stable: &FullTable<S>,
+    machine: &Machine<'_, S>,
     state: StIdx<S>,
     pidx: PIdx<S>,
     dot: SIdx<S>,
 ) -> bool
-    requires table { IsTableFor grm.now.grammar stable.now }
-    requires production { S.number pidx.0 < length grm.now.grammar.productions }
-    requires state { S.number state.0 < stable.now.states }
-    ensures { Tells ((t : ℕ) → IsNext grm.now.grammar (S.number pidx.0) (S.number dot.0) (token t) → (q : ℕ) × (action_at stable.now (S.number state.0) t ≡ shift q)) result }
+    requires production { S.number pidx.0 < length machine.now.grm.now.grammar.productions }
+    requires state { S.number state.0 < machine.now.stable.now.states }
+    ensures { Tells ((t : ℕ) → IsNext machine.now.grm.now.grammar (S.number pidx.0) (S.number dot.0) (token t) → (q : ℕ) × (action_at machine.now.stable.now (S.number state.0) t ≡ shift q)) result }
 {
-    match next_of(grm, pidx, dot) {
+    match next_of(machine.grm, pidx, dot) {
         None => true,
         Some(Symbol::Rule(_)) => true,
-        Some(Symbol::Token(tidx)) => is_shift(stable.action(state, tidx)),
+        Some(Symbol::Token(tidx)) => is_shift(machine.stable.action(state, tidx)),
     }
 }
 
 /// Returns whether a state reduces by a production on each of these tokens.
 fn reduces_on<S: IndexStorage>(
-    stable: &FullTable<S>,
+    machine: &Machine<'_, S>,
     state: StIdx<S>,
     pidx: PIdx<S>,
     looks: &Vob,
 ) -> bool
-    requires table { IsTable stable.now }
-    requires state { S.number state.0 < stable.now.states }
-    ensures { Tells ((t : ℕ) → slice_get looks.now.bits t ≡ Some true → action_at stable.now (S.number state.0) t ≡ reduce (S.number pidx.0)) result }
+    requires { S.number state.0 < machine.now.stable.now.states }
+    ensures { Tells ((t : ℕ) → slice_get looks.now.bits t ≡ Some true → action_at machine.now.stable.now (S.number state.0) t ≡ reduce (S.number pidx.0)) result }
 {
-    let tokens = stable.tokens_len().0;
+    let tokens = machine.stable.tokens_len().0;
     'tokens: for index in looks.iter_set_bits(..) {
         if index >= tokens.to_usize() {
             return false;
         }
         let tidx = TIdx(index_below(index, tokens));
-        if !is_reduce(stable.action(state, tidx), pidx) {
+        if !is_reduce(machine.stable.action(state, tidx), pidx) {
             return false;
         }
     }
@@ -115,48 +109,44 @@ fn reduces_on<S: IndexStorage>(
 
 /// Returns whether the actions of an item are in their cells.
 fn item_stands<S: IndexStorage>(
-    grm: &NumberedGrammar<S>,
+    machine: &Machine<'_, S>,
     items: &Itemset<S>,
-    stable: &FullTable<S>,
     state: StIdx<S>,
     pidx: PIdx<S>,
     dot: SIdx<S>,
 ) -> bool
-    requires table { IsTableFor grm.now.grammar stable.now }
-    requires production { S.number pidx.0 < length grm.now.grammar.productions }
-    requires state { S.number state.0 < stable.now.states }
-    ensures { Tells (ItemStands grm.now.grammar stable.now items.now (S.number state.0) (S.number pidx.0) (S.number dot.0)) result }
+    requires production { S.number pidx.0 < length machine.now.grm.now.grammar.productions }
+    requires state { S.number state.0 < machine.now.stable.now.states }
+    ensures { Tells (ItemStands machine.now.grm.now.grammar machine.now.stable.now items.now (S.number state.0) (S.number pidx.0) (S.number dot.0)) result }
 {
-    if !next_is_shifted(grm, stable, state, pidx, dot) {
+    if !next_is_shifted(machine, state, pidx, dot) {
         return false;
     }
-    if dot.0.to_usize() != grm.prod_len(pidx).0.to_usize() {
+    if dot.0.to_usize() != machine.grm.prod_len(pidx).0.to_usize() {
         return true;
     }
-    if pidx.0.to_usize() == grm.start_prod().0.to_usize() {
-        return is_accept(stable.action(state, grm.eof_token_idx()));
+    if pidx.0.to_usize() == machine.grm.start_prod().0.to_usize() {
+        return is_accept(machine.stable.action(state, machine.grm.eof_token_idx()));
     }
     match items.get(pidx, dot) {
-        Some(looks) => reduces_on(stable, state, pidx, looks),
+        Some(looks) => reduces_on(machine, state, pidx, looks),
         None => true,
     }
 }
 
 /// Returns whether those of each item of a state do.
 fn state_stands<S: IndexStorage>(
-    grm: &NumberedGrammar<S>,
+    machine: &Machine<'_, S>,
     items: &Itemset<S>,
-    stable: &FullTable<S>,
     state: StIdx<S>,
 ) -> bool
-    requires table { IsTableFor grm.now.grammar stable.now }
-    requires items { OfGrammar grm.now.grammar items.now }
-    requires state { S.number state.0 < stable.now.states }
-    ensures { Tells ((p d : ℕ) → HasItem items.now p d → ItemStands grm.now.grammar stable.now items.now (S.number state.0) p d) result }
+    requires items { OfGrammar machine.now.grm.now.grammar items.now }
+    requires state { S.number state.0 < machine.now.stable.now.states }
+    ensures { Tells ((p d : ℕ) → HasItem items.now p d → ItemStands machine.now.grm.now.grammar machine.now.stable.now items.now (S.number state.0) p d) result }
 {
     'items: for index in 0..items.len() {
         let (pidx, dot) = items.item_at(index);
-        if !item_stands(grm, items, stable, state, pidx, dot) {
+        if !item_stands(machine, items, state, pidx, dot) {
             return false;
         }
     }
@@ -164,19 +154,13 @@ fn state_stands<S: IndexStorage>(
 }
 
 /// Returns whether those of each item of all states do.
-pub(crate) fn is_complete<S: IndexStorage>(
-    grm: &NumberedGrammar<S>,
-    sgraph: &StateGraph<S>,
-    stable: &FullTable<S>,
-) -> bool
-    requires table { IsTableFor grm.now.grammar stable.now }
-    requires pair { IsSafePair grm.now.grammar sgraph.now stable.now }
-    ensures { Tells (Complete grm.now.grammar (automaton_of sgraph.now stable.now)) result }
+pub(crate) fn is_complete<S: IndexStorage>(machine: &Machine<'_, S>) -> bool
+    ensures { Tells (Complete machine.now.grm.now.grammar (automaton_of machine.now.sgraph.now machine.now.stable.now)) result }
 {
-    let states = sgraph.all_states_len().0;
+    let states = machine.sgraph.all_states_len().0;
     'states: for number in 0..states.to_usize() {
         let state = StIdx(index_below(number, states));
-        if !state_stands(grm, sgraph.closed_state(state), stable, state) {
+        if !state_stands(machine, machine.sgraph.closed_state(state), state) {
             return false;
         }
     }

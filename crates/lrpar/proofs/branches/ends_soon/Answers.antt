@@ -20,10 +20,10 @@ stacks-init g c =
     let start = chain_stack p above in
     let items : c.push.new.self.items ≡ first ∷ [] = c.in_ok-push.ensures.items ∙ ap (λ (l : List (Vec (StIdx g.row.S.Denot) Global)). l ++ first ∷ []) c.clear.ensures.items in
     record {
-      stacks = subst (λ (l : List (Vec (StIdx g.row.S.Denot) Global)). AllHoldStates number c.args.stable.now l) (sym items) (first_holds number p above first c.in_ok-first_stack.ensures c.args.stable.now c.requires.state c.requires.above);
+      stacks = subst (λ (l : List (Vec (StIdx g.row.S.Denot) Global)). AllHoldStates number c.args.chains.now.stable.now l) (sym items) (first_holds number p above first c.in_ok-first_stack.ensures c.args.chains.now.stable.now c.requires.state c.requires.above);
       on = λ x t k h.
-          let G = c.args.grm.now.grammar in
-          let a = automaton_of x c.args.stable.now in
+          let G = c.args.chains.now.grm.now.grammar in
+          let a = automaton_of x c.args.chains.now.stable.now in
           let e : 0 + k ≡ k = omega arith in
           subst (λ (l : List (Vec (StIdx g.row.S.Denot) Global)). SomeGoesOn number G a t l k) (sym items) (first_goes_on number p above first c.in_ok-first_stack.ensures G a t k (subst (λ n. Reductions G a t n start) e h));
     }
@@ -31,19 +31,19 @@ stacks-init g c =
 pub returns-in_default : goal.returns-in_default
 returns-in_default g c = λ _ x t h.
     let number = g.S.IndexStorage.number in
-    let G = c.args.grm.now.grammar in
-    let a = automaton_of x c.args.stable.now in
+    let G = c.args.chains.now.grm.now.grammar in
+    let a = automaton_of x c.args.chains.now.stable.now in
     let i = c.stacks.counter in
     let start = chain_stack (number c.args.state.0) (state_of number c.args.above) in
-    let e : c.args.limit + 1 ≡ i + suc (c.args.limit - i) = omega arith in
+    let e : c.args.chains.now.limit + 1 ≡ i + suc (c.args.chains.now.limit - i) = omega arith in
     let none : c.stacks.stacks.items ≡ [] = nil_from_length c.stacks.stacks.items (omega (arith, c.pop.ensures.len, rw c.in_default.is at c.pop.ensures.cases)) in
-    none_goes_on number G a t c.stacks.stacks.items (suc (c.args.limit - i)) none (c.stacks.invariant.on x t (suc (c.args.limit - i)) (subst (λ n. Reductions G a t n start) e h))
+    none_goes_on number G a t c.stacks.stacks.items (suc (c.args.chains.now.limit - i)) none (c.stacks.invariant.on x t (suc (c.args.chains.now.limit - i)) (subst (λ n. Reductions G a t n start) e h))
 
 pub stacks-preserved : goal.stacks-preserved
 stacks-preserved g c =
     let number = g.S.IndexStorage.number in
-    let G = c.args.grm.now.grammar in
-    let v = c.args.stable.now in
+    let G = c.args.chains.now.grm.now.grammar in
+    let v = c.args.chains.now.stable.now in
     let i = c.stacks.counter in
     let start = chain_stack (number c.args.state.0) (state_of number c.args.above) in
     let popped : c.stacks.stacks.items ≡ c.pop.new.self.items ++ c.in-Some.stack ∷ [] = rw c.in-Some.is at c.pop.ensures.items in
@@ -62,10 +62,10 @@ pub take_stack-requires-clause-states : goal.take_stack-requires-clause-states
 take_stack-requires-clause-states g c =
     let number = g.S.IndexStorage.number in
     let popped : c.stacks.stacks.items ≡ c.pop.new.self.items ++ c.in-Some.stack ∷ [] = rw c.in-Some.is at c.pop.ensures.items in
-    rw c.as_slice.ensures.value (hold_last number c.args.stable.now c.pop.new.self.items c.in-Some.stack (subst (λ (xs : List (Vec (StIdx g.row.S.Denot) Global)). AllHoldStates number c.args.stable.now xs) popped c.stacks.invariant.stacks))
+    rw c.as_slice.ensures.value (hold_last number c.args.chains.now.stable.now c.pop.new.self.items c.in-Some.stack (subst (λ (xs : List (Vec (StIdx g.row.S.Denot) Global)). AllHoldStates number c.args.chains.now.stable.now xs) popped c.stacks.invariant.stacks))
 
 pub take_stack-requires-clause-stacks : goal.take_stack-requires-clause-stacks
 take_stack-requires-clause-stacks g c =
     let number = g.S.IndexStorage.number in
     let popped : c.stacks.stacks.items ≡ c.pop.new.self.items ++ c.in-Some.stack ∷ [] = rw c.in-Some.is at c.pop.ensures.items in
-    hold_fewer number c.args.stable.now c.pop.new.self.items c.in-Some.stack (subst (λ (xs : List (Vec (StIdx g.row.S.Denot) Global)). AllHoldStates number c.args.stable.now xs) popped c.stacks.invariant.stacks)
+    hold_fewer number c.args.chains.now.stable.now c.pop.new.self.items c.in-Some.stack (subst (λ (xs : List (Vec (StIdx g.row.S.Denot) Global)). AllHoldStates number c.args.chains.now.stable.now xs) popped c.stacks.invariant.stacks)

@@ -10,6 +10,6 @@ use Rattle.lrpar.proofs.branches.ends_soon.Given as goal
 
 abbrev pub invariant-stacks : goal.invariant-stacks
 invariant-stacks g l = record {
-  stacks : AllHoldStates g.S.IndexStorage.number l.stable l.stacks.items;
-  on : (x : GraphValue) (t k : ℕ) → Reductions l.grm.grammar (automaton_of x l.stable) t (l.counter + k) (chain_stack (g.S.IndexStorage.number l.fn.state.0) (state_of g.S.IndexStorage.number l.fn.above)) → SomeGoesOn g.S.IndexStorage.number l.grm.grammar (automaton_of x l.stable) t l.stacks.items k;
+  stacks : AllHoldStates g.S.IndexStorage.number l.chains.stable.now l.stacks.items;
+  on : (x : GraphValue) (t k : ℕ) → Reductions l.chains.grm.now.grammar (automaton_of x l.chains.stable.now) t (l.counter + k) (chain_stack (g.S.IndexStorage.number l.fn.state.0) (state_of g.S.IndexStorage.number l.fn.above)) → SomeGoesOn g.S.IndexStorage.number l.chains.grm.now.grammar (automaton_of x l.chains.stable.now) t l.stacks.items k;
 }

@@ -17,7 +17,7 @@ reduced-requires-clause-production g c = c.requires.list _ (c.prods.index, c.pro
 pub prods-preserved-in_default : goal.prods-preserved-in_default
 prods-preserved-in_default g c =
     let number = g.S.IndexStorage.number in
-    let G = c.args.grm.now.grammar in
+    let G = c.args.chains.now.grm.now.grammar in
     record {
       stacks = c.prods.invariant.stacks;
       kept = c.prods.invariant.kept;
@@ -27,7 +27,7 @@ prods-preserved-in_default g c =
             let s : k ≡ c.prods.index = omega (arith, lt, ge) in
             let same : i ≡ c.prod_of_list-pidx.result = same_Some i c.prod_of_list-pidx.result (sym at ∙ ap (slice_get c.args.list.now) s ∙ c.prod_of_list-pidx.ensures) in
             let none = rw c.in_default.is at (c.in_ok-next.ensures.value x) in
-            let to = subst (λ (j : PIdx g.row.S.Denot). goto_from G (automaton_of x c.args.stable.now) (number j.0) (drop (length (body_of G (number j.0))) (stack_of number c.args.stack.now)) ≡ Some ss) same e in
+            let to = subst (λ (j : PIdx g.row.S.Denot). goto_from G (automaton_of x c.args.chains.now.stable.now) (number j.0) (drop (length (body_of G (number j.0))) (stack_of number c.args.stack.now)) ≡ Some ss) same e in
             cc (none ∙ to)
       ];
     }
@@ -35,8 +35,8 @@ prods-preserved-in_default g c =
 pub prods-preserved : goal.prods-preserved
 prods-preserved g c =
     let number = g.S.IndexStorage.number in
-    let G = c.args.grm.now.grammar in
-    let v = c.args.stable.now in
+    let G = c.args.chains.now.grm.now.grammar in
+    let v = c.args.chains.now.stable.now in
     let items = c.in_ok-push.ensures.items in
     let old = c.prods.stacks.items in
     let next = c.in-Some.next in
@@ -58,6 +58,6 @@ prods-preserved g c =
 pub returns-clause-put : goal.returns-clause-put
 returns-clause-put g c = λ x p ss h e.
     let number = g.S.IndexStorage.number in
-    let G = c.args.grm.now.grammar in
+    let G = c.args.chains.now.grm.now.grammar in
     let w = slice_get_within c.args.list.now h.0 h.1 h.2 in
-    c.prods.invariant.put x h.0 h.1 ss (omega (arith, w)) h.2 (subst (λ (q : ℕ). goto_from G (automaton_of x c.args.stable.now) q (drop (length (body_of G q)) (stack_of number c.args.stack.now)) ≡ Some ss) (sym h.3) e)
+    c.prods.invariant.put x h.0 h.1 ss (omega (arith, w)) h.2 (subst (λ (q : ℕ). goto_from G (automaton_of x c.args.chains.now.stable.now) q (drop (length (body_of G q)) (stack_of number c.args.stack.now)) ≡ Some ss) (sym h.3) e)

@@ -11,8 +11,8 @@ use Rattle.lrpar.proofs.branches.follow.Given as goal
 
 abbrev pub invariant-prods : goal.invariant-prods
 invariant-prods g l = record {
-  stacks : AllHoldStates g.S.IndexStorage.number l.stable l.stacks.items;
+  stacks : AllHoldStates g.S.IndexStorage.number l.chains.stable.now l.stacks.items;
   kept : (ss : List ℕ) → Stacked g.S.IndexStorage.number l.initial.stacks.items ss → Stacked g.S.IndexStorage.number l.stacks.items ss;
   put : (x : GraphValue) (k : ℕ) (i : PIdx g.row.S.Denot) (ss : List ℕ) → k < l.index → slice_get l.list k ≡ Some i →
-      goto_from l.grm.grammar (automaton_of x l.stable) (g.S.IndexStorage.number i.0) (drop (length (body_of l.grm.grammar (g.S.IndexStorage.number i.0))) (stack_of g.S.IndexStorage.number l.stack)) ≡ Some ss → Stacked g.S.IndexStorage.number l.stacks.items ss;
+      goto_from l.chains.grm.now.grammar (automaton_of x l.chains.stable.now) (g.S.IndexStorage.number i.0) (drop (length (body_of l.chains.grm.now.grammar (g.S.IndexStorage.number i.0))) (stack_of g.S.IndexStorage.number l.stack)) ≡ Some ss → Stacked g.S.IndexStorage.number l.stacks.items ss;
 }

@@ -12,22 +12,22 @@ use Rattle.lrpar.proofs.branches.reduced.Goals as goal
 use Rattle.lrpar.proofs.branches.reduced.Goals.{After-goto}
 
 pub goto-requires-clause-state : goal.goto-requires-clause-state
-goto-requires-clause-state g c = state_in g.S.IndexStorage.number c.args.stable.now c.args.stack.now (length c.args.stack.now - c.to_usize-count.result - 1) c.index-stack-left.result c.requires.states (omega arith) c.index-stack-left.is
+goto-requires-clause-state g c = state_in g.S.IndexStorage.number c.args.chains.now.stable.now c.args.stack.now (length c.args.stack.now - c.to_usize-count.result - 1) c.index-stack-left.result c.requires.states (omega arith) c.index-stack-left.is
 
 pub goto-requires-clause-rule : goal.goto-requires-clause-rule
 goto-requires-clause-rule g c =
     let number = g.S.IndexStorage.number in
     let p = number c.args.pidx.0 in
-    let is_of : IsOf c.args.grm.now.grammar p (number c.prod_to_rule.result.0) = record { in_range = c.requires.production; head = sym c.prod_to_rule.ensures } in
-    let heads = c.requires.table.well_formed.heads p (number c.prod_to_rule.result.0) is_of in
-    omega (arith, heads, c.requires.table.rules)
+    let is_of : IsOf c.args.chains.now.grm.now.grammar p (number c.prod_to_rule.result.0) = record { in_range = c.requires.production; head = sym c.prod_to_rule.ensures } in
+    let heads = c.args.chains.now.table.well_formed.heads p (number c.prod_to_rule.result.0) is_of in
+    omega (arith, heads, c.args.chains.now.table.rules)
 
 -- what the reduction comes to
-stepped : (g : _) (c : After-goto g) (x : GraphValue) → goto_from c.args.grm.now.grammar (automaton_of x c.args.stable.now) (g.S.IndexStorage.number c.args.pidx.0) (drop (length (body_of c.args.grm.now.grammar (g.S.IndexStorage.number c.args.pidx.0))) (stack_of g.S.IndexStorage.number c.args.stack.now)) ≡ push_goto (state_of g.S.IndexStorage.number c.goto.result) (reverse (take (length c.args.stack.now - c.to_usize-count.result) (states_of g.S.IndexStorage.number c.args.stack.now)))
+stepped : (g : _) (c : After-goto g) (x : GraphValue) → goto_from c.args.chains.now.grm.now.grammar (automaton_of x c.args.chains.now.stable.now) (g.S.IndexStorage.number c.args.pidx.0) (drop (length (body_of c.args.chains.now.grm.now.grammar (g.S.IndexStorage.number c.args.pidx.0))) (stack_of g.S.IndexStorage.number c.args.stack.now)) ≡ push_goto (state_of g.S.IndexStorage.number c.goto.result) (reverse (take (length c.args.stack.now - c.to_usize-count.result) (states_of g.S.IndexStorage.number c.args.stack.now)))
 stepped g c x =
     let number = g.S.IndexStorage.number in
-    let G = c.args.grm.now.grammar in
-    let v = c.args.stable.now in
+    let G = c.args.chains.now.grm.now.grammar in
+    let v = c.args.chains.now.stable.now in
     let stack = c.args.stack.now in
     let below = number c.index-stack-left.result.0 in
     let p = number c.args.pidx.0 in
@@ -52,8 +52,8 @@ returns-clause-value g c = λ x.
 pub returns-clause-states : goal.returns-clause-states
 returns-clause-states g c =
     let number = g.S.IndexStorage.number in
-    let v = c.args.stable.now in
+    let v = c.args.chains.now.stable.now in
     let left = length c.args.stack.now - c.to_usize-count.result in
     let to : goto_at v (number c.index-stack-left.result.0) (number c.prod_to_rule.result.0) ≡ Some (number c.in-Some.target.0) = sym c.goto.ensures ∙ ap (state_of number) c.in-Some.is in
     let long = length_pushed c.args.stack.now left c.in-Some.target (omega arith) in
-    rw (c.in_ok-push.ensures.items, c.in_ok-extend_from_slice.ensures.items, c.empty_stack-next.ensures) (record { states = are_pushed number v c.args.stack.now left c.in-Some.target c.requires.states (c.requires.table.is_table.targets _ _ _ to); some = omega (arith, long) })
+    rw (c.in_ok-push.ensures.items, c.in_ok-extend_from_slice.ensures.items, c.empty_stack-next.ensures) (record { states = are_pushed number v c.args.stack.now left c.in-Some.target c.requires.states (c.args.chains.now.table.is_table.targets _ _ _ to); some = omega (arith, long) })

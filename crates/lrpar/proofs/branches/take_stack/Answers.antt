@@ -9,13 +9,13 @@ use Rattle.lrpar.proofs.StacksAhead.{by_production}
 use Rattle.lrpar.proofs.branches.take_stack.Goals as goal
 
 pub reducers_at-list-requires-clause-state : goal.reducers_at-list-requires-clause-state
-reducers_at-list-requires-clause-state g c = state_in g.S.IndexStorage.number c.args.stable.now c.args.stack.now (length c.args.stack.now - 1) c.index-stack-stack.result c.requires.states.states (omega (arith, c.requires.states.some)) c.index-stack-stack.is
+reducers_at-list-requires-clause-state g c = state_in g.S.IndexStorage.number c.args.chains.now.stable.now c.args.stack.now (length c.args.stack.now - 1) c.index-stack-stack.result c.requires.states.states (omega (arith, c.requires.states.some)) c.index-stack-stack.is
 
 pub returns-clause-put : goal.returns-clause-put
 returns-clause-put g c = λ x t ss h.
     let number = g.S.IndexStorage.number in
-    let G = c.args.grm.now.grammar in
-    let v = c.args.stable.now in
+    let G = c.args.chains.now.grm.now.grammar in
+    let v = c.args.chains.now.stable.now in
     let stack = c.args.stack.now in
     let top = number c.index-stack-stack.result.0 in
     let m = length stack - 1 in

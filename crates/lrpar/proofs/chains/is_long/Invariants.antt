@@ -8,7 +8,7 @@ use Rattle.lrpar.proofs.chains.is_long.Given as goal
 
 abbrev pub invariant-chain : goal.invariant-chain
 invariant-chain g l = record {
-  states : AreStates l.stable (states_of g.S.IndexStorage.number l.stack.items);
+  states : AreStates l.chains.stable.now (states_of g.S.IndexStorage.number l.stack.items);
   some : 0 < length l.stack.items;
-  leads : (x : GraphValue) → LeadsOn l.grm.grammar (automaton_of x l.stable) (g.S.IndexStorage.number l.tidx.0) l.counter (chain_stack (g.S.IndexStorage.number l.fn.state.0) (state_of g.S.IndexStorage.number l.fn.above)) (stack_of g.S.IndexStorage.number l.stack.items);
+  leads : (x : GraphValue) → LeadsOn l.chains.grm.now.grammar (automaton_of x l.chains.stable.now) (g.S.IndexStorage.number l.tidx.0) l.counter (chain_stack (g.S.IndexStorage.number l.fn.state.0) (state_of g.S.IndexStorage.number l.fn.above)) (stack_of g.S.IndexStorage.number l.stack.items);
 }

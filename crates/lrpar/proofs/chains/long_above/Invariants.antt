@@ -7,4 +7,4 @@ use Rattle.lrpar.proofs.RowWalks.{RowTo}
 use Rattle.lrpar.proofs.chains.long_above.Given as goal
 
 abbrev pub invariant-gotos : goal.invariant-gotos
-invariant-gotos g l = (x : GraphValue) → RowTo (targets_of g.S.IndexStorage.number l.row) (λ R. (t : ℕ) → GoesPast l.grm.grammar (automaton_of x l.stable) l.limit (g.S.IndexStorage.number l.state.0) (Some R) t → ⊥) l.index
+invariant-gotos g l = (x : GraphValue) → RowTo (targets_of g.S.IndexStorage.number l.row) (λ R. (t : ℕ) → GoesPast l.chains.grm.now.grammar (automaton_of x l.chains.stable.now) l.chains.limit (g.S.IndexStorage.number l.state.0) (Some R) t → ⊥) l.index

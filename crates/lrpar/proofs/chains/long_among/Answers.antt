@@ -8,14 +8,14 @@ pub returns-in-Some : goal.returns-in-Some
 returns-in-Some g c = λ x.
     let number = g.S.IndexStorage.number in
     let k = rw c.in-Some.is at (c.in_ok-found.ensures x) in
-    let below : (b : Chain) → b.state < number c.index_below.result → Passes c.args.grm.now.grammar (automaton_of x c.args.stable.now) c.args.limit b → _ =
+    let below : (b : Chain) → b.state < number c.index_below.result → Passes c.args.chains.now.grm.now.grammar (automaton_of x c.args.chains.now.stable.now) c.args.chains.now.limit b → _ =
     λ b lt. c.states.invariant x b (omega (arith, lt, c.index_below.ensures)) in
-    least_of_all c.args.grm.now.grammar x c.args.stable.now c.requires.table.is_table c.args.limit number (number c.index_below.result) c.in-Some.found k below
+    least_of_all c.args.chains.now.grm.now.grammar x c.args.chains.now.stable.now c.args.chains.now.table.is_table c.args.chains.now.limit number (number c.index_below.result) c.in-Some.found k below
 
 pub states-preserved : goal.states-preserved
 states-preserved g c = λ x d lt.
     let k = rw c.in_default.is at (c.in_ok-found.ensures x) in
-    more_state c.args.grm.now.grammar x c.args.stable.now c.requires.table.is_table c.args.limit c.states.number d lt (c.states.invariant x) (λ b e. k b (e ∙ sym c.index_below.ensures))
+    more_state c.args.chains.now.grm.now.grammar x c.args.chains.now.stable.now c.args.chains.now.table.is_table c.args.chains.now.limit c.states.number d lt (c.states.invariant x) (λ b e. k b (e ∙ sym c.index_below.ensures))
 
 pub returns : goal.returns
-returns g c = λ x. within c.args.grm.now.grammar x c.args.stable.now c.requires.table.is_table c.args.limit (λ d lt. c.states.invariant x d (omega (arith, lt, c.states-test.false, c.to_usize-number-end.ensures.value, c.states_len-states.ensures.value)))
+returns g c = λ x. within c.args.chains.now.grm.now.grammar x c.args.chains.now.stable.now c.args.chains.now.table.is_table c.args.chains.now.limit (λ d lt. c.states.invariant x d (omega (arith, lt, c.states-test.false, c.to_usize-number-end.ensures.value, c.states_len-states.ensures.value)))

@@ -5,4 +5,4 @@ use Rattle.state_table.specs.Graphs.{GraphValue}
 use Rattle.lrpar.proofs.chains.long_among.Given as goal
 
 abbrev pub invariant-states : goal.invariant-states
-invariant-states g l = (x : GraphValue) (d : Chain) → d.state < l.number → Passes l.grm.grammar (automaton_of x l.stable) l.limit d → ⊥
+invariant-states g l = (x : GraphValue) (d : Chain) → d.state < l.number → Passes l.chains.grm.now.grammar (automaton_of x l.chains.stable.now) l.chains.limit d → ⊥

@@ -16,52 +16,52 @@ pub cells-init : goal.cells-init
 cells-init g c = λ x. row_none _ _
 
 -- the cell that was read
-there : (g : _) (c : After-action-1 g) → action_at c.args.stable.now (chain_top (g.S.IndexStorage.number c.args.state.0) (state_of g.S.IndexStorage.number c.args.above)) c.cell_of_row-number.result.0 ≡ action_of g.S.IndexStorage.number c.cell_of_row-number.result.1
+there : (g : _) (c : After-action-1 g) → action_at c.args.chains.now.stable.now (chain_top (g.S.IndexStorage.number c.args.state.0) (state_of g.S.IndexStorage.number c.args.above)) c.cell_of_row-number.result.0 ≡ action_of g.S.IndexStorage.number c.cell_of_row-number.result.1
 there g c =
     let number = g.S.IndexStorage.number in
     let row = cells_of number c.state_cells-row.result.now in
-    let v = c.args.stable.now in
+    let v = c.args.chains.now.stable.now in
     subst (λ s. action_at v s c.cell_of_row-number.result.0 ≡ action_of number c.cell_of_row-number.result.1) c.top_of.ensures
     (cell_there v (number c.top_of.result.0) row c.state_cells-row.ensures.whole c.state_cells-row.ensures.cells c.cells.index c.cell_of_row-number.result.0 (action_of number c.cell_of_row-number.result.1) c.cell_of_row-number.ensures)
 
 pub may_begin-requires : goal.may_begin-requires
 may_begin-requires g c = λ p e.
-    let within = c.requires.table.is_table.reduces _ _ p (there g (goal.at.may_begin-requires g c).After-action-1 ∙ e) in
-    omega (arith, within, c.requires.table.productions)
+    let within = c.args.chains.now.table.is_table.reduces _ _ p (there g (goal.at.may_begin-requires g c).After-action-1 ∙ e) in
+    omega (arith, within, c.args.chains.now.table.productions)
 
 pub index_below-requires : goal.index_below-requires
 index_below-requires g c =
     let number = g.S.IndexStorage.number in
-    let lt = cell_inside c.args.stable.now (number c.top_of.result.0) (cells_of number c.state_cells-row.result.now) c.state_cells-row.ensures.whole c.state_cells-row.ensures.cells c.cells.index c.cell_of_row-number.result.0 (action_of number c.cell_of_row-number.result.1) c.cell_of_row-number.ensures in
+    let lt = cell_inside c.args.chains.now.stable.now (number c.top_of.result.0) (cells_of number c.state_cells-row.result.now) c.state_cells-row.ensures.whole c.state_cells-row.ensures.cells c.cells.index c.cell_of_row-number.result.0 (action_of number c.cell_of_row-number.result.1) c.cell_of_row-number.ensures in
     omega (arith, lt, c.tokens_len.ensures)
 
 pub cells-preserved-then-not-may_begin : goal.cells-preserved-then-not-may_begin
 cells-preserved-then-not-may_begin g c = λ x.
     let number = g.S.IndexStorage.number in
     let a = action_of number c.cell_of_row-number.result.1 in
-    let none : BeginsNone c.args.grm.now.grammar _ a = rw c.depth_of-depth.ensures at (c.may_begin.ensures c.if-not-may_begin.true) in
+    let none : BeginsNone c.args.chains.now.grm.now.grammar _ a = rw c.depth_of-depth.ensures at (c.may_begin.ensures c.if-not-may_begin.true) in
     row_more (cells_of number c.state_cells-row.result.now) _ c.cells.index c.cell_of_row-number.result.0 a (c.cells.invariant x) c.cell_of_row-number.ensures
-    (begins_none c.args.grm.now.grammar x c.args.stable.now c.args.limit (number c.args.state.0) c.cell_of_row-number.result.0 (state_of number c.args.above) a (there g (goal.at.cells-preserved-then-not-may_begin g c).After-action-1) none)
+    (begins_none c.args.chains.now.grm.now.grammar x c.args.chains.now.stable.now c.args.chains.now.limit (number c.args.state.0) c.cell_of_row-number.result.0 (state_of number c.args.above) a (there g (goal.at.cells-preserved-then-not-may_begin g c).After-action-1) none)
 
 pub cells-preserved : goal.cells-preserved
 cells-preserved g c = λ x.
     let number = g.S.IndexStorage.number in
     let a = action_of number c.cell_of_row-number.result.1 in
-    let here = subst (λ u. IsLong c.args.grm.now.grammar (automaton_of x c.args.stable.now) c.args.limit (number c.args.state.0) (state_of number c.args.above) u → ⊥) c.index_below.ensures (rw c.if-branch.false at (c.in_ok-is_long.ensures x)) in
+    let here = subst (λ u. IsLong c.args.chains.now.grm.now.grammar (automaton_of x c.args.chains.now.stable.now) c.args.chains.now.limit (number c.args.state.0) (state_of number c.args.above) u → ⊥) c.index_below.ensures (rw c.if-branch.false at (c.in_ok-is_long.ensures x)) in
     row_more (cells_of number c.state_cells-row.result.now) _ c.cells.index c.cell_of_row-number.result.0 a (c.cells.invariant x) c.cell_of_row-number.ensures here
 
 -- an error cell begins no chain
-errors : (g : _) (c : After-action-1 g) (x : GraphValue) (t : ℕ) → action_at c.args.stable.now (g.S.IndexStorage.number c.top_of.result.0) t ≡ error → IsLong c.args.grm.now.grammar (automaton_of x c.args.stable.now) c.args.limit (g.S.IndexStorage.number c.args.state.0) (state_of g.S.IndexStorage.number c.args.above) t → ⊥
+errors : (g : _) (c : After-action-1 g) (x : GraphValue) (t : ℕ) → action_at c.args.chains.now.stable.now (g.S.IndexStorage.number c.top_of.result.0) t ≡ error → IsLong c.args.chains.now.grm.now.grammar (automaton_of x c.args.chains.now.stable.now) c.args.chains.now.limit (g.S.IndexStorage.number c.args.state.0) (state_of g.S.IndexStorage.number c.args.above) t → ⊥
 errors g c x t e =
     let number = g.S.IndexStorage.number in
-    error_begins_none c.args.grm.now.grammar x c.args.stable.now c.args.limit (number c.args.state.0) t (state_of number c.args.above) (subst (λ s. action_at c.args.stable.now s t ≡ error) c.top_of.ensures e)
+    error_begins_none c.args.chains.now.grm.now.grammar x c.args.chains.now.stable.now c.args.chains.now.limit (number c.args.state.0) t (state_of number c.args.above) (subst (λ s. action_at c.args.chains.now.stable.now s t ≡ error) c.top_of.ensures e)
 
 pub returns-then-branch : goal.returns-then-branch
 returns-then-branch g c = λ x.
     let number = g.S.IndexStorage.number in
     let a = action_of number c.cell_of_row-number.result.1 in
-    let before = before_cell c.args.stable.now (number c.top_of.result.0) (cells_of number c.state_cells-row.result.now) c.state_cells-row.ensures.whole c.state_cells-row.ensures.cells _ (errors g (goal.at.returns-then-branch g c).After-action-1 x) c.cells.index c.cell_of_row-number.result.0 a (c.cells.invariant x) c.cell_of_row-number.ensures in
-    let inside = cell_inside c.args.stable.now (number c.top_of.result.0) (cells_of number c.state_cells-row.result.now) c.state_cells-row.ensures.whole c.state_cells-row.ensures.cells c.cells.index c.cell_of_row-number.result.0 a c.cell_of_row-number.ensures in
+    let before = before_cell c.args.chains.now.stable.now (number c.top_of.result.0) (cells_of number c.state_cells-row.result.now) c.state_cells-row.ensures.whole c.state_cells-row.ensures.cells _ (errors g (goal.at.returns-then-branch g c).After-action-1 x) c.cells.index c.cell_of_row-number.result.0 a (c.cells.invariant x) c.cell_of_row-number.ensures in
+    let inside = cell_inside c.args.chains.now.stable.now (number c.top_of.result.0) (cells_of number c.state_cells-row.result.now) c.state_cells-row.ensures.whole c.state_cells-row.ensures.cells c.cells.index c.cell_of_row-number.result.0 a c.cell_of_row-number.ensures in
     (omega (arith, inside, c.index_below.ensures), rw c.if-branch.true at (c.in_ok-is_long.ensures x), λ t lt. before t (omega (arith, lt, c.index_below.ensures)))
 
 pub returns : goal.returns
@@ -70,6 +70,6 @@ returns g c = λ x t lt.
     let f : ℕ × TableAction g.row.S.Denot → ℕ × Action = λ e. (e.0, action_of number e.1) in
     let n = length-map c.state_cells-row.result.now f in
     let all : length (cells_of number c.state_cells-row.result.now) ≤ c.cells.index = omega (arith, n) in
-    all_cells c.args.stable.now (number c.top_of.result.0) (cells_of number c.state_cells-row.result.now) c.state_cells-row.ensures.whole c.state_cells-row.ensures.cells _
-    (λ u e. error_begins_none c.args.grm.now.grammar x c.args.stable.now c.args.limit (number c.args.state.0) u (state_of number c.args.above) (subst (λ s. action_at c.args.stable.now s u ≡ error) c.top_of.ensures e))
+    all_cells c.args.chains.now.stable.now (number c.top_of.result.0) (cells_of number c.state_cells-row.result.now) c.state_cells-row.ensures.whole c.state_cells-row.ensures.cells _
+    (λ u e. error_begins_none c.args.chains.now.grm.now.grammar x c.args.chains.now.stable.now c.args.chains.now.limit (number c.args.state.0) u (state_of number c.args.above) (subst (λ s. action_at c.args.chains.now.stable.now s u ≡ error) c.top_of.ensures e))
     c.cells.index (c.cells.invariant x) all t

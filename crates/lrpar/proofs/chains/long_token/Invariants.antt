@@ -6,4 +6,4 @@ use Rattle.lrpar.proofs.RowWalks.{RowTo}
 use Rattle.lrpar.proofs.chains.long_token.Given as goal
 
 abbrev pub invariant-cells : goal.invariant-cells
-invariant-cells g l = (x : GraphValue) → RowTo (cells_of g.S.IndexStorage.number l.row) (λ t. IsLong l.grm.grammar (automaton_of x l.stable) l.limit (g.S.IndexStorage.number l.state.0) (state_of g.S.IndexStorage.number l.above) t → ⊥) l.index
+invariant-cells g l = (x : GraphValue) → RowTo (cells_of g.S.IndexStorage.number l.row) (λ t. IsLong l.chains.grm.now.grammar (automaton_of x l.chains.stable.now) l.chains.limit (g.S.IndexStorage.number l.state.0) (state_of g.S.IndexStorage.number l.above) t → ⊥) l.index

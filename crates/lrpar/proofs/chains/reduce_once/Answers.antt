@@ -13,28 +13,28 @@ use Rattle.lrpar.proofs.chains.reduce_once.Goals as goal
 use Rattle.lrpar.proofs.chains.reduce_once.Goals.{After-goto}
 
 pub action-requires-clause-state : goal.action-requires-clause-state
-action-requires-clause-state g c = state_in g.S.IndexStorage.number c.args.stable.now c.args.stack.now.items (c.len.result - 1) c.index-top.result.now c.requires.states (omega arith) c.index-top.ensures
+action-requires-clause-state g c = state_in g.S.IndexStorage.number c.args.chains.now.stable.now c.args.stack.now.items (c.len.result - 1) c.index-top.result.now c.requires.states (omega arith) c.index-top.ensures
 
 pub goto-requires-clause-state : goal.goto-requires-clause-state
-goto-requires-clause-state g c = state_in g.S.IndexStorage.number c.args.stable.now c.args.stack.now.items (c.len-3.result - c.to_usize-count.result - 1) c.index-below.result.now c.requires.states (omega arith) c.index-below.ensures
+goto-requires-clause-state g c = state_in g.S.IndexStorage.number c.args.chains.now.stable.now c.args.stack.now.items (c.len-3.result - c.to_usize-count.result - 1) c.index-below.result.now c.requires.states (omega arith) c.index-below.ensures
 
 pub goto-requires-clause-rule : goal.goto-requires-clause-rule
 goto-requires-clause-rule g c =
     let number = g.S.IndexStorage.number in
-    let table = c.requires.table in
+    let table = c.args.chains.now.table in
     let p = number c.in-Reduce.pidx.0 in
-    let cell : action_at c.args.stable.now (number c.index-top.result.now.0) (number c.args.tidx.0) ≡ reduce p = sym c.action.ensures ∙ ap (action_of number) c.in-Reduce.is in
+    let cell : action_at c.args.chains.now.stable.now (number c.index-top.result.now.0) (number c.args.tidx.0) ≡ reduce p = sym c.action.ensures ∙ ap (action_of number) c.in-Reduce.is in
     let within = table.is_table.reduces _ _ p cell in
-    let is_of : IsOf c.args.grm.now.grammar p (number c.prod_to_rule.result.0) = record { in_range = omega (arith, within, table.productions); head = sym c.prod_to_rule.ensures } in
+    let is_of : IsOf c.args.chains.now.grm.now.grammar p (number c.prod_to_rule.result.0) = record { in_range = omega (arith, within, table.productions); head = sym c.prod_to_rule.ensures } in
     let heads = table.well_formed.heads p (number c.prod_to_rule.result.0) is_of in
     omega (arith, heads, table.rules)
 
 -- what the reduction comes to
-stepped : (g : _) (c : After-goto g) (x : GraphValue) → reduction c.args.grm.now.grammar (automaton_of x c.args.stable.now) (g.S.IndexStorage.number c.args.tidx.0) (stack_of g.S.IndexStorage.number c.args.stack.now.items) ≡ push_goto (state_of g.S.IndexStorage.number c.goto.result) (reverse (take (c.len-3.result - c.to_usize-count.result) (states_of g.S.IndexStorage.number c.args.stack.now.items)))
+stepped : (g : _) (c : After-goto g) (x : GraphValue) → reduction c.args.chains.now.grm.now.grammar (automaton_of x c.args.chains.now.stable.now) (g.S.IndexStorage.number c.args.tidx.0) (stack_of g.S.IndexStorage.number c.args.stack.now.items) ≡ push_goto (state_of g.S.IndexStorage.number c.goto.result) (reverse (take (c.len-3.result - c.to_usize-count.result) (states_of g.S.IndexStorage.number c.args.stack.now.items)))
 stepped g c x =
     let number = g.S.IndexStorage.number in
-    let G = c.args.grm.now.grammar in
-    let v = c.args.stable.now in
+    let G = c.args.chains.now.grm.now.grammar in
+    let v = c.args.chains.now.stable.now in
     let stack = c.args.stack.now in
     let top = number c.index-top.result.now.0 in
     let below = number c.index-below.result.now.0 in
@@ -62,6 +62,6 @@ returns-clause-ok g c = λ x.
 pub returns-clause-states : goal.returns-clause-states
 returns-clause-states g c =
     let number = g.S.IndexStorage.number in
-    let v = c.args.stable.now in
+    let v = c.args.chains.now.stable.now in
     let to : goto_at v (number c.index-below.result.now.0) (number c.prod_to_rule.result.0) ≡ Some (number c.in-Some.target.0) = sym c.goto.ensures ∙ ap (state_of number) c.in-Some.is in
-    rw (c.in_ok-push.ensures.items, c.truncate.ensures.items) (are_pushed number v c.args.stack.now.items (c.len-3.result - c.to_usize-count.result) c.in-Some.target c.requires.states (c.requires.table.is_table.targets _ _ _ to))
+    rw (c.in_ok-push.ensures.items, c.truncate.ensures.items) (are_pushed number v c.args.stack.now.items (c.len-3.result - c.to_usize-count.result) c.in-Some.target c.requires.states (c.args.chains.now.table.is_table.targets _ _ _ to))

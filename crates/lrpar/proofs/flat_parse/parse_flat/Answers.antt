@@ -10,26 +10,26 @@ use Rattle.lrpar.proofs.flat_parse.parse_flat.Goals as goal
 
 pub tree_left-tree-requires : goal.tree_left-tree-requires
 tree_left-tree-requires g c =
-    let x = c.requires.safe in
-    let o = rw c.in-Parsed.is at (c.in_ok-fault.ensures.parsed x.0 x.1 x.2) in
+    let o = rw c.in-Parsed.is at c.in_ok-fault.ensures.parsed in
     (o.2.parsed.tree, o.2.parsed.gives_tree)
 
 pub returns-in-Ok-tell_errors-clause-parsed : goal.returns-in-Ok-tell_errors-clause-parsed
-returns-in-Ok-tell_errors-clause-parsed g c = λ x safe start.
+returns-in-Ok-tell_errors-clause-parsed g c =
+    let x = c.args.machine.now.sgraph.now in
     let number = g.S.IndexStorage.number in
     let lex = g.L.Lexeme.lex in
-    let G = c.args.grm.now.grammar in
+    let G = c.args.machine.now.grm.now.grammar in
     let p = c.in-Parsed.parsed in
     let lexemes = c.in-Parsed.lexemes in
     let found = errors_of number p.errors.items in
-    let o = rw c.in-Parsed.is at (c.in_ok-fault.ensures.parsed x safe start) in
+    let o = rw c.in-Parsed.is at c.in_ok-fault.ensures.parsed in
     let told = c.in-Ok-tell_errors.ensures ∙ ap (λ es. map (as_told lexemes) (errors_of number es)) c.as_slice.ensures.value in
     record {
       lexemes = lexemes;
       are_items = o.0;
       are_lexemes = o.1;
       found = found;
-      parse = parse_gives G (automaton_of x c.args.stable.now) (token_by lex) (made_by g.L.Lexeme.faulty_of lex (end_of lex lexemes)) (g.R.Recoverer.answers c.args.recoverer.now) _ (HasFlat (span_by lex) c.tree_left-tree.result) lexemes found
+      parse = parse_gives G (automaton_of x c.args.machine.now.stable.now) (token_by lex) (made_by g.L.Lexeme.faulty_of lex (end_of lex lexemes)) (g.R.Recoverer.answers c.args.recoverer.now) _ (HasFlat (span_by lex) c.tree_left-tree.result) lexemes found
           (λ tree h. c.tree_left-tree.ensures tree h) o.2;
       told = told;
     }

@@ -7,14 +7,13 @@ use Rattle.lrpar.specs.Replay.{overlaid}
 use Rattle.parse_trees.specs.Lex.{token_by}
 use Rattle.lrpar.specs.declared.overlay.Overlay.{Overlay}
 use Rattle.lrpar.proofs.NextTold.{over_one, over_nothing, one_state, comes_first, comes_on, stops_here}
-use Rattle.lrpar.proofs.Tested.{shifted_some}
 use Rattle.lrpar.proofs.Turning.{slice_read}
 use Rattle.lrpar.proofs.next_tokens.states_behind.Goals as goal
 
 pub lexemes-init : goal.lexemes-init
 lexemes-init g c =
     let number = g.S.IndexStorage.number in
-    let v = c.args.stable.now in
+    let v = c.args.machine.now.stable.now in
     let o : Overlay g.row.S.Denot = record { kept = 0; over = c.push.new.self } in
     let q = c.start_state.result in
     let items : c.push.new.self.items ≡ q ∷ [] = rw c.new-over.ensures.items at c.in_ok-push.ensures.items in
@@ -23,16 +22,15 @@ lexemes-init g c =
     let within = c.start_state.ensures.within in
     let n = ap length e in
     record {
-      over = record { within = omega arith; are_states = subst (AreStates v) (sym e) (one_state v (number q.0) (omega (arith, value, within))) };
-      some = omega (arith, n);
-      comes = comes_first c.args.grm.now.grammar v (token_by g.L.Lexeme.lex) c.args.lexemes.now (overlaid number c.new-base.result.items o) (e ∙ ap (λ s. s ∷ []) value);
+      over = record { within = omega arith; are_states = subst (AreStates v) (sym e) (one_state v (number q.0) (omega (arith, value, within))); some = omega (arith, n) };
+      comes = comes_first c.args.machine.now.grm.now.grammar v (token_by g.L.Lexeme.lex) c.args.lexemes.now (overlaid number c.new-base.result.items o) (e ∙ ap (λ s. s ∷ []) value);
     }
 
 pub shift_on-requires-clause-token : goal.shift_on-requires-clause-token
 shift_on-requires-clause-token g c =
     let y = c.index-lexemes-index.result in
     let lt = c.requires.inside c.lexemes.index y (slice_read c.args.lexemes.now c.lexemes.index y c.lexemes-test.true c.index-lexemes-index.is) in
-    let same = c.requires.table.tokens in
+    let same = c.args.machine.now.table.tokens in
     let is = c.tok_id.ensures in
     omega (arith, lt, same, is)
 
@@ -41,8 +39,8 @@ returns-then-not-branch-clause-reaches g c =
     let number = g.S.IndexStorage.number in
     let y = c.index-lexemes-index.result in
     let base = c.new-base.result.items in
-    stops_here c.args.grm.now.grammar c.args.stable.now (token_by g.L.Lexeme.lex) c.requires.table c.args.lexemes.now c.requires.inside c.lexemes.index (number c.tok_id.result) y (overlaid number base c.lexemes.overlay) (overlaid number base c.shift_on.new.overlay) c.lexemes.invariant.comes
-    (slice_read c.args.lexemes.now c.lexemes.index y c.lexemes-test.true c.index-lexemes-index.is) c.tok_id.ensures (λ x. rw (c.if-not-branch.true, c.as_slice.ensures.value) at (c.in_ok-shift_on.ensures.shifts x))
+    stops_here c.args.machine.now.grm.now.grammar c.args.machine.now.stable.now (token_by g.L.Lexeme.lex) c.args.machine.now.table c.args.lexemes.now c.requires.inside c.lexemes.index (number c.tok_id.result) y (overlaid number base c.lexemes.overlay) (overlaid number base c.shift_on.new.overlay) c.lexemes.invariant.comes
+    (slice_read c.args.lexemes.now c.lexemes.index y c.lexemes-test.true c.index-lexemes-index.is) c.tok_id.ensures (λ x. rw (c.if-not-branch.true, c.as_slice.ensures.value) at (c.in_ok-shift_on.ensures.shifts x)) c.args.machine.now.sgraph.now c.args.machine.now.pair.safe c.args.machine.now.pair.counts.start
 
 pub lexemes-preserved : goal.lexemes-preserved
 lexemes-preserved g c =
@@ -51,8 +49,7 @@ lexemes-preserved g c =
     let base = c.new-base.result.items in
     record {
       over = rw c.as_slice.ensures.value at c.in_ok-shift_on.ensures.over;
-      some = shifted_some c.args.grm.now.grammar c.args.stable.now (number c.tok_id.result) (overlaid number base c.lexemes.overlay) (overlaid number base c.shift_on.new.overlay) (λ x. rw (c.if-not-branch.false, c.as_slice.ensures.value) at (c.in_ok-shift_on.ensures.shifts x));
-      comes = comes_on c.args.grm.now.grammar c.args.stable.now (token_by g.L.Lexeme.lex) c.requires.table c.args.lexemes.now c.requires.inside c.lexemes.index (number c.tok_id.result) y (overlaid number base c.lexemes.overlay) (overlaid number base c.shift_on.new.overlay) c.lexemes.invariant.comes
+      comes = comes_on c.args.machine.now.grm.now.grammar c.args.machine.now.stable.now (token_by g.L.Lexeme.lex) c.args.machine.now.table c.args.lexemes.now c.requires.inside c.lexemes.index (number c.tok_id.result) y (overlaid number base c.lexemes.overlay) (overlaid number base c.shift_on.new.overlay) c.lexemes.invariant.comes
           (slice_read c.args.lexemes.now c.lexemes.index y c.lexemes-test.true c.index-lexemes-index.is) c.tok_id.ensures (λ x. rw (c.if-not-branch.false, c.as_slice.ensures.value) at (c.in_ok-shift_on.ensures.shifts x));
     }
 
@@ -61,10 +58,11 @@ same : (g : _) (c : goal.After-drop-base-2 g) → overlaid g.S.IndexStorage.numb
 same g c = ap (λ l. overlaid g.S.IndexStorage.number l c.lexemes.overlay) c.new-base.ensures.items ∙ over_nothing g.S.IndexStorage.number c.lexemes.overlay
 
 pub returns-clause-reaches : goal.returns-clause-reaches
-returns-clause-reaches g c = λ x safe start.
-    let h = c.lexemes.invariant.comes x safe start in
+returns-clause-reaches g c =
+    let x = c.args.machine.now.sgraph.now in
+    let h = c.lexemes.invariant.comes x c.args.machine.now.pair.safe c.args.machine.now.pair.counts.start in
     let end = drop_all c.lexemes.index c.args.lexemes.now (omega (arith, c.lexemes-test.false)) in
-    (h.0, subst (λ l. Reaches c.args.grm.now.grammar (automaton_of x c.args.stable.now) (token_by g.L.Lexeme.lex) c.args.lexemes.now l h.0) end h.1, h.2 ∙ same g c)
+    (h.0, subst (λ l. Reaches c.args.machine.now.grm.now.grammar (automaton_of x c.args.machine.now.stable.now) (token_by g.L.Lexeme.lex) c.args.lexemes.now l h.0) end h.1, h.2 ∙ same g c)
 
 pub returns-clause-states : goal.returns-clause-states
-returns-clause-states g c = subst (AreStates c.args.stable.now) (same g c) c.lexemes.invariant.over.are_states
+returns-clause-states g c = subst (AreStates c.args.machine.now.stable.now) (same g c) c.lexemes.invariant.over.are_states

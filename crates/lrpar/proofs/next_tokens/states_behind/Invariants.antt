@@ -1,4 +1,3 @@
-use Rattle.std.proofs.Common.{◌<◌, length}
 use Rattle.lrpar.specs.Replay.{overlaid, IsOver}
 use Rattle.parse_trees.specs.Lex.{token_by}
 use Rattle.lrpar.proofs.NextTold.{ComesWith}
@@ -6,7 +5,6 @@ use Rattle.lrpar.proofs.next_tokens.states_behind.Given as goal
 
 abbrev pub invariant-lexemes : goal.invariant-lexemes
 invariant-lexemes g l = record {
-  over : IsOver g.S.IndexStorage.number l.stable l.base.items l.overlay;
-  some : 0 < length (overlaid g.S.IndexStorage.number l.base.items l.overlay);
-  comes : ComesWith l.grm.grammar l.stable (token_by g.L.Lexeme.lex) l.lexemes l.index (overlaid g.S.IndexStorage.number l.base.items l.overlay);
+  over : IsOver g.S.IndexStorage.number l.machine.stable.now l.base.items l.overlay;
+  comes : ComesWith l.machine.grm.now.grammar l.machine.stable.now (token_by g.L.Lexeme.lex) l.lexemes l.index (overlaid g.S.IndexStorage.number l.base.items l.overlay);
 }

@@ -20,7 +20,7 @@ tokens-preserved g c = λ x.
     let lt = c.tokens-test.true in
     let value = c.to_usize-count.ensures.value in
     let len = c.tokens_len.ensures in
-    told_more c.args.grm.now.grammar (automaton_of x c.args.stable.now) (stack_of g.S.IndexStorage.number c.args.base.now) c.tokens.number c.tokens.bits.bits c.set.new.self.bits c.in_ok-told.told (omega (arith, lt, value, len)) c.set.ensures.bits
+    told_more c.args.machine.now.grm.now.grammar (automaton_of x c.args.machine.now.stable.now) (stack_of g.S.IndexStorage.number c.args.base.now) c.tokens.number c.tokens.bits.bits c.set.new.self.bits c.in_ok-told.told (omega (arith, lt, value, len)) c.set.ensures.bits
     (rw c.token_at-tidx.ensures at (c.in_ok-told.ensures x)) (c.tokens.invariant x)
 
 pub returns : goal.returns
@@ -29,5 +29,5 @@ returns g c = λ x.
     let le = c.tokens.auto.number-end in
     let value = c.to_usize-count.ensures.value in
     let len = c.tokens_len.ensures in
-    let all : c.tokens.number ≡ c.args.grm.now.grammar.tokens = omega (arith, ge, le, value, len) in
-    subst (λ n. TellBelow c.args.grm.now.grammar (automaton_of x c.args.stable.now) (stack_of g.S.IndexStorage.number c.args.base.now) n c.tokens.bits.bits) all (c.tokens.invariant x)
+    let all : c.tokens.number ≡ c.args.machine.now.grm.now.grammar.tokens = omega (arith, ge, le, value, len) in
+    subst (λ n. TellBelow c.args.machine.now.grm.now.grammar (automaton_of x c.args.machine.now.stable.now) (stack_of g.S.IndexStorage.number c.args.base.now) n c.tokens.bits.bits) all (c.tokens.invariant x)

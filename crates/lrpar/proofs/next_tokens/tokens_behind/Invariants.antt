@@ -5,4 +5,4 @@ use Rattle.lrpar.specs.Reducing.{stack_of}
 use Rattle.lrpar.proofs.next_tokens.tokens_behind.Given as goal
 
 abbrev pub invariant-tokens : goal.invariant-tokens
-invariant-tokens g l = (x : GraphValue) → TellBelow l.grm.grammar (automaton_of x l.stable) (stack_of g.S.IndexStorage.number l.base) l.number l.bits.bits
+invariant-tokens g l = (x : GraphValue) → TellBelow l.machine.grm.now.grammar (automaton_of x l.machine.stable.now) (stack_of g.S.IndexStorage.number l.base) l.number l.bits.bits

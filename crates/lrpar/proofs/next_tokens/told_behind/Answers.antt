@@ -6,7 +6,7 @@ use Rattle.lrpar.proofs.NextTold.{after_all}
 use Rattle.lrpar.proofs.next_tokens.told_behind.Goals as goal
 
 pub returns-then-not-are_inside : goal.returns-then-not-are_inside
-returns-then-not-are_inside g c = λ x safe start.
+returns-then-not-are_inside g c =
     let h = rw c.if-not-are_inside.true at c.are_inside.ensures in
     HasError.outside h.0 h.1 h.2 h.3
 
@@ -14,7 +14,8 @@ pub returns-in_default : goal.returns-in_default
 returns-in_default g c = rw c.in_default.is at c.in_ok-states.ensures.reaches
 
 pub returns : goal.returns
-returns g c = λ x safe start.
+returns g c =
+    let x = c.args.machine.now.sgraph.now in
     let reached = rw c.in-Some.is at c.in_ok-states.ensures.reaches in
-    after_all c.args.grm.now.grammar c.args.stable.now (token_by g.L.Lexeme.lex) c.requires.table c.args.lexemes.now (rw c.if-not-are_inside.false at c.are_inside.ensures) (made_by g.L.Lexeme.faulty_of g.L.Lexeme.lex 0) x
-    (stack_of g.S.IndexStorage.number c.in-Some.states.items) c.in_ok-bits.bits safe (reached x safe start) (rw c.as_slice.ensures.value at (c.in_ok-bits.ensures x))
+    after_all c.args.machine.now.grm.now.grammar c.args.machine.now.stable.now (token_by g.L.Lexeme.lex) c.args.machine.now.table c.args.lexemes.now (rw c.if-not-are_inside.false at c.are_inside.ensures) (made_by g.L.Lexeme.faulty_of g.L.Lexeme.lex 0) x
+    (stack_of g.S.IndexStorage.number c.in-Some.states.items) c.in_ok-bits.bits c.args.machine.now.pair.safe reached (rw c.as_slice.ensures.value at (c.in_ok-bits.ensures x))

@@ -13,7 +13,7 @@ reductions-init g c =
     let ss = overlaid number c.args.base.now c.args.overlay.now in
     record {
       over = c.requires.over;
-      short = λ x. bounded c.args.grm.now.grammar (automaton_of x c.args.stable.now) c.args.limit (number c.args.tidx.0) (length ss) ss (c.requires.chains x) c.requires.some refl;
+      short = λ x. bounded c.args.machine.now.grm.now.grammar (automaton_of x c.args.machine.now.stable.now) c.args.machine.now.limit (number c.args.tidx.0) (length ss) ss (c.args.machine.now.chains x) c.requires.over.some refl;
       leads = λ x. none;
     }
 
@@ -21,24 +21,24 @@ pub reductions-smaller : goal.reductions-smaller
 reductions-smaller g c =
     let number = g.S.IndexStorage.number in
     let x : GraphValue = record { start = 0; cores = []; closed = []; edges = [] } in
-    room_less c.args.grm.now.grammar (automaton_of x c.args.stable.now) (number c.args.tidx.0) (length (overlaid number c.args.base.now c.args.overlay.now) * (c.args.limit + 1)) _ _ (c.reductions.invariant.short x) (rw c.if-not-branch.false at (c.in_ok-reduce_on.ensures.made x))
+    room_less c.args.machine.now.grm.now.grammar (automaton_of x c.args.machine.now.stable.now) (number c.args.tidx.0) (length (overlaid number c.args.base.now c.args.overlay.now) * (c.args.machine.now.limit + 1)) _ _ (c.reductions.invariant.short x) (rw c.if-not-branch.false at (c.in_ok-reduce_on.ensures.made x))
 
 pub reductions-preserved : goal.reductions-preserved
 reductions-preserved g c =
     let number = g.S.IndexStorage.number in
-    let G = c.args.grm.now.grammar in
-    let v = c.args.stable.now in
+    let G = c.args.machine.now.grm.now.grammar in
+    let v = c.args.machine.now.stable.now in
     record {
       over = c.in_ok-reduce_on.ensures.over;
-      short = λ x. still_short G (automaton_of x v) (number c.args.tidx.0) (length (overlaid number c.args.base.now c.args.overlay.now) * (c.args.limit + 1)) _ _ (c.reductions.invariant.short x) (rw c.if-not-branch.false at (c.in_ok-reduce_on.ensures.made x));
+      short = λ x. still_short G (automaton_of x v) (number c.args.tidx.0) (length (overlaid number c.args.base.now c.args.overlay.now) * (c.args.machine.now.limit + 1)) _ _ (c.reductions.invariant.short x) (rw c.if-not-branch.false at (c.in_ok-reduce_on.ensures.made x));
       leads = λ x. leads_more G (automaton_of x v) (number c.args.tidx.0) (c.reductions.invariant.leads x) (rw c.if-not-branch.false at (c.in_ok-reduce_on.ensures.made x));
     }
 
 pub returns-then-not-branch-clause-rests : goal.returns-then-not-branch-clause-rests
 returns-then-not-branch-clause-rests g c = λ x.
     let number = g.S.IndexStorage.number in
-    let G = c.args.grm.now.grammar in
-    let v = c.args.stable.now in
+    let G = c.args.machine.now.grm.now.grammar in
+    let v = c.args.machine.now.stable.now in
     let same = c.in_ok-reduce_on.ensures.same c.if-not-branch.true in
     record {
       leads = subst (Leads G (automaton_of x v) (number c.args.tidx.0) (overlaid number c.args.base.now c.args.overlay.now)) (sym same) (c.reductions.invariant.leads x);

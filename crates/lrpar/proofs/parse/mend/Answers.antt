@@ -1,6 +1,6 @@
 use Rattle.std.proofs.Common.{sym, ap, ◌∙◌}
 use Rattle.state_table.specs.Tables.{automaton_of}
-use Rattle.lrpar.specs.Made.{made_by}
+use Rattle.lrpar.specs.Made.{made_by, end_of}
 use Rattle.lrpar.specs.Reducing.{stack_of}
 use Rattle.parse_trees.specs.Lex.{token_by}
 use Rattle.parse_trees.specs.Edits.{sequences_of}
@@ -11,16 +11,18 @@ pub apply_steps-applied-requires-clause-stand : goal.apply_steps-applied-require
 apply_steps-applied-requires-clause-stand g c =
     let h = c.requires.stand in
     let number = g.S.IndexStorage.number in
-    let found = c.in_ok-found.ensures h.0 h.1 h.2 h.3 h.4.stands (h.4.states ∙ ap (stack_of number) (sym c.as_slice.ensures.value)) h.5 in
-    let first = first_taken number c.args.grm.now.grammar (automaton_of h.0 c.args.stable.now) (token_by g.L.Lexeme.lex) (made_by g.L.Lexeme.faulty_of g.L.Lexeme.lex c.args.end) h.2 found.offered c.in_ok-found.found.repairs.items c.deref.result.now c.in-Some.steps.now c.as_slice-in-Some.result.now found.told.are_repairs c.deref.ensures.value c.in-Some.ensures.value c.as_slice-in-Some.ensures.value in
-    (h.0, h.1, h.2, h.3, h.4, h.5, first.takes)
+    let found = c.in_ok-found.ensures h.0 h.1 h.2.stands (h.2.states ∙ ap (stack_of number) (sym c.as_slice.ensures.value)) h.3 in
+    let first = first_taken number c.args.machine.now.grm.now.grammar (automaton_of c.args.machine.now.sgraph.now c.args.machine.now.stable.now) (token_by g.L.Lexeme.lex) (made_by g.L.Lexeme.faulty_of g.L.Lexeme.lex (end_of g.L.Lexeme.lex c.args.lexemes.now)) h.1 found.offered c.in_ok-found.found.repairs.items c.deref.result.now c.in-Some.steps.now c.as_slice-in-Some.result.now found.told.are_repairs c.deref.ensures.value c.in-Some.ensures.value c.as_slice-in-Some.ensures.value in
+    (h.0, h.1, h.2, h.3, first.takes)
 
 pub returns-in-Ok-clause-mended : goal.returns-in-Ok-clause-mended
-returns-in-Ok-clause-mended g c = λ x input d safe stand rest.
+returns-in-Ok-clause-mended g c =
+    let x = c.args.machine.now.sgraph.now in
+    λ input d stand rest.
     let number = g.S.IndexStorage.number in
-    let found = c.in_ok-found.ensures x input d safe stand.stands (stand.states ∙ ap (stack_of number) (sym c.as_slice.ensures.value)) rest in
-    let first = first_taken number c.args.grm.now.grammar (automaton_of x c.args.stable.now) (token_by g.L.Lexeme.lex) (made_by g.L.Lexeme.faulty_of g.L.Lexeme.lex c.args.end) d found.offered c.in_ok-found.found.repairs.items c.deref.result.now c.in-Some.steps.now c.as_slice-in-Some.result.now found.told.are_repairs c.deref.ensures.value c.in-Some.ensures.value c.as_slice-in-Some.ensures.value in
-    let k = c.in-Ok.ensures.applied x input d safe stand rest first.takes in
+    let found = c.in_ok-found.ensures input d stand.stands (stand.states ∙ ap (stack_of number) (sym c.as_slice.ensures.value)) rest in
+    let first = first_taken number c.args.machine.now.grm.now.grammar (automaton_of x c.args.machine.now.stable.now) (token_by g.L.Lexeme.lex) (made_by g.L.Lexeme.faulty_of g.L.Lexeme.lex (end_of g.L.Lexeme.lex c.args.lexemes.now)) d found.offered c.in_ok-found.found.repairs.items c.deref.result.now c.in-Some.steps.now c.as_slice-in-Some.result.now found.told.are_repairs c.deref.ensures.value c.in-Some.ensures.value c.as_slice-in-Some.ensures.value in
+    let k = c.in-Ok.ensures.applied input d stand rest first.takes in
     record {
       offered = found.offered;
       told = found.told;
@@ -28,9 +30,10 @@ returns-in-Ok-clause-mended g c = λ x input d safe stand rest.
     }
 
 pub returns-in-None-clause-mended : goal.returns-in-None-clause-mended
-returns-in-None-clause-mended g c = λ x input d safe stand rest.
+returns-in-None-clause-mended g c =
+    λ input d stand rest.
     let number = g.S.IndexStorage.number in
-    let found = c.in_ok-found.ensures x input d safe stand.stands (stand.states ∙ ap (stack_of number) (sym c.as_slice.ensures.value)) rest in
+    let found = c.in_ok-found.ensures input d stand.stands (stand.states ∙ ap (stack_of number) (sym c.as_slice.ensures.value)) rest in
     record {
       offered = found.offered;
       told = found.told;

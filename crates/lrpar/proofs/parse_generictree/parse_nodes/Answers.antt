@@ -9,21 +9,22 @@ use Rattle.lrpar.proofs.Valued.{parse_gives}
 use Rattle.lrpar.proofs.parse_generictree.parse_nodes.Goals as goal
 
 pub returns-in-Ok-tell_errors-clause-parsed : goal.returns-in-Ok-tell_errors-clause-parsed
-returns-in-Ok-tell_errors-clause-parsed g c = λ x safe start.
+returns-in-Ok-tell_errors-clause-parsed g c =
+    let x = c.args.machine.now.sgraph.now in
     let number = g.S.IndexStorage.number in
     let lex = g.L.Lexeme.lex in
-    let G = c.args.grm.now.grammar in
+    let G = c.args.machine.now.grm.now.grammar in
     let p = c.in-Parsed.parsed in
     let lexemes = c.in-Parsed.lexemes in
     let found = errors_of number p.errors.items in
-    let o = rw c.in-Parsed.is at (c.in_ok-fault.ensures.parsed x safe start) in
+    let o = rw c.in-Parsed.is at c.in_ok-fault.ensures.parsed in
     let told = c.in-Ok-tell_errors.ensures ∙ ap (λ es. map (as_told lexemes) (errors_of number es)) c.as_slice.ensures.value in
     record {
       lexemes = lexemes;
       are_items = o.0;
       are_lexemes = o.1;
       found = found;
-      parse = parse_gives G (automaton_of x c.args.stable.now) (token_by lex) (made_by g.L.Lexeme.faulty_of lex (end_of lex lexemes)) (g.R.Recoverer.answers c.args.recoverer.now) _ (HasNode number G c.node_left-value.result) lexemes found
+      parse = parse_gives G (automaton_of x c.args.machine.now.stable.now) (token_by lex) (made_by g.L.Lexeme.faulty_of lex (end_of lex lexemes)) (g.R.Recoverer.answers c.args.recoverer.now) _ (HasNode number G c.node_left-value.result) lexemes found
           (λ tree h. c.node_left-value.ensures G tree h) o.2;
       told = told;
     }

@@ -15,21 +15,22 @@ table_here g c e =
     let safe = safe_here g c e in
     table_for_of c.args.grm.now.grammar c.args.sgraph.now c.args.stable.now g.S.IndexStorage.MAX c.all_states_len.ensures.graph (rw c.stable-rows.ensures at c.states_len.ensures.rows) safe.0 c.start_prod.ensures.well_formed safe.1
 
-pub long_chain-requires : goal.long_chain-requires
-long_chain-requires g c = rw c.stable-rows.ensures (record { table = table_here g (goal.at.long_chain-requires g c).In_ok-misfit c.in_default.is })
+pub invariant_of-chains : goal.invariant_of-chains
+invariant_of-chains g c = rw c.stable-rows.ensures (record { table = table_here g (goal.at.invariant_of-chains g c).In_ok-misfit c.in_default.is })
 
 pub returns-in-Some-2 : goal.returns-in-Some-2
 returns-in-Some-2 g c =
     let safe = safe_here g (goal.at.returns-in-Some-2 g c).In_ok-misfit c.in_default.is in
     (record { counts = safe.0; safe = safe.1 }, rw (c.in-Some-2.is, c.stable-rows.ensures) at (c.in_ok-chain.ensures c.args.sgraph.now))
 
-pub is_complete-complete-requires-clause-table : goal.is_complete-complete-requires-clause-table
-is_complete-complete-requires-clause-table g c = table_here g (goal.at.is_complete-complete-requires-clause-table g c).In_ok-misfit c.in_default.is
-
-pub is_complete-complete-requires-clause-pair : goal.is_complete-complete-requires-clause-pair
-is_complete-complete-requires-clause-pair g c =
-    let safe = safe_here g (goal.at.is_complete-complete-requires-clause-pair g c).In_ok-misfit c.in_default.is in
-    record { counts = safe.0; safe = safe.1 }
+pub invariant_of-machine : goal.invariant_of-machine
+invariant_of-machine g c =
+    let safe = safe_here g (goal.at.invariant_of-machine g c).In_ok-misfit c.in_default.is in
+    record {
+      table = table_here g (goal.at.invariant_of-machine g c).In_ok-misfit c.in_default.is;
+      pair = record { counts = safe.0; safe = safe.1 };
+      chains = λ x. rw (c.in_default-2.is, c.stable-rows.ensures) at (c.in_ok-chain.ensures x);
+    }
 
 pub returns : goal.returns
 returns g c =

@@ -12,15 +12,15 @@ returns-then-not-branch-clause-shifts g c = λ x.
     let items = c.args.states.now.items in
     let o : Overlay g.row.S.Denot = record { kept = c.len-overlay.result; over = c.clear.new.self } in
     let all : c.len-overlay.result ≡ length items = omega arith in
-    let said : ShiftsNot c.args.grm.now.grammar (automaton_of x c.args.stable.now) (number c.args.tidx.0) (overlaid number items o) = rw (c.if-not-branch.true, c.as_slice.ensures.value) at (c.in_ok-shift_on.ensures.shifts x) in
-    subst (ShiftsNot c.args.grm.now.grammar (automaton_of x c.args.stable.now) (number c.args.tidx.0)) (whole_base number items o all c.clear.ensures.items) said
+    let said : ShiftsNot c.args.machine.now.grm.now.grammar (automaton_of x c.args.machine.now.stable.now) (number c.args.tidx.0) (overlaid number items o) = rw (c.if-not-branch.true, c.as_slice.ensures.value) at (c.in_ok-shift_on.ensures.shifts x) in
+    subst (ShiftsNot c.args.machine.now.grm.now.grammar (automaton_of x c.args.machine.now.stable.now) (number c.args.tidx.0)) (whole_base number items o all c.clear.ensures.items) said
 
 pub returns-clause-shifts : goal.returns-clause-shifts
 returns-clause-shifts g c = λ x.
     let number = g.S.IndexStorage.number in
     let items = c.args.states.now.items in
-    let G = c.args.grm.now.grammar in
-    let a = automaton_of x c.args.stable.now in
+    let G = c.args.machine.now.grm.now.grammar in
+    let a = automaton_of x c.args.machine.now.stable.now in
     let t = number c.args.tidx.0 in
     let o : Overlay g.row.S.Denot = record { kept = c.len-overlay.result; over = c.clear.new.self } in
     let all : c.len-overlay.result ≡ length items = omega arith in

@@ -10,8 +10,8 @@ use Rattle.lrpar.proofs.reducers.all_reducers.Goals as goal
 pub states-preserved : goal.states-preserved
 states-preserved g c =
     let number = g.S.IndexStorage.number in
-    let G = c.args.grm.now.grammar in
-    let v = c.args.stable.now in
+    let G = c.args.chains.now.grm.now.grammar in
+    let v = c.args.chains.now.stable.now in
     let items = c.in_ok-push.ensures.items in
     let count = c.states.invariant.count in
     let fits : (k : ℕ) (x : Vec (PIdx g.row.S.Denot) Global) → slice_get c.push.new.self.items k ≡ Some x → AreReducers number G v k x.items =

@@ -9,5 +9,5 @@ use Rattle.lrpar.proofs.reducers.all_reducers.Given as goal
 abbrev pub invariant-states : goal.invariant-states
 invariant-states g l = record {
   count : length l.all.items ≡ l.number;
-  each : (k : ℕ) (x : Vec (PIdx g.row.S.Denot) Global) → slice_get l.all.items k ≡ Some x → AreReducers g.S.IndexStorage.number l.grm.grammar l.stable k x.items;
+  each : (k : ℕ) (x : Vec (PIdx g.row.S.Denot) Global) → slice_get l.all.items k ≡ Some x → AreReducers g.S.IndexStorage.number l.chains.grm.now.grammar l.chains.stable.now k x.items;
 }

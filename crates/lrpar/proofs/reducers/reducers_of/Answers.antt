@@ -18,7 +18,7 @@ cells-init g c = record {
 pub cells-preserved : goal.cells-preserved
 cells-preserved g c =
     let number = g.S.IndexStorage.number in
-    let v = c.args.stable.now in
+    let v = c.args.chains.now.stable.now in
     let s = number c.args.state.0 in
     let row = cells_of number c.state_cells-row.result.now in
     let t = c.cell_of_row-action.result.0 in
@@ -26,7 +26,7 @@ cells-preserved g c =
     let there : action_at v s t ≡ a = cell_there v s row c.state_cells-row.ensures.whole c.state_cells-row.ensures.cells c.cells.index t a c.cell_of_row-action.ensures in
     let put = c.in_ok-put_reducer.ensures in
     record {
-      within = put.within (length c.args.grm.now.grammar.productions) c.cells.invariant.within (λ p e. (let w = c.requires.table.is_table.reduces _ _ p (there ∙ e) in omega (arith, w, c.requires.table.productions)));
+      within = put.within (length c.args.chains.now.grm.now.grammar.productions) c.cells.invariant.within (λ p e. (let w = c.args.chains.now.table.is_table.reduces _ _ p (there ∙ e) in omega (arith, w, c.args.chains.now.table.productions)));
       below = row_more row _ c.cells.index t a (λ k n b lt at p e. put.kept p (c.cells.invariant.below k n b lt at p e)) c.cell_of_row-action.ensures (λ p e. put.put p (sym there ∙ e));
     }
 
@@ -37,7 +37,7 @@ returns g c =
     let n = length-map c.state_cells-row.result.now f in
     let row = cells_of number c.state_cells-row.result.now in
     let all : length row ≤ c.cells.index = omega (arith, n) in
-    let v = c.args.stable.now in
+    let v = c.args.chains.now.stable.now in
     let s = number c.args.state.0 in
     let Stands : ℕ → Type 0 = λ t. (p : ℕ) → action_at v s t ≡ reduce p → Lists number c.cells.list.items p in
     record {

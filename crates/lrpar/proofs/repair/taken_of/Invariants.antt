@@ -6,4 +6,4 @@ use Rattle.lrpar.specs.Taking.{ListTells}
 use Rattle.lrpar.proofs.repair.taken_of.Given as goal
 
 abbrev pub invariant-sequences : goal.invariant-sequences
-invariant-sequences g l = ListTells g.S.IndexStorage.MAX l.grm.grammar l.stable (token_by g.L.Lexeme.lex) (stack_of g.S.IndexStorage.number l.base) (drop l.index l.lexemes) (sequences_of g.S.IndexStorage.number l.yielded) (sequences_of g.S.IndexStorage.number l.taken.items)
+invariant-sequences g l = ListTells g.S.IndexStorage.MAX l.machine.grm.now.grammar l.machine.stable.now (token_by g.L.Lexeme.lex) (stack_of g.S.IndexStorage.number l.base) (drop l.index l.lexemes) (sequences_of g.S.IndexStorage.number l.yielded) (sequences_of g.S.IndexStorage.number l.taken.items)

@@ -9,14 +9,17 @@ lexemes-init g c = record {
   within = c.requires.index;
   stacks = c.requires.stacks;
   starts = c.requires.starts;
-  on = λ x input d safe stand rest. (0, goes_none g.S.IndexStorage.number g.L.Lexeme.lex c.args.grm.now.grammar x c.args.stable.now _ input d c.args.stacks.now (drop c.args.index c.args.lexemes.now) stand rest);
+  on =
+      let x = c.args.machine.now.sgraph.now in
+      λ input d stand rest.
+      (0, goes_none g.S.IndexStorage.number g.L.Lexeme.lex c.args.machine.now.grm.now.grammar x c.args.machine.now.stable.now _ input d c.args.stacks.now (drop c.args.index c.args.lexemes.now) stand rest);
 }
 
 pub advance_to-requires-clause-stand : goal.advance_to-requires-clause-stand
 advance_to-requires-clause-stand g c =
     let h = c.requires.stand in
-    let k = c.lexemes.invariant.on h.0 h.1 h.2 h.3 h.4 h.5 in
-    (h.0, h.1, k.1.config, h.3, k.1.stand, at_next c.get-next.result c.args.lexemes.now k.1.config.rest c.lexemes.at c.get-next.ensures k.1.rest_is)
+    let k = c.lexemes.invariant.on h.0 h.1 h.2 h.3 in
+    (h.0, k.1.config, k.1.stand, at_next c.get-next.result c.args.lexemes.now k.1.config.rest c.lexemes.at c.get-next.ensures k.1.rest_is)
 
 pub lexemes-preserved : goal.lexemes-preserved
 lexemes-preserved g c =
@@ -26,11 +29,13 @@ lexemes-preserved g c =
       keeps = g.V.ValueStack.keeps_on c.args.stacks.now.values c.lexemes.stacks.values c.advance_to.new.stacks.values c.lexemes.invariant.keeps c.in_ok-advance_to.ensures.keeps;
       within = omega (arith, lt);
       stacks = after.0;
-      starts = starts_behind c.args.grm.now.grammar g.L.Lexeme.lex (g.V.ValueStack.starts_by c.advance_to.new.stacks.values) (g.V.ValueStack.starts_later c.advance_to.new.stacks.values) c.args.lexemes.now c.requires.lexemes c.lexemes.at c.get-next.result c.get-next.ensures after.1;
-      on = λ x input d safe stand rest.
-          let i = c.lexemes.invariant.on x input d safe stand rest in
-          let j = rw c.in-Shifted.is at (c.in_ok-advance_to.ensures.advanced x input i.1.config safe i.1.stand (at_next c.get-next.result c.args.lexemes.now i.1.config.rest c.lexemes.at c.get-next.ensures i.1.rest_is)) in
-          (i.0 + j.0, goes_more g.S.IndexStorage.number g.L.Lexeme.lex c.args.grm.now.grammar x c.args.stable.now _ input i.0 d c.lexemes.stacks (drop c.lexemes.at c.args.lexemes.now) i.1 j.0 c.advance_to.new.stacks (drop (c.lexemes.at + 1) c.args.lexemes.now) (rest_same g.S.IndexStorage.number g.L.Lexeme.lex c.args.grm.now.grammar x c.args.stable.now _ input j.0 i.1.config c.advance_to.new.stacks (drop 1 i.1.config.rest) (drop (c.lexemes.at + 1) c.args.lexemes.now) (ap (drop 1) i.1.rest_is ∙ drop_one c.args.lexemes.now c.lexemes.at) j.1));
+      starts = starts_behind c.args.machine.now.grm.now.grammar g.L.Lexeme.lex (g.V.ValueStack.starts_by c.advance_to.new.stacks.values) (g.V.ValueStack.starts_later c.advance_to.new.stacks.values) c.args.lexemes.now c.requires.lexemes c.lexemes.at c.get-next.result c.get-next.ensures after.1;
+      on =
+          let x = c.args.machine.now.sgraph.now in
+          λ input d stand rest.
+          let i = c.lexemes.invariant.on input d stand rest in
+          let j = rw c.in-Shifted.is at (c.in_ok-advance_to.ensures.advanced input i.1.config i.1.stand (at_next c.get-next.result c.args.lexemes.now i.1.config.rest c.lexemes.at c.get-next.ensures i.1.rest_is)) in
+          (i.0 + j.0, goes_more g.S.IndexStorage.number g.L.Lexeme.lex c.args.machine.now.grm.now.grammar x c.args.machine.now.stable.now _ input i.0 d c.lexemes.stacks (drop c.lexemes.at c.args.lexemes.now) i.1 j.0 c.advance_to.new.stacks (drop (c.lexemes.at + 1) c.args.lexemes.now) (rest_same g.S.IndexStorage.number g.L.Lexeme.lex c.args.machine.now.grm.now.grammar x c.args.machine.now.stable.now _ input j.0 i.1.config c.advance_to.new.stacks (drop 1 i.1.config.rest) (drop (c.lexemes.at + 1) c.args.lexemes.now) (ap (drop 1) i.1.rest_is ∙ drop_one c.args.lexemes.now c.lexemes.at) j.1));
     }
 
 pub lexemes-smaller : goal.lexemes-smaller
@@ -40,16 +45,20 @@ lexemes-smaller g c =
     omega (arith, lt)
 
 pub returns-in-Accepted-clause-ended : goal.returns-in-Accepted-clause-ended
-returns-in-Accepted-clause-ended g c = λ x input d safe stand rest.
-    let i = c.lexemes.invariant.on x input d safe stand rest in
-    let j = rw c.in-Accepted.is at (c.in_ok-advance_to.ensures.advanced x input i.1.config safe i.1.stand (at_next c.get-next.result c.args.lexemes.now i.1.config.rest c.lexemes.at c.get-next.ensures i.1.rest_is)) in
-    (i.0 + j.1.0, accepts_more g.S.IndexStorage.number g.L.Lexeme.lex c.args.grm.now.grammar x c.args.stable.now _ input i.0 d c.lexemes.stacks (drop c.lexemes.at c.args.lexemes.now) i.1 j.1.0 c.advance_to.new.stacks.values j.1.1)
+returns-in-Accepted-clause-ended g c =
+    let x = c.args.machine.now.sgraph.now in
+    λ input d stand rest.
+    let i = c.lexemes.invariant.on input d stand rest in
+    let j = rw c.in-Accepted.is at (c.in_ok-advance_to.ensures.advanced input i.1.config i.1.stand (at_next c.get-next.result c.args.lexemes.now i.1.config.rest c.lexemes.at c.get-next.ensures i.1.rest_is)) in
+    (i.0 + j.1.0, accepts_more g.S.IndexStorage.number g.L.Lexeme.lex c.args.machine.now.grm.now.grammar x c.args.machine.now.stable.now _ input i.0 d c.lexemes.stacks (drop c.lexemes.at c.args.lexemes.now) i.1 j.1.0 c.advance_to.new.stacks.values j.1.1)
 
 pub returns-in-Failed-clause-ended : goal.returns-in-Failed-clause-ended
-returns-in-Failed-clause-ended g c = λ x input d safe stand rest.
-    let i = c.lexemes.invariant.on x input d safe stand rest in
-    let j = rw c.in-Failed.is at (c.in_ok-advance_to.ensures.advanced x input i.1.config safe i.1.stand (at_next c.get-next.result c.args.lexemes.now i.1.config.rest c.lexemes.at c.get-next.ensures i.1.rest_is)) in
-    (c.lexemes.invariant.within, (i.0 + j.0, fails_more g.S.IndexStorage.number g.L.Lexeme.lex c.args.grm.now.grammar x c.args.stable.now _ input i.0 d c.lexemes.stacks (drop c.lexemes.at c.args.lexemes.now) i.1 j.0 c.advance_to.new.stacks (drop c.lexemes.at c.args.lexemes.now) (fails_same g.S.IndexStorage.number g.L.Lexeme.lex c.args.grm.now.grammar x c.args.stable.now _ input j.0 i.1.config c.advance_to.new.stacks i.1.config.rest (drop c.lexemes.at c.args.lexemes.now) i.1.rest_is j.1)))
+returns-in-Failed-clause-ended g c =
+    let x = c.args.machine.now.sgraph.now in
+    λ input d stand rest.
+    let i = c.lexemes.invariant.on input d stand rest in
+    let j = rw c.in-Failed.is at (c.in_ok-advance_to.ensures.advanced input i.1.config i.1.stand (at_next c.get-next.result c.args.lexemes.now i.1.config.rest c.lexemes.at c.get-next.ensures i.1.rest_is)) in
+    (c.lexemes.invariant.within, (i.0 + j.0, fails_more g.S.IndexStorage.number g.L.Lexeme.lex c.args.machine.now.grm.now.grammar x c.args.machine.now.stable.now _ input i.0 d c.lexemes.stacks (drop c.lexemes.at c.args.lexemes.now) i.1 j.0 c.advance_to.new.stacks (drop c.lexemes.at c.args.lexemes.now) (fails_same g.S.IndexStorage.number g.L.Lexeme.lex c.args.machine.now.grm.now.grammar x c.args.machine.now.stable.now _ input j.0 i.1.config c.advance_to.new.stacks i.1.config.rest (drop c.lexemes.at c.args.lexemes.now) i.1.rest_is j.1)))
 
 pub overflow_add-at : goal.overflow_add-at
 overflow_add-at g c =
@@ -58,7 +67,7 @@ overflow_add-at g c =
     omega (arith, lt)
 
 pub advance_to-requires-clause-inside : goal.advance_to-requires-clause-inside
-advance_to-requires-clause-inside g c = inside_at c.args.grm.now.grammar g.L.Lexeme.lex c.args.lexemes.now c.requires.lexemes c.get-next.result c.lexemes.at c.get-next.ensures
+advance_to-requires-clause-inside g c = inside_at c.args.machine.now.grm.now.grammar g.L.Lexeme.lex c.args.lexemes.now c.requires.lexemes c.get-next.result c.lexemes.at c.get-next.ensures
 
 pub advance_to-requires-clause-starts : goal.advance_to-requires-clause-starts
 advance_to-requires-clause-starts g c = starts_at g.L.Lexeme.lex (g.V.ValueStack.starts_by c.lexemes.stacks.values) c.args.lexemes.now c.get-next.result c.lexemes.at c.get-next.ensures c.lexemes.invariant.starts

@@ -6,7 +6,7 @@ use Rattle.lrpar.proofs.shorts.is_quiet.Given as goal
 
 abbrev pub invariant-links : goal.invariant-links
 invariant-links g l = record {
-  inside : g.S.IndexStorage.number l.top.0 < l.stable.states;
-  on : (x : GraphValue) (t k : ℕ) → Reductions l.grm.grammar (automaton_of x l.stable) t (l.counter + k) (g.S.IndexStorage.number l.fn.above.0 ∷ g.S.IndexStorage.number l.state.0 ∷ []) →
-      Reductions l.grm.grammar (automaton_of x l.stable) t k (g.S.IndexStorage.number l.top.0 ∷ g.S.IndexStorage.number l.state.0 ∷ []);
+  inside : g.S.IndexStorage.number l.top.0 < l.chains.stable.now.states;
+  on : (x : GraphValue) (t k : ℕ) → Reductions l.chains.grm.now.grammar (automaton_of x l.chains.stable.now) t (l.counter + k) (g.S.IndexStorage.number l.fn.above.0 ∷ g.S.IndexStorage.number l.state.0 ∷ []) →
+      Reductions l.chains.grm.now.grammar (automaton_of x l.chains.stable.now) t k (g.S.IndexStorage.number l.top.0 ∷ g.S.IndexStorage.number l.state.0 ∷ []);
 }

@@ -1,25 +1,18 @@
-use Rattle.std.proofs.Common.{◌≡◌, Option, ◌∙◌}
+use Rattle.std.proofs.Common.{Option, ◌∙◌}
 use Rattle.std.specs.Prelude.{Vec, IfSome}
 use Rattle.std.specs.declared.alloc.Global.{Global}
-use Rattle.lr_theory.specs.Automaton.{Safe}
-use Rattle.state_table.specs.Graphs.{GraphValue}
-use Rattle.state_table.specs.Tables.{automaton_of}
 use Rattle.lrpar.specs.FlatParses.{IsFlatParse}
 use Rattle.parse_trees.specs.FlatTrees.{FlatValue, IsFlatTree}
 use Rattle.parse_trees.specs.Lex.{token_by, span_by}
 use Rattle.lrpar.specs.declared.parse_error.ParseError.{ParseError}
 use Rattle.lrpar.proofs.FlatsLeft.{tree_of}
-use Rattle.lrpar.proofs.Instances.{within_at, within_weaker}
+use Rattle.lrpar.proofs.Instances.{within_weaker}
 use Rattle.lrpar.proofs.builder.RTParserBuilder.parse_flat.Goals as goal
 
 pub returns-clause-parsed : goal.returns-clause-parsed
 returns-clause-parsed g c =
-    let pair = c.facts.ensures.pair in
-    let checked = c.args.self.now.checked.now in
-    let G = checked.grammar.grammar in
     let items = c.as_slice-items.ensures.value ∙ c.iter.ensures in
-    let told = rw (c.grm.ensures, c.full.ensures, items) at c.parse_flat.ensures.parsed in
-    within_at {X = Option (FlatValue g.row.T-LexemeT.Denot) × Vec (ParseError g.row.T-LexemeT.Denot g.row.T-StorageT.Denot) Global} (λ (h : GraphValue). Safe G (automaton_of h checked.table)) (λ (h : GraphValue). checked.table.start ≡ h.start) (λ (h : GraphValue) p. IsFlatParse g.T.StorageT.IndexStorage.number g.T.LexemeT.Lexeme.lex g.T.LexemeT.Lexeme.faulty_of G h checked.table (g.R.Recoverer.answers c.args.self.now.recoverer.now) (g.X.Lexer.lexed c.args.lexer.now) p.0 p.1.items) checked.graph pair.safe pair.counts.start _ told
+    rw (c.machine.ensures.grammar, c.machine.ensures.graph, c.machine.ensures.table, items) at c.parse_flat.ensures.parsed
 
 pub returns-clause-tree : goal.returns-clause-tree
 returns-clause-tree g c =

@@ -1,21 +1,15 @@
 use Rattle.std.proofs.Common.{◌≡◌, ◌<◌, ℕ, ap, arith}
-use Rattle.std.specs.Prelude.{IfOk, Option}
+use Rattle.std.specs.Prelude.{IfOk}
 use Rattle.std.proofs.lemmas.Result.{IfOk-weaker}
 use Rattle.cfg_theory.specs.Grammar.{end_token}
-use Rattle.lr_theory.specs.Automaton.{Safe}
-use Rattle.state_table.specs.Graphs.{GraphValue}
 use Rattle.state_table.specs.Tables.{automaton_of}
-use Rattle.vob.specs.Packed.{Contents}
 use Rattle.parse_trees.specs.Lex.{Lex, token_by}
 use Rattle.lrpar.specs.NextStates.{TellsAfter}
 use Rattle.lrpar.proofs.NextTold.{tells_none, tells_sound, tells_sound_end, tells_exact, tells_exact_end, tells_begins}
 use Rattle.lrpar.proofs.parserdata.ParserData.next_tokens.Goals as goal
 
 told : (g : _) (c : goal.After-told_behind g) → IfOk c.told_behind.result (TellsAfter c.args.self.now.grammar.grammar (automaton_of c.args.self.now.graph c.args.self.now.table) (token_by g.L.Lexeme.lex) c.args.lexemes.now)
-told g c =
-    let d = c.args.self.now in
-    let pair = c.facts.ensures.pair in
-    IfOk-weaker _ _ _ (λ (o : Option Contents) (h : (x : GraphValue) → Safe d.grammar.grammar (automaton_of x d.table) → d.table.start ≡ x.start → TellsAfter d.grammar.grammar (automaton_of x d.table) (token_by g.L.Lexeme.lex) c.args.lexemes.now o). h d.graph pair.safe pair.counts.start) (rw (c.grm-2.ensures, c.full.ensures) at c.told_behind.ensures)
+told g c = rw (c.machine.ensures.grammar, c.machine.ensures.graph, c.machine.ensures.table) at c.told_behind.ensures
 
 -- each token has a lexeme
 lexeme : (g : _) (c : goal.After-told_behind g) (k : ℕ) → k < end_token c.args.self.now.grammar.grammar → (y : g.row.L.Denot) × (token_by g.L.Lexeme.lex y ≡ k)

@@ -8,4 +8,4 @@ abbrev pub invariant-tokens : goal.invariant-tokens
 invariant-tokens g l =
     (goal.iterator-tokens g).can_next l.index-iterator ×
     (goal.iterator-tokens g).is_finite l.index-iterator ×
-    SetTo l.looks.bits (λ t. action_at l.stable (g.S.IndexStorage.number l.state.0) t ≡ reduce (g.S.IndexStorage.number l.pidx.0)) l.index-iterator
+    SetTo l.looks.bits (λ t. action_at l.machine.stable.now (g.S.IndexStorage.number l.state.0) t ≡ reduce (g.S.IndexStorage.number l.pidx.0)) l.index-iterator

@@ -14,7 +14,7 @@ item_stands-requires-clause-production g c =
 pub items-preserved : goal.items-preserved
 items-preserved g c =
     let number = g.S.IndexStorage.number in
-    below_more c.args.items.now (ItemStands c.args.grm.now.grammar c.args.stable.now c.args.items.now (number c.args.state.0)) c.items.index (number c.item_at.result.0.0) (number c.item_at.result.1.0) c.items.invariant c.item_at.ensures.production c.item_at.ensures.dot (rw c.if-not-item_stands.false at c.item_stands.ensures)
+    below_more c.args.items.now (ItemStands c.args.machine.now.grm.now.grammar c.args.machine.now.stable.now c.args.items.now (number c.args.state.0)) c.items.index (number c.item_at.result.0.0) (number c.item_at.result.1.0) c.items.invariant c.item_at.ensures.production c.item_at.ensures.dot (rw c.if-not-item_stands.false at c.item_stands.ensures)
 
 pub returns-then-not-item_stands : goal.returns-then-not-item_stands
 returns-then-not-item_stands g c = λ all.
@@ -25,4 +25,4 @@ returns-then-not-item_stands g c = λ all.
 pub returns : goal.returns
 returns g c = λ p d h.
     let number = g.S.IndexStorage.number in
-    each_item c.args.items.now (ItemStands c.args.grm.now.grammar c.args.stable.now c.args.items.now (number c.args.state.0)) c.items.index (omega arith) c.items.invariant p d h
+    each_item c.args.items.now (ItemStands c.args.machine.now.grm.now.grammar c.args.machine.now.stable.now c.args.items.now (number c.args.state.0)) c.items.index (omega arith) c.items.invariant p d h

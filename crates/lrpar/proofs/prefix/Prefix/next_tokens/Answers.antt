@@ -22,7 +22,7 @@ checked g c = record { pair = c.facts.ensures.pair; table = c.facts.ensures.tabl
 
 -- what is told of the states
 told : (g : _) (c : goal.After-tokens_behind g) → IfOk c.tokens_behind.result (λ (b : Contents). (x : GraphValue) → TellBelow (grammar_in c.self.inside.data.now) (automaton_of x c.self.inside.data.now.table) (stack_of g.S.IndexStorage.number c.self.inside.states.items) (grammar_in c.self.inside.data.now).tokens b.bits)
-told g c = rw (c.grm-grm.ensures, c.full.ensures, c.as_slice.ensures.value) at c.tokens_behind.ensures
+told g c = rw (c.machine.ensures.grammar, c.machine.ensures.table, c.as_slice.ensures.value) at c.tokens_behind.ensures
 
 pub returns-clause-told : goal.returns-clause-told
 returns-clause-told g c =

@@ -61,7 +61,7 @@ returns-then-not-branch-clause-error g c = λ _.
     let end = rw c.grm-grm.ensures at c.eof_token_idx.ensures.value in
     let lt : t < end_token (grammar_in d) = omega (arith, less, value, other, end) in
     let checked : IsData (grammar_in d) d.graph d.table d.cap = record { pair = c.facts.ensures.pair; table = c.facts.ensures.table; chains = c.facts.ensures.chains } in
-    let not : ShiftsNot (grammar_in d) (machine_in d) t ss = rw (c.if-not-branch.true, c.grm-grm.ensures, c.full-stable.ensures) at (c.in_ok-shift_whole.ensures.shifts d.graph) in
+    let not : ShiftsNot (grammar_in d) (machine_in d) t ss = rw (c.if-not-branch.true, c.machine-machine.ensures.grammar, c.machine-machine.ensures.table) at (c.in_ok-shift_whole.ensures.shifts d.graph) in
     subst (Fails t) c.self.view_is (error_more d checked ts ss c.self.invariant t lt not)
 
 pub returns-then-not-branch-clause-begins : goal.returns-then-not-branch-clause-begins
@@ -77,7 +77,7 @@ returns-then-not-branch-clause-begins g c =
     let end = rw c.grm-grm.ensures at c.eof_token_idx.ensures.value in
     let lt : t < end_token (grammar_in d) = omega (arith, less, value, other, end) in
     let checked : IsData (grammar_in d) d.graph d.table d.cap = record { pair = c.facts.ensures.pair; table = c.facts.ensures.table; chains = c.facts.ensures.chains } in
-    let not : ShiftsNot (grammar_in d) (machine_in d) t ss = rw (c.if-not-branch.true, c.grm-grm.ensures, c.full-stable.ensures) at (c.in_ok-shift_whole.ensures.shifts d.graph) in
+    let not : ShiftsNot (grammar_in d) (machine_in d) t ss = rw (c.if-not-branch.true, c.machine-machine.ensures.grammar, c.machine-machine.ensures.table) at (c.in_ok-shift_whole.ensures.shifts d.graph) in
     subst (Begins t false) c.self.view_is (λ is. push_refused d checked ts ss c.self.invariant is (ts ++ t ∷ []) (error_more d checked ts ss c.self.invariant t lt not))
 
 pub invariant_of-self-2 : goal.invariant_of-self-2
@@ -94,8 +94,8 @@ invariant_of-self-2 g c =
     let lt : t < end_token (grammar_in d) = omega (arith, less, value, other, end) in
     let checked : IsData (grammar_in d) d.graph d.table d.cap = record { pair = c.facts.ensures.pair; table = c.facts.ensures.table; chains = c.facts.ensures.chains } in
     let now = stack_of number c.shift_whole.new.states.items in
-    let shifts : ShiftsTo (grammar_in d) (machine_in d) t ss now = rw (c.if-not-branch.false, c.grm-grm.ensures, c.full-stable.ensures) at (c.in_ok-shift_whole.ensures.shifts d.graph) in
-    let are : AreStates d.table now = rw c.full-stable.ensures at c.in_ok-shift_whole.ensures.states in
+    let shifts : ShiftsTo (grammar_in d) (machine_in d) t ss now = rw (c.if-not-branch.false, c.machine-machine.ensures.grammar, c.machine-machine.ensures.table) at (c.in_ok-shift_whole.ensures.shifts d.graph) in
+    let are : AreStates d.table now = rw c.machine-machine.ensures.table at c.in_ok-shift_whole.ensures.states in
     let more : IsPrefix d (ts ++ t ∷ []) now = prefix_more d checked ts ss c.self.invariant t lt now shifts are in
     let items : c.push.new.self.items ≡ c.self.inside.tokens.items ++ c.args.tidx ∷ [] = taken c.push.result c.unwrap.result _ _ _ c.unwrap.ensures c.push.ensures.items ∙ ap (λ l. l ++ c.args.tidx ∷ []) c.reserve.ensures.items in
     let tokens : tokens_of number c.push.new.self.items ≡ ts ++ t ∷ [] = ap (tokens_of number) items ∙ map-append (λ q. number q.0) c.self.inside.tokens.items (c.args.tidx ∷ []) in
@@ -115,7 +115,7 @@ returns-clause-begins g c =
     let lt : t < end_token (grammar_in d) = omega (arith, less, value, other, end) in
     let checked : IsData (grammar_in d) d.graph d.table d.cap = record { pair = c.facts.ensures.pair; table = c.facts.ensures.table; chains = c.facts.ensures.chains } in
     let now = stack_of number c.shift_whole.new.states.items in
-    let shifts : ShiftsTo (grammar_in d) (machine_in d) t ss now = rw (c.if-not-branch.false, c.grm-grm.ensures, c.full-stable.ensures) at (c.in_ok-shift_whole.ensures.shifts d.graph) in
-    let are : AreStates d.table now = rw c.full-stable.ensures at c.in_ok-shift_whole.ensures.states in
+    let shifts : ShiftsTo (grammar_in d) (machine_in d) t ss now = rw (c.if-not-branch.false, c.machine-machine.ensures.grammar, c.machine-machine.ensures.table) at (c.in_ok-shift_whole.ensures.shifts d.graph) in
+    let are : AreStates d.table now = rw c.machine-machine.ensures.table at c.in_ok-shift_whole.ensures.states in
     let more : IsPrefix d (ts ++ t ∷ []) now = prefix_more d checked ts ss c.self.invariant t lt now shifts are in
     subst (Begins t true) c.self.view_is (λ is. push_taken d checked (ts ++ t ∷ []) now more is)

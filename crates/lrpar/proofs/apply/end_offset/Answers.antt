@@ -1,7 +1,7 @@
 use Rattle.std.proofs.Common.{◌-◌, sym, ap, ◌∙◌, arith}
 use Rattle.std.specs.Prelude.{slice_get}
 use Rattle.lrpar.proofs.Mending.{end_is, end_is_nought}
-use Rattle.lrpar.proofs.parse.end_offset.Goals as goal
+use Rattle.lrpar.proofs.apply.end_offset.Goals as goal
 
 pub returns-then-count-eq0 : goal.returns-then-count-eq0
 returns-then-count-eq0 g c = let n = c.len-count.ensures in end_is_nought g.L.Lexeme.lex c.args.lexemes.now (omega (arith, n))

@@ -43,3 +43,4 @@ pub mod TakenAgain
 pub mod Reaching
 pub mod Passing
 pub mod Copies
+pub mod Builders

@@ -15,3 +15,5 @@ pub mod Closers
 pub mod RefusalViews
 pub mod Waits
 pub mod TakenAgain
+pub mod Reachers
+pub mod Builders

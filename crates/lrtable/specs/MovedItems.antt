@@ -16,7 +16,7 @@ use Rattle.state_table.specs.CoreViews.{item_of}
 -- the lookaheads that stand at a place
 abbrev pub row_from : LookRows → Source → List Bool
 row_from rows (sources.Own k) = row rows.own k
-row_from rows (sources.Rule A) = row rows.rules A
+row_from rows (sources.Rule A) = row rows.opening.rows A
 
 abbrev pub moved_item : {S : Type 0} → (S → ℕ) → MovedItem S → Item
 moved_item number m = item_of number m.item

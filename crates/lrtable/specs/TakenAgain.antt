@@ -10,7 +10,7 @@ use Rattle.state_table.specs.ItemRows.{Item, Core, map_of, FitsCore}
 use Rattle.lrtable.specs.LookRows.{LookRows}
 use Rattle.state_table.specs.Meeting.{row}
 use Rattle.lrtable.specs.MovedItems.{IsKernel}
-use Rattle.lrtable.specs.Opening.{Front, RuleSets}
+use Rattle.lrtable.specs.Opening.{Front}
 use Rattle.lrtable.specs.States.{Edge, StateValue, state_at, edge_of}
 use Rattle.state_table.specs.CoreViews.{items_of}
 use Rattle.lrtable.specs.Stepping.{IsSized, IsClosureOf}
@@ -43,13 +43,12 @@ abbrev pub core_noted : {S : Type 0} → (S → ℕ) → Retaken S → LookRows 
 core_noted number w rows = record { items = items_of number w.items.items; rows = rows.own }
 
 -- they are a core, and the rows are those of its closure
-pub record IsNoted {S : Type 0} (number : S → ℕ) (G : Grammar) (w : Retaken S) (rows : LookRows) (s : RuleSets) : Type 0 where
+pub record IsNoted {S : Type 0} (number : S → ℕ) (G : Grammar) (w : Retaken S) (rows : LookRows) : Type 0 where
   pub fits : FitsCore G (core_noted number w rows)
   pub kernel : IsKernel G (HasItem (map_of (core_noted number w rows)))
   pub hints : length w.hints.items ≡ length G.productions
-  pub rules : rows.rules ≡ s.rows
-  pub sizes : IsSized G s
-  pub closed : (fronts : List (List Front)) × AreFronts G fronts × IsClosureOf G fronts (core_noted number w rows) s
+  pub sizes : IsSized G rows.opening
+  pub closed : (fronts : List (List Front)) × AreFronts G fronts × IsClosureOf G fronts (core_noted number w rows) rows.opening
 
 -- an edge of the state s, whose core is c, leads to a state with the items of the goto set
 pub record LeadsOn (G : Grammar) (c : Core) (states : List StateValue) (s : ℕ) (e : Edge) : Type 0 where

@@ -45,8 +45,8 @@ pub(crate) fn closed_set<S: IndexStorage>(
     ensures core { IfOk result (λ s. IsCoreOf grm.now.grammar.tokens (shared_core S.number s)) }
     ensures within { IfOk result (λ s. PointIn (rows_in s.sets.items) s.entries.items) }
 {
-    let mut closer = Closer::new(alloc, grm)?;
-    let set = closed_by(alloc, grm, firsts, openers, &mut closer, core)?;
+    let mut closer = Closer::new(alloc, grm, firsts, openers)?;
+    let set = closed_by(alloc, grm, &mut closer, core)?;
     Ok(set)
 }
 
@@ -54,22 +54,18 @@ pub(crate) fn closed_set<S: IndexStorage>(
 pub(crate) fn closed_by<S: IndexStorage>(
     alloc: Global,
     grm: &NumberedGrammar<S>,
-    firsts: &YaccFirsts<S>,
-    openers: &Openers,
-    closer: &mut Closer,
+    closer: &mut Closer<'_, S>,
     core: &CoreSet<S>,
 ) -> Result<SharedSets<S>, AllocError>
     requires ready { IsReady grm.now.grammar closer.old }
     requires fits { FitsCore grm.now.grammar (core_of_set S.number core.now) }
-    requires firsts { AreFirsts grm.now.grammar firsts.now }
-    requires openers { AreFronts grm.now.grammar openers.now }
     ensures ready { OnOk result (IsReady grm.now.grammar closer.new) }
     ensures is { IfOk result (λ s. Is (shared_map S.number s) (Closure grm.now.grammar (HasItem (map_of (core_of_set S.number core.now)))) (ClosureLook grm.now.grammar (HasItem (map_of (core_of_set S.number core.now))) (HasLook (map_of (core_of_set S.number core.now))))) }
     ensures core { IfOk result (λ s. IsCoreOf grm.now.grammar.tokens (shared_core S.number s)) }
     ensures within { IfOk result (λ s. PointIn (rows_in s.sets.items) s.entries.items) }
 {
     grm.start_prod();
-    closer.close(grm, firsts, openers, core)?;
+    closer.close(grm, core)?;
     let (rules, productions) = opened_room(closer.counts.as_slice(), &closer.opening);
     let mut set = SharedSets::of_core(alloc, core, rules, productions)?;
     open_rules(&mut set, grm, &closer.opening)?;

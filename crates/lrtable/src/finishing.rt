@@ -4,6 +4,7 @@ ghost use Rattle.std.specs.Prelude.{◌≡◌, ◌<◌, ◌≤◌, ℕ, [], leng
 ghost use Rattle.cfg_sets.specs.Firsts.{AreFirsts};
 ghost use Rattle.lr_theory.specs.Itemset.{FitsGrammar};
 ghost use Rattle.lr_theory.specs.Sizes.{StaysWithin};
+ghost use Rattle.lrtable.specs.Builders.{AreClear};
 ghost use Rattle.lrtable.specs.Closers.{IsReady};
 ghost use Rattle.lrtable.specs.Closes.{AreFronts};
 ghost use Rattle.lrtable.specs.FinalStates.{AreClosures, AreFinal, pair_of_edge, edge_pairs_of};
@@ -20,6 +21,7 @@ use crate::closures::closed_by;
 use crate::openers::Openers;
 use crate::opening::Closer;
 use crate::pager;
+use crate::pager::Buffers;
 use crate::reached::with_reached;
 use crate::rooms::rules_behind;
 use crate::states::{BuildError, EdgeTo, State};
@@ -107,13 +109,9 @@ fn core_sets<S: IndexStorage>(
 fn closed_sets<S: IndexStorage>(
     alloc: Global,
     grm: &NumberedGrammar<S>,
-    firsts: &YaccFirsts<S>,
-    openers: &Openers,
-    closer: &mut Closer,
+    closer: &mut Closer<'_, S>,
     states: &[State<S>],
 ) -> Result<Vec<Itemset<S>>, AllocError>
-    requires firsts { AreFirsts grm.now.grammar firsts.now }
-    requires openers { AreFronts grm.now.grammar openers.now }
     requires ready { IsReady grm.now.grammar closer.old }
     requires fit { (s : ℕ) → s < length states.now → FitsCore grm.now.grammar (state_at (map (value_of S.number) states.now) s).core }
     requires dots { (s : ℕ) → s < length states.now → FitsGrammar grm.now.grammar (map_of (state_at (map (value_of S.number) states.now) s).core) }
@@ -122,7 +120,7 @@ fn closed_sets<S: IndexStorage>(
     let mut sets = Vec::with_capacity(alloc, states.len())?;
     'states: for number in 0..states.len() {
         let core = &states[number].core;
-        sets.push(of_shared(closed_by(alloc, grm, firsts, openers, closer, core)?))?;
+        sets.push(of_shared(closed_by(alloc, grm, closer, core)?))?;
     }
     Ok(sets)
 }
@@ -131,13 +129,9 @@ fn closed_sets<S: IndexStorage>(
 fn from_states<S: IndexStorage>(
     alloc: Global,
     grm: &NumberedGrammar<S>,
-    firsts: &YaccFirsts<S>,
-    openers: &Openers,
-    closer: &mut Closer,
+    closer: &mut Closer<'_, S>,
     states: &mut Vec<State<S>>,
 ) -> Result<StateGraph<S>, AllocError>
-    requires firsts { AreFirsts grm.now.grammar firsts.now }
-    requires openers { AreFronts grm.now.grammar openers.now }
     requires closer { IsReady grm.now.grammar closer.old }
     requires few { length states.old.items ≤ S.MAX }
     requires ready { AreFinal grm.now.grammar (map (value_of S.number) states.old.items) }
@@ -146,7 +140,7 @@ fn from_states<S: IndexStorage>(
     ensures edges { IfOk result (λ g. g.edges ≡ map edge_pairs_of (map (value_of S.number) states.old.items)) }
 {
     grm.start_prod();
-    let closed = closed_sets(alloc, grm, firsts, openers, closer, states.as_slice())?;
+    let closed = closed_sets(alloc, grm, closer, states.as_slice())?;
     let edges = edge_lists(alloc, states.as_slice())?;
     let cores = core_sets(alloc, states)?;
     Ok(of_lists(cores, closed, edges))
@@ -167,6 +161,22 @@ fn openers_of_grammar<S: IndexStorage>(
     with_reached(alloc, fronts, &behind, tokens)
 }
 
+/// Returns the graph of a grammar by these buffers.
+fn graph_by<S: IndexStorage>(
+    alloc: Global,
+    grm: &NumberedGrammar<S>,
+    buffers: &mut Buffers<'_, S>,
+) -> Result<StateGraph<S>, BuildError>
+    requires { AreClear grm.now.grammar buffers.old }
+    ensures graph { IfOk result (λ g. IsGraphOf grm.now.grammar g) }
+    ensures within { OnOk result (StaysWithin grm.now.grammar S.MAX) }
+    ensures many { IsErrOf result faults.TooManyStates → TooManyStand grm.now.grammar S.MAX }
+{
+    let mut states = pager::states(alloc, grm, buffers)?;
+    let graph = from_states(alloc, grm, &mut buffers.closer, &mut states)?;
+    Ok(graph)
+}
+
 /// Returns the graph of a grammar by the left corners of its rules.
 fn graph_over<S: IndexStorage>(
     alloc: Global,
@@ -180,10 +190,11 @@ fn graph_over<S: IndexStorage>(
     ensures within { OnOk result (StaysWithin grm.now.grammar S.MAX) }
     ensures many { IsErrOf result faults.TooManyStates → TooManyStand grm.now.grammar S.MAX }
 {
-    let mut closer = Closer::new(alloc, grm)?;
-    let mut states = pager::states(alloc, grm, firsts, openers, &mut closer)?;
-    let graph = from_states(alloc, grm, firsts, openers, &mut closer, &mut states)?;
-    Ok(graph)
+    let closer = Closer::new(alloc, grm, firsts, openers)?;
+    let mut buffers = Buffers::new(alloc, grm, closer)?;
+    let graph = graph_by(alloc, grm, &mut buffers);
+    drop(buffers);
+    graph
 }
 
 /// Returns the graph of a grammar.

@@ -1,10 +1,11 @@
 //! Items that move over a symbol. An item has the source of its lookaheads in place of a copy.
 
-ghost use Rattle.std.specs.Prelude.{◌≡◌, ◌<◌, ℕ, length, get_or, IfOk, IsTrue, OnOk, ◌↔◌};
+ghost use Rattle.std.specs.Prelude.{◌≡◌, ◌<◌, ℕ, [], length, get_or, IfOk, IsTrue, OnOk, ◌↔◌};
 ghost use Rattle.std.specs.List.{insert};
 ghost use Rattle.state_table.specs.ItemRows.{Ascends, BelongsAt};
 ghost use Rattle.state_table.specs.Meeting.{rows_in};
 ghost use Rattle.lrtable.specs.MovedItems.{AreWide, core_of_moved, moved_item, moved_items, row_from, rows_from};
+ghost use Rattle.lrtable.specs.Opening.{IsOpen};
 ghost use Rattle.state_table.specs.CoreViews.{core_of_set, item_of, items_of};
 
 use crate::opening::Opening;
@@ -41,13 +42,13 @@ impl<'a> Model for Rows<'a> {
 
     ghost Value = { LookRows };
 
-    ghost view = { λ r. record { own = rows_in r.own.now; rules = r.opening.now.rows } };
+    ghost view = { λ r. record { own = rows_in r.own.now; opening = r.opening.now } };
 }
 
 impl<'a> Rows<'a> {
     /// Returns the rows of a core's items, and of the rules that its closure opens.
     pub(crate) fn new(own: &'a [Vob], opening: &'a Opening) -> Rows<'a>
-        ensures { result ≡ record { own = rows_in own.now; rules = opening.now.rows } }
+        ensures { result ≡ record { own = rows_in own.now; opening = opening.now } }
     {
         Rows { own, opening }
     }
@@ -61,6 +62,30 @@ impl<'a> Rows<'a> {
             Source::Own(k) => &self.own[k],
             Source::Rule(rule) => self.opening.row(rule),
         }
+    }
+
+    /// Returns the lookaheads of a rule.
+    pub(crate) fn of_rule(&self, rule: usize) -> &Vob
+        requires { rule < length self.now.opening.rows }
+        ensures bits { result.now.bits ≡ get_or self.now.opening.rows rule [] }
+        ensures width { length result.now.bits ≡ self.now.opening.tokens }
+    {
+        self.opening.row(rule)
+    }
+
+    /// Returns whether a rule is open.
+    pub(crate) fn is_open(&self, rule: usize) -> bool
+        requires { rule < length self.now.opening.opened }
+        ensures { IsTrue result ↔ IsOpen self.now.opening rule }
+    {
+        self.opening.is_open(rule)
+    }
+
+    /// Returns a flag for each rule: whether it is open.
+    pub(crate) fn opened(&self) -> &Vob
+        ensures { result.now.bits ≡ self.now.opening.opened }
+    {
+        self.opening.opened()
     }
 }
 

@@ -17,7 +17,6 @@ ghost use Rattle.state_table.specs.CoreViews.{core_of_set};
 ghost use Rattle.lrtable.specs.Stepping.{IsSized, IsClosureOf, OfRule, OfRuleLooks, OpenAt, OpenLooksAt, OpenBelow, OpenLooksBelow, AreGotos};
 
 use crate::moved_items::{MovedItem, Rows, Source, insert_moved, put_moved};
-use crate::opening::Opening;
 use crate::rests::symbol_after;
 use cfg_base::index::IndexStorage;
 use cfg_base::symbol::{PIdx, RIdx, SIdx, Symbol};
@@ -70,20 +69,21 @@ fn move_over<S: IndexStorage>(
     sets: &mut Vec<Vec<MovedItem<S>>>,
     marks: &mut Vob,
     rows: &Rows<'_>,
-    pidx: PIdx<S>,
-    dot: usize,
+    item: &CoreItem<S>,
     source: Source,
 ) -> Result<(), AllocError>
-    requires production { S.number pidx.0 < length grm.now.grammar.productions }
+    requires production { S.number item.now.pidx.0 < length grm.now.grammar.productions }
     requires count { length sets.old.items ≡ grm.now.grammar.rules + grm.now.grammar.tokens }
     requires wide { length marks.old.bits ≡ grm.now.grammar.rules + grm.now.grammar.tokens }
     requires good { AreSets grm.now.grammar.tokens (map (set_of_moved S.number rows.now) sets.old.items) }
     requires width { length (row_from rows.now source) ≡ grm.now.grammar.tokens }
-    requires fresh { HaveNone grm.now.grammar (One (S.number pidx.0) dot) (map (set_of_moved S.number rows.now) sets.old.items) }
-    ensures gains { OnOk result (Gains grm.now.grammar (One (S.number pidx.0) dot) (OneLooks (S.number pidx.0) dot (row_from rows.now source)) (map (set_of_moved S.number rows.now) sets.old.items) (map (set_of_moved S.number rows.now) sets.new.items)) }
+    requires fresh { HaveNone grm.now.grammar (One (S.number item.now.pidx.0) (S.number item.now.dot.0)) (map (set_of_moved S.number rows.now) sets.old.items) }
+    ensures gains { OnOk result (Gains grm.now.grammar (One (S.number item.now.pidx.0) (S.number item.now.dot.0)) (OneLooks (S.number item.now.pidx.0) (S.number item.now.dot.0) (row_from rows.now source)) (map (set_of_moved S.number rows.now) sets.old.items) (map (set_of_moved S.number rows.now) sets.new.items)) }
     ensures marks { OnOk result (KeepsMarks marks.old.bits (map (set_of_moved S.number rows.now) sets.old.items) marks.new.bits (map (set_of_moved S.number rows.now) sets.new.items)) }
 {
     grm.start_prod();
+    let pidx = item.pidx;
+    let dot = item.dot.0.to_usize();
     match symbol_after(grm, pidx, dot) {
         Some(symbol) => {
             let item = CoreItem {
@@ -155,15 +155,7 @@ fn move_core<S: IndexStorage>(
     'items: for k in 0..core.items.len() {
         let item = &core.items[k];
         let source = Source::Own(k);
-        move_over(
-            grm,
-            sets,
-            marks,
-            rows,
-            item.pidx,
-            item.dot.0.to_usize(),
-            source,
-        )?;
+        move_over(grm, sets, marks, rows, item, source)?;
     }
     Ok(())
 }
@@ -199,23 +191,21 @@ fn move_if_open<S: IndexStorage>(
     sets: &mut Vec<Vec<MovedItem<S>>>,
     marks: &mut Vob,
     rows: &Rows<'_>,
-    opening: &Opening,
     number: usize,
 ) -> Result<(), AllocError>
     requires rule { number < grm.now.grammar.rules }
-    requires sizes { IsSized grm.now.grammar opening.now }
+    requires sizes { IsSized grm.now.grammar rows.now.opening }
     requires count { length sets.old.items ≡ grm.now.grammar.rules + grm.now.grammar.tokens }
     requires wide { length marks.old.bits ≡ grm.now.grammar.rules + grm.now.grammar.tokens }
     requires good { AreSets grm.now.grammar.tokens (map (set_of_moved S.number rows.now) sets.old.items) }
-    requires rules { rows.now.rules ≡ opening.now.rows }
-    requires fresh { HaveNone grm.now.grammar (OpenAt grm.now.grammar opening.now number) (map (set_of_moved S.number rows.now) sets.old.items) }
-    ensures gains { OnOk result (Gains grm.now.grammar (OpenAt grm.now.grammar opening.now number) (OpenLooksAt grm.now.grammar opening.now number) (map (set_of_moved S.number rows.now) sets.old.items) (map (set_of_moved S.number rows.now) sets.new.items)) }
+    requires fresh { HaveNone grm.now.grammar (OpenAt grm.now.grammar rows.now.opening number) (map (set_of_moved S.number rows.now) sets.old.items) }
+    ensures gains { OnOk result (Gains grm.now.grammar (OpenAt grm.now.grammar rows.now.opening number) (OpenLooksAt grm.now.grammar rows.now.opening number) (map (set_of_moved S.number rows.now) sets.old.items) (map (set_of_moved S.number rows.now) sets.new.items)) }
     ensures marks { OnOk result (KeepsMarks marks.old.bits (map (set_of_moved S.number rows.now) sets.old.items) marks.new.bits (map (set_of_moved S.number rows.now) sets.new.items)) }
 {
-    if !opening.is_open(number) {
+    if !rows.is_open(number) {
         return Ok(());
     }
-    let _looks = opening.row(number);
+    let _looks = rows.of_rule(number);
     move_rule(
         grm,
         sets,
@@ -233,19 +223,17 @@ fn move_open<S: IndexStorage>(
     sets: &mut Vec<Vec<MovedItem<S>>>,
     marks: &mut Vob,
     rows: &Rows<'_>,
-    opening: &Opening,
 ) -> Result<(), AllocError>
-    requires sizes { IsSized grm.now.grammar opening.now }
+    requires sizes { IsSized grm.now.grammar rows.now.opening }
     requires count { length sets.old.items ≡ grm.now.grammar.rules + grm.now.grammar.tokens }
     requires wide { length marks.old.bits ≡ grm.now.grammar.rules + grm.now.grammar.tokens }
     requires good { AreSets grm.now.grammar.tokens (map (set_of_moved S.number rows.now) sets.old.items) }
-    requires rules { rows.now.rules ≡ opening.now.rows }
-    requires fresh { HaveNone grm.now.grammar (OpenBelow grm.now.grammar opening.now grm.now.grammar.rules) (map (set_of_moved S.number rows.now) sets.old.items) }
-    ensures gains { OnOk result (Gains grm.now.grammar (OpenBelow grm.now.grammar opening.now grm.now.grammar.rules) (OpenLooksBelow grm.now.grammar opening.now grm.now.grammar.rules) (map (set_of_moved S.number rows.now) sets.old.items) (map (set_of_moved S.number rows.now) sets.new.items)) }
+    requires fresh { HaveNone grm.now.grammar (OpenBelow grm.now.grammar rows.now.opening grm.now.grammar.rules) (map (set_of_moved S.number rows.now) sets.old.items) }
+    ensures gains { OnOk result (Gains grm.now.grammar (OpenBelow grm.now.grammar rows.now.opening grm.now.grammar.rules) (OpenLooksBelow grm.now.grammar rows.now.opening grm.now.grammar.rules) (map (set_of_moved S.number rows.now) sets.old.items) (map (set_of_moved S.number rows.now) sets.new.items)) }
     ensures marks { OnOk result (KeepsMarks marks.old.bits (map (set_of_moved S.number rows.now) sets.old.items) marks.new.bits (map (set_of_moved S.number rows.now) sets.new.items)) }
 {
-    'rules: for number in opening.opened().iter_set_bits(..) {
-        move_if_open(grm, sets, marks, rows, opening, number)?;
+    'rules: for number in rows.opened().iter_set_bits(..) {
+        move_if_open(grm, sets, marks, rows, number)?;
     }
     Ok(())
 }
@@ -268,17 +256,15 @@ pub(crate) fn empty_sets<S: IndexStorage>(
 pub(crate) fn goto_sets<S: IndexStorage>(
     grm: &NumberedGrammar<S>,
     core: &CoreSet<S>,
-    opening: &Opening,
     sets: &mut Vec<Vec<MovedItem<S>>>,
     marks: &mut Vob,
     rows: &Rows<'_>,
 ) -> Result<(), AllocError>
     requires own { rows.now.own ≡ rows_in core.now.looks.items }
-    requires rules { rows.now.rules ≡ opening.now.rows }
     requires kernel { IsKernel grm.now.grammar (HasItem (map_of (core_of_set S.number core.now))) }
     requires fits { FitsCore grm.now.grammar (core_of_set S.number core.now) }
-    requires sizes { IsSized grm.now.grammar opening.now }
-    requires closed { (fronts : List (List Front)) × AreFronts grm.now.grammar fronts × IsClosureOf grm.now.grammar fronts (core_of_set S.number core.now) opening.now }
+    requires sizes { IsSized grm.now.grammar rows.now.opening }
+    requires closed { (fronts : List (List Front)) × AreFronts grm.now.grammar fronts × IsClosureOf grm.now.grammar fronts (core_of_set S.number core.now) rows.now.opening }
     requires wide { length marks.old.bits ≡ grm.now.grammar.rules + grm.now.grammar.tokens }
     requires empty { AreEmpty (grm.now.grammar.rules + grm.now.grammar.tokens) sets.old.items }
     ensures gotos { OnOk result (AreGotos grm.now.grammar (Closure grm.now.grammar (HasItem (map_of (core_of_set S.number core.now)))) (ClosureLook grm.now.grammar (HasItem (map_of (core_of_set S.number core.now))) (HasLook (map_of (core_of_set S.number core.now)))) (map (set_of_moved S.number rows.now) sets.new.items)) }
@@ -287,6 +273,6 @@ pub(crate) fn goto_sets<S: IndexStorage>(
 {
     grm.start_prod();
     move_core(grm, sets, marks, rows, core)?;
-    move_open(grm, sets, marks, rows, opening)?;
+    move_open(grm, sets, marks, rows)?;
     Ok(())
 }

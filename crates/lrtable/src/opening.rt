@@ -447,25 +447,25 @@ impl Opening {
         Ok(())
     }
 
-    /// Opens the rule behind the dot of an item, if there is one, with what follows it.
+    /// Opens the rule behind the dot of an item with these lookaheads, if there is one, with what follows it.
     fn seed_one<S: IndexStorage>(
         &mut self,
         grm: &NumberedGrammar<S>,
         firsts: &YaccFirsts<S>,
-        item: &CoreItem<S>,
-        looks: &Vob,
+        pair: (&CoreItem<S>, &Vob),
         rest: &mut Rest,
         waiting: &mut Vec<usize>,
     ) -> Result<(), AllocError>
-        requires production { S.number item.now.pidx.0 < length grm.now.grammar.productions }
+        requires production { S.number pair.0.now.pidx.0 < length grm.now.grammar.productions }
         requires firsts { AreFirsts grm.now.grammar firsts.now }
         requires sizes { IsSized grm.now.grammar self.old }
-        requires width { length looks.now.bits ≡ grm.now.grammar.tokens }
+        requires width { length pair.1.now.bits ≡ grm.now.grammar.tokens }
         requires room { length rest.old.first.bits ≡ grm.now.grammar.tokens }
         ensures room { length rest.new.first.bits ≡ grm.now.grammar.tokens }
-        ensures follows { OnOk result (Follows (Seeds grm.now.grammar (One (S.number item.now.pidx.0) (S.number item.now.dot.0))) (SeedsLook grm.now.grammar (One (S.number item.now.pidx.0) (S.number item.now.dot.0)) (OneLooks (S.number item.now.pidx.0) (S.number item.now.dot.0) looks.now.bits)) self.old self.new waiting.old.items waiting.new.items) }
+        ensures follows { OnOk result (Follows (Seeds grm.now.grammar (One (S.number pair.entry.0.now.pidx.0) (S.number pair.entry.0.now.dot.0))) (SeedsLook grm.now.grammar (One (S.number pair.entry.0.now.pidx.0) (S.number pair.entry.0.now.dot.0)) (OneLooks (S.number pair.entry.0.now.pidx.0) (S.number pair.entry.0.now.dot.0) pair.entry.1.now.bits)) self.old self.new waiting.old.items waiting.new.items) }
     {
         grm.start_prod();
+        let (item, looks) = pair;
         let dot = item.dot.0.to_usize();
         match rule_after(grm, item.pidx, dot) {
             Some(ridx) => {
@@ -496,15 +496,17 @@ impl Opening {
         'items: for k in 0..set.items.len() {
             let item = &set.items[k];
             let looks = &set.looks[k];
-            self.seed_one(grm, firsts, item, looks, rest, waiting)?;
+            self.seed_one(grm, firsts, (item, looks), rest, waiting)?;
         }
         Ok(())
     }
 }
 
-/// Buffers that successive closures reuse.
+/// Closes one core after another, in buffers that it reuses.
 #[derive(Drop)]
-pub(crate) struct Closer {
+pub(crate) struct Closer<'a, S: IndexStorage> {
+    pub firsts: &'a YaccFirsts<S>,
+    pub openers: &'a Openers,
     /// The open rules.
     pub opening: Opening,
     /// The lookaheads of the rule that is taken.
@@ -517,17 +519,23 @@ pub(crate) struct Closer {
     pub counts: Vec<usize>,
 }
 
-impl Closer {
+impl<'a, S: IndexStorage> Closer<'a, S> {
     /// Makes the buffers, with no open rule.
-    pub(crate) fn new<S: IndexStorage>(
+    pub(crate) fn new(
         alloc: Global,
         grm: &NumberedGrammar<S>,
-    ) -> Result<Closer, AllocError>
+        firsts: &'a YaccFirsts<S>,
+        openers: &'a Openers,
+    ) -> Result<Closer<'a, S>, AllocError>
+        requires firsts { AreFirsts grm.now.grammar firsts.now }
+        requires openers { AreFronts grm.now.grammar openers.now }
         ensures { IfOk result (λ c. IsReady grm.now.grammar c) }
     {
         let rules = grm.rules_len().0.to_usize();
         let tokens = grm.tokens_len().0.to_usize();
         Ok(Closer {
+            firsts,
+            openers,
             opening: Opening::empty(alloc, rules, tokens)?,
             looks: Vob::from_elem(alloc, false, tokens)?,
             rest: Rest::empty(alloc, tokens)?,
@@ -537,25 +545,21 @@ impl Closer {
     }
 
     /// Opens the rules that the closure of a core opens, with their lookaheads, and no others.
-    pub(crate) fn close<S: IndexStorage>(
+    pub(crate) fn close(
         &mut self,
         grm: &NumberedGrammar<S>,
-        firsts: &YaccFirsts<S>,
-        openers: &Openers,
         set: &CoreSet<S>,
     ) -> Result<(), AllocError>
         requires ready { IsReady grm.now.grammar self.old }
         requires fits { FitsCore grm.now.grammar (core_of_set S.number set.now) }
-        requires firsts { AreFirsts grm.now.grammar firsts.now }
-        requires openers { AreFronts grm.now.grammar openers.now }
         ensures ready { OnOk result (IsReady grm.now.grammar self.new) }
-        ensures closed { OnOk result (IsClosureOf grm.now.grammar openers.now (core_of_set S.number set.now) self.new.opening) }
+        ensures closed { OnOk result (IsClosureOf grm.now.grammar self.old.openers.now (core_of_set S.number set.now) self.new.opening) }
     {
         self.opening.clear();
         self.opening
-            .seed(grm, firsts, set, &mut self.rest, &mut self.waiting)?;
+            .seed(grm, self.firsts, set, &mut self.rest, &mut self.waiting)?;
         self.opening
-            .close(openers, &mut self.looks, &mut self.waiting)?;
+            .close(self.openers, &mut self.looks, &mut self.waiting)?;
         Ok(())
     }
 }

@@ -1,21 +1,20 @@
 //! Builds the states by Pager's merging (1977).
 
-ghost use Rattle.std.specs.Prelude.{◌↔◌, IsTrue, ◌≡◌, ◌<◌, ◌≤◌, ◌+◌, ℕ, true, false, [], ◌∷◌, ◌++◌, length, map, take, replicate, slice_set, IfOk, OnOk, IsErrOf, MatchOption};
-ghost use Rattle.cfg_sets.specs.Firsts.{AreFirsts};
+ghost use Rattle.std.specs.Prelude.{◌↔◌, IsTrue, ◌≡◌, ◌<◌, ◌≤◌, ◌+◌, ℕ, false, [], ◌∷◌, ◌++◌, length, map, take, replicate, slice_set, IfOk, OnOk, IsErrOf, MatchOption};
 ghost use Rattle.cfg_theory.specs.Grammar.{IsEnd};
 ghost use Rattle.vob.specs.Sets.{is_set};
 ghost use Rattle.lr_theory.specs.Building.{Building, IsGraph};
 ghost use Rattle.lr_theory.specs.Sizes.{StaysWithin};
 ghost use Rattle.lr_theory.specs.Itemset.{HasItem, HasLook, Closure, ClosureLook};
+ghost use Rattle.lrtable.specs.Builders.{states_in, IsBuilder, GoesOn, IsUnderWay, IsStep, IsFirstDue, AreClear};
 ghost use Rattle.lrtable.specs.Closers.{IsReady};
-ghost use Rattle.lrtable.specs.Closes.{AreFronts};
 ghost use Rattle.state_table.specs.ItemRows.{no_core, map_of, FitsCore};
 ghost use Rattle.lrtable.specs.Gaining.{core_in, AreMarked};
-ghost use Rattle.lrtable.specs.Handling.{AreReached, AreHandled, AreBuilt, TooManyStand, left_in};
+ghost use Rattle.lrtable.specs.Handling.{AreReached, AreHandled, AreBuilt, TooManyStand};
 ghost use Rattle.state_table.specs.Meeting.{rows_in};
 ghost use Rattle.lrtable.specs.MovedItems.{AreEmpty, IsKernel, set_of_moved};
 ghost use Rattle.lrtable.specs.Pruning.{AreLinked, graph_of_states};
-ghost use Rattle.lrtable.specs.States.{AreStates, AreBuckets, AreQuiet, state_at, first_production};
+ghost use Rattle.lrtable.specs.States.{AreStates, AreQuiet, state_at, first_production};
 ghost use Rattle.lrtable.specs.StateViews.{value_of};
 ghost use Rattle.state_table.specs.CoreViews.{core_of_set};
 ghost use Rattle.lrtable.specs.Stepping.{AreGotos, AreGotosOf, IsGotoAt, IsNextTaken, set_off};
@@ -23,56 +22,76 @@ ghost use Rattle.lrtable.specs.declared.states.BuildError.TheVariants as faults;
 
 use crate::moved_items::{MovedItem, Rows};
 use crate::moves::{empty_sets, goto_sets, symbol_at};
-use crate::openers::Openers;
 use crate::opening::Closer;
 use crate::pruning::prune;
 use crate::retaking::{Retaken, retake_all};
-use crate::states::{BuildError, EdgeTo, State, place};
+use crate::states::{BuildError, Builder, EdgeTo, State, place};
 use cfg_base::index::IndexStorage;
 use cfg_base::symbol::SIdx;
 use cfg_numbered::yacc::NumberedGrammar;
-use cfg_sets::YaccFirsts;
 use state_table::cores::{CoreItem, CoreSet};
 use state_table::rooms::bits_set;
 use std::alloc::{AllocError, Global};
 use vob::Vob;
 
-/// Places the goto set of the symbol of a rank, if the set has items, and leaves an empty one. The state's edge on
-/// the symbol may be at `near`, and that on the next symbol behind it.
+/// What the steps of a building are made with.
+#[derive(Drop)]
+pub(crate) struct Buffers<'a, S: IndexStorage> {
+    pub closer: Closer<'a, S>,
+    /// A state that is taken again, as it was.
+    pub was: Retaken<S>,
+    /// The goto sets of the state that is taken, one for each symbol.
+    pub sets: Vec<Vec<MovedItem<S>>>,
+    /// A flag for each goto set: whether it has items.
+    pub marks: Vob,
+    /// The lookaheads of the state that is taken.
+    pub own: Vec<Vob>,
+}
+
+impl<'a, S: IndexStorage> Buffers<'a, S> {
+    /// Makes the buffers, with empty goto sets.
+    pub(crate) fn new(
+        alloc: Global,
+        grm: &NumberedGrammar<S>,
+        closer: Closer<'a, S>,
+    ) -> Result<Buffers<'a, S>, AllocError>
+        requires { IsReady grm.now.grammar closer }
+        ensures { IfOk result (λ b. AreClear grm.now.grammar b) }
+    {
+        let sets = symbol_sets(alloc, grm)?;
+        let marks = Vob::from_elem(alloc, false, sets.len())?;
+        let was = Retaken::empty(alloc, grm)?;
+        Ok(Buffers {
+            closer,
+            was,
+            sets,
+            marks,
+            own: Vec::new(alloc),
+        })
+    }
+}
+
+/// Places the goto set of the symbol of a rank, if the set has items, and leaves an empty one.
 fn place_rank<S: IndexStorage>(
     alloc: Global,
     grm: &NumberedGrammar<S>,
-    states: &mut Vec<State<S>>,
-    begins: &mut Vec<Vec<usize>>,
-    cursor: &mut usize,
-    from: usize,
-    near: &mut usize,
+    builder: &mut Builder<S>,
     sets: &mut Vec<Vec<MovedItem<S>>>,
     rows: &Rows<'_>,
     number: usize,
 ) -> Result<(), BuildError>
-    requires near { near.old ≤ number }
     requires number { number < grm.now.grammar.rules + grm.now.grammar.tokens }
     requires count { length sets.old.items ≡ grm.now.grammar.rules + grm.now.grammar.tokens }
     requires tokens { 0 < grm.now.grammar.tokens }
-    requires from { from < length states.old.items }
-    requires states { AreStates grm.now.grammar.tokens (map (value_of S.number) states.old.items) }
+    requires builder { IsBuilder S.number S.MAX (length grm.now.grammar.productions) builder.old }
+    requires states { AreStates grm.now.grammar.tokens (states_in S.number builder.old) }
     requires set { FitsCore grm.now.grammar (core_in (map (set_of_moved S.number rows.now) sets.old.items) number) }
-    requires buckets { AreBuckets (map (value_of S.number) states.old.items) (map (λ l. l.items) begins.old.items) }
-    requires lists { length begins.old.items ≡ length grm.now.grammar.productions }
-    requires few { length states.old.items ≤ S.MAX }
-    requires cursor { cursor.old ≤ length states.old.items }
-    ensures near { OnOk result (near.new ≤ number + 1) }
-    ensures states { OnOk result (AreStates grm.now.grammar.tokens (map (value_of S.number) states.new.items)) }
-    ensures more { OnOk result (length states.old.items ≤ length states.new.items) }
-    ensures buckets { OnOk result (AreBuckets (map (value_of S.number) states.new.items) (map (λ l. l.items) begins.new.items)) }
-    ensures lists { OnOk result (length begins.new.items ≡ length begins.old.items) }
-    ensures few { OnOk result (length states.new.items ≤ S.MAX) }
-    ensures less { OnOk result (cursor.new ≤ cursor.old) }
-    ensures quiet { OnOk result (AreQuiet (map (value_of S.number) states.old.items) cursor.old → AreQuiet (map (value_of S.number) states.new.items) cursor.new) }
+    ensures builder { OnOk result (IsBuilder S.number S.MAX (length grm.now.grammar.productions) builder.new) }
+    ensures goes { OnOk result (GoesOn S.number builder.old builder.new) }
+    ensures states { OnOk result (AreStates grm.now.grammar.tokens (states_in S.number builder.new)) }
     ensures sets { OnOk result (map (set_of_moved S.number rows.now) sets.new.items ≡ slice_set (map (set_of_moved S.number rows.now) sets.old.items) number no_core) }
-    ensures handled { OnOk result ((before : Building) → IsGotoAt grm.now.grammar before from number (core_in (map (set_of_moved S.number rows.now) sets.old.items) number) → AreHandled grm.now.grammar before from number (map (value_of S.number) states.old.items) → AreHandled grm.now.grammar before from (number + 1) (map (value_of S.number) states.new.items)) }
-    ensures many { IsErrOf result faults.TooManyStates → (before : Building) → IsNextTaken grm.now.grammar before from → IsGotoAt grm.now.grammar before from number (core_in (map (set_of_moved S.number rows.now) sets.old.items) number) → AreHandled grm.now.grammar before from number (map (value_of S.number) states.old.items) → TooManyStand grm.now.grammar S.MAX }
+    ensures handled { OnOk result ((before : Building) → IsGotoAt grm.now.grammar before builder.old.from number (core_in (map (set_of_moved S.number rows.now) sets.old.items) number) → AreHandled grm.now.grammar before builder.old.from number (states_in S.number builder.old) → AreHandled grm.now.grammar before builder.old.from (number + 1) (states_in S.number builder.new)) }
+    ensures many { IsErrOf result faults.TooManyStates → (before : Building) → IsNextTaken grm.now.grammar before builder.old.from → IsGotoAt grm.now.grammar before builder.old.from number (core_in (map (set_of_moved S.number rows.now) sets.old.items) number) → AreHandled grm.now.grammar before builder.old.from number (states_in S.number builder.old) → TooManyStand grm.now.grammar S.MAX }
 {
     let set = &mut sets[number];
     if set.is_empty() {
@@ -80,11 +99,8 @@ fn place_rank<S: IndexStorage>(
     }
     let symbol = symbol_at(grm, number);
     let items = set.as_slice();
-    place(
-        alloc, states, begins, cursor, from, *near, symbol, items, rows,
-    )?;
+    place(alloc, builder, symbol, items, rows)?;
     set.clear();
-    *near += 1;
     Ok(())
 }
 
@@ -92,10 +108,7 @@ fn place_rank<S: IndexStorage>(
 fn place_all<S: IndexStorage>(
     alloc: Global,
     grm: &NumberedGrammar<S>,
-    states: &mut Vec<State<S>>,
-    begins: &mut Vec<Vec<usize>>,
-    cursor: &mut usize,
-    from: usize,
+    builder: &mut Builder<S>,
     sets: &mut Vec<Vec<MovedItem<S>>>,
     marks: &Vob,
     rows: &Rows<'_>,
@@ -104,27 +117,17 @@ fn place_all<S: IndexStorage>(
     requires wide { length marks.now.bits ≡ grm.now.grammar.rules + grm.now.grammar.tokens }
     requires marked { AreMarked marks.now.bits (map (set_of_moved S.number rows.now) sets.old.items) }
     requires tokens { 0 < grm.now.grammar.tokens }
-    requires from { from < length states.old.items }
-    requires states { AreStates grm.now.grammar.tokens (map (value_of S.number) states.old.items) }
+    requires builder { IsBuilder S.number S.MAX (length grm.now.grammar.productions) builder.old }
+    requires states { AreStates grm.now.grammar.tokens (states_in S.number builder.old) }
     requires sets { (n : ℕ) → n < grm.now.grammar.rules + grm.now.grammar.tokens → FitsCore grm.now.grammar (core_in (map (set_of_moved S.number rows.now) sets.old.items) n) }
-    requires buckets { AreBuckets (map (value_of S.number) states.old.items) (map (λ l. l.items) begins.old.items) }
-    requires lists { length begins.old.items ≡ length grm.now.grammar.productions }
-    requires few { length states.old.items ≤ S.MAX }
-    requires cursor { cursor.old ≤ length states.old.items }
     ensures emptied { OnOk result (AreEmpty (grm.now.grammar.rules + grm.now.grammar.tokens) sets.new.items) }
-    ensures buckets { OnOk result (AreBuckets (map (value_of S.number) states.new.items) (map (λ l. l.items) begins.new.items)) }
-    ensures lists { OnOk result (length begins.new.items ≡ length begins.old.items) }
-    ensures few { OnOk result (length states.new.items ≤ S.MAX) }
-    ensures less { OnOk result (cursor.new ≤ cursor.old) }
-    ensures quiet { OnOk result (AreQuiet (map (value_of S.number) states.old.items) cursor.old → AreQuiet (map (value_of S.number) states.new.items) cursor.new) }
-    ensures handled { OnOk result ((before : Building) → AreGotosOf grm.now.grammar before from (map (set_of_moved S.number rows.now) sets.old.items) → AreHandled grm.now.grammar before from 0 (map (value_of S.number) states.old.items) → AreHandled grm.now.grammar before from (grm.now.grammar.rules + grm.now.grammar.tokens) (map (value_of S.number) states.new.items)) }
-    ensures many { IsErrOf result faults.TooManyStates → (before : Building) → IsNextTaken grm.now.grammar before from → AreGotosOf grm.now.grammar before from (map (set_of_moved S.number rows.now) sets.old.items) → AreHandled grm.now.grammar before from 0 (map (value_of S.number) states.old.items) → TooManyStand grm.now.grammar S.MAX }
+    ensures builder { OnOk result (IsBuilder S.number S.MAX (length grm.now.grammar.productions) builder.new) }
+    ensures goes { OnOk result (GoesOn S.number builder.old builder.new) }
+    ensures handled { OnOk result ((before : Building) → AreGotosOf grm.now.grammar before builder.old.from (map (set_of_moved S.number rows.now) sets.old.items) → AreHandled grm.now.grammar before builder.old.from 0 (states_in S.number builder.old) → AreHandled grm.now.grammar before builder.old.from (grm.now.grammar.rules + grm.now.grammar.tokens) (states_in S.number builder.new)) }
+    ensures many { IsErrOf result faults.TooManyStates → (before : Building) → IsNextTaken grm.now.grammar before builder.old.from → AreGotosOf grm.now.grammar before builder.old.from (map (set_of_moved S.number rows.now) sets.old.items) → AreHandled grm.now.grammar before builder.old.from 0 (states_in S.number builder.old) → TooManyStand grm.now.grammar S.MAX }
 {
-    let mut near = 0;
     'ranks: for number in marks.iter_set_bits(..) {
-        place_rank(
-            alloc, grm, states, begins, cursor, from, &mut near, sets, rows, number,
-        )?;
+        place_rank(alloc, grm, builder, sets, rows, number)?;
     }
     Ok(())
 }
@@ -132,9 +135,7 @@ fn place_all<S: IndexStorage>(
 /// Makes empty sets, one for each symbol, the goto sets of a core.
 fn gotos<S: IndexStorage>(
     grm: &NumberedGrammar<S>,
-    firsts: &YaccFirsts<S>,
-    openers: &Openers,
-    closer: &mut Closer,
+    closer: &mut Closer<'_, S>,
     core: &CoreSet<S>,
     sets: &mut Vec<Vec<MovedItem<S>>>,
     marks: &mut Vob,
@@ -142,19 +143,17 @@ fn gotos<S: IndexStorage>(
     requires ready { IsReady grm.now.grammar closer.old }
     requires fits { FitsCore grm.now.grammar (core_of_set S.number core.now) }
     requires kernel { IsKernel grm.now.grammar (HasItem (map_of (core_of_set S.number core.now))) }
-    requires firsts { AreFirsts grm.now.grammar firsts.now }
-    requires openers { AreFronts grm.now.grammar openers.now }
     requires wide { length marks.old.bits ≡ grm.now.grammar.rules + grm.now.grammar.tokens }
     requires empty { AreEmpty (grm.now.grammar.rules + grm.now.grammar.tokens) sets.old.items }
     ensures ready { OnOk result (IsReady grm.now.grammar closer.new) }
     ensures wide { OnOk result (length marks.new.bits ≡ grm.now.grammar.rules + grm.now.grammar.tokens) }
-    ensures marked { OnOk result (AreMarked marks.new.bits (map (set_of_moved S.number (record { own = rows_in core.now.looks.items; rules = closer.new.opening.rows })) sets.new.items)) }
-    ensures gotos { OnOk result (AreGotos grm.now.grammar (Closure grm.now.grammar (HasItem (map_of (core_of_set S.number core.now)))) (ClosureLook grm.now.grammar (HasItem (map_of (core_of_set S.number core.now))) (HasLook (map_of (core_of_set S.number core.now)))) (map (set_of_moved S.number (record { own = rows_in core.now.looks.items; rules = closer.new.opening.rows })) sets.new.items)) }
+    ensures marked { OnOk result (AreMarked marks.new.bits (map (set_of_moved S.number (record { own = rows_in core.now.looks.items; opening = closer.new.opening })) sets.new.items)) }
+    ensures gotos { OnOk result (AreGotos grm.now.grammar (Closure grm.now.grammar (HasItem (map_of (core_of_set S.number core.now)))) (ClosureLook grm.now.grammar (HasItem (map_of (core_of_set S.number core.now))) (HasLook (map_of (core_of_set S.number core.now)))) (map (set_of_moved S.number (record { own = rows_in core.now.looks.items; opening = closer.new.opening })) sets.new.items)) }
 {
-    closer.close(grm, firsts, openers, core)?;
+    closer.close(grm, core)?;
     marks.set_all(false);
     let rows = Rows::new(core.looks.as_slice(), &closer.opening);
-    goto_sets(grm, core, &closer.opening, sets, marks, &rows)?;
+    goto_sets(grm, core, sets, marks, &rows)?;
     Ok(())
 }
 
@@ -226,59 +225,42 @@ fn copy_looks(own: &mut Vec<Vob>, looks: &[Vob]) -> Result<(), AllocError>
 fn step_anew<S: IndexStorage>(
     alloc: Global,
     grm: &NumberedGrammar<S>,
-    firsts: &YaccFirsts<S>,
-    openers: &Openers,
-    closer: &mut Closer,
-    sets: &mut Vec<Vec<MovedItem<S>>>,
-    marks: &mut Vob,
-    own: &mut Vec<Vob>,
-    states: &mut Vec<State<S>>,
-    begins: &mut Vec<Vec<usize>>,
+    buffers: &mut Buffers<'_, S>,
+    builder: &mut Builder<S>,
     number: usize,
-) -> Result<usize, BuildError>
-    requires firsts { AreFirsts grm.now.grammar firsts.now }
-    requires openers { AreFronts grm.now.grammar openers.now }
-    requires ready { IsReady grm.now.grammar closer.old }
-    requires wide { length marks.old.bits ≡ grm.now.grammar.rules + grm.now.grammar.tokens }
-    requires empty { AreEmpty (grm.now.grammar.rules + grm.now.grammar.tokens) sets.old.items }
-    requires reached { AreReached grm.now.grammar (map (value_of S.number) states.old.items) }
-    requires number { number < length states.old.items }
-    requires todo { (state_at (map (value_of S.number) states.old.items) number).todo ≡ true }
-    requires lowest { (r : ℕ) → r < number → (state_at (map (value_of S.number) states.old.items) r).todo ≡ false }
-    requires buckets { AreBuckets (map (value_of S.number) states.old.items) (map (λ l. l.items) begins.old.items) }
-    requires lists { length begins.old.items ≡ length grm.now.grammar.productions }
-    requires few { length states.old.items ≤ S.MAX }
-    ensures ready { OnOk result (IsReady grm.now.grammar closer.new) }
-    ensures wide { OnOk result (length marks.new.bits ≡ grm.now.grammar.rules + grm.now.grammar.tokens) }
-    ensures emptied { OnOk result (AreEmpty (grm.now.grammar.rules + grm.now.grammar.tokens) sets.new.items) }
-    ensures reached { OnOk result (AreReached grm.now.grammar (map (value_of S.number) states.new.items)) }
-    ensures buckets { OnOk result (AreBuckets (map (value_of S.number) states.new.items) (map (λ l. l.items) begins.new.items)) }
-    ensures lists { OnOk result (length begins.new.items ≡ length begins.old.items) }
-    ensures few { OnOk result (length states.new.items ≤ S.MAX) }
-    ensures quiet { IfOk result (λ n. AreQuiet (map (value_of S.number) states.new.items) n) }
-    ensures less { OnOk result (left_in grm.now.grammar S.MAX (map (value_of S.number) states.new.items) < left_in grm.now.grammar S.MAX (map (value_of S.number) states.old.items)) }
+) -> Result<(), BuildError>
+    requires buffers { AreClear grm.now.grammar buffers.old }
+    requires builder { IsUnderWay S.number S.MAX grm.now.grammar builder.old }
+    requires due { IsFirstDue S.number builder.old number }
+    ensures buffers { OnOk result (AreClear grm.now.grammar buffers.new) }
+    ensures step { OnOk result (IsStep S.number S.MAX grm.now.grammar builder.old builder.new) }
     ensures many { IsErrOf result faults.TooManyStates → TooManyStand grm.now.grammar S.MAX }
 {
     grm.start_prod();
-    let core = &states[number].core;
-    gotos(grm, firsts, openers, closer, core, sets, marks)?;
+    let core = &builder.states[number].core;
+    gotos(
+        grm,
+        &mut buffers.closer,
+        core,
+        &mut buffers.sets,
+        &mut buffers.marks,
+    )?;
     let count = core.looks.len();
-    copy_looks(own, core.looks.as_slice())?;
-    take(states, number, marks)?;
-    let rows = Rows::new(&own[..count], &closer.opening);
-    let mut cursor = number;
+    copy_looks(&mut buffers.own, core.looks.as_slice())?;
+    take(&mut builder.states, number, &buffers.marks)?;
+    builder.cursor = number;
+    builder.from = number;
+    builder.near = 0;
+    let rows = Rows::new(&buffers.own[..count], &buffers.closer.opening);
     place_all(
         alloc,
         grm,
-        states,
-        begins,
-        &mut cursor,
-        number,
-        sets,
-        marks,
+        builder,
+        &mut buffers.sets,
+        &buffers.marks,
         &rows,
     )?;
-    Ok(cursor)
+    Ok(())
 }
 
 /// Takes a state again that has edges since it was taken before: these lead to the states of its goto sets, or to
@@ -286,118 +268,61 @@ fn step_anew<S: IndexStorage>(
 fn step_again<S: IndexStorage>(
     alloc: Global,
     grm: &NumberedGrammar<S>,
-    firsts: &YaccFirsts<S>,
-    openers: &Openers,
-    closer: &mut Closer,
-    was: &mut Retaken<S>,
-    marks: &Vob,
-    own: &mut Vec<Vob>,
-    states: &mut Vec<State<S>>,
-    begins: &mut Vec<Vec<usize>>,
+    buffers: &mut Buffers<'_, S>,
+    builder: &mut Builder<S>,
     number: usize,
-) -> Result<usize, BuildError>
-    requires firsts { AreFirsts grm.now.grammar firsts.now }
-    requires openers { AreFronts grm.now.grammar openers.now }
-    requires ready { IsReady grm.now.grammar closer.old }
-    requires hints { length was.old.hints.items ≡ length grm.now.grammar.productions }
-    requires edges { 0 < length (state_at (map (value_of S.number) states.old.items) number).edges }
-    requires reached { AreReached grm.now.grammar (map (value_of S.number) states.old.items) }
-    requires number { number < length states.old.items }
-    requires todo { (state_at (map (value_of S.number) states.old.items) number).todo ≡ true }
-    requires lowest { (r : ℕ) → r < number → (state_at (map (value_of S.number) states.old.items) r).todo ≡ false }
-    requires buckets { AreBuckets (map (value_of S.number) states.old.items) (map (λ l. l.items) begins.old.items) }
-    requires lists { length begins.old.items ≡ length grm.now.grammar.productions }
-    requires few { length states.old.items ≤ S.MAX }
-    ensures ready { OnOk result (IsReady grm.now.grammar closer.new) }
-    ensures hints { OnOk result (length was.new.hints.items ≡ length was.old.hints.items) }
-    ensures reached { OnOk result (AreReached grm.now.grammar (map (value_of S.number) states.new.items)) }
-    ensures buckets { OnOk result (AreBuckets (map (value_of S.number) states.new.items) (map (λ l. l.items) begins.new.items)) }
-    ensures lists { OnOk result (length begins.new.items ≡ length begins.old.items) }
-    ensures few { OnOk result (length states.new.items ≤ S.MAX) }
-    ensures quiet { IfOk result (λ n. AreQuiet (map (value_of S.number) states.new.items) n) }
-    ensures less { OnOk result (left_in grm.now.grammar S.MAX (map (value_of S.number) states.new.items) < left_in grm.now.grammar S.MAX (map (value_of S.number) states.old.items)) }
+) -> Result<(), BuildError>
+    requires buffers { AreClear grm.now.grammar buffers.old }
+    requires builder { IsUnderWay S.number S.MAX grm.now.grammar builder.old }
+    requires due { IsFirstDue S.number builder.old number }
+    requires edges { 0 < length (state_at (states_in S.number builder.old) number).edges }
+    ensures buffers { OnOk result (AreClear grm.now.grammar buffers.new) }
+    ensures step { OnOk result (IsStep S.number S.MAX grm.now.grammar builder.old builder.new) }
     ensures many { IsErrOf result faults.TooManyStates → TooManyStand grm.now.grammar S.MAX }
 {
     grm.start_prod();
-    let state = &states[number];
-    closer.close(grm, firsts, openers, &state.core)?;
-    was.note(state)?;
+    let state = &builder.states[number];
+    buffers.closer.close(grm, &state.core)?;
+    buffers.was.note(state)?;
     let count = state.core.looks.len();
-    copy_looks(own, state.core.looks.as_slice())?;
-    take(states, number, marks)?;
-    let rows = Rows::new(&own[..count], &closer.opening);
-    let mut cursor = number;
-    retake_all(
-        alloc,
-        grm,
-        states,
-        begins,
-        &mut cursor,
-        number,
-        was,
-        &rows,
-        &closer.opening,
-    )?;
-    Ok(cursor)
+    copy_looks(&mut buffers.own, state.core.looks.as_slice())?;
+    take(&mut builder.states, number, &buffers.marks)?;
+    builder.cursor = number;
+    builder.from = number;
+    let rows = Rows::new(&buffers.own[..count], &buffers.closer.opening);
+    retake_all(alloc, grm, builder, &buffers.was, &rows)?;
+    Ok(())
 }
 
-/// Takes the first state that is to be taken, and returns a number below which no state then is.
+/// Takes the first state that is to be taken.
 fn step<S: IndexStorage>(
     alloc: Global,
     grm: &NumberedGrammar<S>,
-    firsts: &YaccFirsts<S>,
-    openers: &Openers,
-    closer: &mut Closer,
-    was: &mut Retaken<S>,
-    sets: &mut Vec<Vec<MovedItem<S>>>,
-    marks: &mut Vob,
-    own: &mut Vec<Vob>,
-    states: &mut Vec<State<S>>,
-    begins: &mut Vec<Vec<usize>>,
+    buffers: &mut Buffers<'_, S>,
+    builder: &mut Builder<S>,
     number: usize,
-) -> Result<usize, BuildError>
-    requires firsts { AreFirsts grm.now.grammar firsts.now }
-    requires openers { AreFronts grm.now.grammar openers.now }
-    requires ready { IsReady grm.now.grammar closer.old }
-    requires wide { length marks.old.bits ≡ grm.now.grammar.rules + grm.now.grammar.tokens }
-    requires empty { AreEmpty (grm.now.grammar.rules + grm.now.grammar.tokens) sets.old.items }
-    requires hints { length was.old.hints.items ≡ length grm.now.grammar.productions }
-    requires reached { AreReached grm.now.grammar (map (value_of S.number) states.old.items) }
-    requires number { number < length states.old.items }
-    requires todo { (state_at (map (value_of S.number) states.old.items) number).todo ≡ true }
-    requires lowest { (r : ℕ) → r < number → (state_at (map (value_of S.number) states.old.items) r).todo ≡ false }
-    requires buckets { AreBuckets (map (value_of S.number) states.old.items) (map (λ l. l.items) begins.old.items) }
-    requires lists { length begins.old.items ≡ length grm.now.grammar.productions }
-    requires few { length states.old.items ≤ S.MAX }
-    ensures ready { OnOk result (IsReady grm.now.grammar closer.new) }
-    ensures wide { OnOk result (length marks.new.bits ≡ grm.now.grammar.rules + grm.now.grammar.tokens) }
-    ensures emptied { OnOk result (AreEmpty (grm.now.grammar.rules + grm.now.grammar.tokens) sets.new.items) }
-    ensures hints { OnOk result (length was.new.hints.items ≡ length was.old.hints.items) }
-    ensures reached { OnOk result (AreReached grm.now.grammar (map (value_of S.number) states.new.items)) }
-    ensures buckets { OnOk result (AreBuckets (map (value_of S.number) states.new.items) (map (λ l. l.items) begins.new.items)) }
-    ensures lists { OnOk result (length begins.new.items ≡ length begins.old.items) }
-    ensures few { OnOk result (length states.new.items ≤ S.MAX) }
-    ensures quiet { IfOk result (λ n. AreQuiet (map (value_of S.number) states.new.items) n) }
-    ensures less { OnOk result (left_in grm.now.grammar S.MAX (map (value_of S.number) states.new.items) < left_in grm.now.grammar S.MAX (map (value_of S.number) states.old.items)) }
+) -> Result<(), BuildError>
+    requires buffers { AreClear grm.now.grammar buffers.old }
+    requires builder { IsUnderWay S.number S.MAX grm.now.grammar builder.old }
+    requires due { IsFirstDue S.number builder.old number }
+    ensures buffers { OnOk result (AreClear grm.now.grammar buffers.new) }
+    ensures step { OnOk result (IsStep S.number S.MAX grm.now.grammar builder.old builder.new) }
     ensures many { IsErrOf result faults.TooManyStates → TooManyStand grm.now.grammar S.MAX }
 {
-    if states[number].edges.is_empty() {
-        return step_anew(
-            alloc, grm, firsts, openers, closer, sets, marks, own, states, begins, number,
-        );
+    if builder.states[number].edges.is_empty() {
+        return step_anew(alloc, grm, buffers, builder, number);
     }
-    step_again(
-        alloc, grm, firsts, openers, closer, was, marks, own, states, begins, number,
-    )
+    step_again(alloc, grm, buffers, builder, number)
 }
 
-/// Returns the first state that is to be taken, if there is one; below the cursor there is none.
-fn lowest<S: IndexStorage>(states: &[State<S>], cursor: usize) -> Option<usize>
-    requires { AreQuiet (map (value_of S.number) states.now) cursor }
-    ensures { MatchOption result ((s : ℕ) → s < length states.now → (state_at (map (value_of S.number) states.now) s).todo ≡ false) (λ n. (n < length states.now) × ((state_at (map (value_of S.number) states.now) n).todo ≡ true) × ((r : ℕ) → r < n → (state_at (map (value_of S.number) states.now) r).todo ≡ false)) }
+/// Returns the first state that is to be taken, if there is one.
+fn lowest<S: IndexStorage>(builder: &Builder<S>) -> Option<usize>
+    requires { AreQuiet (states_in S.number builder.now) builder.now.cursor }
+    ensures { MatchOption result ((s : ℕ) → s < length builder.now.states.items → (state_at (states_in S.number builder.now) s).todo ≡ false) (λ n. IsFirstDue S.number builder.now n) }
 {
-    'each: for number in cursor..states.len() {
-        if states[number].todo {
+    'each: for number in builder.cursor..builder.states.len() {
+        let state = &builder.states[number];
+        if state.todo {
             return Some(number);
         }
     }
@@ -463,44 +388,42 @@ fn start_lists(alloc: Global, count: usize, first: usize) -> Result<Vec<Vec<usiz
     Ok(lists)
 }
 
-/// Makes steps until no state is to be taken.
-pub(crate) fn finish<S: IndexStorage>(
+/// Returns the start state with the lists that name it: no step is made yet.
+fn start_builder<S: IndexStorage>(
     alloc: Global,
     grm: &NumberedGrammar<S>,
-    firsts: &YaccFirsts<S>,
-    openers: &Openers,
-    closer: &mut Closer,
-    was: &mut Retaken<S>,
-    sets: &mut Vec<Vec<MovedItem<S>>>,
-    marks: &mut Vob,
-    own: &mut Vec<Vob>,
-    states: &mut Vec<State<S>>,
-    begins: &mut Vec<Vec<usize>>,
+) -> Result<Builder<S>, AllocError>
+    ensures { IfOk result (λ b. IsUnderWay S.number S.MAX grm.now.grammar b) }
+{
+    let first = grm.start_prod().0.to_usize();
+    let begins = start_lists(alloc, grm.prods_len().0.to_usize(), first)?;
+    let states = start_states(alloc, grm)?;
+    Ok(Builder {
+        states,
+        begins,
+        cursor: 0,
+        from: 0,
+        near: 0,
+    })
+}
+
+/// Makes steps until no state is to be taken.
+fn finish<S: IndexStorage>(
+    alloc: Global,
+    grm: &NumberedGrammar<S>,
+    buffers: &mut Buffers<'_, S>,
+    builder: &mut Builder<S>,
 ) -> Result<(), BuildError>
-    requires firsts { AreFirsts grm.now.grammar firsts.now }
-    requires openers { AreFronts grm.now.grammar openers.now }
-    requires ready { IsReady grm.now.grammar closer.old }
-    requires wide { length marks.old.bits ≡ grm.now.grammar.rules + grm.now.grammar.tokens }
-    requires hints { length was.old.hints.items ≡ length grm.now.grammar.productions }
-    requires empty { AreEmpty (grm.now.grammar.rules + grm.now.grammar.tokens) sets.old.items }
-    requires reached { AreReached grm.now.grammar (map (value_of S.number) states.old.items) }
-    requires buckets { AreBuckets (map (value_of S.number) states.old.items) (map (λ l. l.items) begins.old.items) }
-    requires lists { length begins.old.items ≡ length grm.now.grammar.productions }
-    requires few { length states.old.items ≤ S.MAX }
-    ensures ready { OnOk result (IsReady grm.now.grammar closer.new) }
-    ensures built { OnOk result (AreBuilt grm.now.grammar (map (value_of S.number) states.new.items)) }
-    ensures few { OnOk result (length states.new.items ≤ S.MAX) }
+    requires buffers { AreClear grm.now.grammar buffers.old }
+    requires builder { IsUnderWay S.number S.MAX grm.now.grammar builder.old }
+    ensures buffers { OnOk result (AreClear grm.now.grammar buffers.new) }
+    ensures built { OnOk result (AreBuilt grm.now.grammar (states_in S.number builder.new)) }
+    ensures few { OnOk result (length builder.new.states.items ≤ S.MAX) }
     ensures many { IsErrOf result faults.TooManyStates → TooManyStand grm.now.grammar S.MAX }
 {
-    let mut cursor = 0;
     'steps: loop {
-        match lowest(states.as_slice(), cursor) {
-            Some(number) => {
-                cursor = step(
-                    alloc, grm, firsts, openers, closer, was, sets, marks, own, states, begins,
-                    number,
-                )?;
-            }
+        match lowest(builder) {
+            Some(number) => step(alloc, grm, buffers, builder, number)?,
             None => return Ok(()),
         }
     }
@@ -524,54 +447,29 @@ fn symbol_sets<S: IndexStorage>(
 fn build<S: IndexStorage>(
     alloc: Global,
     grm: &NumberedGrammar<S>,
-    firsts: &YaccFirsts<S>,
-    openers: &Openers,
-    closer: &mut Closer,
+    buffers: &mut Buffers<'_, S>,
 ) -> Result<Vec<State<S>>, BuildError>
-    requires firsts { AreFirsts grm.now.grammar firsts.now }
-    requires openers { AreFronts grm.now.grammar openers.now }
-    requires ready { IsReady grm.now.grammar closer.old }
-    ensures ready { OnOk result (IsReady grm.now.grammar closer.new) }
+    requires buffers { AreClear grm.now.grammar buffers.old }
+    ensures buffers { OnOk result (AreClear grm.now.grammar buffers.new) }
     ensures built { IfOk result (λ v. AreBuilt grm.now.grammar (map (value_of S.number) v.items)) }
     ensures few { IfOk result (λ v. length v.items ≤ S.MAX) }
     ensures within { OnOk result (StaysWithin grm.now.grammar S.MAX) }
     ensures many { IsErrOf result faults.TooManyStates → TooManyStand grm.now.grammar S.MAX }
 {
-    let first = grm.start_prod().0.to_usize();
-    let mut begins = start_lists(alloc, grm.prods_len().0.to_usize(), first)?;
-    let mut states = start_states(alloc, grm)?;
-    let mut was = Retaken::empty(alloc, grm)?;
-    let mut sets = symbol_sets(alloc, grm)?;
-    let mut marks = Vob::from_elem(alloc, false, sets.len())?;
-    let mut own = Vec::new(alloc);
-    finish(
-        alloc,
-        grm,
-        firsts,
-        openers,
-        closer,
-        &mut was,
-        &mut sets,
-        &mut marks,
-        &mut own,
-        &mut states,
-        &mut begins,
-    )?;
-    Ok(states)
+    grm.start_prod();
+    let mut builder = start_builder(alloc, grm)?;
+    finish(alloc, grm, buffers, &mut builder)?;
+    Ok(builder.states)
 }
 
 /// Returns the states of a grammar's graph, in order: those of the building at its end that edges lead to.
 pub(crate) fn states<S: IndexStorage>(
     alloc: Global,
     grm: &NumberedGrammar<S>,
-    firsts: &YaccFirsts<S>,
-    openers: &Openers,
-    closer: &mut Closer,
+    buffers: &mut Buffers<'_, S>,
 ) -> Result<Vec<State<S>>, BuildError>
-    requires firsts { AreFirsts grm.now.grammar firsts.now }
-    requires openers { AreFronts grm.now.grammar openers.now }
-    requires ready { IsReady grm.now.grammar closer.old }
-    ensures ready { OnOk result (IsReady grm.now.grammar closer.new) }
+    requires buffers { AreClear grm.now.grammar buffers.old }
+    ensures buffers { OnOk result (AreClear grm.now.grammar buffers.new) }
     ensures graph { IfOk result (λ v. IsGraph grm.now.grammar (graph_of_states (map (value_of S.number) v.items))) }
     ensures linked { IfOk result (λ v. AreLinked (map (value_of S.number) v.items)) }
     ensures cores { IfOk result (λ v. (s : ℕ) → s < length v.items → FitsCore grm.now.grammar (state_at (map (value_of S.number) v.items) s).core) }
@@ -581,7 +479,7 @@ pub(crate) fn states<S: IndexStorage>(
     ensures many { IsErrOf result faults.TooManyStates → TooManyStand grm.now.grammar S.MAX }
 {
     grm.start_prod();
-    let mut states = build(alloc, grm, firsts, openers, closer)?;
+    let mut states = build(alloc, grm, buffers)?;
     let kept = prune(alloc, &mut states)?;
     Ok(kept)
 }

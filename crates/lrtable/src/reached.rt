@@ -5,8 +5,9 @@ ghost use Rattle.std.specs.Prelude.{◌≡◌, ◌<◌, ◌↔◌, ◌∷◌, �
 ghost use Rattle.std.specs.List.{Contains};
 ghost use Rattle.vob.specs.Sets.{is_set};
 ghost use Rattle.lrtable.specs.Fronts.{front_of};
-ghost use Rattle.lrtable.specs.Opening.{Front, AllFit, HasFront, IsTidy, SameSizes};
+ghost use Rattle.lrtable.specs.Opening.{Front, AllFit, HasFront};
 ghost use Rattle.lrtable.specs.Pruning.{Marks};
+ghost use Rattle.lrtable.specs.Reachers.{HasReach};
 ghost use Rattle.lrtable.specs.Reaching.{AreReachedBy, IsReachedBy, MayBeReachedBy, PassedIn, PassesTo};
 
 use crate::openers::{Opener, Openers};
@@ -68,34 +69,50 @@ fn mark_reached(
     Ok(())
 }
 
+/// Buffers for what one rule after another reaches.
+#[derive(Drop)]
+pub(crate) struct Reacher {
+    pub opening: Opening,
+    /// The rules to which the rule passes its lookaheads on.
+    pub passed: Vob,
+    /// The lookaheads of the rule that is taken.
+    pub looks: Vob,
+    /// The rules that wait to be taken.
+    pub waiting: Vec<usize>,
+}
+
+impl Reacher {
+    /// Makes the buffers, with no open rule.
+    fn new(alloc: Global, rules: usize, tokens: usize) -> Result<Reacher, AllocError>
+        ensures { IfOk result (λ r. HasReach rules tokens r) }
+    {
+        Ok(Reacher {
+            opening: Opening::empty(alloc, rules, tokens)?,
+            passed: Vob::from_elem(alloc, false, rules)?,
+            looks: Vob::from_elem(alloc, false, tokens)?,
+            waiting: Vec::new(alloc),
+        })
+    }
+}
+
 /// Returns what a rule reaches.
 fn reached_by(
     alloc: Global,
     openers: &Openers,
-    opening: &mut Opening,
-    passed: &mut Vob,
-    looks: &mut Vob,
-    waiting: &mut Vec<usize>,
+    reacher: &mut Reacher,
     rule: usize,
 ) -> Result<Vec<Opener>, AllocError>
     requires rule { rule < length openers.now }
-    requires tidy { IsTidy opening.old }
-    requires opened { length opening.old.opened ≡ length openers.now }
-    requires rows { length opening.old.rows ≡ length openers.now }
-    requires passed { length passed.old.bits ≡ length openers.now }
-    requires looks { length looks.old.bits ≡ opening.old.tokens }
-    requires fit { (A : ℕ) → AllFit (length openers.now) opening.old.tokens (get_or openers.now A []) }
-    requires none_waits { waiting.old.items ≡ [] }
-    ensures reached { IfOk result (λ v. IsReachedBy openers.now opening.old.tokens rule (map front_of v.items)) }
-    ensures tidy { OnOk result (IsTidy opening.new) }
-    ensures sizes { OnOk result (SameSizes opening.old opening.new) }
-    ensures passed { OnOk result (length passed.new.bits ≡ length openers.now) }
-    ensures looks { OnOk result (length looks.new.bits ≡ opening.old.tokens) }
-    ensures none_waits { OnOk result (waiting.new.items ≡ []) }
+    requires reacher { HasReach (length openers.now) reacher.old.opening.tokens reacher.old }
+    requires fit { (A : ℕ) → AllFit (length openers.now) reacher.old.opening.tokens (get_or openers.now A []) }
+    ensures reached { IfOk result (λ v. IsReachedBy openers.now reacher.old.opening.tokens rule (map front_of v.items)) }
+    ensures reacher { OnOk result (HasReach (length openers.now) reacher.old.opening.tokens reacher.new) }
 {
-    mark_reached(openers, passed, waiting, rule)?;
-    opening.open_from(openers, looks, waiting, rule)?;
-    let list = opening.listed(alloc, passed)?;
+    mark_reached(openers, &mut reacher.passed, &mut reacher.waiting, rule)?;
+    reacher
+        .opening
+        .open_from(openers, &mut reacher.looks, &mut reacher.waiting, rule)?;
+    let list = reacher.opening.listed(alloc, &reacher.passed)?;
     Ok(list)
 }
 
@@ -103,35 +120,43 @@ fn reached_by(
 fn reached_if_marked(
     alloc: Global,
     openers: &Openers,
-    opening: &mut Opening,
-    passed: &mut Vob,
-    looks: &mut Vob,
-    waiting: &mut Vec<usize>,
+    reacher: &mut Reacher,
     marks: &Vob,
     rule: usize,
 ) -> Result<Vec<Opener>, AllocError>
     requires rule { rule < length openers.now }
-    requires tidy { IsTidy opening.old }
-    requires opened { length opening.old.opened ≡ length openers.now }
-    requires rows { length opening.old.rows ≡ length openers.now }
-    requires passed { length passed.old.bits ≡ length openers.now }
-    requires looks { length looks.old.bits ≡ opening.old.tokens }
-    requires fit { (A : ℕ) → AllFit (length openers.now) opening.old.tokens (get_or openers.now A []) }
-    requires none_waits { waiting.old.items ≡ [] }
-    ensures reached { IfOk result (λ v. MayBeReachedBy openers.now opening.old.tokens rule (map front_of v.items)) }
-    ensures tidy { OnOk result (IsTidy opening.new) }
-    ensures sizes { OnOk result (SameSizes opening.old opening.new) }
-    ensures passed { OnOk result (length passed.new.bits ≡ length openers.now) }
-    ensures looks { OnOk result (length looks.new.bits ≡ opening.old.tokens) }
-    ensures none_waits { OnOk result (waiting.new.items ≡ []) }
+    requires reacher { HasReach (length openers.now) reacher.old.opening.tokens reacher.old }
+    requires fit { (A : ℕ) → AllFit (length openers.now) reacher.old.opening.tokens (get_or openers.now A []) }
+    ensures reached { IfOk result (λ v. MayBeReachedBy openers.now reacher.old.opening.tokens rule (map front_of v.items)) }
+    ensures reacher { OnOk result (HasReach (length openers.now) reacher.old.opening.tokens reacher.new) }
 {
     match marks.get(rule) {
         Some(true) => {
-            let list = reached_by(alloc, openers, opening, passed, looks, waiting, rule)?;
+            let list = reached_by(alloc, openers, reacher, rule)?;
             Ok(list)
         }
         _ => Ok(Vec::new(alloc)),
     }
+}
+
+/// Returns what each marked rule reaches, and an empty list for the others, by these buffers.
+fn lists_by(
+    alloc: Global,
+    openers: &Openers,
+    reacher: &mut Reacher,
+    marks: &Vob,
+) -> Result<Vec<Vec<Opener>>, AllocError>
+    requires reacher { HasReach (length openers.now) reacher.old.opening.tokens reacher.old }
+    requires fit { (A : ℕ) → AllFit (length openers.now) reacher.old.opening.tokens (get_or openers.now A []) }
+    ensures { IfOk result (λ lists. AreReachedBy openers.now reacher.old.opening.tokens (map (λ l. map front_of l.items) lists.items)) }
+{
+    let rules = openers.len();
+    let mut reached = Vec::with_capacity(alloc, rules)?;
+    'rules: for rule in 0..rules {
+        let list = reached_if_marked(alloc, openers, reacher, marks, rule)?;
+        reached.push(list)?;
+    }
+    Ok(reached)
 }
 
 /// Returns what each marked rule reaches, and an empty list for the others.
@@ -144,26 +169,10 @@ fn reached_lists(
     requires { (A : ℕ) → AllFit (length openers.now) tokens (get_or openers.now A []) }
     ensures { IfOk result (λ lists. AreReachedBy openers.now tokens (map (λ l. map front_of l.items) lists.items)) }
 {
-    let rules = openers.len();
-    let mut opening = Opening::empty(alloc, rules, tokens)?;
-    let mut passed = Vob::from_elem(alloc, false, rules)?;
-    let mut looks = Vob::from_elem(alloc, false, tokens)?;
-    let mut waiting = Vec::new(alloc);
-    let mut reached = Vec::with_capacity(alloc, rules)?;
-    'rules: for rule in 0..rules {
-        let list = reached_if_marked(
-            alloc,
-            openers,
-            &mut opening,
-            &mut passed,
-            &mut looks,
-            &mut waiting,
-            marks,
-            rule,
-        )?;
-        reached.push(list)?;
-    }
-    Ok(reached)
+    let mut reacher = Reacher::new(alloc, openers.len(), tokens)?;
+    let lists = lists_by(alloc, openers, &mut reacher, marks);
+    drop(reacher);
+    lists
 }
 
 /// Returns the openers with what each marked rule reaches.

@@ -1,18 +1,19 @@
 //! The goto sets of a state that was taken before. Each has the items of the state that its edge leads to, and its
 //! lookaheads are read from the rows of the closed state: a set that is held there leaves the edge as it is.
 
-ghost use Rattle.std.specs.Prelude.{◌≡◌, ◌≢◌, ℕ, ◌<◌, ◌≤◌, ◌+◌, true, false, length, map, get_or, IfOk, OnOk, IsErrOf, None};
+ghost use Rattle.std.specs.Prelude.{◌≡◌, ◌≢◌, ℕ, ◌<◌, ◌+◌, true, false, length, map, get_or, IfOk, OnOk, IsErrOf, None};
 ghost use Rattle.cfg_theory.specs.Grammar.{Sym, IsNext};
 ghost use Rattle.lr_theory.specs.Building.{Building, same_symbol};
 ghost use Rattle.lr_theory.specs.Graph.{core_of};
 ghost use Rattle.lr_theory.specs.Itemset.{HasItem, Closure};
 ghost use Rattle.lr_theory.specs.ItemLists.{Stands};
+ghost use Rattle.lrtable.specs.Builders.{states_in, IsBuilder, GoesOn};
 ghost use Rattle.lrtable.specs.Handling.{rank, AreHandled, TooManyStand};
 ghost use Rattle.state_table.specs.ItemRows.{Item, IsAt, IsCoreOf, map_of};
 ghost use Rattle.state_table.specs.Meeting.{rows_in};
 ghost use Rattle.lrtable.specs.MovedItems.{moved_items, row_from, rows_from};
 ghost use Rattle.lrtable.specs.TakenAgain.{core_noted, IsMoved, AreMoved, IsRowBehind, AreRowsBehind, AreHeld, IsNoted, LeadsOn};
-ghost use Rattle.lrtable.specs.States.{Edge, AreStates, AreBuckets, AreQuiet, AscendEdges, ListsCore, edge_in, edge_of, state_at, first_production};
+ghost use Rattle.lrtable.specs.States.{Edge, AreStates, AreBuckets, AscendEdges, ListsCore, edge_in, edge_of, state_at, first_production};
 ghost use Rattle.cfg_numbered.specs.Symbols.{sym_of};
 ghost use Rattle.state_table.specs.CoreViews.{item_of, items_of, core_of_set};
 ghost use Rattle.lrtable.specs.StateViews.{edge_of_pair, edges_of, value_of};
@@ -20,8 +21,7 @@ ghost use Rattle.lrtable.specs.Stepping.{IsNextTaken};
 ghost use Rattle.lrtable.specs.declared.states.BuildError.TheVariants as faults;
 
 use crate::moved_items::{MovedItem, Rows, Source};
-use crate::opening::Opening;
-use crate::states::{BuildError, EdgeTo, State, place};
+use crate::states::{BuildError, Builder, EdgeTo, State, place};
 use cfg_base::index::IndexStorage;
 use cfg_base::symbol::SIdx;
 use cfg_numbered::yacc::NumberedGrammar;
@@ -90,10 +90,9 @@ fn source_behind<S: IndexStorage>(
     grm: &NumberedGrammar<S>,
     was: &Retaken<S>,
     rows: &Rows<'_>,
-    opening: &Opening,
     item: &CoreItem<S>,
 ) -> Source
-    requires noted { IsNoted S.number grm.now.grammar was.now rows.now opening.now }
+    requires noted { IsNoted S.number grm.now.grammar was.now rows.now }
     requires moved { IsMoved grm.now.grammar (core_noted S.number was.now rows.now) (item_of S.number item.now) }
     ensures { IsRowBehind grm.now.grammar (core_noted S.number was.now rows.now) (item_of S.number item.now) (row_from rows.now result) }
 {
@@ -102,7 +101,7 @@ fn source_behind<S: IndexStorage>(
     let dot = item.dot.0.to_usize() - 1;
     if was_opened(grm, item) {
         let rule = grm.prod_to_rule(pidx).0.to_usize();
-        let _looks = opening.row(rule);
+        let _looks = rows.of_rule(rule);
         return Source::Rule(rule);
     }
     let before = CoreItem {
@@ -118,10 +117,9 @@ fn are_held<S: IndexStorage>(
     grm: &NumberedGrammar<S>,
     was: &Retaken<S>,
     rows: &Rows<'_>,
-    opening: &Opening,
     core: &CoreSet<S>,
 ) -> bool
-    requires noted { IsNoted S.number grm.now.grammar was.now rows.now opening.now }
+    requires noted { IsNoted S.number grm.now.grammar was.now rows.now }
     requires core { IsCoreOf grm.now.grammar.tokens (core_of_set S.number core.now) }
     requires moved { AreMoved grm.now.grammar (core_noted S.number was.now rows.now) (items_of S.number core.now.items.items) }
     ensures { result ≡ true → AreHeld grm.now.grammar (core_noted S.number was.now rows.now) (items_of S.number core.now.items.items) (length core.now.items.items) (rows_in core.now.looks.items) }
@@ -130,7 +128,7 @@ fn are_held<S: IndexStorage>(
     'items: for k in 0..core.items.len() {
         let item = &core.items[k];
         let looks = &core.looks[k];
-        let source = source_behind(grm, was, rows, opening, item);
+        let source = source_behind(grm, was, rows, item);
         if !looks.holds(rows.row(source)) {
             return false;
         }
@@ -144,10 +142,9 @@ fn gathered<S: IndexStorage>(
     grm: &NumberedGrammar<S>,
     was: &Retaken<S>,
     rows: &Rows<'_>,
-    opening: &Opening,
     from: &[CoreItem<S>],
 ) -> Result<Vec<MovedItem<S>>, AllocError>
-    requires noted { IsNoted S.number grm.now.grammar was.now rows.now opening.now }
+    requires noted { IsNoted S.number grm.now.grammar was.now rows.now }
     requires moved { AreMoved grm.now.grammar (core_noted S.number was.now rows.now) (items_of S.number from.now) }
     ensures items { IfOk result (λ v. moved_items S.number v.items ≡ items_of S.number from.now) }
     ensures rows { IfOk result (λ v. AreRowsBehind grm.now.grammar (core_noted S.number was.now rows.now) (items_of S.number from.now) (length from.now) (rows_from rows.now v.items)) }
@@ -155,7 +152,7 @@ fn gathered<S: IndexStorage>(
     let mut set = Vec::with_capacity(alloc, from.len())?;
     'items: for k in 0..from.len() {
         let item = from[k];
-        let source = source_behind(grm, was, rows, opening, &item);
+        let source = source_behind(grm, was, rows, &item);
         set.push(MovedItem { item, source })?;
     }
     Ok(set)
@@ -188,10 +185,9 @@ fn stays<S: IndexStorage>(
     begins: &[Vec<usize>],
     was: &Retaken<S>,
     rows: &Rows<'_>,
-    opening: &Opening,
     target: usize,
 ) -> bool
-    requires noted { IsNoted S.number grm.now.grammar was.now rows.now opening.now }
+    requires noted { IsNoted S.number grm.now.grammar was.now rows.now }
     requires states { AreStates grm.now.grammar.tokens (map (value_of S.number) states.now) }
     requires buckets { AreBuckets (map (value_of S.number) states.now) (map (λ l. l.items) begins.now) }
     requires target { target < length states.now }
@@ -202,7 +198,7 @@ fn stays<S: IndexStorage>(
     ensures alone { result ≡ true → (j : ℕ) → j < target → (state_at (map (value_of S.number) states.now) j).core.items ≡ (state_at (map (value_of S.number) states.now) target).core.items → ⊥ }
 {
     let core = &states[target].core;
-    if !are_held(grm, was, rows, opening, core) {
+    if !are_held(grm, was, rows, core) {
         return false;
     }
     let first = core.items[0].pidx.0.to_usize();
@@ -213,62 +209,38 @@ fn stays<S: IndexStorage>(
 fn retake_edge<S: IndexStorage>(
     alloc: Global,
     grm: &NumberedGrammar<S>,
-    states: &mut Vec<State<S>>,
-    begins: &mut Vec<Vec<usize>>,
-    cursor: &mut usize,
-    from: usize,
-    near: usize,
+    builder: &mut Builder<S>,
     edge: EdgeTo<S>,
     was: &Retaken<S>,
     rows: &Rows<'_>,
-    opening: &Opening,
 ) -> Result<(), BuildError>
-    requires noted { IsNoted S.number grm.now.grammar was.now rows.now opening.now }
-    requires from { from < length states.old.items }
-    requires states { AreStates grm.now.grammar.tokens (map (value_of S.number) states.old.items) }
-    requires leads { LeadsOn grm.now.grammar (core_noted S.number was.now rows.now) (map (value_of S.number) states.old.items) from (edge_of_pair S.number edge) }
-    requires buckets { AreBuckets (map (value_of S.number) states.old.items) (map (λ l. l.items) begins.old.items) }
-    requires lists { length begins.old.items ≡ length grm.now.grammar.productions }
-    requires few { length states.old.items ≤ S.MAX }
-    requires cursor { cursor.old ≤ length states.old.items }
-    ensures states { OnOk result (AreStates grm.now.grammar.tokens (map (value_of S.number) states.new.items)) }
-    ensures more { OnOk result (length states.old.items ≤ length states.new.items) }
-    ensures buckets { OnOk result (AreBuckets (map (value_of S.number) states.new.items) (map (λ l. l.items) begins.new.items)) }
-    ensures lists { OnOk result (length begins.new.items ≡ length begins.old.items) }
-    ensures few { OnOk result (length states.new.items ≤ S.MAX) }
-    ensures less { OnOk result (cursor.new ≤ cursor.old) }
-    ensures quiet { OnOk result (AreQuiet (map (value_of S.number) states.old.items) cursor.old → AreQuiet (map (value_of S.number) states.new.items) cursor.new) }
-    ensures items { OnOk result ((k : ℕ) → k < length states.old.items → (state_at (map (value_of S.number) states.new.items) k).core.items ≡ (state_at (map (value_of S.number) states.old.items) k).core.items) }
-    ensures edges { OnOk result ((Y : Sym) → same_symbol Y (sym_of S.number edge.symbol) ≡ false → edge_of (map (value_of S.number) states.new.items) from Y ≡ edge_of (map (value_of S.number) states.old.items) from Y) }
-    ensures handled { OnOk result ((before : Building) → core_of before.graph from ≡ map_of (core_noted S.number was.now rows.now) → AreHandled grm.now.grammar before from (rank grm.now.grammar (sym_of S.number edge.symbol)) (map (value_of S.number) states.old.items) → AreHandled grm.now.grammar before from (rank grm.now.grammar (sym_of S.number edge.symbol) + 1) (map (value_of S.number) states.new.items)) }
-    ensures many { IsErrOf result faults.TooManyStates → (before : Building) → IsNextTaken grm.now.grammar before from → core_of before.graph from ≡ map_of (core_noted S.number was.now rows.now) → AreHandled grm.now.grammar before from (rank grm.now.grammar (sym_of S.number edge.symbol)) (map (value_of S.number) states.old.items) → TooManyStand grm.now.grammar S.MAX }
+    requires noted { IsNoted S.number grm.now.grammar was.now rows.now }
+    requires builder { IsBuilder S.number S.MAX (length grm.now.grammar.productions) builder.old }
+    requires states { AreStates grm.now.grammar.tokens (states_in S.number builder.old) }
+    requires leads { LeadsOn grm.now.grammar (core_noted S.number was.now rows.now) (states_in S.number builder.old) builder.old.from (edge_of_pair S.number edge) }
+    ensures builder { OnOk result (IsBuilder S.number S.MAX (length grm.now.grammar.productions) builder.new) }
+    ensures goes { OnOk result (GoesOn S.number builder.old builder.new) }
+    ensures states { OnOk result (AreStates grm.now.grammar.tokens (states_in S.number builder.new)) }
+    ensures items { OnOk result ((k : ℕ) → k < length builder.old.states.items → (state_at (states_in S.number builder.new) k).core.items ≡ (state_at (states_in S.number builder.old) k).core.items) }
+    ensures edges { OnOk result ((Y : Sym) → same_symbol Y (sym_of S.number edge.symbol) ≡ false → edge_of (states_in S.number builder.new) builder.old.from Y ≡ edge_of (states_in S.number builder.old) builder.old.from Y) }
+    ensures handled { OnOk result ((before : Building) → core_of before.graph builder.old.from ≡ map_of (core_noted S.number was.now rows.now) → AreHandled grm.now.grammar before builder.old.from (rank grm.now.grammar (sym_of S.number edge.symbol)) (states_in S.number builder.old) → AreHandled grm.now.grammar before builder.old.from (rank grm.now.grammar (sym_of S.number edge.symbol) + 1) (states_in S.number builder.new)) }
+    ensures many { IsErrOf result faults.TooManyStates → (before : Building) → IsNextTaken grm.now.grammar before builder.old.from → core_of before.graph builder.old.from ≡ map_of (core_noted S.number was.now rows.now) → AreHandled grm.now.grammar before builder.old.from (rank grm.now.grammar (sym_of S.number edge.symbol)) (states_in S.number builder.old) → TooManyStand grm.now.grammar S.MAX }
 {
     grm.start_prod();
     let target = edge.target;
     if stays(
         grm,
-        states.as_slice(),
-        begins.as_slice(),
+        builder.states.as_slice(),
+        builder.begins.as_slice(),
         was,
         rows,
-        opening,
         target,
     ) {
         return Ok(());
     }
-    let items = states[target].core.items.as_slice();
-    let set = gathered(alloc, grm, was, rows, opening, items)?;
-    place(
-        alloc,
-        states,
-        begins,
-        cursor,
-        from,
-        near,
-        edge.symbol,
-        set.as_slice(),
-        rows,
-    )?;
+    let items = builder.states[target].core.items.as_slice();
+    let set = gathered(alloc, grm, was, rows, items)?;
+    place(alloc, builder, edge.symbol, set.as_slice(), rows)?;
     Ok(())
 }
 
@@ -276,37 +248,25 @@ fn retake_edge<S: IndexStorage>(
 pub(crate) fn retake_all<S: IndexStorage>(
     alloc: Global,
     grm: &NumberedGrammar<S>,
-    states: &mut Vec<State<S>>,
-    begins: &mut Vec<Vec<usize>>,
-    cursor: &mut usize,
-    from: usize,
+    builder: &mut Builder<S>,
     was: &Retaken<S>,
     rows: &Rows<'_>,
-    opening: &Opening,
 ) -> Result<(), BuildError>
-    requires noted { IsNoted S.number grm.now.grammar was.now rows.now opening.now }
-    requires from { from < length states.old.items }
-    requires states { AreStates grm.now.grammar.tokens (map (value_of S.number) states.old.items) }
-    requires leads { (k : ℕ) (e : Edge) → k < length was.now.edges.items → LeadsOn grm.now.grammar (core_noted S.number was.now rows.now) (map (value_of S.number) states.old.items) from (get_or (edges_of S.number was.now.edges.items) k e) }
+    requires noted { IsNoted S.number grm.now.grammar was.now rows.now }
+    requires builder { IsBuilder S.number S.MAX (length grm.now.grammar.productions) builder.old }
+    requires states { AreStates grm.now.grammar.tokens (states_in S.number builder.old) }
+    requires leads { (k : ℕ) (e : Edge) → k < length was.now.edges.items → LeadsOn grm.now.grammar (core_noted S.number was.now rows.now) (states_in S.number builder.old) builder.old.from (get_or (edges_of S.number was.now.edges.items) k e) }
     requires ascends { AscendEdges (edges_of S.number was.now.edges.items) }
     requires whole { (X : Sym) (p d : ℕ) → edge_in (edges_of S.number was.now.edges.items) X ≡ None → Closure grm.now.grammar (HasItem (map_of (core_noted S.number was.now rows.now))) p d → IsNext grm.now.grammar p d X → ⊥ }
-    requires buckets { AreBuckets (map (value_of S.number) states.old.items) (map (λ l. l.items) begins.old.items) }
-    requires lists { length begins.old.items ≡ length grm.now.grammar.productions }
-    requires few { length states.old.items ≤ S.MAX }
-    requires cursor { cursor.old ≤ length states.old.items }
-    ensures buckets { OnOk result (AreBuckets (map (value_of S.number) states.new.items) (map (λ l. l.items) begins.new.items)) }
-    ensures lists { OnOk result (length begins.new.items ≡ length begins.old.items) }
-    ensures few { OnOk result (length states.new.items ≤ S.MAX) }
-    ensures less { OnOk result (cursor.new ≤ cursor.old) }
-    ensures quiet { OnOk result (AreQuiet (map (value_of S.number) states.old.items) cursor.old → AreQuiet (map (value_of S.number) states.new.items) cursor.new) }
-    ensures handled { OnOk result ((before : Building) → core_of before.graph from ≡ map_of (core_noted S.number was.now rows.now) → AreHandled grm.now.grammar before from 0 (map (value_of S.number) states.old.items) → AreHandled grm.now.grammar before from (grm.now.grammar.rules + grm.now.grammar.tokens) (map (value_of S.number) states.new.items)) }
-    ensures many { IsErrOf result faults.TooManyStates → (before : Building) → IsNextTaken grm.now.grammar before from → core_of before.graph from ≡ map_of (core_noted S.number was.now rows.now) → AreHandled grm.now.grammar before from 0 (map (value_of S.number) states.old.items) → TooManyStand grm.now.grammar S.MAX }
+    ensures builder { OnOk result (IsBuilder S.number S.MAX (length grm.now.grammar.productions) builder.new) }
+    ensures goes { OnOk result (GoesOn S.number builder.old builder.new) }
+    ensures handled { OnOk result ((before : Building) → core_of before.graph builder.old.from ≡ map_of (core_noted S.number was.now rows.now) → AreHandled grm.now.grammar before builder.old.from 0 (states_in S.number builder.old) → AreHandled grm.now.grammar before builder.old.from (grm.now.grammar.rules + grm.now.grammar.tokens) (states_in S.number builder.new)) }
+    ensures many { IsErrOf result faults.TooManyStates → (before : Building) → IsNextTaken grm.now.grammar before builder.old.from → core_of before.graph builder.old.from ≡ map_of (core_noted S.number was.now rows.now) → AreHandled grm.now.grammar before builder.old.from 0 (states_in S.number builder.old) → TooManyStand grm.now.grammar S.MAX }
 {
     'edges: for near in 0..was.edges.len() {
         let edge = was.edges[near];
-        retake_edge(
-            alloc, grm, states, begins, cursor, from, near, edge, was, rows, opening,
-        )?;
+        builder.near = near;
+        retake_edge(alloc, grm, builder, edge, was, rows)?;
     }
     Ok(())
 }

@@ -1,14 +1,15 @@
 //! The states of a building, and the placing of a set among them.
 
-ghost use Rattle.std.specs.Prelude.{◌≡◌, ◌<◌, ◌↔◌, ℕ, Bool, true, false, [], length, map, get_or, slice_set, ◌≤◌, IsTrue, IfOk, IfSome, None, Some, OnOk, IsErrOf, MatchOption, alloc_error};
+ghost use Rattle.std.specs.Prelude.{◌≡◌, ◌<◌, ◌↔◌, ℕ, Bool, true, false, [], ◌∷◌, ◌++◌, length, map, get_or, slice_set, ◌≤◌, IsTrue, IfOk, IfSome, None, Some, OnOk, IsErrOf, MatchOption, alloc_error};
 ghost use Rattle.std.specs.List.{Contains, AllPairs};
 ghost use Rattle.cfg_theory.specs.Grammar.{Sym};
 ghost use Rattle.cfg_numbered.specs.Symbols.{sym_of};
 ghost use Rattle.lr_theory.specs.Building.{same_symbol};
 ghost use Rattle.state_table.specs.Meeting.{AreAlike, RowsFit, rows_in};
+ghost use Rattle.lrtable.specs.Builders.{states_in, IsBuilder, GoesOn};
 ghost use Rattle.lrtable.specs.MovedItems.{AreWide, core_of_moved, moved_items, rows_from};
 ghost use Rattle.state_table.specs.ItemRows.{Item, Core, join_rows, CoversRows, LacksRows, IsCoreOf};
-ghost use Rattle.lrtable.specs.States.{IsPut, IsLinked, IsPlaced, JoinsAt, JoinsNone, AreStates, AscendEdges, ListsCore, IsApartFrom, AreBuckets, AreQuiet, KeepsItems, AddsItems, Edge, first_production, grown_at, state_at};
+ghost use Rattle.lrtable.specs.States.{IsPut, IsLinked, IsPlaced, JoinsAt, JoinsNone, AreStates, AscendEdges, ListsCore, IsApartFrom, Edge, first_production, grown_at, state_at};
 ghost use Rattle.state_table.specs.Graphs.{SymBefore};
 ghost use Rattle.lrtable.specs.declared.states.BuildError.TheVariants as faults;
 ghost use Rattle.state_table.specs.CoreViews.{item_of, items_of, core_of_set};
@@ -37,6 +38,20 @@ pub(crate) struct State<S> {
     pub edges: Vec<EdgeTo<S>>,
     /// Whether it is new, or has grown since it was taken last.
     pub todo: bool,
+}
+
+/// The states of a building, and the step that places goto sets among them.
+#[derive(Drop)]
+pub(crate) struct Builder<S> {
+    pub states: Vec<State<S>>,
+    /// For each production the states whose first item is of it, ascending.
+    pub begins: Vec<Vec<usize>>,
+    /// No state below it is to be taken.
+    pub cursor: usize,
+    /// The state that is taken: the goto sets are its own.
+    pub from: usize,
+    /// Where its edge on the symbol of the next goto set may be.
+    pub near: usize,
 }
 
 impl<S: IndexStorage> State<S> {
@@ -226,32 +241,9 @@ fn first_joined<S: IndexStorage>(
     None
 }
 
-/// Adds the lookaheads of a set to those of a state of its core. The state is to be taken again if some weren't
-/// there, which is what it returns.
+/// Adds the lookaheads of a set to those of a state of its core, unless it is known to hold them. The state is to be
+/// taken again if some weren't there, which is what it returns.
 fn grow<S: IndexStorage>(
-    states: &mut Vec<State<S>>,
-    number: usize,
-    set: &[MovedItem<S>],
-    rows: &Rows<'_>,
-) -> bool
-    requires within { number < length states.old.items }
-    requires alike { AreAlike (state_at (map (value_of S.number) states.old.items) number).core.rows (rows_from rows.now set.now) }
-    requires wide { AreWide (rows_from rows.now set.now) }
-    ensures covered { result ≡ false → CoversRows (state_at (map (value_of S.number) states.old.items) number).core.rows (rows_from rows.now set.now) }
-    ensures kept { result ≡ false → map (value_of S.number) states.new.items ≡ map (value_of S.number) states.old.items }
-    ensures lacked { result ≡ true → LacksRows (state_at (map (value_of S.number) states.old.items) number).core.rows (rows_from rows.now set.now) }
-    ensures grown { result ≡ true → map (value_of S.number) states.new.items ≡ grown_at (map (value_of S.number) states.old.items) number (rows_from rows.now set.now) }
-{
-    let state = &mut states[number];
-    if join_looks(&mut state.core.looks, set, rows) {
-        state.todo = true;
-        return true;
-    }
-    false
-}
-
-/// Lets a state grow as `grow` does, unless it is known to hold the set.
-fn grow_unless<S: IndexStorage>(
     states: &mut Vec<State<S>>,
     number: usize,
     set: &[MovedItem<S>],
@@ -270,7 +262,12 @@ fn grow_unless<S: IndexStorage>(
     if held {
         return false;
     }
-    grow(states, number, set, rows)
+    let state = &mut states[number];
+    if join_looks(&mut state.core.looks, set, rows) {
+        state.todo = true;
+        return true;
+    }
+    false
 }
 
 /// Puts an edge to the state `target` with those of the state `number`; one on its symbol may be at `near`.
@@ -303,134 +300,121 @@ fn lower(cursor: &mut usize, grew: bool, number: usize)
     }
 }
 
-/// Joins a set, made from the state `from` by a symbol, to the state `number`, which may be known to hold all its
-/// lookaheads. No state below the cursor is to be taken.
+/// Joins the goto set of a symbol to the state `number`, which may be known to hold all its lookaheads.
 fn join<S: IndexStorage>(
-    states: &mut Vec<State<S>>,
-    cursor: &mut usize,
-    from: usize,
-    near: usize,
+    builder: &mut Builder<S>,
     symbol: Symbol<S>,
     number: usize,
     set: &[MovedItem<S>],
     rows: &Rows<'_>,
     held: bool,
 ) -> Result<(), AllocError>
-    requires from { from < length states.old.items }
-    requires states { (tokens : ℕ) × AreStates tokens (map (value_of S.number) states.old.items) × IsCoreOf tokens (core_of_moved S.number rows.now set.now) × (0 < tokens) }
-    requires joins { JoinsAt (map (value_of S.number) states.old.items) number (core_of_moved S.number rows.now set.now) }
-    requires held { held ≡ true → CoversRows (state_at (map (value_of S.number) states.old.items) number).core.rows (rows_from rows.now set.now) }
-    ensures placed { OnOk result (IsPlaced (map (value_of S.number) states.old.items) from (sym_of S.number symbol) (core_of_moved S.number rows.now set.now) (map (value_of S.number) states.new.items)) }
-    ensures kept { OnOk result (KeepsItems (map (value_of S.number) states.old.items) (map (value_of S.number) states.new.items)) }
-    ensures less { OnOk result (cursor.new ≤ cursor.old) }
-    ensures quiet { OnOk result (AreQuiet (map (value_of S.number) states.old.items) cursor.old → AreQuiet (map (value_of S.number) states.new.items) cursor.new) }
+    requires builder { IsBuilder S.number S.MAX (length builder.old.begins.items) builder.old }
+    requires states { (tokens : ℕ) × AreStates tokens (states_in S.number builder.old) × IsCoreOf tokens (core_of_moved S.number rows.now set.now) × (0 < tokens) }
+    requires joins { JoinsAt (states_in S.number builder.old) number (core_of_moved S.number rows.now set.now) }
+    requires held { held ≡ true → CoversRows (state_at (states_in S.number builder.old) number).core.rows (rows_from rows.now set.now) }
+    ensures builder { OnOk result (IsBuilder S.number S.MAX (length builder.old.begins.items) builder.new) }
+    ensures goes { OnOk result (GoesOn S.number builder.old builder.new) }
+    ensures placed { OnOk result (IsPlaced (states_in S.number builder.old) builder.old.from (sym_of S.number symbol) (core_of_moved S.number rows.now set.now) (states_in S.number builder.new)) }
 {
-    let grew = grow_unless(states, number, set, rows, held);
-    lower(cursor, grew, number);
-    link(states, from, near, symbol, number)?;
+    let grew = grow(&mut builder.states, number, set, rows, held);
+    lower(&mut builder.cursor, grew, number);
+    link(
+        &mut builder.states,
+        builder.from,
+        builder.near,
+        symbol,
+        number,
+    )?;
     Ok(())
 }
 
-/// Makes a set, made from the state `from` by a symbol, a state.
-fn add<S: IndexStorage>(
+/// Makes a set a state, the last one.
+fn push_state<S: IndexStorage>(
     alloc: Global,
     states: &mut Vec<State<S>>,
-    from: usize,
-    near: usize,
-    symbol: Symbol<S>,
     set: &[MovedItem<S>],
     rows: &Rows<'_>,
 ) -> Result<(), AllocError>
-    requires from { from < length states.old.items }
-    requires states { (tokens : ℕ) × AreStates tokens (map (value_of S.number) states.old.items) × IsCoreOf tokens (core_of_moved S.number rows.now set.now) × (0 < tokens) }
-    requires joins { JoinsNone (map (value_of S.number) states.old.items) (core_of_moved S.number rows.now set.now) }
-    ensures placed { OnOk result (IsPlaced (map (value_of S.number) states.old.items) from (sym_of S.number symbol) (core_of_moved S.number rows.now set.now) (map (value_of S.number) states.new.items)) }
-    ensures added { OnOk result (AddsItems (map (value_of S.number) states.old.items) (moved_items S.number set.now) (map (value_of S.number) states.new.items)) }
-    ensures quiet { OnOk result ((n : ℕ) → n ≤ length states.old.items → AreQuiet (map (value_of S.number) states.old.items) n → AreQuiet (map (value_of S.number) states.new.items) n) }
+    requires { AreWide (rows_from rows.now set.now) }
+    ensures { OnOk result (map (value_of S.number) states.new.items ≡ map (value_of S.number) states.old.items ++ record { core = core_of_moved S.number rows.now set.now; edges = []; todo = true } ∷ []) }
 {
-    let number = states.len();
     let core = to_core(alloc, set, rows)?;
     states.push(State {
         core,
         edges: Vec::new(alloc),
         todo: true,
     })?;
-    link(states, from, near, symbol, number)?;
     Ok(())
 }
 
-/// Makes a set, made from the state `from` by a symbol, a state, and puts it last in the list of its first production.
-fn add_listed<S: IndexStorage>(
+/// Makes the goto set of a symbol a state, and puts it last in the list of its first production.
+fn add<S: IndexStorage>(
     alloc: Global,
-    states: &mut Vec<State<S>>,
-    begins: &mut Vec<Vec<usize>>,
+    builder: &mut Builder<S>,
     first: usize,
-    from: usize,
-    near: usize,
     symbol: Symbol<S>,
     set: &[MovedItem<S>],
     rows: &Rows<'_>,
 ) -> Result<(), BuildError>
-    requires from { from < length states.old.items }
-    requires states { (tokens : ℕ) × AreStates tokens (map (value_of S.number) states.old.items) × IsCoreOf tokens (core_of_moved S.number rows.now set.now) × (0 < tokens) }
-    requires joins { JoinsNone (map (value_of S.number) states.old.items) (core_of_moved S.number rows.now set.now) }
-    requires buckets { AreBuckets (map (value_of S.number) states.old.items) (map (λ l. l.items) begins.old.items) }
+    requires builder { IsBuilder S.number S.MAX (length builder.old.begins.items) builder.old }
+    requires states { (tokens : ℕ) × AreStates tokens (states_in S.number builder.old) × IsCoreOf tokens (core_of_moved S.number rows.now set.now) × (0 < tokens) }
+    requires joins { JoinsNone (states_in S.number builder.old) (core_of_moved S.number rows.now set.now) }
     requires first { first ≡ first_production (moved_items S.number set.now) }
-    requires listed { first < length begins.old.items }
-    ensures placed { OnOk result (IsPlaced (map (value_of S.number) states.old.items) from (sym_of S.number symbol) (core_of_moved S.number rows.now set.now) (map (value_of S.number) states.new.items)) }
-    ensures buckets { OnOk result (AreBuckets (map (value_of S.number) states.new.items) (map (λ l. l.items) begins.new.items)) }
-    ensures lists { OnOk result (length begins.new.items ≡ length begins.old.items) }
-    ensures few { OnOk result (length states.new.items ≤ S.MAX) }
-    ensures quiet { OnOk result ((n : ℕ) → n ≤ length states.old.items → AreQuiet (map (value_of S.number) states.old.items) n → AreQuiet (map (value_of S.number) states.new.items) n) }
-    ensures full { IsErrOf result faults.TooManyStates → S.MAX ≤ length states.old.items }
+    requires listed { first < length builder.old.begins.items }
+    ensures builder { OnOk result (IsBuilder S.number S.MAX (length builder.old.begins.items) builder.new) }
+    ensures goes { OnOk result (GoesOn S.number builder.old builder.new) }
+    ensures placed { OnOk result (IsPlaced (states_in S.number builder.old) builder.old.from (sym_of S.number symbol) (core_of_moved S.number rows.now set.now) (states_in S.number builder.new)) }
+    ensures full { IsErrOf result faults.TooManyStates → S.MAX ≤ length builder.old.states.items }
 {
-    let number = states.len();
+    let number = builder.states.len();
     if number >= S::MAX {
         return Err(BuildError::TooManyStates);
     }
-    add(alloc, states, from, near, symbol, set, rows)?;
-    let list = &mut begins[first];
+    push_state(alloc, &mut builder.states, set, rows)?;
+    link(
+        &mut builder.states,
+        builder.from,
+        builder.near,
+        symbol,
+        number,
+    )?;
+    let list = &mut builder.begins[first];
     list.push(number)?;
     Ok(())
 }
 
-/// Places a set, made from the state `from` by a symbol, among the states: it joins the first with which it is
-/// compatible, or becomes a new state. No state below the cursor is to be taken. The state's edge on the symbol may
-/// be at `near`.
+/// Places the goto set of a symbol among the states: it joins the first with which it is compatible, or becomes a new
+/// state.
 pub(crate) fn place<S: IndexStorage>(
     alloc: Global,
-    states: &mut Vec<State<S>>,
-    begins: &mut Vec<Vec<usize>>,
-    cursor: &mut usize,
-    from: usize,
-    near: usize,
+    builder: &mut Builder<S>,
     symbol: Symbol<S>,
     set: &[MovedItem<S>],
     rows: &Rows<'_>,
 ) -> Result<(), BuildError>
-    requires from { from < length states.old.items }
-    requires states { (tokens : ℕ) × AreStates tokens (map (value_of S.number) states.old.items) × IsCoreOf tokens (core_of_moved S.number rows.now set.now) × (0 < tokens) }
-    requires buckets { AreBuckets (map (value_of S.number) states.old.items) (map (λ l. l.items) begins.old.items) }
-    requires cursor { cursor.old ≤ length states.old.items }
+    requires builder { IsBuilder S.number S.MAX (length builder.old.begins.items) builder.old }
+    requires states { (tokens : ℕ) × AreStates tokens (states_in S.number builder.old) × IsCoreOf tokens (core_of_moved S.number rows.now set.now) × (0 < tokens) }
     requires some { 0 < length set.now }
-    requires few { length states.old.items ≤ S.MAX }
-    requires listed { first_production (moved_items S.number set.now) < length begins.old.items }
-    ensures placed { OnOk result (IsPlaced (map (value_of S.number) states.old.items) from (sym_of S.number symbol) (core_of_moved S.number rows.now set.now) (map (value_of S.number) states.new.items)) }
-    ensures buckets { OnOk result (AreBuckets (map (value_of S.number) states.new.items) (map (λ l. l.items) begins.new.items)) }
-    ensures lists { OnOk result (length begins.new.items ≡ length begins.old.items) }
-    ensures few { OnOk result (length states.new.items ≤ S.MAX) }
-    ensures less { OnOk result (cursor.new ≤ cursor.old) }
-    ensures quiet { OnOk result (AreQuiet (map (value_of S.number) states.old.items) cursor.old → AreQuiet (map (value_of S.number) states.new.items) cursor.new) }
-    ensures full { IsErrOf result faults.TooManyStates → JoinsNone (map (value_of S.number) states.old.items) (core_of_moved S.number rows.now set.now) × (S.MAX ≤ length states.old.items) }
+    requires listed { first_production (moved_items S.number set.now) < length builder.old.begins.items }
+    ensures builder { OnOk result (IsBuilder S.number S.MAX (length builder.old.begins.items) builder.new) }
+    ensures goes { OnOk result (GoesOn S.number builder.old builder.new) }
+    ensures placed { OnOk result (IsPlaced (states_in S.number builder.old) builder.old.from (sym_of S.number symbol) (core_of_moved S.number rows.now set.now) (states_in S.number builder.new)) }
+    ensures full { IsErrOf result faults.TooManyStates → JoinsNone (states_in S.number builder.old) (core_of_moved S.number rows.now set.now) × (S.MAX ≤ length builder.old.states.items) }
 {
     let first = set[0].item.pidx.0.to_usize();
-    match first_joined(states.as_slice(), begins[first].as_slice(), set, rows) {
+    match first_joined(
+        builder.states.as_slice(),
+        builder.begins[first].as_slice(),
+        set,
+        rows,
+    ) {
         Some((number, held)) => {
-            join(states, cursor, from, near, symbol, number, set, rows, held)?;
+            join(builder, symbol, number, set, rows, held)?;
             Ok(())
         }
         None => {
-            add_listed(alloc, states, begins, first, from, near, symbol, set, rows)?;
+            add(alloc, builder, first, symbol, set, rows)?;
             Ok(())
         }
     }

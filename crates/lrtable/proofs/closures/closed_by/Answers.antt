@@ -24,7 +24,7 @@ returns-clause-is g c =
     let core = core_of_set number c.args.core.now in
     let grown = c.in_ok-open_rules.ensures in
     subst (λ (m : Core). Is (map_of m) (Closure G (HasItem (map_of core))) (ClosureLook G (HasItem (map_of core)) (HasLook (map_of core)))) (sym c.fit.ensures.core)
-    (closed_is G c.args.openers.now core c.close.new.self.opening c.start_prod.ensures.well_formed c.requires.openers c.in_ok-close.ensures.closed (shared_map number c.in_ok-set.set) (shared_map number c.open_rules.new.set)
+    (closed_is G c.args.closer.now.openers.now core c.close.new.self.opening c.start_prod.ensures.well_formed c.requires.ready.openers c.in_ok-close.ensures.closed (shared_map number c.in_ok-set.set) (shared_map number c.open_rules.new.set)
     (ap map_of c.in_ok-set.ensures.core) grown.extends.items grown.extends.looks)
 
 pub returns-clause-core : goal.returns-clause-core

@@ -30,7 +30,7 @@ pub move_open-requires : goal.move_open-requires
 move_open-requires g c =
     let number = g.S.IndexStorage.number in
     let G = c.args.grm.now.grammar in
-    let s = c.args.opening.now in
+    let s = c.args.rows.now.opening in
     let seen = set_of_moved number c.args.rows.now in
     let none = empty_moved number c.args.rows.now (G.rules + G.tokens) c.args.sets.now.items c.requires.empty in
     let closed = c.requires.closed in
@@ -40,7 +40,6 @@ move_open-requires g c =
       count = sym (length-map c.move_core.new.sets.items seen) ∙ (gains.count ∙ (ap length none ∙ length-replicate (G.rules + G.tokens) no_core));
       wide = c.in_ok-move_core.ensures.marks.width ∙ c.requires.wide;
       good = gains.good;
-      rules = c.requires.rules;
       fresh = none_of_opened G closed.0 (core_of_set number c.args.core.now) s G.rules (map seen c.args.sets.now.items) (map seen c.move_core.new.sets.items) c.start_prod.ensures.well_formed closed.1 closed.2 c.requires.kernel
           (none_in_empty G (OpenBelow G s G.rules) (G.rules + G.tokens) (map seen c.args.sets.now.items) none) gains;
     }
@@ -52,7 +51,7 @@ returns-clause-gotos g c =
     let seen = set_of_moved number c.args.rows.now in
     let none = empty_moved number c.args.rows.now (G.rules + G.tokens) c.args.sets.now.items c.requires.empty in
     let closed = c.requires.closed in
-    all_moved G closed.0 (core_of_set number c.args.core.now) c.args.opening.now _ _ (map seen c.move_core.new.sets.items) (map seen c.move_open.new.sets.items) c.start_prod.ensures.well_formed closed.1 closed.2 refl none c.in_ok-move_core.ensures.gains
+    all_moved G closed.0 (core_of_set number c.args.core.now) c.args.rows.now.opening _ _ (map seen c.move_core.new.sets.items) (map seen c.move_open.new.sets.items) c.start_prod.ensures.well_formed closed.1 closed.2 refl none c.in_ok-move_core.ensures.gains
     c.in_ok-move_open.ensures.gains
 
 pub returns-clause-marked : goal.returns-clause-marked

@@ -1,10 +1,8 @@
-use Rattle.std.proofs.Common.{Bool, List, length, map, arith, sym, ap, ◌∙◌, subst}
+use Rattle.std.proofs.Common.{Bool, List, length, map, arith, sym, ap, ◌∙◌}
 use Rattle.std.proofs.lemmas.List.{length-map}
 use Rattle.vob.specs.Packed.{Contents}
-use Rattle.state_table.specs.Adding.{One, OneLooks}
-use Rattle.lrtable.specs.Gaining.{Gains}
 use Rattle.state_table.specs.Meeting.{row}
-use Rattle.lrtable.specs.MovedItems.{HaveNone, set_of_moved}
+use Rattle.lrtable.specs.MovedItems.{set_of_moved}
 use Rattle.state_table.specs.CoreViews.{item_of, core_of_set}
 use Rattle.state_table.proofs.CoreSteps.{item_at, production_below}
 use Rattle.lrtable.proofs.FreshSets.{none_of_core}
@@ -43,7 +41,7 @@ move_over-requires g c =
       wide = c.items.invariant.marks.width ∙ c.requires.wide;
       good = c.items.invariant.gains.good;
       width = ap (λ (r : List (List Bool)). length (row r c.items.k)) c.requires.own ∙ c.requires.fits.good.width c.items.k (omega (arith, n, m, e, test));
-      fresh = subst (λ d. HaveNone G (One (number x.pidx.0) d) (map seen c.items.sets.items)) (sym c.to_usize.ensures.value) (none_of_core G core c.items.k (number x.pidx.0) (number x.dot.0) (map seen c.args.sets.now.items) (map seen c.items.sets.items) c.requires.fits.good at c.requires.fresh c.items.invariant.gains);
+      fresh = none_of_core G core c.items.k (number x.pidx.0) (number x.dot.0) (map seen c.args.sets.now.items) (map seen c.items.sets.items) c.requires.fits.good at c.requires.fresh c.items.invariant.gains;
     }
 
 pub items-preserved : goal.items-preserved
@@ -54,10 +52,9 @@ items-preserved g c =
     let test = c.items-test.true in
     let x = c.index-item.result.now in
     let bits = row c.args.rows.now.own c.items.k in
-    let gained = subst (λ d. Gains G (One (number x.pidx.0) d) (OneLooks (number x.pidx.0) d bits) (map seen c.items.sets.items) (map seen c.move_over.new.sets.items)) c.to_usize.ensures.value c.in_ok-move_over.ensures.gains in
     record {
       gains = items_more G (core_of_set number c.args.core.now) c.items.k (number x.pidx.0) (number x.dot.0) bits (map seen c.args.sets.now.items) (map seen c.items.sets.items) (map seen c.move_over.new.sets.items)
-          (item_at number c.args.core.now.items.items c.items.k x (omega (arith, test)) c.index-item.ensures) (ap (λ (r : List (List Bool)). row r c.items.k) (sym c.requires.own)) c.items.invariant.gains gained;
+          (item_at number c.args.core.now.items.items c.items.k x (omega (arith, test)) c.index-item.ensures) (ap (λ (r : List (List Bool)). row r c.items.k) (sym c.requires.own)) c.items.invariant.gains c.in_ok-move_over.ensures.gains;
       marks = keeps_next c.args.marks.now.bits (map seen c.args.sets.now.items) c.items.marks.bits (map seen c.items.sets.items) c.move_over.new.marks.bits (map seen c.move_over.new.sets.items) c.items.invariant.marks c.in_ok-move_over.ensures.marks;
     }
 

@@ -22,7 +22,7 @@ rules-init g c =
         record {
           within = omega arith;
           left = subst (λ (l : List Bool). c.into_iter-number-iterator.result ≡ marked_from l 0) c.opened.ensures (all_marked bits c.into_iter-number-iterator.result e);
-          gains = open_begin c.args.grm.now.grammar c.args.opening.now sets c.requires.good;
+          gains = open_begin c.args.grm.now.grammar c.args.rows.now.opening sets c.requires.good;
           marks = keeps_same c.args.marks.now.bits sets;
         },
       ),
@@ -32,7 +32,7 @@ pub move_if_open-requires : goal.move_if_open-requires
 move_if_open-requires g c =
     let number = g.S.IndexStorage.number in
     let v = c.rules.invariant.2 in
-    let m : IsNextMark c.args.opening.now.opened v.0 c.in-Some.number c.next.new.self = next_mark c.args.opening.now.opened v.0 c.in-Some.number c.rules.number-iterator c.next.new.self v.1.within v.1.left c.in-Some.ensures.steps in
+    let m : IsNextMark c.args.rows.now.opening.opened v.0 c.in-Some.number c.next.new.self = next_mark c.args.rows.now.opening.opened v.0 c.in-Some.number c.rules.number-iterator c.next.new.self v.1.within v.1.left c.in-Some.ensures.steps in
     let below = m.below in
     let width = c.requires.sizes.opened in
     let a = length-map c.args.sets.now.items (set_of_moved number c.args.rows.now) in
@@ -45,15 +45,14 @@ move_if_open-requires g c =
       count = omega (arith, a, b, count, same);
       wide = v.1.marks.width ∙ c.requires.wide;
       good = v.1.gains.good;
-      rules = c.requires.rules;
-      fresh = none_of_open c.args.grm.now.grammar c.args.opening.now v.0 c.in-Some.number (map (set_of_moved number c.args.rows.now) c.args.sets.now.items) (map (set_of_moved number c.args.rows.now) c.rules.sets.items) m.low (omega (arith, below, width)) c.requires.fresh v.1.gains;
+      fresh = none_of_open c.args.grm.now.grammar c.args.rows.now.opening v.0 c.in-Some.number (map (set_of_moved number c.args.rows.now) c.args.sets.now.items) (map (set_of_moved number c.args.rows.now) c.rules.sets.items) m.low (omega (arith, below, width)) c.requires.fresh v.1.gains;
     }
 
 pub rules-preserved : goal.rules-preserved
 rules-preserved g c =
     let number = g.S.IndexStorage.number in
     let G = c.args.grm.now.grammar in
-    let s = c.args.opening.now in
+    let s = c.args.rows.now.opening in
     let n = c.rules.invariant.2.0 in
     let v = c.rules.invariant.2.1 in
     let t = c.in-Some.number in
@@ -79,7 +78,7 @@ pub returns-clause-gains : goal.returns-clause-gains
 returns-clause-gains g c =
     let number = g.S.IndexStorage.number in
     let G = c.args.grm.now.grammar in
-    let s = c.args.opening.now in
+    let s = c.args.rows.now.opening in
     let n = c.rules.invariant.2.0 in
     let v = c.rules.invariant.2.1 in
     let width = c.requires.sizes.opened in

@@ -12,8 +12,8 @@ invariant-rules g l =
     (goal.iterator-rules g).can_next l.number-iterator ×
     (goal.iterator-rules g).is_finite l.number-iterator ×
     ((n : ℕ) × record {
-      within : n ≤ length l.opening.opened;
-      left : l.number-iterator ≡ marked_from l.opening.opened n;
-      gains : Gains l.grm.grammar (OpenBelow l.grm.grammar l.opening n) (OpenLooksBelow l.grm.grammar l.opening n) (map (set_of_moved number l.rows) l.initial.sets.items) (map (set_of_moved number l.rows) l.sets.items);
+      within : n ≤ length l.rows.opening.opened;
+      left : l.number-iterator ≡ marked_from l.rows.opening.opened n;
+      gains : Gains l.grm.grammar (OpenBelow l.grm.grammar l.rows.opening n) (OpenLooksBelow l.grm.grammar l.rows.opening n) (map (set_of_moved number l.rows) l.initial.sets.items) (map (set_of_moved number l.rows) l.sets.items);
       marks : KeepsMarks l.initial.marks.bits (map (set_of_moved number l.rows) l.initial.sets.items) l.marks.bits (map (set_of_moved number l.rows) l.sets.items);
     })

@@ -8,6 +8,7 @@ use Rattle.lrtable.specs.StateViews.{value_of}
 use Rattle.lrtable.specs.Stepping.{IsGotoAt}
 use Rattle.lrtable.specs.declared.moved_items.MovedItem.{MovedItem}
 use Rattle.state_table.proofs.CoreSteps.{map_at}
+use Rattle.lrtable.proofs.Builders.{goes_none, own_builder, builder_of}
 use Rattle.lrtable.proofs.Emptying.{none_core}
 use Rattle.lrtable.proofs.Stepping.{skip_rank, first_fits, rank_placed, rank_refused}
 use Rattle.lrtable.proofs.pager.place_rank.Goals as goal
@@ -41,7 +42,7 @@ returns-then-is_empty-clause-handled g c = λ before is h.
     let at = map_at seen sets c.args.number x no_core lt c.index_mut-set.ensures.value in
     let m = length-map x.items (moved_item number) in
     let empty : length x.items ≡ 0 = search rules in
-    skip_rank G before c.args.from c.args.number (core_in (map seen sets) c.args.number) is (map (value_of number) c.args.states.now.items) h low (ap (λ (y : Core). length y.items) at ∙ m ∙ empty)
+    skip_rank G before c.args.builder.now.from c.args.number (core_in (map seen sets) c.args.number) is (map (value_of number) c.args.builder.now.states.items) h low (ap (λ (y : Core). length y.items) at ∙ m ∙ empty)
 
 pub place-requires : goal.place-requires
 place-requires g c =
@@ -60,16 +61,19 @@ place-requires g c =
     let there : 0 < length c.as_slice-items.result.now = omega (arith, some, same) in
     let n = length-map c.as_slice-items.result.now (moved_item number) in
     let f = first_fits G (core_of_moved number c.args.rows.now c.as_slice-items.result.now) good (omega (arith, n, there)) in
-    let l = c.requires.lists in
+    let l = c.requires.builder.lists in
     record {
-      from = c.requires.from;
+      builder = own_builder number g.S.IndexStorage.MAX (length G.productions) c.args.builder.now c.requires.builder;
       states = (G.tokens, c.requires.states, good.good, c.requires.tokens);
-      buckets = c.requires.buckets;
-      cursor = c.requires.cursor;
       some = there;
-      few = c.requires.few;
       listed = omega (arith, f, l);
     }
+
+pub returns-then-is_empty-clause-goes : goal.returns-then-is_empty-clause-goes
+returns-then-is_empty-clause-goes g c = goes_none g.S.IndexStorage.number c.args.builder.now
+
+pub returns-clause-builder : goal.returns-clause-builder
+returns-clause-builder g c = builder_of g.S.IndexStorage.number g.S.IndexStorage.MAX (length c.args.grm.now.grammar.productions) c.args.builder.now c.place.new.builder c.requires.builder c.in_ok-place.ensures.builder
 
 pub returns-in_err-place-clause-many : goal.returns-in_err-place-clause-many
 returns-in_err-place-clause-many g c = λ e before next is h.
@@ -89,9 +93,9 @@ returns-in_err-place-clause-many g c = λ e before next is h.
     let n = length-map c.as_slice-items.result.now (moved_item number) in
     let some : 0 < length given.items = omega (arith, same, n, there) in
     let full = c.place.ensures.full (search rules) in
-    let k = length-map c.args.states.now.items (value_of number) in
+    let k = length-map c.args.builder.now.states.items (value_of number) in
     let most = full.1 in
-    rank_refused G before c.args.from c.args.number (sym_of number c.symbol_at-symbol.result) c.symbol_at-symbol.ensures.range c.symbol_at-symbol.ensures.rank given (subst (IsGotoAt G before c.args.from c.args.number) at is) (map (value_of number) c.args.states.now.items) h
+    rank_refused G before c.args.builder.now.from c.args.number (sym_of number c.symbol_at-symbol.result) c.symbol_at-symbol.ensures.range c.symbol_at-symbol.ensures.rank given (subst (IsGotoAt G before c.args.builder.now.from c.args.number) at is) (map (value_of number) c.args.builder.now.states.items) h
     g.S.IndexStorage.MAX next good.good some full.0 (omega (arith, k, most))
 
 pub returns-clause-states : goal.returns-clause-states
@@ -130,5 +134,5 @@ returns-clause-handled g c = λ before is h.
     let same = ap (λ (l : List (MovedItem g.row.S.Denot)). length l) c.as_slice-items.ensures.value in
     let n = length-map c.as_slice-items.result.now (moved_item number) in
     let some : 0 < length given.items = omega (arith, same, n, there) in
-    rank_placed G before c.args.from c.args.number (sym_of number c.symbol_at-symbol.result) c.symbol_at-symbol.ensures.range c.symbol_at-symbol.ensures.rank given (subst (IsGotoAt G before c.args.from c.args.number) at is) (map (value_of number) c.args.states.now.items) h
-    (map (value_of number) c.place.new.states.items) good.good some c.in_ok-place.ensures.placed
+    rank_placed G before c.args.builder.now.from c.args.number (sym_of number c.symbol_at-symbol.result) c.symbol_at-symbol.ensures.range c.symbol_at-symbol.ensures.rank given (subst (IsGotoAt G before c.args.builder.now.from c.args.number) at is) (map (value_of number) c.args.builder.now.states.items) h
+    (map (value_of number) c.place.new.builder.states.items) good.good some c.in_ok-place.ensures.placed

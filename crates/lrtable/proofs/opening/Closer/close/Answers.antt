@@ -18,7 +18,7 @@ pub close-requires-clause-fit : goal.close-requires-clause-fit
 close-requires-clause-fit g c =
     let G = c.args.grm.now.grammar in
     let empty = sized_on G c.args.self.now.opening c.clear.new.self c.requires.ready.sizes c.clear.ensures.sizes in
-    fronts_fit G c.args.openers.now c.seed.new.self c.requires.openers (sized_on G c.clear.new.self c.seed.new.self empty c.in_ok-seed.ensures.follows.comes.sizes)
+    fronts_fit G c.args.self.now.openers.now c.seed.new.self c.requires.ready.openers (sized_on G c.clear.new.self c.seed.new.self empty c.in_ok-seed.ensures.follows.comes.sizes)
 
 pub close-requires-clause-tidy : goal.close-requires-clause-tidy
 close-requires-clause-tidy g c =
@@ -32,7 +32,7 @@ close-requires-clause-waiting g c =
     let G = c.args.grm.now.grammar in
     let s = map_of (core_of_set number c.args.set.now) in
     let follows = subst (λ l. Follows (Seeds G (HasItem s)) (SeedsLook G (HasItem s) (HasLook s)) c.clear.new.self c.seed.new.self l c.seed.new.waiting.items) c.requires.ready.none_waits c.in_ok-seed.ensures.follows in
-    seeded c.args.openers.now (Seeds G (HasItem s)) (SeedsLook G (HasItem s) (HasLook s)) c.clear.new.self c.seed.new.self c.seed.new.waiting.items follows c.clear.ensures.none_open
+    seeded c.args.self.now.openers.now (Seeds G (HasItem s)) (SeedsLook G (HasItem s) (HasLook s)) c.clear.new.self c.seed.new.self c.seed.new.waiting.items follows c.clear.ensures.none_open
 
 pub returns-clause-closed : goal.returns-clause-closed
 returns-clause-closed g c =
@@ -52,14 +52,16 @@ returns-clause-ready g c =
     let s = map_of (core_of_set number c.args.set.now) in
     let empty = sized_on G c.args.self.now.opening c.clear.new.self c.requires.ready.sizes c.clear.ensures.sizes in
     let seeded = sized_on G c.clear.new.self c.seed.new.self empty c.in_ok-seed.ensures.follows.comes.sizes in
-    let closed : IsClosureOf G c.args.openers.now (core_of_set number c.args.set.now) c.close.new.self = record {
+    let closed : IsClosureOf G c.args.self.now.openers.now (core_of_set number c.args.set.now) c.close.new.self = record {
       from = c.seed.new.self;
       seeds = are_seeds G (HasItem s) (HasLook s) c.clear.new.self c.seed.new.self _ c.seed.new.waiting.items c.clear.ensures.none_open c.clear.ensures.no_look c.in_ok-seed.ensures.follows;
       opened = c.in_ok-close.ensures.opened;
     } in
     record {
+      firsts = c.requires.ready.firsts;
+      openers = c.requires.ready.openers;
       sizes = sized_on G c.seed.new.self c.close.new.self seeded c.in_ok-close.ensures.sizes;
-      tidy = look_open G c.args.openers.now (core_of_set number c.args.set.now) c.close.new.self c.requires.openers closed;
+      tidy = look_open G c.args.self.now.openers.now (core_of_set number c.args.set.now) c.close.new.self c.requires.ready.openers closed;
       width = c.in_ok-close.ensures.width ∙ seeded.tokens;
       rest = c.in_ok-seed.ensures.room;
       none_waits = c.in_ok-close.ensures.none_waits;

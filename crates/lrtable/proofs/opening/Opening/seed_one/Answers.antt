@@ -10,7 +10,7 @@ use Rattle.lrtable.proofs.opening.Opening.seed_one.Goals as goal
 pub follow-requires-clause-rules : goal.follow-requires-clause-rules
 follow-requires-clause-rules g c =
     let number = g.S.IndexStorage.number in
-    let lt = c.start_prod.ensures.well_formed.symbols (number c.args.item.now.pidx.0) c.to_usize-dot.result (rule (number c.in-Some.ridx.0)) c.in-Some.ensures in
+    let lt = c.start_prod.ensures.well_formed.symbols (number c.args.pair.0.now.pidx.0) c.to_usize-dot.result (rule (number c.in-Some.ridx.0)) c.in-Some.ensures in
     let n = c.requires.sizes.opened in
     let e = c.to_usize.ensures.value in
     omega (arith, lt, n, e)
@@ -18,7 +18,7 @@ follow-requires-clause-rules g c =
 pub follow-requires-clause-within : goal.follow-requires-clause-within
 follow-requires-clause-within g c =
     let number = g.S.IndexStorage.number in
-    let lt = c.start_prod.ensures.well_formed.symbols (number c.args.item.now.pidx.0) c.to_usize-dot.result (rule (number c.in-Some.ridx.0)) c.in-Some.ensures in
+    let lt = c.start_prod.ensures.well_formed.symbols (number c.args.pair.0.now.pidx.0) c.to_usize-dot.result (rule (number c.in-Some.ridx.0)) c.in-Some.ensures in
     let n = c.requires.sizes.rows in
     let e = c.to_usize.ensures.value in
     omega (arith, lt, n, e)
@@ -32,14 +32,14 @@ follow-requires-clause-width g c = c.requires.width ∙ sym c.requires.sizes.tok
 pub fill_rest-requires-clause-dot : goal.fill_rest-requires-clause-dot
 fill_rest-requires-clause-dot g c =
     let number = g.S.IndexStorage.number in
-    dot_within c.args.grm.now.grammar (number c.args.item.now.pidx.0) c.to_usize-dot.result (rule (number c.in-Some.ridx.0)) c.in-Some.ensures
+    dot_within c.args.grm.now.grammar (number c.args.pair.0.now.pidx.0) c.to_usize-dot.result (rule (number c.in-Some.ridx.0)) c.in-Some.ensures
 
 pub returns-in_ok-follow-in-Some-clause-follows : goal.returns-in_ok-follow-in-Some-clause-follows
 returns-in_ok-follow-in-Some-clause-follows g c =
     let number = g.S.IndexStorage.number in
     let G = c.args.grm.now.grammar in
-    let p = number c.args.item.now.pidx.0 in
-    let looks = c.args.looks.now.bits in
+    let p = number c.args.pair.0.now.pidx.0 in
+    let looks = c.args.pair.1.now.bits in
     let first = c.fill_rest.new.rest.first.bits in
     let nullable = c.fill_rest.new.rest.nullable in
     let rule_is = c.to_usize.ensures.value in
@@ -52,7 +52,7 @@ pub returns-in-None-clause-follows : goal.returns-in-None-clause-follows
 returns-in-None-clause-follows g c =
     let number = g.S.IndexStorage.number in
     let G = c.args.grm.now.grammar in
-    let p = number c.args.item.now.pidx.0 in
-    let looks = c.args.looks.now.bits in
+    let p = number c.args.pair.0.now.pidx.0 in
+    let looks = c.args.pair.1.now.bits in
     subst (λ d. Follows (Seeds G (One p d)) (SeedsLook G (One p d) (OneLooks p d looks)) c.args.self.now c.args.self.now c.args.waiting.now.items c.args.waiting.now.items) c.to_usize-dot.ensures.value
     (seeds_none G p c.to_usize-dot.result looks c.args.self.now c.args.waiting.now.items c.in-None.ensures)

@@ -1,7 +1,7 @@
 use Rattle.std.proofs.Common.{arith}
 use Rattle.std.proofs.lemmas.List.{length-map}
 use Rattle.lrtable.specs.StateViews.{value_of}
-use Rattle.lrtable.proofs.finishing.graph_over.Goals as goal
+use Rattle.lrtable.proofs.finishing.graph_by.Goals as goal
 
 pub from_states-requires-clause-ready : goal.from_states-requires-clause-ready
 from_states-requires-clause-ready g c =

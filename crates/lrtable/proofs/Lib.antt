@@ -44,3 +44,4 @@ pub mod Reaching
 pub mod Passing
 pub mod Copies
 pub mod Builders
+pub mod Gathered

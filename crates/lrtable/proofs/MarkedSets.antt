@@ -6,8 +6,9 @@ use Rattle.vob.specs.Bits.{bitwise}
 use Rattle.cfg_theory.specs.Grammar.{Grammar, head_of}
 use Rattle.vob.specs.Sets.{is_set}
 use Rattle.lr_theory.specs.Building.{Building}
+use Rattle.lr_theory.specs.Itemset.{Items, Lookaheads}
 use Rattle.state_table.specs.ItemRows.{no_core, Core}
-use Rattle.lrtable.specs.Gaining.{core_in, AreMarked, Gains, KeepsMarks}
+use Rattle.lrtable.specs.Gaining.{core_in, AreMarked, AreSymbolSets, Gains, KeepsMarks}
 use Rattle.lrtable.specs.Handling.{AreHandled}
 use Rattle.lrtable.specs.Opening.{RuleSets, IsOpen}
 use Rattle.lrtable.specs.States.{StateValue}
@@ -71,3 +72,7 @@ or_clear [] [] e = refl
 or_clear [] (b ∷ bits) e = cc
 or_clear (r ∷ row) [] e = cc
 or_clear (r ∷ row) (b ∷ bits) e = ap (λ l. b ∷ l) (or_clear row bits (omega (arith, e)))
+
+-- the sets and marks after items moved
+pub symbol_sets_on : {G : Grammar} {I : Items} {L : Lookaheads} {was now : List Bool} {old new : List Core} → AreSymbolSets G was old → Gains G I L old new → KeepsMarks was old now new → AreSymbolSets G now new
+symbol_sets_on h gains marks = record { count = gains.count ∙ h.count; wide = marks.width ∙ h.wide; good = gains.good }

@@ -1,5 +1,5 @@
 -- The sets to which the items of a closed state move, a set for each symbol by its rank.
-use Rattle.std.specs.Prelude.{◌≡◌, ℕ, ◌<◌, ◌⊎◌, ◌↔◌, Bool, false, List, length, get_or}
+use Rattle.std.specs.Prelude.{◌≡◌, ℕ, ◌+◌, ◌<◌, ◌⊎◌, ◌↔◌, Bool, false, List, length, get_or}
 use Rattle.vob.specs.Sets.{is_set}
 use Rattle.cfg_theory.specs.Grammar.{Sym, Grammar, InRange}
 use Rattle.lr_theory.specs.Itemset.{Items, Lookaheads, ItemSet, HasItem, HasLook, Goto, GotoLook}
@@ -25,6 +25,12 @@ AreMarked marks sets = (n : ℕ) → n < length sets → is_set marks n ≡ fals
 pub record KeepsMarks (was : List Bool) (before : List Core) (now : List Bool) (after : List Core) : Type 0 where
   pub width : length now ≡ length was
   pub marked : AreMarked was before → AreMarked now after
+
+-- a set and a mark for each symbol
+pub record AreSymbolSets (G : Grammar) (marks : List Bool) (sets : List Core) : Type 0 where
+  pub count : length sets ≡ G.rules + G.tokens
+  pub wide : length marks ≡ G.rules + G.tokens
+  pub good : AreSets G.tokens sets
 
 -- the items of I moved into the sets, with the lookaheads of L, and no others
 pub record Gains (G : Grammar) (I : Items) (L : Lookaheads) (old new : List Core) : Type 0 where

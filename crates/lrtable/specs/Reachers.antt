@@ -8,7 +8,6 @@ pub record HasReach (rules tokens : ℕ) (r : Reacher) : Type 0 where
   pub tidy : IsTidy r.opening
   pub tokens_are : r.opening.tokens ≡ tokens
   pub opened : length r.opening.opened ≡ rules
-  pub rows : length r.opening.rows ≡ rules
   pub passed : length r.passed.bits ≡ rules
   pub looks : length r.looks.bits ≡ tokens
   pub none_waits : r.waiting.items ≡ []

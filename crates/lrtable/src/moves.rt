@@ -7,7 +7,7 @@ ghost use Rattle.cfg_numbered.specs.Symbols.{sym_of};
 ghost use Rattle.lr_theory.specs.Itemset.{HasItem, HasLook, Closure, ClosureLook};
 ghost use Rattle.state_table.specs.Adding.{One, OneLooks};
 ghost use Rattle.lrtable.specs.Closes.{AreFronts};
-ghost use Rattle.lrtable.specs.Gaining.{AreMarked, AreSets, Gains, KeepsMarks};
+ghost use Rattle.lrtable.specs.Gaining.{AreMarked, AreSymbolSets, Gains, KeepsMarks};
 ghost use Rattle.lrtable.specs.Handling.{rank};
 ghost use Rattle.state_table.specs.ItemRows.{map_of, FitsCore};
 ghost use Rattle.lrtable.specs.Opening.{Front};
@@ -73,9 +73,7 @@ fn move_over<S: IndexStorage>(
     source: Source,
 ) -> Result<(), AllocError>
     requires production { S.number item.now.pidx.0 < length grm.now.grammar.productions }
-    requires count { length sets.old.items ≡ grm.now.grammar.rules + grm.now.grammar.tokens }
-    requires wide { length marks.old.bits ≡ grm.now.grammar.rules + grm.now.grammar.tokens }
-    requires good { AreSets grm.now.grammar.tokens (map (set_of_moved S.number rows.now) sets.old.items) }
+    requires sets { AreSymbolSets grm.now.grammar marks.old.bits (map (set_of_moved S.number rows.now) sets.old.items) }
     requires width { length (row_from rows.now source) ≡ grm.now.grammar.tokens }
     requires fresh { HaveNone grm.now.grammar (One (S.number item.now.pidx.0) (S.number item.now.dot.0)) (map (set_of_moved S.number rows.now) sets.old.items) }
     ensures gains { OnOk result (Gains grm.now.grammar (One (S.number item.now.pidx.0) (S.number item.now.dot.0)) (OneLooks (S.number item.now.pidx.0) (S.number item.now.dot.0) (row_from rows.now source)) (map (set_of_moved S.number rows.now) sets.old.items) (map (set_of_moved S.number rows.now) sets.new.items)) }
@@ -110,9 +108,7 @@ fn move_first<S: IndexStorage>(
     source: Source,
 ) -> Result<(), AllocError>
     requires production { S.number pidx.0 < length grm.now.grammar.productions }
-    requires count { length sets.old.items ≡ grm.now.grammar.rules + grm.now.grammar.tokens }
-    requires wide { length marks.old.bits ≡ grm.now.grammar.rules + grm.now.grammar.tokens }
-    requires good { AreSets grm.now.grammar.tokens (map (set_of_moved S.number rows.now) sets.old.items) }
+    requires sets { AreSymbolSets grm.now.grammar marks.old.bits (map (set_of_moved S.number rows.now) sets.old.items) }
     requires width { length (row_from rows.now source) ≡ grm.now.grammar.tokens }
     requires fresh { HaveNone grm.now.grammar (One (S.number pidx.0) 0) (map (set_of_moved S.number rows.now) sets.old.items) }
     ensures gains { OnOk result (Gains grm.now.grammar (One (S.number pidx.0) 0) (OneLooks (S.number pidx.0) 0 (row_from rows.now source)) (map (set_of_moved S.number rows.now) sets.old.items) (map (set_of_moved S.number rows.now) sets.new.items)) }
@@ -144,9 +140,7 @@ fn move_core<S: IndexStorage>(
     core: &CoreSet<S>,
 ) -> Result<(), AllocError>
     requires fits { FitsCore grm.now.grammar (core_of_set S.number core.now) }
-    requires count { length sets.old.items ≡ grm.now.grammar.rules + grm.now.grammar.tokens }
-    requires wide { length marks.old.bits ≡ grm.now.grammar.rules + grm.now.grammar.tokens }
-    requires good { AreSets grm.now.grammar.tokens (map (set_of_moved S.number rows.now) sets.old.items) }
+    requires sets { AreSymbolSets grm.now.grammar marks.old.bits (map (set_of_moved S.number rows.now) sets.old.items) }
     requires own { rows.now.own ≡ rows_in core.now.looks.items }
     requires fresh { HaveNone grm.now.grammar (HasItem (map_of (core_of_set S.number core.now))) (map (set_of_moved S.number rows.now) sets.old.items) }
     ensures gains { OnOk result (Gains grm.now.grammar (HasItem (map_of (core_of_set S.number core.now))) (HasLook (map_of (core_of_set S.number core.now))) (map (set_of_moved S.number rows.now) sets.old.items) (map (set_of_moved S.number rows.now) sets.new.items)) }
@@ -170,9 +164,7 @@ fn move_rule<S: IndexStorage>(
     source: Source,
 ) -> Result<(), AllocError>
     requires rule { S.number ridx.0 < grm.now.grammar.rules }
-    requires count { length sets.old.items ≡ grm.now.grammar.rules + grm.now.grammar.tokens }
-    requires wide { length marks.old.bits ≡ grm.now.grammar.rules + grm.now.grammar.tokens }
-    requires good { AreSets grm.now.grammar.tokens (map (set_of_moved S.number rows.now) sets.old.items) }
+    requires sets { AreSymbolSets grm.now.grammar marks.old.bits (map (set_of_moved S.number rows.now) sets.old.items) }
     requires width { length (row_from rows.now source) ≡ grm.now.grammar.tokens }
     requires fresh { HaveNone grm.now.grammar (OfRule grm.now.grammar (S.number ridx.0)) (map (set_of_moved S.number rows.now) sets.old.items) }
     ensures gains { OnOk result (Gains grm.now.grammar (OfRule grm.now.grammar (S.number ridx.0)) (OfRuleLooks grm.now.grammar (S.number ridx.0) (λ t. IsTrue (is_set (row_from rows.now source) t))) (map (set_of_moved S.number rows.now) sets.old.items) (map (set_of_moved S.number rows.now) sets.new.items)) }
@@ -195,9 +187,7 @@ fn move_if_open<S: IndexStorage>(
 ) -> Result<(), AllocError>
     requires rule { number < grm.now.grammar.rules }
     requires sizes { IsSized grm.now.grammar rows.now.opening }
-    requires count { length sets.old.items ≡ grm.now.grammar.rules + grm.now.grammar.tokens }
-    requires wide { length marks.old.bits ≡ grm.now.grammar.rules + grm.now.grammar.tokens }
-    requires good { AreSets grm.now.grammar.tokens (map (set_of_moved S.number rows.now) sets.old.items) }
+    requires sets { AreSymbolSets grm.now.grammar marks.old.bits (map (set_of_moved S.number rows.now) sets.old.items) }
     requires fresh { HaveNone grm.now.grammar (OpenAt grm.now.grammar rows.now.opening number) (map (set_of_moved S.number rows.now) sets.old.items) }
     ensures gains { OnOk result (Gains grm.now.grammar (OpenAt grm.now.grammar rows.now.opening number) (OpenLooksAt grm.now.grammar rows.now.opening number) (map (set_of_moved S.number rows.now) sets.old.items) (map (set_of_moved S.number rows.now) sets.new.items)) }
     ensures marks { OnOk result (KeepsMarks marks.old.bits (map (set_of_moved S.number rows.now) sets.old.items) marks.new.bits (map (set_of_moved S.number rows.now) sets.new.items)) }
@@ -225,9 +215,7 @@ fn move_open<S: IndexStorage>(
     rows: &Rows<'_>,
 ) -> Result<(), AllocError>
     requires sizes { IsSized grm.now.grammar rows.now.opening }
-    requires count { length sets.old.items ≡ grm.now.grammar.rules + grm.now.grammar.tokens }
-    requires wide { length marks.old.bits ≡ grm.now.grammar.rules + grm.now.grammar.tokens }
-    requires good { AreSets grm.now.grammar.tokens (map (set_of_moved S.number rows.now) sets.old.items) }
+    requires sets { AreSymbolSets grm.now.grammar marks.old.bits (map (set_of_moved S.number rows.now) sets.old.items) }
     requires fresh { HaveNone grm.now.grammar (OpenBelow grm.now.grammar rows.now.opening grm.now.grammar.rules) (map (set_of_moved S.number rows.now) sets.old.items) }
     ensures gains { OnOk result (Gains grm.now.grammar (OpenBelow grm.now.grammar rows.now.opening grm.now.grammar.rules) (OpenLooksBelow grm.now.grammar rows.now.opening grm.now.grammar.rules) (map (set_of_moved S.number rows.now) sets.old.items) (map (set_of_moved S.number rows.now) sets.new.items)) }
     ensures marks { OnOk result (KeepsMarks marks.old.bits (map (set_of_moved S.number rows.now) sets.old.items) marks.new.bits (map (set_of_moved S.number rows.now) sets.new.items)) }

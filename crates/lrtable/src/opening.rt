@@ -121,6 +121,13 @@ impl Opening {
         })
     }
 
+    /// Proves that there are as many sets as flags, for calls that require it.
+    fn counts_agree(&self)
+        ensures { length self.now.rows ≡ length self.now.opened }
+    {
+        let _ = &self.opened;
+    }
+
     /// Closes all rules and empties their sets, where those of the others are empty.
     pub(crate) fn clear(&mut self)
         requires { IsTidy self.old }
@@ -254,11 +261,11 @@ impl Opening {
         looks: &Vob,
         waiting: &mut Vec<usize>,
     ) -> Result<(), AllocError>
-        requires rows { length self.old.rows ≡ length self.old.opened }
         requires fit { AllFit (length self.old.opened) self.old.tokens (map front_of openers.now) }
         requires width { length looks.now.bits ≡ self.old.tokens }
         ensures { OnOk result (Follows (NamedIn (map front_of openers.now)) (BroughtBy looks.now.bits (map front_of openers.now)) self.old self.new waiting.old.items waiting.new.items) }
     {
+        self.counts_agree();
         'openers: for opener in openers {
             self.follow(opener.rule, &opener.rest, looks, waiting)?;
         }
@@ -315,12 +322,12 @@ impl Opening {
 
     /// Brings to the rules of openers what follows them, where a rule with these lookaheads leads to them.
     fn bring_all(&mut self, reached: &[Opener], looks: &Vob)
-        requires rows { length self.old.rows ≡ length self.old.opened }
         requires fit { AllFit (length self.old.opened) self.old.tokens (map front_of reached.now) }
         requires width { length looks.now.bits ≡ self.old.tokens }
         ensures comes { Comes (NamedIn (map front_of reached.now)) (BroughtBy looks.now.bits (map front_of reached.now)) self.old self.new }
         ensures fewer { room self.new ≤ room self.old }
     {
+        self.counts_agree();
         'openers: for opener in reached {
             self.bring_on(opener, looks);
         }
@@ -335,7 +342,6 @@ impl Opening {
         looks: &mut Vob,
         waiting: &mut Vec<usize>,
     ) -> Result<(), AllocError>
-        requires rows { length self.old.rows ≡ length self.old.opened }
         requires rules { length openers.now ≡ length self.old.opened }
         requires rule { rule < length self.old.opened }
         requires open_is { IsOpen self.old rule }
@@ -348,6 +354,7 @@ impl Opening {
         ensures waiting { OnOk result ((from : RuleSets) → Underway openers.now from self.old (waiting.old.items ++ rule ∷ []) → Underway openers.now from self.new waiting.new.items) }
         ensures fewer { OnOk result (room self.new + length waiting.new.items ≤ room self.old + length waiting.old.items) }
     {
+        self.counts_agree();
         match openers.reached_from(rule, looks.len()) {
             Some(reached) => {
                 self.copy_looks(rule, looks);
@@ -372,7 +379,6 @@ impl Opening {
         rule: usize,
     ) -> Result<(), AllocError>
         requires tidy { IsTidy self.old }
-        requires rows { length self.old.rows ≡ length self.old.opened }
         requires rules { length openers.now ≡ length self.old.opened }
         requires rule { rule < length openers.now }
         requires fit { (A : ℕ) → AllFit (length self.old.opened) self.old.tokens (get_or openers.now A []) }
@@ -410,10 +416,10 @@ impl Opening {
 
     /// Returns the open rules with their lookaheads, and which of them are marked.
     pub(crate) fn listed(&self, alloc: Global, passed: &Vob) -> Result<Vec<Opener>, AllocError>
-        requires rows { length self.now.rows ≡ length self.now.opened }
-        requires width { length passed.now.bits ≡ length self.now.opened }
+        requires { length passed.now.bits ≡ length self.now.opened }
         ensures { IfOk result (λ v. AreListed self.now passed.now.bits (map front_of v.items)) }
     {
+        self.counts_agree();
         let mut list = Vec::with_capacity(alloc, bits_set(&self.opened))?;
         'rules: for rule in self.open_rules() {
             list.push(self.opener_at(passed, rule)?)?;
@@ -429,7 +435,6 @@ impl Opening {
         looks: &mut Vob,
         waiting: &mut Vec<usize>,
     ) -> Result<(), AllocError>
-        requires rows { length self.old.rows ≡ length self.old.opened }
         requires rules { length openers.now ≡ length self.old.opened }
         requires fit { (A : ℕ) → AllFit (length self.old.opened) self.old.tokens (get_or openers.now A []) }
         requires width { length looks.old.bits ≡ self.old.tokens }

@@ -1,5 +1,5 @@
 use Rattle.std.proofs.Common.{◌+◌, List, length, refl, map, sym, ap, ◌∙◌, subst}
-use Rattle.std.proofs.lemmas.List.{length-map, length-replicate}
+use Rattle.std.proofs.lemmas.List.{length-replicate}
 use Rattle.lr_theory.specs.Itemset.{HasItem}
 use Rattle.state_table.specs.ItemRows.{no_core, Core, map_of}
 use Rattle.lrtable.specs.Gaining.{AreSets}
@@ -19,9 +19,11 @@ move_core-requires g c =
     let none = empty_moved number c.args.rows.now (G.rules + G.tokens) c.args.sets.now.items c.requires.empty in
     record {
       fits = c.requires.fits;
-      count = sym (length-map c.args.sets.now.items seen) ∙ (ap length none ∙ length-replicate (G.rules + G.tokens) no_core);
-      wide = c.requires.wide;
-      good = subst (λ (l : List Core). AreSets G.tokens l) (sym none) (empty_sets_good G.tokens (G.rules + G.tokens));
+      sets = record {
+        count = ap length none ∙ length-replicate (G.rules + G.tokens) no_core;
+        wide = c.requires.wide;
+        good = subst (λ (l : List Core). AreSets G.tokens l) (sym none) (empty_sets_good G.tokens (G.rules + G.tokens));
+      };
       own = c.requires.own;
       fresh = none_in_empty G (HasItem (map_of (core_of_set number c.args.core.now))) (G.rules + G.tokens) (map seen c.args.sets.now.items) none;
     }
@@ -34,14 +36,16 @@ move_open-requires g c =
     let seen = set_of_moved number c.args.rows.now in
     let none = empty_moved number c.args.rows.now (G.rules + G.tokens) c.args.sets.now.items c.requires.empty in
     let closed = c.requires.closed in
-    let gains = c.in_ok-move_core.ensures.gains in
+    let moved = c.in_ok-move_core.ensures in
     record {
       sizes = c.requires.sizes;
-      count = sym (length-map c.move_core.new.sets.items seen) ∙ (gains.count ∙ (ap length none ∙ length-replicate (G.rules + G.tokens) no_core));
-      wide = c.in_ok-move_core.ensures.marks.width ∙ c.requires.wide;
-      good = gains.good;
+      sets = record {
+        count = moved.gains.count ∙ (ap length none ∙ length-replicate (G.rules + G.tokens) no_core);
+        wide = moved.marks.width ∙ c.requires.wide;
+        good = moved.gains.good;
+      };
       fresh = none_of_opened G closed.0 (core_of_set number c.args.core.now) s G.rules (map seen c.args.sets.now.items) (map seen c.move_core.new.sets.items) c.start_prod.ensures.well_formed closed.1 closed.2 c.requires.kernel
-          (none_in_empty G (OpenBelow G s G.rules) (G.rules + G.tokens) (map seen c.args.sets.now.items) none) gains;
+          (none_in_empty G (OpenBelow G s G.rules) (G.rules + G.tokens) (map seen c.args.sets.now.items) none) moved.gains;
     }
 
 pub returns-clause-gotos : goal.returns-clause-gotos

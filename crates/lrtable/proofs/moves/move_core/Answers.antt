@@ -6,7 +6,7 @@ use Rattle.lrtable.specs.MovedItems.{set_of_moved}
 use Rattle.state_table.specs.CoreViews.{item_of, core_of_set}
 use Rattle.state_table.proofs.CoreSteps.{item_at, production_below}
 use Rattle.lrtable.proofs.FreshSets.{none_of_core}
-use Rattle.lrtable.proofs.MarkedSets.{keeps_same, keeps_next}
+use Rattle.lrtable.proofs.MarkedSets.{keeps_same, keeps_next, symbol_sets_on}
 use Rattle.lrtable.proofs.Moving.{items_begin, items_more, items_end}
 use Rattle.lrtable.proofs.moves.move_core.Goals as goal
 
@@ -15,7 +15,7 @@ items-init g c =
     let number = g.S.IndexStorage.number in
     let sets = map (set_of_moved number c.args.rows.now) c.args.sets.now.items in
     record {
-      gains = items_begin c.args.grm.now.grammar (core_of_set number c.args.core.now) sets c.requires.good;
+      gains = items_begin c.args.grm.now.grammar (core_of_set number c.args.core.now) sets c.requires.sets.good;
       marks = keeps_same c.args.marks.now.bits sets;
     }
 
@@ -30,16 +30,10 @@ move_over-requires g c =
     let m = length-map c.args.core.now.looks.items (λ (v : Contents). v.bits) in
     let e = c.requires.fits.good.count in
     let test = c.items-test.true in
-    let a = length-map c.args.sets.now.items seen in
-    let b = length-map c.items.sets.items seen in
-    let count = c.requires.count in
-    let same = c.items.invariant.gains.count in
     let at = item_at number c.args.core.now.items.items c.items.k x (omega (arith, test)) c.index-item.ensures in
     record {
       production = production_below number c.args.core.now.items.items c.items.k (length G.productions) x (omega (arith, test)) c.index-item.ensures c.requires.fits.productions;
-      count = omega (arith, a, b, count, same);
-      wide = c.items.invariant.marks.width ∙ c.requires.wide;
-      good = c.items.invariant.gains.good;
+      sets = symbol_sets_on c.requires.sets c.items.invariant.gains c.items.invariant.marks;
       width = ap (λ (r : List (List Bool)). length (row r c.items.k)) c.requires.own ∙ c.requires.fits.good.width c.items.k (omega (arith, n, m, e, test));
       fresh = none_of_core G core c.items.k (number x.pidx.0) (number x.dot.0) (map seen c.args.sets.now.items) (map seen c.items.sets.items) c.requires.fits.good at c.requires.fresh c.items.invariant.gains;
     }

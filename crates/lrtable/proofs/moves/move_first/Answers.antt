@@ -1,5 +1,5 @@
-use Rattle.std.proofs.Common.{map, set, refl, arith}
-use Rattle.std.proofs.lemmas.List.{map-set}
+use Rattle.std.proofs.Common.{map, set, refl, sym, ◌∙◌, arith}
+use Rattle.std.proofs.lemmas.List.{length-map, map-set}
 use Rattle.cfg_numbered.specs.Symbols.{sym_of}
 use Rattle.lrtable.specs.MovedItems.{set_of_moved}
 use Rattle.lrtable.proofs.Exact.{dot_within}
@@ -21,9 +21,10 @@ index_mut-set-requires g c =
     let n = c.in-Some.ensures in
     let range = c.start_prod.ensures.well_formed.symbols (number c.args.pidx.0) 0 (sym_of number c.in-Some.symbol) n in
     let lt = rank_below G (sym_of number c.in-Some.symbol) range in
-    let count = c.requires.count in
+    let count = c.requires.sets.count in
+    let m = length-map c.args.sets.now.items (set_of_moved number c.args.rows.now) in
     let r = c.rank_of-rank.ensures in
-    omega (arith, lt, count, r)
+    omega (arith, lt, count, m, r)
 
 pub set-requires : goal.set-requires
 set-requires g c =
@@ -32,7 +33,7 @@ set-requires g c =
     let n = c.in-Some.ensures in
     let range = c.start_prod.ensures.well_formed.symbols (number c.args.pidx.0) 0 (sym_of number c.in-Some.symbol) n in
     let lt = rank_below G (sym_of number c.in-Some.symbol) range in
-    let wide = c.requires.wide in
+    let wide = c.requires.sets.wide in
     let r = c.rank_of-rank.ensures in
     omega (arith, lt, wide, r)
 
@@ -44,7 +45,7 @@ returns-in_ok-put_moved-in-Some-clause-marks g c =
     let n = c.in-Some.ensures in
     let range = c.start_prod.ensures.well_formed.symbols (number c.args.pidx.0) 0 (sym_of number c.in-Some.symbol) n in
     let lt = rank_below G (sym_of number c.in-Some.symbol) range in
-    let wide = c.requires.wide in
+    let wide = c.requires.sets.wide in
     let r = c.rank_of-rank.ensures in
     let sets = c.args.sets.now.items in
     let k = c.rank_of-rank.result in
@@ -57,7 +58,7 @@ put_moved-requires g c =
     let n = c.in-Some.ensures in
     let X = sym_of number c.in-Some.symbol in
     let range = c.start_prod.ensures.well_formed.symbols (number c.args.pidx.0) 0 X n in
-    (fits_there number c.args.rows.now G c.args.sets.now.items c.rank_of-rank.result c.index_mut-set.result.now (number c.args.pidx.0) 0 X range n c.rank_of-rank.ensures c.requires.count c.requires.good c.index_mut-set.ensures.value).ascends
+    (fits_there number c.args.rows.now G c.args.sets.now.items c.rank_of-rank.result c.index_mut-set.result.now (number c.args.pidx.0) 0 X range n c.rank_of-rank.ensures (sym (length-map c.args.sets.now.items (set_of_moved number c.args.rows.now)) ∙ c.requires.sets.count) c.requires.sets.good c.index_mut-set.ensures.value).ascends
 
 pub returns-in_ok-put_moved-in-Some-clause-gains : goal.returns-in_ok-put_moved-in-Some-clause-gains
 returns-in_ok-put_moved-in-Some-clause-gains g c =
@@ -67,10 +68,10 @@ returns-in_ok-put_moved-in-Some-clause-gains g c =
     let X = sym_of number c.in-Some.symbol in
     let range = c.start_prod.ensures.well_formed.symbols (number c.args.pidx.0) 0 X n in
     let put = c.in_ok-put_moved-in-Some.ensures in
-    one_moved number c.args.rows.now G c.args.sets.now.items c.rank_of-rank.result c.index_mut-set.result.now (number c.args.pidx.0) 0 X range n c.rank_of-rank.ensures c.requires.count c.requires.good c.index_mut-set.ensures.value
+    one_moved number c.args.rows.now G c.args.sets.now.items c.rank_of-rank.result c.index_mut-set.result.now (number c.args.pidx.0) 0 X range n c.rank_of-rank.ensures (sym (length-map c.args.sets.now.items (set_of_moved number c.args.rows.now)) ∙ c.requires.sets.count) c.requires.sets.good c.index_mut-set.ensures.value
     c.put_moved.new.items _ put.0 refl c.dot_behind.ensures c.requires.width c.requires.fresh put.1 put.2
 
 pub returns-in-None-clause-gains : goal.returns-in-None-clause-gains
 returns-in-None-clause-gains g c =
     let number = g.S.IndexStorage.number in
-    no_move c.args.grm.now.grammar (number c.args.pidx.0) 0 _ (map (set_of_moved number c.args.rows.now) c.args.sets.now.items) c.requires.good c.in-None.ensures
+    no_move c.args.grm.now.grammar (number c.args.pidx.0) 0 _ (map (set_of_moved number c.args.rows.now) c.args.sets.now.items) c.requires.sets.good c.in-None.ensures

@@ -11,7 +11,7 @@ differ : false ≡ true → ⊥
 differ e = cc
 
 pub returns-then-not-is_open-clause-gains : goal.returns-then-not-is_open-clause-gains
-returns-then-not-is_open-clause-gains g c = closed_at c.args.grm.now.grammar c.args.rows.now.opening c.args.number (map (set_of_moved g.S.IndexStorage.number c.args.rows.now) c.args.sets.now.items) c.requires.good (λ x. differ (sym c.if-not-is_open.true ∙ c.is_open.ensures.1 x))
+returns-then-not-is_open-clause-gains g c = closed_at c.args.grm.now.grammar c.args.rows.now.opening c.args.number (map (set_of_moved g.S.IndexStorage.number c.args.rows.now) c.args.sets.now.items) c.requires.sets.good (λ x. differ (sym c.if-not-is_open.true ∙ c.is_open.ensures.1 x))
 
 pub move_rule-requires-clause-width : goal.move_rule-requires-clause-width
 move_rule-requires-clause-width g c = sym (ap length c.of_rule-looks.ensures.bits) ∙ (c.of_rule-looks.ensures.width ∙ c.requires.sizes.tokens)

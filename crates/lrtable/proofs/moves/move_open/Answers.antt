@@ -1,11 +1,10 @@
-use Rattle.std.proofs.Common.{◌≡◌, ◌+◌, List, Bool, true, map, subst, ◌∙◌, arith}
-use Rattle.std.proofs.lemmas.List.{length-map}
+use Rattle.std.proofs.Common.{◌≡◌, ◌+◌, List, Bool, true, map, subst, arith}
 use Rattle.std.specs.declared.ops.Bound.TheVariants.{Unbounded}
 use Rattle.vob.specs.Walk.{walk}
 use Rattle.lrtable.specs.MovedItems.{set_of_moved}
 use Rattle.lrtable.proofs.FreshSets.{none_of_open}
 use Rattle.state_table.proofs.Marks.{IsNextMark, all_marked, marked_from, next_mark, no_mark}
-use Rattle.lrtable.proofs.MarkedSets.{keeps_same, keeps_next, open_skip}
+use Rattle.lrtable.proofs.MarkedSets.{keeps_same, keeps_next, open_skip, symbol_sets_on}
 use Rattle.lrtable.proofs.Moving.{open_begin, open_next}
 use Rattle.lrtable.proofs.moves.move_open.Goals as goal
 
@@ -22,7 +21,7 @@ rules-init g c =
         record {
           within = omega arith;
           left = subst (λ (l : List Bool). c.into_iter-number-iterator.result ≡ marked_from l 0) c.opened.ensures (all_marked bits c.into_iter-number-iterator.result e);
-          gains = open_begin c.args.grm.now.grammar c.args.rows.now.opening sets c.requires.good;
+          gains = open_begin c.args.grm.now.grammar c.args.rows.now.opening sets c.requires.sets.good;
           marks = keeps_same c.args.marks.now.bits sets;
         },
       ),
@@ -35,16 +34,10 @@ move_if_open-requires g c =
     let m : IsNextMark c.args.rows.now.opening.opened v.0 c.in-Some.number c.next.new.self = next_mark c.args.rows.now.opening.opened v.0 c.in-Some.number c.rules.number-iterator c.next.new.self v.1.within v.1.left c.in-Some.ensures.steps in
     let below = m.below in
     let width = c.requires.sizes.opened in
-    let a = length-map c.args.sets.now.items (set_of_moved number c.args.rows.now) in
-    let b = length-map c.rules.sets.items (set_of_moved number c.args.rows.now) in
-    let count = c.requires.count in
-    let same = v.1.gains.count in
     record {
       rule = omega (arith, below, width);
       sizes = c.requires.sizes;
-      count = omega (arith, a, b, count, same);
-      wide = v.1.marks.width ∙ c.requires.wide;
-      good = v.1.gains.good;
+      sets = symbol_sets_on c.requires.sets v.1.gains v.1.marks;
       fresh = none_of_open c.args.grm.now.grammar c.args.rows.now.opening v.0 c.in-Some.number (map (set_of_moved number c.args.rows.now) c.args.sets.now.items) (map (set_of_moved number c.args.rows.now) c.rules.sets.items) m.low (omega (arith, below, width)) c.requires.fresh v.1.gains;
     }
 

@@ -1,5 +1,5 @@
-use Rattle.std.proofs.Common.{map, set, refl, sym, subst, arith}
-use Rattle.std.proofs.lemmas.List.{map-set}
+use Rattle.std.proofs.Common.{map, set, refl, sym, ◌∙◌, subst, arith}
+use Rattle.std.proofs.lemmas.List.{length-map, map-set}
 use Rattle.cfg_numbered.specs.Symbols.{sym_of}
 use Rattle.state_table.specs.Adding.{One, OneLooks}
 use Rattle.lrtable.specs.Gaining.{Gains}
@@ -23,9 +23,10 @@ index_mut-set-requires g c =
     let n = c.in-Some.ensures in
     let range = c.start_prod.ensures.well_formed.symbols (number c.args.item.now.pidx.0) c.to_usize-dot.result (sym_of number c.in-Some.symbol) n in
     let lt = rank_below G (sym_of number c.in-Some.symbol) range in
-    let count = c.requires.count in
+    let count = c.requires.sets.count in
+    let m = length-map c.args.sets.now.items (set_of_moved number c.args.rows.now) in
     let r = c.rank_of-number.ensures in
-    omega (arith, lt, count, r)
+    omega (arith, lt, count, m, r)
 
 pub set-requires : goal.set-requires
 set-requires g c =
@@ -34,7 +35,7 @@ set-requires g c =
     let n = c.in-Some.ensures in
     let range = c.start_prod.ensures.well_formed.symbols (number c.args.item.now.pidx.0) c.to_usize-dot.result (sym_of number c.in-Some.symbol) n in
     let lt = rank_below G (sym_of number c.in-Some.symbol) range in
-    let wide = c.requires.wide in
+    let wide = c.requires.sets.wide in
     let r = c.rank_of-number.ensures in
     omega (arith, lt, wide, r)
 
@@ -46,7 +47,7 @@ returns-in_ok-insert_moved-in-Some-clause-marks g c =
     let n = c.in-Some.ensures in
     let range = c.start_prod.ensures.well_formed.symbols (number c.args.item.now.pidx.0) c.to_usize-dot.result (sym_of number c.in-Some.symbol) n in
     let lt = rank_below G (sym_of number c.in-Some.symbol) range in
-    let wide = c.requires.wide in
+    let wide = c.requires.sets.wide in
     let r = c.rank_of-number.ensures in
     let sets = c.args.sets.now.items in
     let k = c.rank_of-number.result in
@@ -59,7 +60,7 @@ insert_moved-requires g c =
     let n = c.in-Some.ensures in
     let X = sym_of number c.in-Some.symbol in
     let range = c.start_prod.ensures.well_formed.symbols (number c.args.item.now.pidx.0) c.to_usize-dot.result X n in
-    (fits_there number c.args.rows.now G c.args.sets.now.items c.rank_of-number.result c.index_mut-set.result.now (number c.args.item.now.pidx.0) c.to_usize-dot.result X range n c.rank_of-number.ensures c.requires.count c.requires.good c.index_mut-set.ensures.value).ascends
+    (fits_there number c.args.rows.now G c.args.sets.now.items c.rank_of-number.result c.index_mut-set.result.now (number c.args.item.now.pidx.0) c.to_usize-dot.result X range n c.rank_of-number.ensures (sym (length-map c.args.sets.now.items (set_of_moved number c.args.rows.now)) ∙ c.requires.sets.count) c.requires.sets.good c.index_mut-set.ensures.value).ascends
 
 pub returns-in_ok-insert_moved-in-Some-clause-gains : goal.returns-in_ok-insert_moved-in-Some-clause-gains
 returns-in_ok-insert_moved-in-Some-clause-gains g c =
@@ -75,7 +76,7 @@ returns-in_ok-insert_moved-in-Some-clause-gains g c =
     let put = c.in_ok-insert_moved-in-Some.ensures in
     let fresh = subst (λ d. HaveNone G (One p d) sets) (sym dot) c.requires.fresh in
     subst (λ d. Gains G (One p d) (OneLooks p d (row_from c.args.rows.now c.args.source)) sets (map seen (set c.args.sets.now.items c.rank_of-number.result c.insert_moved.new.items))) dot
-    (one_moved number c.args.rows.now G c.args.sets.now.items c.rank_of-number.result c.index_mut-set.result.now p c.to_usize-dot.result X range n c.rank_of-number.ensures c.requires.count c.requires.good c.index_mut-set.ensures.value
+    (one_moved number c.args.rows.now G c.args.sets.now.items c.rank_of-number.result c.index_mut-set.result.now p c.to_usize-dot.result X range n c.rank_of-number.ensures (sym (length-map c.args.sets.now.items (set_of_moved number c.args.rows.now)) ∙ c.requires.sets.count) c.requires.sets.good c.index_mut-set.ensures.value
     c.insert_moved.new.items _ put.0 refl c.dot_behind.ensures c.requires.width fresh put.1 put.2)
 
 pub returns-in-None-clause-gains : goal.returns-in-None-clause-gains
@@ -84,4 +85,4 @@ returns-in-None-clause-gains g c =
     let G = c.args.grm.now.grammar in
     let sets = map (set_of_moved number c.args.rows.now) c.args.sets.now.items in
     let p = number c.args.item.now.pidx.0 in
-    subst (λ d. Gains G (One p d) (OneLooks p d (row_from c.args.rows.now c.args.source)) sets sets) c.to_usize-dot.ensures.value (no_move G p c.to_usize-dot.result _ sets c.requires.good c.in-None.ensures)
+    subst (λ d. Gains G (One p d) (OneLooks p d (row_from c.args.rows.now c.args.source)) sets sets) c.to_usize-dot.ensures.value (no_move G p c.to_usize-dot.result _ sets c.requires.sets.good c.in-None.ensures)

@@ -1,13 +1,12 @@
-use Rattle.std.proofs.Common.{map, arith, ◌∙◌}
+use Rattle.std.proofs.Common.{map, arith}
 use Rattle.std.specs.Prelude.{IsTrue}
-use Rattle.std.proofs.lemmas.List.{length-map}
 use Rattle.vob.specs.Sets.{is_set}
 use Rattle.cfg_numbered.specs.Value.{productions_of}
 use Rattle.cfg_numbered.proofs.RuleLists.{alone}
 use Rattle.lrtable.specs.MovedItems.{row_from, set_of_moved}
 use Rattle.lrtable.proofs.FreshSets.{none_of_rule}
 use Rattle.lrtable.proofs.Fronts.{listed_prod, listed_count}
-use Rattle.lrtable.proofs.MarkedSets.{keeps_same, keeps_next}
+use Rattle.lrtable.proofs.MarkedSets.{keeps_same, keeps_next, symbol_sets_on}
 use Rattle.lrtable.proofs.Moving.{listed_begin, listed_more, listed_end}
 use Rattle.lrtable.proofs.moves.move_rule.Goals as goal
 
@@ -15,7 +14,7 @@ pub prods-init : goal.prods-init
 prods-init g c =
     let number = g.S.IndexStorage.number in
     record {
-      gains = listed_begin c.args.grm.now.grammar (number c.args.ridx.0) (λ t. IsTrue (is_set (row_from c.args.rows.now c.args.source) t)) (map (set_of_moved number c.args.rows.now) c.args.sets.now.items) c.requires.good;
+      gains = listed_begin c.args.grm.now.grammar (number c.args.ridx.0) (λ t. IsTrue (is_set (row_from c.args.rows.now c.args.source) t)) (map (set_of_moved number c.args.rows.now) c.args.sets.now.items) c.requires.sets.good;
       marks = keeps_same c.args.marks.now.bits (map (set_of_moved number c.args.rows.now) c.args.sets.now.items);
     }
 
@@ -25,15 +24,9 @@ move_first-requires g c =
     let G = c.args.grm.now.grammar in
     let A = number c.args.ridx.0 in
     let n = listed_prod number c.rule_to_prods-prods.result.now (productions_of G A) c.prods.k c.index-prods-k.result c.rule_to_prods-prods.ensures c.prods-test.true c.index-prods-k.is in
-    let a = length-map c.args.sets.now.items (set_of_moved number c.args.rows.now) in
-    let b = length-map c.prods.sets.items (set_of_moved number c.args.rows.now) in
-    let count = c.requires.count in
-    let same = c.prods.invariant.gains.count in
     record {
       production = (alone G A (number c.index-prods-k.result.0) n.1).0;
-      count = omega (arith, a, b, count, same);
-      wide = c.prods.invariant.marks.width ∙ c.requires.wide;
-      good = c.prods.invariant.gains.good;
+      sets = symbol_sets_on c.requires.sets c.prods.invariant.gains c.prods.invariant.marks;
       width = c.requires.width;
       fresh = none_of_rule G A c.prods.k (number c.index-prods-k.result.0) (λ t. IsTrue (is_set (row_from c.args.rows.now c.args.source) t)) (map (set_of_moved number c.args.rows.now) c.args.sets.now.items) (map (set_of_moved number c.args.rows.now) c.prods.sets.items) n.0
           (let size = listed_count number c.rule_to_prods-prods.result.now (productions_of G A) c.rule_to_prods-prods.ensures in let test = c.prods-test.true in omega (arith, size, test)) n.1 c.requires.fresh c.prods.invariant.gains;

@@ -17,7 +17,6 @@ open_from-requires c =
     let r = c.requires.reacher in
     record {
       tidy = r.tidy;
-      rows = r.rows ∙ sym r.opened;
       rules = sym r.opened;
       rule = c.requires.rule;
       fit = λ A e m. let f = c.requires.fit A e m in record { rule = subst (λ n. e.rule < n) (sym r.opened) f.rule; first = f.first };
@@ -26,13 +25,7 @@ open_from-requires c =
     }
 
 pub listed-requires : goal.listed-requires
-listed-requires c =
-    let r = c.requires.reacher in
-    let s = c.in_ok-open_from.ensures.sizes in
-    record {
-      rows = s.rows ∙ (r.rows ∙ sym (s.opened ∙ r.opened));
-      width = c.in_ok-mark_reached.ensures.width ∙ sym (s.opened ∙ r.opened);
-    }
+listed-requires c = c.in_ok-mark_reached.ensures.width ∙ sym (c.in_ok-open_from.ensures.sizes.opened ∙ c.requires.reacher.opened)
 
 pub returns-clause-reached : goal.returns-clause-reached
 returns-clause-reached c =
@@ -49,7 +42,6 @@ returns-clause-reacher c =
       tidy = o.tidy;
       tokens_are = o.sizes.tokens;
       opened = o.sizes.opened ∙ r.opened;
-      rows = o.sizes.rows ∙ r.rows;
       passed = c.in_ok-mark_reached.ensures.width;
       looks = o.width;
       none_waits = o.none_waits;

@@ -2,18 +2,19 @@ use Rattle.std.proofs.Common.{◌≡◌, ◌<◌, ℕ, List, length, map, refl, 
 use Rattle.std.proofs.lemmas.List.{length-map}
 use Rattle.lrtable.specs.Handling.{rank}
 use Rattle.state_table.specs.ItemRows.{Item}
-use Rattle.lrtable.specs.MovedItems.{moved_item, moved_items, core_of_moved, rows_from}
+use Rattle.lrtable.specs.MovedItems.{moved_item, core_of_moved}
 use Rattle.std.specs.declared.alloc.Global.{Global}
 use Rattle.std.specs.declared.vec.Vec.{Vec}
 use Rattle.lrtable.specs.States.{StateValue, AreBuckets, no_state, state_at, first_production}
-use Rattle.state_table.specs.CoreViews.{item_of, items_of}
+use Rattle.state_table.specs.CoreViews.{items_of}
 use Rattle.lrtable.specs.StateViews.{edge_of_pair, value_of}
 use Rattle.lrtable.specs.TakenAgain.{core_noted, AreMoved, AreHeld}
 use Rattle.lrtable.specs.declared.states.State.{State}
 use Rattle.state_table.proofs.CoreSteps.{map_at}
 use Rattle.lrtable.proofs.Builders.{goes_none, own_builder, builder_of}
+use Rattle.lrtable.proofs.Gathered.{IsGathered, gathered_set}
 use Rattle.lrtable.proofs.Stepping.{first_fits, rank_placed, rank_refused}
-use Rattle.lrtable.proofs.TakenAgain.{all_moved, goto_core_fits, set_is_goto, set_is_core, same_behind, edge_kept}
+use Rattle.lrtable.proofs.TakenAgain.{all_moved, goto_core_fits, set_is_goto, edge_kept}
 use Rattle.lrtable.proofs.retaking.retake_edge.Goals as goal
 
 pub stays-requires-clause-moved : goal.stays-requires-clause-moved
@@ -93,24 +94,18 @@ place-requires g c =
     let leads = c.requires.leads in
     let led = (state_at states e.target).core in
     let good = c.requires.states.cores e.target leads.target in
-    let at = map_at (value_of number) c.args.builder.now.states.items e.target c.index.result.now no_state (let t = leads.target in omega (arith, t, n)) c.index.ensures in
-    let led_items = ap (items_of number) c.as_slice-items.ensures.value ∙ sym (ap (λ (v : StateValue). v.core.items) at) in
     let given = core_of_moved number c.args.rows.now c.as_slice-3.result.now in
-    let slice = c.as_slice-3.ensures.value in
-    let gathered = ap (moved_items number) slice ∙ c.in_ok-set.ensures.items in
-    let same : given.items ≡ led.items = gathered ∙ led_items in
-    let behind = same_behind G own (items_of number c.as_slice-items.result.now) given.items (length c.as_slice-items.result.now) (rows_from c.args.rows.now c.in_ok-set.set.items) given.rows gathered (length-map c.as_slice-items.result.now (item_of number))
-    (ap (rows_from c.args.rows.now) slice) c.in_ok-set.ensures.rows in
-    let core_good = set_is_core G own led given good same behind in
+    let made : IsGathered G own led given = gathered_set number G own c.args.rows.now c.args.builder.now.states.items e.target c.index.result.now c.as_slice-items.result.now c.in_ok-set.set.items c.as_slice-3.result.now (let t = leads.target in omega (arith, t, n)) c.index.ensures
+    c.as_slice-items.ensures.value c.in_ok-set.ensures.items c.in_ok-set.ensures.rows c.as_slice-3.ensures.value good in
     let f = first_fits G led (goto_core_fits G own e.symbol led good leads.items) leads.some in
     let l = c.requires.builder.lists in
-    let s = ap first_production same in
+    let s = ap first_production made.same in
     let some = leads.some in
-    let count = ap (λ (i : List Item). length i) same in
+    let count = ap (λ (i : List Item). length i) made.same in
     let k = length-map c.as_slice-3.result.now (moved_item number) in
     record {
       builder = own_builder number g.S.IndexStorage.MAX (length G.productions) c.args.builder.now c.requires.builder;
-      states = (G.tokens, c.requires.states, core_good, c.start_prod.ensures.well_formed.end_token);
+      states = (G.tokens, c.requires.states, made.core, c.start_prod.ensures.well_formed.end_token);
       some = omega (arith, count, k, some);
       listed = omega (arith, f, l, s);
     }
@@ -126,22 +121,16 @@ returns-in_err-place-clause-many g c = λ err before next core h.
     let leads = c.requires.leads in
     let led = (state_at states e.target).core in
     let good = c.requires.states.cores e.target leads.target in
-    let at = map_at (value_of number) c.args.builder.now.states.items e.target c.index.result.now no_state (let t = leads.target in omega (arith, t, n)) c.index.ensures in
-    let led_items = ap (items_of number) c.as_slice-items.ensures.value ∙ sym (ap (λ (v : StateValue). v.core.items) at) in
     let given = core_of_moved number c.args.rows.now c.as_slice-3.result.now in
-    let slice = c.as_slice-3.ensures.value in
-    let gathered = ap (moved_items number) slice ∙ c.in_ok-set.ensures.items in
-    let same : given.items ≡ led.items = gathered ∙ led_items in
-    let behind = same_behind G own (items_of number c.as_slice-items.result.now) given.items (length c.as_slice-items.result.now) (rows_from c.args.rows.now c.in_ok-set.set.items) given.rows gathered (length-map c.as_slice-items.result.now (item_of number))
-    (ap (rows_from c.args.rows.now) slice) c.in_ok-set.ensures.rows in
-    let core_good = set_is_core G own led given good same behind in
+    let made : IsGathered G own led given = gathered_set number G own c.args.rows.now c.args.builder.now.states.items e.target c.index.result.now c.as_slice-items.result.now c.in_ok-set.set.items c.as_slice-3.result.now (let t = leads.target in omega (arith, t, n)) c.index.ensures
+    c.as_slice-items.ensures.value c.in_ok-set.ensures.items c.in_ok-set.ensures.rows c.as_slice-3.ensures.value good in
     let low = c.requires.builder.from in
     let lt : c.args.builder.now.from < length states = omega (arith, n, low) in
-    let some = subst (λ (l : List Item). 0 < length l) (sym same) leads.some in
-    let is = set_is_goto G before c.args.builder.now.from own core states c.requires.states lt e leads given same behind in
+    let some = subst (λ (l : List Item). 0 < length l) (sym made.same) leads.some in
+    let is = set_is_goto G before c.args.builder.now.from own core states c.requires.states lt e leads given made.same made.behind in
     let full = c.place.ensures.full (search rules) in
     let most = full.1 in
-    rank_refused G before c.args.builder.now.from (rank G e.symbol) e.symbol leads.range refl given is states h g.S.IndexStorage.MAX next core_good some full.0 (omega (arith, n, most))
+    rank_refused G before c.args.builder.now.from (rank G e.symbol) e.symbol leads.range refl given is states h g.S.IndexStorage.MAX next made.core some full.0 (omega (arith, n, most))
 
 pub returns-clause-states : goal.returns-clause-states
 returns-clause-states g c =
@@ -154,16 +143,10 @@ returns-clause-states g c =
     let leads = c.requires.leads in
     let led = (state_at states e.target).core in
     let good = c.requires.states.cores e.target leads.target in
-    let at = map_at (value_of number) c.args.builder.now.states.items e.target c.index.result.now no_state (let t = leads.target in omega (arith, t, n)) c.index.ensures in
-    let led_items = ap (items_of number) c.as_slice-items.ensures.value ∙ sym (ap (λ (v : StateValue). v.core.items) at) in
     let given = core_of_moved number c.args.rows.now c.as_slice-3.result.now in
-    let slice = c.as_slice-3.ensures.value in
-    let gathered = ap (moved_items number) slice ∙ c.in_ok-set.ensures.items in
-    let same : given.items ≡ led.items = gathered ∙ led_items in
-    let behind = same_behind G own (items_of number c.as_slice-items.result.now) given.items (length c.as_slice-items.result.now) (rows_from c.args.rows.now c.in_ok-set.set.items) given.rows gathered (length-map c.as_slice-items.result.now (item_of number))
-    (ap (rows_from c.args.rows.now) slice) c.in_ok-set.ensures.rows in
-    let core_good = set_is_core G own led given good same behind in
-    c.in_ok-place.ensures.placed.states_stay G.tokens c.requires.states core_good
+    let made : IsGathered G own led given = gathered_set number G own c.args.rows.now c.args.builder.now.states.items e.target c.index.result.now c.as_slice-items.result.now c.in_ok-set.set.items c.as_slice-3.result.now (let t = leads.target in omega (arith, t, n)) c.index.ensures
+    c.as_slice-items.ensures.value c.in_ok-set.ensures.items c.in_ok-set.ensures.rows c.as_slice-3.ensures.value good in
+    c.in_ok-place.ensures.placed.states_stay G.tokens c.requires.states made.core
 
 pub returns-clause-items : goal.returns-clause-items
 returns-clause-items g c = λ k lt. c.in_ok-place.ensures.placed.items k (let n = length-map c.args.builder.now.states.items (value_of g.S.IndexStorage.number) in omega (arith, lt, n))
@@ -179,17 +162,11 @@ returns-clause-handled g c = λ before core h.
     let leads = c.requires.leads in
     let led = (state_at states e.target).core in
     let good = c.requires.states.cores e.target leads.target in
-    let at = map_at (value_of number) c.args.builder.now.states.items e.target c.index.result.now no_state (let t = leads.target in omega (arith, t, n)) c.index.ensures in
-    let led_items = ap (items_of number) c.as_slice-items.ensures.value ∙ sym (ap (λ (v : StateValue). v.core.items) at) in
     let given = core_of_moved number c.args.rows.now c.as_slice-3.result.now in
-    let slice = c.as_slice-3.ensures.value in
-    let gathered = ap (moved_items number) slice ∙ c.in_ok-set.ensures.items in
-    let same : given.items ≡ led.items = gathered ∙ led_items in
-    let behind = same_behind G own (items_of number c.as_slice-items.result.now) given.items (length c.as_slice-items.result.now) (rows_from c.args.rows.now c.in_ok-set.set.items) given.rows gathered (length-map c.as_slice-items.result.now (item_of number))
-    (ap (rows_from c.args.rows.now) slice) c.in_ok-set.ensures.rows in
-    let core_good = set_is_core G own led given good same behind in
+    let made : IsGathered G own led given = gathered_set number G own c.args.rows.now c.args.builder.now.states.items e.target c.index.result.now c.as_slice-items.result.now c.in_ok-set.set.items c.as_slice-3.result.now (let t = leads.target in omega (arith, t, n)) c.index.ensures
+    c.as_slice-items.ensures.value c.in_ok-set.ensures.items c.in_ok-set.ensures.rows c.as_slice-3.ensures.value good in
     let low = c.requires.builder.from in
     let lt : c.args.builder.now.from < length states = omega (arith, n, low) in
-    let some = subst (λ (l : List Item). 0 < length l) (sym same) leads.some in
-    let is = set_is_goto G before c.args.builder.now.from own core states c.requires.states lt e leads given same behind in
-    rank_placed G before c.args.builder.now.from (rank G e.symbol) e.symbol leads.range refl given is states h (map (value_of number) c.place.new.builder.states.items) core_good some c.in_ok-place.ensures.placed
+    let some = subst (λ (l : List Item). 0 < length l) (sym made.same) leads.some in
+    let is = set_is_goto G before c.args.builder.now.from own core states c.requires.states lt e leads given made.same made.behind in
+    rank_placed G before c.args.builder.now.from (rank G e.symbol) e.symbol leads.range refl given is states h (map (value_of number) c.place.new.builder.states.items) made.core some c.in_ok-place.ensures.placed

@@ -19,7 +19,7 @@ bring_on-requires-clause-within c =
     let x = c.opener-item.result in
     let h = (c.requires.fit (front_of x) (mapped front_of c.args.reached.now c.openers.opener-index x c.openers-test.true c.opener-item.is)).rule in
     let n = c.openers.invariant.comes.sizes.rows in
-    let m = c.requires.rows in
+    let m = c.counts_agree.ensures in
     omega (arith, h, n, m)
 
 pub bring_on-requires-clause-first : goal.bring_on-requires-clause-first

@@ -17,13 +17,13 @@ rules-init c =
 pub opener_at-requires-clause-rule : goal.opener_at-requires-clause-rule
 opener_at-requires-clause-rule c =
     let lt = lists_at c.args.self.now c.args.passed.now.bits c.in-Some.rule c.rules.rule-iterator c.next.new.self (map front_of c.rules.list.items) c.in-Some.ensures.steps c.rules.invariant.2 in
-    let n = c.requires.rows in
+    let n = c.counts_agree.ensures in
     omega (arith, lt, n)
 
 pub opener_at-requires-clause-width : goal.opener_at-requires-clause-width
 opener_at-requires-clause-width c =
     let lt = lists_at c.args.self.now c.args.passed.now.bits c.in-Some.rule c.rules.rule-iterator c.next.new.self (map front_of c.rules.list.items) c.in-Some.ensures.steps c.rules.invariant.2 in
-    let n = c.requires.width in
+    let n = c.requires in
     omega (arith, lt, n)
 
 pub rules-preserved : goal.rules-preserved

@@ -30,7 +30,7 @@ returns-in-Some-clause-waiting c = λ from h.
 -- ---- it isn't
 
 pub keep_own-requires-clause-within : goal.keep_own-requires-clause-within
-keep_own-requires-clause-within c = let n = c.requires.rows in let lt = c.requires.rule in omega (arith, n, lt)
+keep_own-requires-clause-within c = let n = c.counts_agree.ensures in let lt = c.requires.rule in omega (arith, n, lt)
 
 pub keep_own-requires-clause-first : goal.keep_own-requires-clause-first
 keep_own-requires-clause-first c = λ e h. (c.requires.fit c.args.rule e (subst (λ (l : List Front). Contains l e) c.of_rule.ensures h)).first

@@ -20,6 +20,7 @@ mod edges;
 mod fitting;
 mod items;
 mod safety;
+mod tested_state;
 
 use crate::chains::{LongChain, long_chain};
 use crate::full_table::FullTable;

@@ -14,11 +14,12 @@ ghost use Rattle.lrpar.specs.Fitting.{Tells, LeastNot, OfGrammar, IsFor, Reduces
 use crate::numbers::index_below;
 use crate::parserdata::edges::{edge_at, first_not_before, target_at};
 use crate::parserdata::items::has_end;
+use crate::parserdata::tested_state::TestedState;
 use crate::rows::{cell_of_row, goto_of_row};
 use cfg_base::index::IndexStorage;
 use cfg_base::symbol::{PIdx, RIdx, SIdx, Symbol, TIdx};
 use cfg_numbered::yacc::grammar::NumberedGrammar;
-use state_table::{Action, Itemset, StIdx, StateTable};
+use state_table::{Action, Itemset, StIdx};
 
 /// Returns whether two states are one, or there is none on both sides.
 fn same_states<S: IndexStorage>(a: Option<StIdx<S>>, b: Option<StIdx<S>>) -> bool
@@ -121,19 +122,14 @@ fn seen_after<S: IndexStorage>(seen: Option<PIdx<S>>, action: Action<S>) -> Opti
 
 /// Returns the least token whose action doesn't fit.
 pub(crate) fn least_action<S: IndexStorage>(
-    grm: &NumberedGrammar<S>,
-    items: &Itemset<S>,
+    state: &TestedState<'_, S>,
     edges: &[(Symbol<S>, StIdx<S>)],
-    stable: &StateTable<S>,
-    state: StIdx<S>,
 ) -> Option<TIdx<S>>
-    requires items { OfGrammar grm.now.grammar items.now }
     requires order { AreInOrder (edges_seen S.number edges.now) }
-    requires state { S.number state.0 < stable.now.states }
-    ensures { LeastNot (λ t. t < stable.now.tokens → IsFor grm.now.grammar items.now (target_in (edges_seen S.number edges.now) (token t)) t (action_at stable.now (S.number state.0) t)) (token_number S.number result) }
+    ensures { LeastNot (λ t. t < state.now.stable.now.tokens → IsFor state.now.grm.now.grammar state.now.items.now (target_in (edges_seen S.number edges.now) (token t)) t (action_at state.now.stable.now (S.number state.now.stidx.0) t)) (token_number S.number result) }
 {
-    let tokens = stable.tokens_len().0;
-    let row = stable.state_cells(state);
+    let tokens = state.stable.tokens_len().0;
+    let row = state.stable.state_cells(state.stidx);
     let mut at = 0;
     let mut seen = None;
     'cells: for index in 0..row.len() {
@@ -144,7 +140,7 @@ pub(crate) fn least_action<S: IndexStorage>(
         let tidx = TIdx(index_below(number, tokens));
         at = first_not_before(edges, at, Symbol::Token(tidx));
         let edge = target_at(edges, at, Symbol::Token(tidx));
-        if !action_fits(grm, items, edge, tidx, action) {
+        if !action_fits(state.grm, state.items, edge, tidx, action) {
             return Some(tidx);
         }
         seen = seen_after(seen, action);
@@ -209,37 +205,37 @@ fn are_edges<S: IndexStorage>(
 
 /// Returns the least rule whose goto isn't its edge.
 pub(crate) fn least_goto<S: IndexStorage>(
+    state: &TestedState<'_, S>,
     edges: &[(Symbol<S>, StIdx<S>)],
-    stable: &StateTable<S>,
-    state: StIdx<S>,
 ) -> Option<RIdx<S>>
     requires order { AreInOrder (edges_seen S.number edges.now) }
-    requires state { S.number state.0 < stable.now.states }
-    ensures { LeastNot (λ A. A < stable.now.rules → goto_at stable.now (S.number state.0) A ≡ target_in (edges_seen S.number edges.now) (rule A)) (rule_number S.number result) }
+    ensures { LeastNot (λ A. A < state.now.stable.now.rules → goto_at state.now.stable.now (S.number state.now.stidx.0) A ≡ target_in (edges_seen S.number edges.now) (rule A)) (rule_number S.number result) }
 {
-    if are_edges(edges, stable.state_gotos(state), stable.rules_len()) {
+    if are_edges(
+        edges,
+        state.stable.state_gotos(state.stidx),
+        state.stable.rules_len(),
+    ) {
         return None;
     }
-    first_goto(edges, stable, state)
+    first_goto(state, edges)
 }
 
 /// Returns the least rule whose goto isn't its edge, by a look at each rule.
 fn first_goto<S: IndexStorage>(
+    state: &TestedState<'_, S>,
     edges: &[(Symbol<S>, StIdx<S>)],
-    stable: &StateTable<S>,
-    state: StIdx<S>,
 ) -> Option<RIdx<S>>
     requires order { AreInOrder (edges_seen S.number edges.now) }
-    requires state { S.number state.0 < stable.now.states }
-    ensures { LeastNot (λ A. A < stable.now.rules → goto_at stable.now (S.number state.0) A ≡ target_in (edges_seen S.number edges.now) (rule A)) (rule_number S.number result) }
+    ensures { LeastNot (λ A. A < state.now.stable.now.rules → goto_at state.now.stable.now (S.number state.now.stidx.0) A ≡ target_in (edges_seen S.number edges.now) (rule A)) (rule_number S.number result) }
 {
-    let rules = stable.rules_len().0;
+    let rules = state.stable.rules_len().0;
     let mut at = 0;
     'rules: for number in 0..rules.to_usize() {
         let ridx = RIdx(index_below(number, rules));
         at = first_not_before(edges, at, Symbol::Rule(ridx));
         let edge = target_at(edges, at, Symbol::Rule(ridx));
-        if !same_states(stable.goto(state, ridx), edge) {
+        if !same_states(state.stable.goto(state.stidx, ridx), edge) {
             return Some(ridx);
         }
     }
@@ -286,41 +282,31 @@ pub(crate) fn lesser_token<S: IndexStorage>(
 
 /// Returns the rule of a production that begins where there is no goto on it.
 fn bare_of<S: IndexStorage>(
-    grm: &NumberedGrammar<S>,
-    stable: &StateTable<S>,
-    state: StIdx<S>,
+    state: &TestedState<'_, S>,
     pidx: PIdx<S>,
     dot: SIdx<S>,
 ) -> Option<RIdx<S>>
-    requires production { S.number pidx.0 < length grm.now.grammar.productions }
-    requires rules { stable.now.rules ≡ grm.now.grammar.rules }
-    requires state { S.number state.0 < stable.now.states }
-    ensures { LeastNot (λ A. GoesFrom grm.now.grammar stable.now (S.number state.0) A (S.number pidx.0) (S.number dot.0)) (rule_number S.number result) }
+    requires production { S.number pidx.0 < length state.now.grm.now.grammar.productions }
+    ensures { LeastNot (λ A. GoesFrom state.now.grm.now.grammar state.now.stable.now (S.number state.now.stidx.0) A (S.number pidx.0) (S.number dot.0)) (rule_number S.number result) }
 {
     if dot.0.to_usize() != 0 {
         return None;
     }
-    if pidx.0.to_usize() == grm.start_prod().0.to_usize() {
+    if pidx.0.to_usize() == state.grm.start_prod().0.to_usize() {
         return None;
     }
-    let ridx = grm.prod_to_rule(pidx);
-    match stable.goto(state, ridx) {
+    let ridx = state.grm.prod_to_rule(pidx);
+    match state.stable.goto(state.stidx, ridx) {
         Some(_) => None,
         None => Some(ridx),
     }
 }
 
 /// Returns whether the goto at an index of a state's row is on a rule.
-fn is_goto_on<S: IndexStorage>(
-    stable: &StateTable<S>,
-    state: StIdx<S>,
-    index: usize,
-    ridx: RIdx<S>,
-) -> bool
-    requires { S.number state.0 < stable.now.states }
-    ensures { result ≡ true → (q : ℕ) × (goto_at stable.now (S.number state.0) (S.number ridx.0) ≡ Some q) }
+fn is_goto_on<S: IndexStorage>(state: &TestedState<'_, S>, index: usize, ridx: RIdx<S>) -> bool
+    ensures { result ≡ true → (q : ℕ) × (goto_at state.now.stable.now (S.number state.now.stidx.0) (S.number ridx.0) ≡ Some q) }
 {
-    let row = stable.state_gotos(state);
+    let row = state.stable.state_gotos(state.stidx);
     if index >= row.len() {
         return false;
     }
@@ -331,23 +317,21 @@ fn is_goto_on<S: IndexStorage>(
 /// Returns the index in a state's row of the goto on a rule, where that is this index or the next; else this one, if
 /// there is a goto on the rule at all.
 fn goto_near<S: IndexStorage>(
-    stable: &StateTable<S>,
-    state: StIdx<S>,
+    state: &TestedState<'_, S>,
     index: usize,
     ridx: RIdx<S>,
 ) -> Option<usize>
-    requires state { S.number state.0 < stable.now.states }
-    requires rule { S.number ridx.0 < stable.now.rules }
-    ensures { IfSome result (λ _. (q : ℕ) × (goto_at stable.now (S.number state.0) (S.number ridx.0) ≡ Some q)) }
+    requires rule { S.number ridx.0 < state.now.stable.now.rules }
+    ensures { IfSome result (λ _. (q : ℕ) × (goto_at state.now.stable.now (S.number state.now.stidx.0) (S.number ridx.0) ≡ Some q)) }
 {
-    if is_goto_on(stable, state, index, ridx) {
+    if is_goto_on(state, index, ridx) {
         return Some(index);
     }
     let next = index.saturating_add(1);
-    if is_goto_on(stable, state, next, ridx) {
+    if is_goto_on(state, next, ridx) {
         return Some(next);
     }
-    match stable.goto(state, ridx) {
+    match state.stable.goto(state.stidx, ridx) {
         Some(_) => Some(index),
         None => None,
     }
@@ -356,44 +340,32 @@ fn goto_near<S: IndexStorage>(
 /// Returns the index in a state's row of the goto on the rule of a production that begins; this index where none
 /// begins.
 fn begun_near<S: IndexStorage>(
-    grm: &NumberedGrammar<S>,
-    stable: &StateTable<S>,
-    state: StIdx<S>,
+    state: &TestedState<'_, S>,
     index: usize,
     pidx: PIdx<S>,
     dot: SIdx<S>,
 ) -> Option<usize>
-    requires production { S.number pidx.0 < length grm.now.grammar.productions }
-    requires rules { stable.now.rules ≡ grm.now.grammar.rules }
-    requires state { S.number state.0 < stable.now.states }
-    ensures { IfSome result (λ _. (A : ℕ) → GoesFrom grm.now.grammar stable.now (S.number state.0) A (S.number pidx.0) (S.number dot.0)) }
+    requires production { S.number pidx.0 < length state.now.grm.now.grammar.productions }
+    ensures { IfSome result (λ _. (A : ℕ) → GoesFrom state.now.grm.now.grammar state.now.stable.now (S.number state.now.stidx.0) A (S.number pidx.0) (S.number dot.0)) }
 {
     if dot.0.to_usize() != 0 {
         return Some(index);
     }
-    if pidx.0.to_usize() == grm.start_prod().0.to_usize() {
+    if pidx.0.to_usize() == state.grm.start_prod().0.to_usize() {
         return Some(index);
     }
-    goto_near(stable, state, index, grm.prod_to_rule(pidx))
+    goto_near(state, index, state.grm.prod_to_rule(pidx))
 }
 
 /// Returns whether there is a goto on the rule of each production that begins. Items and gotos are gone through side
 /// by side.
-fn begin_all<S: IndexStorage>(
-    grm: &NumberedGrammar<S>,
-    items: &Itemset<S>,
-    stable: &StateTable<S>,
-    state: StIdx<S>,
-) -> bool
-    requires items { OfGrammar grm.now.grammar items.now }
-    requires rules { stable.now.rules ≡ grm.now.grammar.rules }
-    requires state { S.number state.0 < stable.now.states }
-    ensures { result ≡ true → (A : ℕ) → HasGotos grm.now.grammar items.now stable.now (S.number state.0) A }
+fn begin_all<S: IndexStorage>(state: &TestedState<'_, S>) -> bool
+    ensures { result ≡ true → (A : ℕ) → HasGotos state.now.grm.now.grammar state.now.items.now state.now.stable.now (S.number state.now.stidx.0) A }
 {
     let mut at = 0;
-    'items: for index in 0..items.len() {
-        let (pidx, dot) = items.item_at(index);
-        match begun_near(grm, stable, state, at, pidx, dot) {
+    'items: for index in 0..state.items.len() {
+        let (pidx, dot) = state.items.item_at(index);
+        match begun_near(state, at, pidx, dot) {
             Some(next) => at = next,
             None => return false,
         }
@@ -402,39 +374,23 @@ fn begin_all<S: IndexStorage>(
 }
 
 /// Returns the least rule with a production that begins where there is no goto on it.
-pub(crate) fn least_bare<S: IndexStorage>(
-    grm: &NumberedGrammar<S>,
-    items: &Itemset<S>,
-    stable: &StateTable<S>,
-    state: StIdx<S>,
-) -> Option<RIdx<S>>
-    requires items { OfGrammar grm.now.grammar items.now }
-    requires rules { stable.now.rules ≡ grm.now.grammar.rules }
-    requires state { S.number state.0 < stable.now.states }
-    ensures { LeastNot (HasGotos grm.now.grammar items.now stable.now (S.number state.0)) (rule_number S.number result) }
+pub(crate) fn least_bare<S: IndexStorage>(state: &TestedState<'_, S>) -> Option<RIdx<S>>
+    ensures { LeastNot (HasGotos state.now.grm.now.grammar state.now.items.now state.now.stable.now (S.number state.now.stidx.0)) (rule_number S.number result) }
 {
-    if begin_all(grm, items, stable, state) {
+    if begin_all(state) {
         return None;
     }
-    first_bare(grm, items, stable, state)
+    first_bare(state)
 }
 
 /// Returns the least rule with a production that begins where there is no goto on it, by a look at each item.
-fn first_bare<S: IndexStorage>(
-    grm: &NumberedGrammar<S>,
-    items: &Itemset<S>,
-    stable: &StateTable<S>,
-    state: StIdx<S>,
-) -> Option<RIdx<S>>
-    requires items { OfGrammar grm.now.grammar items.now }
-    requires rules { stable.now.rules ≡ grm.now.grammar.rules }
-    requires state { S.number state.0 < stable.now.states }
-    ensures { LeastNot (HasGotos grm.now.grammar items.now stable.now (S.number state.0)) (rule_number S.number result) }
+fn first_bare<S: IndexStorage>(state: &TestedState<'_, S>) -> Option<RIdx<S>>
+    ensures { LeastNot (HasGotos state.now.grm.now.grammar state.now.items.now state.now.stable.now (S.number state.now.stidx.0)) (rule_number S.number result) }
 {
     let mut least = None;
-    'items: for index in 0..items.len() {
-        let (pidx, dot) = items.item_at(index);
-        least = lesser_rule(least, bare_of(grm, stable, state, pidx, dot));
+    'items: for index in 0..state.items.len() {
+        let (pidx, dot) = state.items.item_at(index);
+        least = lesser_rule(least, bare_of(state, pidx, dot));
     }
     least
 }

@@ -1,6 +1,6 @@
 //! Whether a graph and a table fit a grammar: the least cell at which they don't.
 
-ghost use Rattle.std.specs.Prelude.{◌≡◌, ◌<◌, ℕ, length, IfOk};
+ghost use Rattle.std.specs.Prelude.{◌<◌, length, IfOk};
 ghost use Rattle.state_table.specs.Graphs.{IsGraphValue};
 ghost use Rattle.state_table.specs.Tables.{CountsAgree, HasFullRows, automaton_of};
 ghost use Rattle.lrpar.specs.Reducing.{rule_number, token_number};
@@ -13,6 +13,7 @@ use crate::parserdata::cells::{least_action, least_bare, least_goto, lesser_rule
 use crate::parserdata::edges::{least_rule_into, least_token_into};
 use crate::parserdata::fitting::{Cell, Misfit};
 use crate::parserdata::items::items_fit;
+use crate::parserdata::tested_state::TestedState;
 use cfg_base::index::IndexStorage;
 use cfg_base::symbol::{RIdx, TIdx};
 use cfg_numbered::yacc::grammar::NumberedGrammar;
@@ -58,7 +59,13 @@ fn least_token<S: IndexStorage>(
 {
     let items = sgraph.closed_state(state);
     let edges = sgraph.edges(state);
-    let action = least_action(grm, items, edges, stable, state);
+    let tested = TestedState {
+        grm,
+        items,
+        stable,
+        stidx: state,
+    };
+    let action = least_action(&tested, edges);
     let into = least_token_into(edges, sgraph.start_state());
     lesser_token(action, into)
 }
@@ -79,9 +86,15 @@ fn least_rule<S: IndexStorage>(
 {
     let items = sgraph.closed_state(state);
     let edges = sgraph.edges(state);
-    let goto = least_goto(edges, stable, state);
+    let tested = TestedState {
+        grm,
+        items,
+        stable,
+        stidx: state,
+    };
+    let goto = least_goto(&tested, edges);
     let into = least_rule_into(edges, sgraph.start_state(), stable.rules_len());
-    let bare = least_bare(grm, items, stable, state);
+    let bare = least_bare(&tested);
     lesser_rule(lesser_rule(goto, into), bare)
 }
 

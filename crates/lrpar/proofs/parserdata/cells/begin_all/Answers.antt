@@ -6,18 +6,18 @@ use Rattle.lrpar.proofs.parserdata.cells.begin_all.Goals as goal
 pub items-init : goal.items-init
 items-init g c = λ A. below_none _ _
 
-pub begun_near-requires-clause-production : goal.begun_near-requires-clause-production
-begun_near-requires-clause-production g c =
+pub begun_near-requires : goal.begun_near-requires
+begun_near-requires g c =
     let number = g.S.IndexStorage.number in
-    c.requires.items (number c.item_at.result.0.0) (number c.item_at.result.1.0) (item_here c.args.items.now c.items.index (number c.item_at.result.0.0) (number c.item_at.result.1.0) (omega arith) c.item_at.ensures.production c.item_at.ensures.dot)
+    record { production = c.args.state.now.of_grammar (number c.item_at-pidx.result.0.0) (number c.item_at-pidx.result.1.0) (item_here c.args.state.now.items.now c.items.index (number c.item_at-pidx.result.0.0) (number c.item_at-pidx.result.1.0) (omega arith) c.item_at-pidx.ensures.production c.item_at-pidx.ensures.dot) }
 
 pub items-preserved : goal.items-preserved
 items-preserved g c = λ A.
     let number = g.S.IndexStorage.number in
     let here = rw c.in-Some.is at c.begun_near.ensures in
-    below_more c.args.items.now (GoesFrom c.args.grm.now.grammar c.args.stable.now (number c.args.state.0) A) c.items.index (number c.item_at.result.0.0) (number c.item_at.result.1.0) (c.items.invariant A) c.item_at.ensures.production c.item_at.ensures.dot (here A)
+    below_more c.args.state.now.items.now (GoesFrom c.args.state.now.grm.now.grammar c.args.state.now.stable.now (number c.args.state.now.stidx.0) A) c.items.index (number c.item_at-pidx.result.0.0) (number c.item_at-pidx.result.1.0) (c.items.invariant A) c.item_at-pidx.ensures.production c.item_at-pidx.ensures.dot (here A)
 
 pub returns : goal.returns
 returns g c = λ _ A p d h.
     let number = g.S.IndexStorage.number in
-    each_item c.args.items.now (GoesFrom c.args.grm.now.grammar c.args.stable.now (number c.args.state.0) A) c.items.index (omega arith) (c.items.invariant A) p d h
+    each_item c.args.state.now.items.now (GoesFrom c.args.state.now.grm.now.grammar c.args.state.now.stable.now (number c.args.state.now.stidx.0) A) c.items.index (omega arith) (c.items.invariant A) p d h

@@ -9,5 +9,5 @@ use Rattle.lrpar.proofs.parserdata.cells.first_goto.Given as goal
 abbrev pub invariant-rules : goal.invariant-rules
 invariant-rules g l = record {
   passed : Passed (edges_seen g.S.IndexStorage.number l.edges) l.at (rule l.number);
-  below : (t : ℕ) → t < l.number → t < l.stable.rules → goto_at l.stable (g.S.IndexStorage.number l.state.0) t ≡ target_in (edges_seen g.S.IndexStorage.number l.edges) (rule t);
+  below : (t : ℕ) → t < l.number → t < l.state.stable.now.rules → goto_at l.state.stable.now (g.S.IndexStorage.number l.state.stidx.0) t ≡ target_in (edges_seen g.S.IndexStorage.number l.edges) (rule t);
 }

@@ -10,7 +10,7 @@ returns g c = λ yes.
     let number = g.S.IndexStorage.number in
     let n = c.goto_of_row-number.result.0 in
     let q = number c.goto_of_row-number.result.1.0 in
-    let there = goto_there c.args.stable.now (number c.args.state.0) (targets_of number c.state_gotos-row.result.now) c.state_gotos-row.ensures.whole c.state_gotos-row.ensures.targets c.args.index n q c.goto_of_row-number.ensures in
+    let there = goto_there c.args.state.now.stable.now (number c.args.state.now.stidx.0) (targets_of number c.state_gotos-row.result.now) c.state_gotos-row.ensures.whole c.state_gotos-row.ensures.targets c.args.index n q c.goto_of_row-number.ensures in
     let same = eqb-true n c.to_usize.result yes in
     let e : n ≡ number c.args.ridx.0 = omega (arith, same, c.to_usize.ensures.value) in
-    (q, ap (goto_at c.args.stable.now (number c.args.state.0)) (sym e) ∙ there)
+    (q, ap (goto_at c.args.state.now.stable.now (number c.args.state.now.stidx.0)) (sym e) ∙ there)

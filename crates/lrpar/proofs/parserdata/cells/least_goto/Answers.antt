@@ -9,5 +9,5 @@ pub returns-then-are_edges : goal.returns-then-are_edges
 returns-then-are_edges g c =
     let number = g.S.IndexStorage.number in
     let row = targets_of number c.state_gotos.result.now in
-    let are : AreEdges row (edges_seen number c.args.edges.now) c.args.stable.now.rules = subst (AreEdges row (edges_seen number c.args.edges.now)) c.rules_len.ensures (c.are_edges.ensures c.if-are_edges.true) in
-    gotos_all (edges_seen number c.args.edges.now) c.requires.order c.args.stable.now (number c.args.state.0) row c.state_gotos.ensures.whole c.state_gotos.ensures.targets are
+    let are : AreEdges row (edges_seen number c.args.edges.now) c.args.state.now.stable.now.rules = subst (AreEdges row (edges_seen number c.args.edges.now)) c.rules_len.ensures (c.are_edges.ensures c.if-are_edges.true) in
+    gotos_all (edges_seen number c.args.edges.now) c.requires.order c.args.state.now.stable.now (number c.args.state.now.stidx.0) row c.state_gotos.ensures.whole c.state_gotos.ensures.targets are

@@ -1,4 +1,4 @@
-use Rattle.std.proofs.Common.{◌≡◌, ◌<◌, get_or, [], sym, ap, ◌∙◌, subst}
+use Rattle.std.proofs.Common.{◌≡◌, ◌<◌, get_or, [], sym, ap, ◌∙◌, subst, arith}
 use Rattle.cfg_theory.specs.Grammar.{rule}
 use Rattle.state_table.specs.Graphs.{target_in}
 use Rattle.state_table.specs.TableValues.{goto_at}
@@ -10,8 +10,16 @@ use Rattle.lrpar.proofs.LeastNumbers.{least_both, least_by}
 use Rattle.lrpar.proofs.FittingStates.{rule_fits, rule_parts}
 use Rattle.lrpar.proofs.parserdata.safety.least_rule.Goals as goal
 
-pub least_bare-bare-requires-clause-items : goal.least_bare-bare-requires-clause-items
-least_bare-bare-requires-clause-items g c = subst (OfGrammar c.args.grm.now.grammar) (sym c.closed_state-items.ensures) c.requires.items
+pub invariant_of-tested : goal.invariant_of-tested
+invariant_of-tested g c =
+    let counts = c.requires.counts in
+    let lt = c.requires.state in
+    let states = counts.states in
+    record {
+      of_grammar = subst (OfGrammar c.args.grm.now.grammar) (sym c.closed_state-items.ensures) c.requires.items;
+      rules = counts.rules;
+      within = omega (arith, lt, states);
+    }
 
 pub returns : goal.returns
 returns g c =

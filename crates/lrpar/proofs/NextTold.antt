@@ -54,6 +54,12 @@ one_state v q lt = record { each = each }
 abbrev pub InsideBelow : {L : Type 0} → ℕ → (L → ℕ) → List L → ℕ → Type 0
 InsideBelow {L} end tok lexemes n = (k : ℕ) (y : L) → k < n → slice_get lexemes k ≡ Some y → tok y < end
 
+pub inside_more : {L : Type 0} (end : ℕ) (tok : L → ℕ) (lexemes : List L) (n : ℕ) (x : L) → slice_get lexemes n ≡ Some x → tok x < end → InsideBelow end tok lexemes n → InsideBelow end tok lexemes (n + 1)
+inside_more end tok lexemes n x at lt below k y less e = ⊎_elim
+    (λ small. below k y small e)
+    (λ ge. let same : k ≡ n = omega (arith, less, ge) in subst (λ z. tok z < end) (same_Some x y (sym at ∙ subst (λ j. slice_get lexemes j ≡ Some y) same e)) lt)
+    (cases_lt k n)
+
 -- right before the k-th lexeme of the run these are the states
 abbrev pub ComesWith : {L : Type 0} → Grammar → TableValue → (L → ℕ) → List L → ℕ → List ℕ → Type 0
 ComesWith {L} G v tok lexemes k ss = (x : GraphValue) → Safe G (automaton_of x v) → v.start ≡ x.start → (c : Config L) × Reaches G (automaton_of x v) tok lexemes (drop k lexemes) c × (c.states ≡ ss)

@@ -1,5 +1,5 @@
 -- The places of a list that are set, walked over, and sets of rules that are emptied on the way.
-use Rattle.std.proofs.Common.{◌≡◌, ℕ, ◌<◌, min, inl, inr, Bool, true, false, List, [], ◌∷◌, length, set, replicate, refl, sym, ◌∙◌, subst, arith}
+use Rattle.std.proofs.Common.{◌≡◌, ℕ, ◌<◌, min, inl, inr, Bool, true, false, List, ◌∷◌, length, set, replicate, refl, sym, ◌∙◌, subst, arith}
 use Rattle.std.specs.Prelude.{IsTrue, ◌↔◌}
 use Rattle.std.specs.List.{Contains}
 use Rattle.std.specs.declared.ops.Bound.TheVariants.{Unbounded}
@@ -7,7 +7,7 @@ use Rattle.std.proofs.lemmas.Bool.{cases_lt}
 use Rattle.std.proofs.lemmas.List.{get_or_past, length-set}
 use Rattle.vob.specs.Walk.{walk}
 use Rattle.vob.proofs.LawLemmas.{walk_exactly}
-use Rattle.table_theory.proofs.CellLists.{contains_nil, contains_head, contains_tail, contains_cases}
+use Rattle.table_theory.proofs.CellLists.{contains_head, contains_tail, contains_cases}
 use Rattle.vob.specs.Sets.{SetRows, is_set, is_set_in}
 use Rattle.vob.proofs.Bits.{none_set, row_set}
 
@@ -66,6 +66,3 @@ emptied_next first a b rules A left rest e is h =
       ];
       below = λ B x. h.below B (rest_in left rest A B e x);
     })
-
-pub all_emptied : (first s : SetRows) (rules : List Bool) (left : List ℕ) → left ≡ [] → Emptied first rules left s → (A t : ℕ) → IsTrue (is_set rules A) → IsTrue (is_set_in s.rows A t) → ⊥
-all_emptied first s rules left e h A t o x = contains_nil A (subst (λ l. Contains l A) e (h.emptied A t o x))

@@ -160,9 +160,6 @@ edge_here (x ∷ es) e a (suc i, lt, at) =
 pub before_on : (es : List Edge) (i : ℕ) (X : Sym) → AscendEdges es → i < length es → ((d : Edge) → same_symbol (get_or es i d).symbol X ≡ true) → (k : ℕ) → k < i → (d : Edge) → SymBefore (get_or es k d).symbol X
 before_on es i X a lt on k below d = subst (SymBefore (get_or es k d).symbol) (same_symbol_true (get_or es i d).symbol X (on d)) (a k i d below lt)
 
-pub not_before_on : (es : List Edge) (i : ℕ) (X : Sym) → ((d : Edge) → same_symbol (get_or es i d).symbol X ≡ true) → (d : Edge) → SymBefore (get_or es i d).symbol X → ⊥
-not_before_on es i X on d h = never (sym (on d) ∙ before_differs (get_or es i d).symbol X h)
-
 -- where the last edge comes before the symbol all do
 pub last_before : (es : List Edge) (X : Sym) (last : ℕ) (d' : Edge) → AscendEdges es → length es ≡ last + 1 → SymBefore (get_or es last d').symbol X → (k : ℕ) → k < length es → (d : Edge) → SymBefore (get_or es k d).symbol X
 last_before es X last d' a n h k lt d = elim (cases_eq k last) [

@@ -1,10 +1,9 @@
 -- FIRST of lists, by sets that hold exactly what derivations show.
-use Rattle.std.proofs.Common.{◌≡◌, ℕ, zero, suc, ◌+◌, ◌<◌, ◌≤◌, inl, inr, ◌↔◌, Bool, List, [], ◌∷◌, length, get_or, map, drop, Some, None, slice_get, refl, sym, ap, ◌∙◌, subst, arith}
-use Rattle.std.specs.Prelude.{IsTrue, option_map}
+use Rattle.std.proofs.Common.{◌≡◌, ℕ, zero, suc, ◌+◌, ◌<◌, ◌≤◌, inl, inr, ◌↔◌, Bool, List, [], ◌∷◌, length, map, drop, Some, None, slice_get, refl, sym, ap, ◌∙◌, subst, arith}
+use Rattle.std.specs.Prelude.{IsTrue}
 use Rattle.std.proofs.lemmas.Bool.{cases_lt}
-use Rattle.std.proofs.lemmas.List.{length-map, drop-map}
-use Rattle.std.proofs.lemmas.Option.{slice_get-get_or, slice_get-map}
-use Rattle.cfg_theory.specs.Grammar.{Sym, rule, token, Grammar, WellFormed, IsNext, body_of}
+use Rattle.std.proofs.lemmas.List.{drop-map}
+use Rattle.cfg_theory.specs.Grammar.{Sym, Grammar, WellFormed, IsNext, body_of}
 use Rattle.cfg_theory.specs.First.{AllOf, FirstIsExact}
 use Rattle.cfg_theory.proofs.Derivation.{derives_rule, nullable_of, first_of_list, first_table_exact}
 use Rattle.lr_theory.specs.Canonical.{from_dot}
@@ -45,13 +44,6 @@ none_past [] d le = refl
 none_past (X ∷ l) zero le = absurd (omega (arith, le))
 none_past (X ∷ l) (suc d) le = none_past l d (omega (arith, le))
 
--- what an index reads of a production's symbols
-pub next_at : {X : Type 0} (G : Grammar) (p d : ℕ) (f : X → Sym) (xs : List X) (x : X) → map f xs ≡ body_of G p → d < length xs → x ≡ get_or xs d x → IsNext G p d (f x)
-next_at G p d f xs x e lt is = record { at = ap (λ l. slice_get l d) (sym e) ∙ slice_get-map f xs d ∙ ap (option_map f) (slice_get-get_or xs d x lt ∙ ap Some (sym is)) }
-
-pub none_at : {X : Type 0} (G : Grammar) (p d : ℕ) (f : X → Sym) (xs : List X) → map f xs ≡ body_of G p → length xs ≤ d → (Y : Sym) → IsNext G p d Y → ⊥
-none_at G p d f xs e le Y n = let h : None ≡ Some Y = sym (none_past (body_of G p) d (let m = length-map xs f in let k = ap length e in omega (arith, le, m, k))) ∙ n.at in cc
-
 -- a symbol stands behind a dot within the production
 pub dot_within : (G : Grammar) (p d : ℕ) (Y : Sym) → IsNext G p d Y → d < length (body_of G p)
 dot_within G p d Y n = elim (cases_lt d (length (body_of G p))) [ inl lt ↦ lt | inr ge ↦ absurd (let h : None ≡ Some Y = sym (none_past (body_of G p) d ge) ∙ n.at in cc) ]
@@ -65,7 +57,3 @@ module _ {X : Type 0} (G : Grammar) (s : FirstSets) (p d : ℕ) (f : X → Sym) 
 
   pub slice_rest : AreFirsts G s → (first : List Bool) (nullable : Bool) → length first ≡ s.tokens → IsTrue nullable ↔ AllOf (HasEpsilon s) (map f slice) → ((t : ℕ) → IsTrue (is_set first t) ↔ FirstsOf s (map f slice) t) → IsRest G p d first nullable
   slice_rest k first nullable wide n h = rest_is G s k p d first nullable wide (subst (λ a. IsTrue nullable ↔ AllOf (HasEpsilon s) a) behind n) (subst (λ a. (t : ℕ) → IsTrue (is_set first t) ↔ FirstsOf s a t) behind h)
-
--- a token behind a dot is no rule
-pub token_no_rule : (G : Grammar) (p d t : ℕ) → IsNext G p d (token t) → (A : ℕ) → IsNext G p d (rule A) → ⊥
-token_no_rule G p d t n A m = let e : Some (token t) ≡ Some (rule A) = sym n.at ∙ m.at in cc

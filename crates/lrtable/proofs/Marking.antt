@@ -7,7 +7,7 @@ use Rattle.std.proofs.lemmas.List.{get_or_past, length-replicate}
 use Rattle.std.proofs.lemmas.List.Elements.{Contains-append_left, Contains-push, Contains-push_cases}
 use Rattle.cfg_theory.specs.Grammar.{Sym}
 use Rattle.vob.specs.Sets.{is_set, missing}
-use Rattle.vob.proofs.Bits.{none_set, put_in, put_fills, put_again}
+use Rattle.vob.proofs.Bits.{none_set, put_in, put_fills}
 use Rattle.lr_theory.specs.Graph.{Leads}
 use Rattle.lrtable.specs.States.{Edge, StateValue, state_at}
 use Rattle.lrtable.specs.Pruning.{graph_of_states, IsLed, AreLinked, IsTargetOf, Marks, AreMarking}
@@ -41,17 +41,6 @@ module _ (old new : List Bool) (n : ℕ) (waiting : List ℕ) (lt : n < length o
     fewer = let f = put_fills old n lt free in let q = ap missing put in let m = length-append waiting (n ∷ []) in omega (arith, f, q, m);
   }
 
-  -- it was there
-  pub marks_old : is_set old n ≡ true → Marks (λ s. n ≡ s) old new waiting waiting
-  marks_old there = record {
-    size = same_size;
-    flags = flags_are;
-    told = λ s h. elim ((flags_are s).0 h) [ inl x ↦ inl x | inr e ↦ inl (subst (λ k. IsTrue (is_set old k)) e there) ];
-    still = λ s h. h;
-    only = λ s h. inl h;
-    fewer = let q = ap missing (put ∙ put_again old n lt there) in omega (arith, q);
-  }
-
 -- ---- marks after marks
 
 pub marks_none : (N : ℕ → Type 0) (flags : List Bool) (waiting : List ℕ) → ((s : ℕ) → N s → ⊥) → Marks N flags flags waiting waiting
@@ -77,13 +66,7 @@ marks_on N M K a b c u v w same h k = record {
   fewer = let p = h.fewer in let q = k.fewer in omega (arith, p, q);
 }
 
-none_stands : (e : Edge) → Contains [] e → ⊥
-none_stands e (i, lt, at) = omega (arith, lt)
-
--- the targets of no edge, and of one more
-pub targets_none : (flags : List Bool) (waiting : List ℕ) → Marks (IsTargetOf []) flags flags waiting waiting
-targets_none flags waiting = marks_none (IsTargetOf []) flags waiting (λ s h. none_stands h.0 h.1)
-
+-- the targets of one edge more
 pub targets_more : {X : Type 0} (f : X → Edge) (xs : List X) (i : ℕ) (x : X) (a b c : List Bool) (u v w : List ℕ) → i < length xs → x ≡ get_or xs i x → Marks (IsTargetOf (map f (take i xs))) a b u v → Marks (λ s. (f x).target ≡ s) b c v w →
     Marks (IsTargetOf (map f (take (i + 1) xs))) a c u w
 targets_more f xs i x a b c u v w lt is h k = subst (λ (l : List Edge). Marks (IsTargetOf l) a c u w) (sym (map_next f xs i x lt is)) (marks_on (IsTargetOf es) (λ s. (f x).target ≡ s) (IsTargetOf (es ++ f x ∷ [])) a b c u v w same h k)

@@ -1,11 +1,9 @@
 -- The items of a set that move over a symbol, one after another.
-use Rattle.std.proofs.Common.{◌≡◌, ℕ, suc, ◌+◌, ◌≤◌, ◌⊎◌, inl, inr, Bool, true, false, List, length, Some, refl, sym, ap, ◌∙◌, subst, subst₂, arith}
+use Rattle.std.proofs.Common.{◌≡◌, ℕ, suc, ◌+◌, ◌≤◌, ◌⊎◌, inl, inr, Bool, List, length, refl, sym, ap, ◌∙◌, subst, subst₂, arith}
 use Rattle.std.specs.Prelude.{IsTrue}
 use Rattle.cfg_theory.specs.Grammar.{Sym, Grammar, IsNext}
 use Rattle.vob.specs.Sets.{is_set}
-use Rattle.lr_theory.specs.Building.{same_symbol}
 use Rattle.lr_theory.specs.Itemset.{Items, Lookaheads, HasItem, HasLook, SameItems, SameLooks, Goto, GotoLook, Is}
-use Rattle.lr_theory.proofs.Place.{same_symbol_refl}
 use Rattle.state_table.specs.declared.shared_sets.SharedSets.{SharedSets}
 use Rattle.state_table.specs.Adding.{One, OneLooks}
 use Rattle.state_table.specs.ItemRows.{no_core, IsAt, Core, IsCoreOf, map_of}
@@ -81,19 +79,6 @@ module _ {S : Type 0} (number : S → ℕ) (G : Grammar) (p d : ℕ) (bits : Lis
 
       back_look : {r s t : ℕ} → GotoLook G (OneLooks p d bits) X r s t → OneLooks p e bits r s t
       back_look (GotoLook.moved i n) = (i.0, ap suc i.1 ∙ sym after, i.2)
-
--- another symbol stands there
-pub other_symbol : (G : Grammar) (p d : ℕ) (X Y : Sym) → IsNext G p d Y → same_symbol Y X ≡ false → IsNext G p d X → ⊥
-other_symbol G p d X Y n e m = differ (sym e ∙ same_self Y X (some_once (sym n.at ∙ m.at)))
-  where
-    differ : false ≡ true → ⊥
-    differ h = cc
-
-    some_once : {Z W : Sym} → Some Z ≡ Some W → Z ≡ W
-    some_once h = cc
-
-    same_self : (Y X : Sym) → Y ≡ X → same_symbol Y X ≡ true
-    same_self Y X q = subst (λ Z. same_symbol Y Z ≡ true) q (same_symbol_refl Y)
 
 -- ---- all of them
 

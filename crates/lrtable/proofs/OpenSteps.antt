@@ -93,15 +93,6 @@ module _ (e : Front) (looks : List Bool) (a b c d : RuleSets) (x y z : Bool) (lt
       }
 
 -- a rule to which something came is put with those that wait
-pub stays_put : (e : Front) (looks : List Bool) (old new : RuleSets) (waiting : List ℕ) → FrontStep looks e old new false → Follows (λ A. e.rule ≡ A) (λ A t. (e.rule ≡ A) × Brings looks e t) old new waiting waiting
-stays_put e looks old new waiting s = record {
-  comes = s.comes;
-  still_waits = λ A h. h;
-  told = λ A. inr (subst (λ r. StaysAt A old r) (sym (s.still refl)) (record { rules = λ h. h; looks = λ t h. h }));
-  new_open = λ A h. inl h;
-  fewer = let q = ap room (s.still refl) in omega (arith, q);
-}
-
 pub put_last : (e : Front) (looks : List Bool) (old new : RuleSets) (waiting : List ℕ) → e.rule < length old.opened → FrontStep looks e old new true → Follows (λ A. e.rule ≡ A) (λ A t. (e.rule ≡ A) × Brings looks e t) old new waiting (waiting ++ e.rule ∷ [])
 put_last e looks old new waiting lt s = record {
   comes = s.comes;

@@ -3,7 +3,7 @@ use Rattle.std.proofs.Common.{◌≡◌, ℕ, zero, suc, ◌<◌, ◌⊎◌, inl
 use Rattle.std.specs.Prelude.{IsTrue}
 use Rattle.std.specs.List.{Contains, AllPairs}
 use Rattle.std.proofs.lemmas.Bool.{cases_eq}
-use Rattle.std.proofs.lemmas.List.{length-replicate, length-set, length-map, get_or-set_same, get_or-set_other}
+use Rattle.std.proofs.lemmas.List.{length-replicate, length-set, get_or-set_same, get_or-set_other}
 use Rattle.cfg_theory.specs.Grammar.{Grammar, IsEnd, end_token}
 use Rattle.vob.specs.Sets.{is_set}
 use Rattle.vob.proofs.Bits.{none_set, put_in}
@@ -80,11 +80,6 @@ start_seen G number st no_items no_looks x y states none n e ni ei nl el edges t
     ap₂ (λ (c : Core) (es : List Edge). record { core = c; edges = es; todo = st.todo }) core none_there ∙ ap (λ (b : Bool). record { core = record { items = record { production = G.start; dot = 0 } ∷ []; rows = y.bits ∷ [] }; edges = []; todo = b }) todo in
     let whole : map (value_of number) states ≡ record { core = record { items = record { production = G.start; dot = 0 } ∷ []; rows = y.bits ∷ [] }; edges = []; todo = true } ∷ [] = ap (map (value_of number)) (e ∙ ap (λ l. l ++ st ∷ []) n) ∙ ap (λ (v : StateValue). v ∷ []) value in
     subst (λ (l : List StateValue). AreReached G l) (sym whole) (start_reached G y.bits wide ends)
-
--- no state of the slice is to be taken
-pub none_due : {S : Type 0} (number : S → ℕ) (states slice : List (State S)) → slice ≡ states → ((s : ℕ) → s < length slice → (state_at (map (value_of number) slice) s).todo ≡ false) →
-    (s : ℕ) → s < length (map (value_of number) states) → (state_at (map (value_of number) states) s).todo ≡ false
-none_due number states slice e h s lt = subst (λ l. (s : ℕ) → s < length l → (state_at (map (value_of number) l) s).todo ≡ false) e h s (let n = length-map states (value_of number) in omega (arith, n, lt))
 
 -- ---- the lists by first production
 

@@ -21,10 +21,6 @@ put_waiting e looks old new was now lt s w = record {
       looks = λ t h. elim (s.comes.only_looks A t h) [ inl u ↦ u | inr q ↦ absurd (ne q.0) ];
     }
 
--- where it waits already
-pub waits_already : (A : ℕ) (xs : List ℕ) → Contains xs A → WaitsToo A xs xs
-waits_already A xs h = record { still = λ B k. k; there = h; only = λ B k. inl k; count = omega arith }
-
 none : (B : ℕ) → Contains [] B → ⊥
 none B h = let lt = h.1 in omega (arith, lt)
 

@@ -4,7 +4,7 @@
 set -eu
 here=$(dirname "$(readlink -f "$0")")
 . "$here/../count.sh"
-prepare pairs 3 1 -- cfg_base
+prepare pairs 3 1 -- cfg_base cfg_sections
 for bytes in 1000000 10000000; do
     none=$(count lines $bytes 0 0)
     once=$(count lines $bytes 1 0)

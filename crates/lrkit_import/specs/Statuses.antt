@@ -4,13 +4,19 @@ use Rattle.byte_streams.specs.declared.reading.InputFault.{InputFault}
 use Rattle.byte_streams.specs.declared.reading.InputFault.TheVariants as inputs
 use Rattle.yacc_import.specs.declared.errors.ImportError.{ImportError}
 use Rattle.yacc_import.specs.declared.errors.ImportError.TheVariants as imports
+use Rattle.checked_import.specs.declared.checking.CheckedError.{CheckedError}
+use Rattle.checked_import.specs.declared.checking.CheckedError.TheVariants as checks
 use Rattle.lrkit_import.specs.declared.fault.RunFault.{RunFault}
-use Rattle.lrkit_import.specs.declared.fault.RunFault.TheVariants.{Memory, NotUtf8, Read, Refused, TooLong, Write}
+use Rattle.lrkit_import.specs.declared.fault.RunFault.TheVariants.{Memory, NoRules, NotRead, NotUtf8, OtherRules, Read, Refused, TooLong, TooManyNames, Write}
 
 -- the file can't be imported; an input or the output; memory
 abbrev pub status_of : {A : Type 0} → Result A RunFault → ℕ
 status_of (Ok done) = 0
 status_of (Err (Refused fault at)) = 2
+status_of (Err NoRules) = 2
+status_of (Err (NotRead at)) = 2
+status_of (Err OtherRules) = 2
+status_of (Err TooManyNames) = 2
 status_of (Err NotUtf8) = 5
 status_of (Err Read) = 5
 status_of (Err TooLong) = 5
@@ -26,3 +32,11 @@ fault_of (inputs.Memory e) = Memory e
 abbrev pub fault_of_import : ImportError → RunFault
 fault_of_import (imports.Refused fault at) = Refused fault at
 fault_of_import (imports.Memory e) = Memory e
+
+abbrev pub fault_of_check : CheckedError → RunFault
+fault_of_check (checks.Import e) = fault_of_import e
+fault_of_check checks.NoRules = NoRules
+fault_of_check (checks.NotRead at) = NotRead at
+fault_of_check checks.OtherRules = OtherRules
+fault_of_check checks.TooManyNames = TooManyNames
+fault_of_check (checks.Memory e) = Memory e

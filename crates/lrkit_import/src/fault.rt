@@ -1,9 +1,10 @@
 //! Why no text is written, and the program's status.
 
 ghost use Rattle.std.specs.Prelude.{◌≡◌};
-ghost use Rattle.lrkit_import.specs.Statuses.{fault_of, fault_of_import, status_of};
+ghost use Rattle.lrkit_import.specs.Statuses.{fault_of, fault_of_import, fault_of_check, status_of};
 
 use byte_streams::InputFault;
+use checked_import::CheckedError;
 use std::alloc::AllocError;
 use thiserror::Error;
 use yacc_import::{Fault, ImportError};
@@ -14,8 +15,20 @@ pub enum RunFault {
     /// The file can't be imported: why, and at which byte.
     #[error("{0} at byte {1}")]
     Refused(Fault, usize),
-    #[error("file: not UTF-8")]
+    /// The file ends within one of its tokens, or within its declarations.
+    #[error("no rules")]
+    NoRules,
+    /// The import does not read, at this byte of it.
+    #[error("import does not read, at byte {0} of it")]
+    NotRead(usize),
+    /// The rules of the import are not those of the file.
+    #[error("import has other rules")]
+    OtherRules,
+    /// More than 4,096 strings stand for tokens, or tokens have a precedence.
+    #[error("too many names")]
+    TooManyNames,
     /// The file is no text.
+    #[error("file: not UTF-8")]
     NotUtf8,
     /// The file can't be opened, or a read fails.
     #[error("file: read fault")]
@@ -44,12 +57,26 @@ pub fn fault_of(fault: InputFault) -> RunFault
 }
 
 /// Returns the fault of an import as the program's.
-pub fn fault_of_import(error: ImportError) -> RunFault
+fn fault_of_import(error: ImportError) -> RunFault
     ensures { result ≡ fault_of_import error }
 {
     match error {
         ImportError::Refused(fault, at) => RunFault::Refused(fault, at),
         ImportError::Memory(e) => RunFault::Memory(e),
+    }
+}
+
+/// Returns the fault of a checked import as the program's.
+pub fn fault_of_check(error: CheckedError) -> RunFault
+    ensures { result ≡ fault_of_check error }
+{
+    match error {
+        CheckedError::Import(e) => fault_of_import(e),
+        CheckedError::NoRules => RunFault::NoRules,
+        CheckedError::NotRead(at) => RunFault::NotRead(at),
+        CheckedError::OtherRules => RunFault::OtherRules,
+        CheckedError::TooManyNames => RunFault::TooManyNames,
+        CheckedError::Memory(e) => RunFault::Memory(e),
     }
 }
 
@@ -59,7 +86,8 @@ pub fn status(done: &Result<(), RunFault>) -> u8
 {
     match done {
         Ok(()) => 0,
-        Err(RunFault::Refused(_, _)) => 2,
+        Err(RunFault::Refused(_, _) | RunFault::NoRules | RunFault::NotRead(_)) => 2,
+        Err(RunFault::OtherRules | RunFault::TooManyNames) => 2,
         Err(RunFault::Memory(_)) => 6,
         Err(_) => 5,
     }

@@ -1,12 +1,13 @@
 //! From the words to the written text.
 
 use crate::counts::say_notes;
-use crate::fault::{RunFault, fault_of, fault_of_import};
+use crate::fault::{RunFault, fault_of, fault_of_check};
 use crate::words::Words;
 use byte_streams::{Counted, read_text, write_all};
+use checked_import::import_checked;
 use std::rt::Files;
 use std::{fs, io};
-use yacc_import::{Imported, import};
+use yacc_import::Imported;
 
 /// Reads a file as a text.
 fn read_file<R: Files + AllocGlobal>(rt: &R, path: &str) -> Result<String, RunFault> {
@@ -44,9 +45,9 @@ fn write_text<R: Files + Print>(rt: &R, out: Option<&str>, text: &str) -> Result
 /// Imports a file.
 fn import_file<R: Files + AllocGlobal>(rt: &R, path: &str) -> Result<Imported, RunFault> {
     let text = read_file(rt, path)?;
-    match import(rt.alloc(), text.as_str()) {
+    match import_checked(rt.alloc(), text.as_str()) {
         Ok(imported) => Ok(imported),
-        Err(e) => Err(fault_of_import(e)),
+        Err(e) => Err(fault_of_check(e)),
     }
 }
 

@@ -1,5 +1,5 @@
 -- What contracts see of the readers' values.
-use Rattle.std.specs.Prelude.{ℕ, map, option_map}
+use Rattle.std.specs.Prelude.{ℕ, length, map, option_map}
 use Rattle.std.specs.declared.alloc.Global.{Global}
 use Rattle.std.specs.declared.vec.Vec.{Vec}
 use Rattle.bison_rules.specs.declared.reading.Body.{Body}
@@ -35,7 +35,7 @@ reading_of r = record {
   body = body_of r.body;
   ends_in_action = r.ends_in_action;
   wants_prec = r.wants_prec;
-  actions = r.actions;
+  actions = length r.actions.items;
 }
 
 abbrev pub file_of : BisonFile → BisonText
@@ -46,7 +46,7 @@ scan_model s = record {
   place = s.place;
   home = s.home;
   last = s.last;
-  depth = s.depth;
+  depth = length s.open.items;
   quote = s.quote;
   word = s.word.items;
   has_rules = s.has_rules;

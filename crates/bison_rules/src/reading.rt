@@ -68,8 +68,8 @@ pub(crate) struct RuleReader {
     ends_in_action: bool,
     /// Whether `%prec` was read, and no token behind it.
     wants_prec: bool,
-    /// How many actions are in the middle of rules.
-    actions: usize,
+    /// A byte for each action in the middle of a rule.
+    actions: Vec<u8>,
 }
 
 /// Returns whether a symbol is a string.
@@ -162,7 +162,7 @@ impl RuleReader {
             body: no_body(alloc),
             ends_in_action: false,
             wants_prec: false,
-            actions: 0,
+            actions: Vec::new(alloc),
         }
     }
 
@@ -181,12 +181,9 @@ impl RuleReader {
         if !self.ends_in_action {
             return Ok(());
         }
-        let Some(number) = self.actions.checked_add(1) else {
-            return Err(AllocError);
-        };
+        self.actions.push(0)?;
         self.ends_in_action = false;
-        self.actions = number;
-        let name = action_name(self.alloc, number)?;
+        let name = action_name(self.alloc, self.actions.len())?;
         self.add_symbol(name)
     }
 
@@ -384,7 +381,7 @@ impl RuleReader {
         self.end_body()?;
         let nothing = Vec::new(self.alloc);
         self.end_rule(nothing)?;
-        push_action_rules(self.alloc, &mut self.rules, self.actions)
+        push_action_rules(self.alloc, &mut self.rules, self.actions.len())
     }
 
     /// Returns what was read, at the end of the file.

@@ -1,6 +1,6 @@
 //! The rules of a file, byte by byte.
 
-ghost use Rattle.std.specs.Prelude.{◌≡◌, ◌+◌, ◌∷◌, ◌++◌, [], OnOk, IfOk, option_map, fold};
+ghost use Rattle.std.specs.Prelude.{◌≡◌, ◌+◌, ◌-◌, ◌∷◌, ◌++◌, [], OnOk, IfOk, length, option_map, fold};
 ghost use Rattle.bison_rules.specs.Tokens.{take_name, take_quoted, take_action, take_colon, take_bar, take_semicolon, take_directive, take_section};
 ghost use Rattle.bison_rules.specs.Models.{bytes_of, reading_of, scan_model, file_of};
 ghost use Rattle.bison_rules.specs.Scanning.{beginning, in_place, in_part, deep_in, in_quote, in_word, after, reads, is_skipped, is_quote, sign, bracket, begin, end_word, in_a_word, in_directive, in_number, section, behind_percent, behind_slash, in_line, in_comment, character, quoted, is_in_file, end_quote, in_a_quote, close_tag, in_tag, in_brackets, close_code, in_braces, in_prologue, begins_part, begin_part, in_code, in_prologue_code, take_byte, scan_of, is_whole, file_in};
@@ -54,8 +54,8 @@ pub(crate) struct Scanner {
     home: Place,
     /// The byte before, or 0.
     last: u8,
-    /// How many braces or tags are open.
-    depth: usize,
+    /// A byte for each brace or tag that is open.
+    open: Vec<u8>,
     /// The quote that ends a quote.
     quote: u8,
     /// The bytes of a word or a quote so far.
@@ -131,7 +131,7 @@ impl Scanner {
             place: Place::Gap,
             home: Place::Gap,
             last: 0,
-            depth: 0,
+            open: Vec::new(alloc),
             quote: 0,
             word: Vec::new(alloc),
             has_rules: false,
@@ -156,12 +156,21 @@ impl Scanner {
         self.in_place(place);
     }
 
-    /// Goes on in a place with brackets.
-    fn deep_in(&mut self, place: Place, depth: usize)
-        ensures { scan_model self.new ≡ deep_in place depth (scan_model self.old) }
+    /// Goes on in a place with no brackets that are open.
+    fn unopened_in(&mut self, place: Place)
+        ensures { scan_model self.new ≡ deep_in place 0 (scan_model self.old) }
     {
         self.in_place(place);
-        self.depth = depth;
+        self.open.clear();
+    }
+
+    /// Goes on in a place with one pair of brackets.
+    fn opened_in(&mut self, place: Place) -> Result<(), AllocError>
+        ensures { OnOk result (scan_model self.new ≡ deep_in place 1 (scan_model self.old)) }
+    {
+        self.unopened_in(place);
+        self.open.push(0)?;
+        Ok(())
     }
 
     /// Begins a quote.
@@ -210,10 +219,12 @@ impl Scanner {
         ensures { OnOk result (scan_model self.new ≡ bracket b (scan_model self.old)) }
     {
         if b == b'{' {
-            self.deep_in(Place::Code, 1);
-        } else if b == b'<' {
-            self.deep_in(Place::Tag, 1);
-        } else if b == b'[' {
+            return self.opened_in(Place::Code);
+        }
+        if b == b'<' {
+            return self.opened_in(Place::Tag);
+        }
+        if b == b'[' {
             self.in_place(Place::Brackets);
         } else {
             return self.sign(b);
@@ -329,7 +340,7 @@ impl Scanner {
         if b == b'{' {
             self.in_place(Place::Prologue);
         } else if b == b'?' {
-            self.deep_in(Place::Code, 0);
+            self.unopened_in(Place::Code);
         } else if is_word_byte(b) {
             return self.in_word(Place::Directive, b);
         } else {
@@ -424,23 +435,29 @@ impl Scanner {
 
     /// Goes on in one more pair of brackets.
     fn open(&mut self, place: Place) -> Result<(), AllocError>
-        ensures { OnOk result (scan_model self.new ≡ deep_in place (self.old.depth + 1) (scan_model self.old)) }
+        ensures { OnOk result (scan_model self.new ≡ deep_in place (length self.old.open.items + 1) (scan_model self.old)) }
     {
-        let Some(depth) = self.depth.checked_add(1) else {
-            return Err(AllocError);
-        };
-        self.deep_in(place, depth);
+        self.in_place(place);
+        self.open.push(0)?;
         Ok(())
+    }
+
+    /// Goes on in one pair of brackets less.
+    fn close(&mut self, place: Place)
+        ensures { scan_model self.new ≡ deep_in place (length self.old.open.items - 1) (scan_model self.old) }
+    {
+        self.in_place(place);
+        let _closed = self.open.pop();
     }
 
     /// Closes a tag.
     fn close_tag(&mut self)
         ensures { scan_model self.new ≡ close_tag (scan_model self.old) }
     {
-        if self.depth == 1 {
+        if self.open.len() == 1 {
             self.in_place(Place::Gap);
         } else {
-            self.deep_in(Place::Tag, self.depth.saturating_sub(1));
+            self.close(Place::Tag);
         }
     }
 
@@ -472,11 +489,11 @@ impl Scanner {
     fn close_code(&mut self) -> Result<(), AllocError>
         ensures { OnOk result (scan_model self.new ≡ close_code (scan_model self.old)) }
     {
-        if self.depth == 1 {
+        if self.open.len() == 1 {
             self.in_place(Place::Gap);
             return self.reading.take_action();
         }
-        self.deep_in(Place::Code, self.depth.saturating_sub(1));
+        self.close(Place::Code);
         Ok(())
     }
 

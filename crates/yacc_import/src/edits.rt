@@ -1,5 +1,6 @@
 //! The notes of an import, token by token.
 
+use crate::ends::{byte_at, is_name_byte};
 use crate::errors::{Fault, ImportError};
 use crate::late::late_places;
 use crate::names::{Names, with_underscores};
@@ -39,7 +40,17 @@ impl<'a> Edits<'a, '_> {
         if text.as_str() == self.names.raw(token) {
             return Ok(());
         }
+        let (before, behind) = self.blanks_around(token);
+        let text = text_of(self.alloc, &[before, text.as_str(), behind])?;
         notes.put(NoteKind::Spelling, (token.start, token.end), text)
+    }
+
+    /// Returns the blanks that keep a token from names right beside it.
+    fn blanks_around(&self, token: Token) -> (&'static str, &'static str) {
+        let bytes = self.text.as_bytes();
+        let before = byte_at(bytes, token.start.saturating_sub(1));
+        let behind = byte_at(bytes, token.end);
+        (blank_beside(before), blank_beside(behind))
     }
 
     /// Returns whether the token at an index has a precedence.
@@ -265,6 +276,11 @@ impl<'a> Edits<'a, '_> {
             }
         }
     }
+}
+
+/// Returns a blank where a byte may be one of a name.
+fn blank_beside(byte: u8) -> &'static str {
+    if is_name_byte(byte) { " " } else { "" }
 }
 
 /// Returns the notes of an import.

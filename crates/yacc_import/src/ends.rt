@@ -198,7 +198,7 @@ pub(crate) fn is_name_start(byte: u8) -> bool {
 }
 
 /// Returns whether a byte may stand in a name behind its first.
-fn is_name_byte(byte: u8) -> bool {
+pub(crate) fn is_name_byte(byte: u8) -> bool {
     is_name_start(byte) || byte.is_ascii_digit() || byte == b'-'
 }
 

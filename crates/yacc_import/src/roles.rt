@@ -244,7 +244,10 @@ impl Roles<'_> {
             }
             Kind::Number => Ok(Role::Leave(NoteKind::Number)),
             Kind::Tag => Ok(Role::Leave(NoteKind::Tag)),
-            Kind::Character => Ok(Role::Leave(NoteKind::Moved)),
+            Kind::Character => {
+                self.name = Some(at);
+                Ok(Role::Leave(NoteKind::Moved))
+            }
             Kind::Text => Ok(self.alias()),
             _ => refuse(Fault::DeclarationWanted, token.start),
         }

@@ -1,5 +1,6 @@
 -- What a report says of a text.
 use Rattle.std.specs.Prelude.{◌≡◌, ℕ, List, length, unwrap_or, Option, None, Some}
+use Rattle.cfg_theory.specs.Derivation.{IsProductive}
 use Rattle.cfg_read.specs.declared.yacc.YaccKind.{YaccKind}
 use Rattle.table_theory.specs.Cells.{Conflicts}
 use Rattle.parser_kit.specs.Kit.{IsKitOf, KitValue}
@@ -7,7 +8,7 @@ use Rattle.parser_kit.specs.KitErrors.{IsKitRefusal, IsMemory, IsToldRefusal}
 use Rattle.parser_kit.specs.TextKinds.{IsKindOfText}
 use Rattle.parser_kit.specs.declared.kit_error.KitError.{KitError}
 use Rattle.grammar_report.specs.declared.outcome.Outcome.{Outcome}
-use Rattle.grammar_report.specs.declared.outcome.Outcome.TheVariants.{Expected, Invalid, Unexpected}
+use Rattle.grammar_report.specs.declared.outcome.Outcome.TheVariants.{Barren, Expected, Invalid, Unexpected}
 
 -- the greatest number of a rule, a production, a token or a state
 abbrev pub top : ℕ
@@ -36,11 +37,23 @@ CountsFit k (Some c) = (length c.shift_reduce ≡ expect_of k) × (length c.redu
 abbrev pub AreExpected : KitValue → Type 0
 AreExpected k = CountsFit k k.parser.table.conflicts
 
+-- the start rule derives a token list
+abbrev pub HasSentences : KitValue → Type 0
+HasSentences k = IsProductive k.parser.grammar.grammar 0
+
 -- whether the conflicts of a kit are expected
 abbrev pub TellsExpected : KitValue → Outcome → Type 0
 TellsExpected k Expected = AreExpected k
 TellsExpected k Unexpected = AreExpected k → ⊥
+TellsExpected k Barren = ⊥
 TellsExpected k Invalid = ⊥
+
+-- whether a kit has no sentences, or other conflicts than expected, or neither
+abbrev pub TellsOutcome : KitValue → Outcome → Type 0
+TellsOutcome k Expected = HasSentences k × AreExpected k
+TellsOutcome k Unexpected = HasSentences k × (AreExpected k → ⊥)
+TellsOutcome k Barren = HasSentences k → ⊥
+TellsOutcome k Invalid = ⊥
 
 -- something is wrong with the text, or a count or a table is too large: it has no kit
 pub record HasNoKit (text : List ℕ) : Type 0 where
@@ -48,14 +61,16 @@ pub record HasNoKit (text : List ℕ) : Type 0 where
   pub has_cause : IsMemory e → ⊥
   pub refused : IsToldRefusal text (λ kind. IsKitRefusal (λ n. n) top kind text cap) e
 
--- the text has no kit, or one whose conflicts aren't expected, or are
+-- the text has no kit, or one without sentences, or one with sentences whose conflicts aren't expected, or are
 abbrev pub IsOutcome : List ℕ → Outcome → Type 0
 IsOutcome text Invalid = HasNoKit text
-IsOutcome text Unexpected = (k : KitValue) × IsKitIn text k × (AreExpected k → ⊥)
-IsOutcome text Expected = (k : KitValue) × IsKitIn text k × AreExpected k
+IsOutcome text Barren = (k : KitValue) × IsKitIn text k × (HasSentences k → ⊥)
+IsOutcome text Unexpected = (k : KitValue) × IsKitIn text k × HasSentences k × (AreExpected k → ⊥)
+IsOutcome text Expected = (k : KitValue) × IsKitIn text k × HasSentences k × AreExpected k
 
--- as it is expected, with other conflicts, invalid
+-- as it is expected, with other conflicts, without sentences, invalid
 abbrev pub status_of : Outcome → ℕ
 status_of Expected = 0
 status_of Unexpected = 1
+status_of Barren = 2
 status_of Invalid = 2

@@ -3,10 +3,10 @@
 ghost use Rattle.std.specs.Prelude.{◌≡◌, take, drop, IsTrue, IfOk};
 ghost use Rattle.grammar_report.specs.Nearer.{IsEndOf};
 
-use crate::names::{Grammar, body_len, symbols_behind};
 use cfg_base::index::IndexStorage;
 use cfg_base::symbol::{PIdx, SIdx};
 use conflict_examples::{ActionExample, ConflictExample};
+use grammar_names::{Grammar, body_len, symbols_behind};
 use std::alloc::{AllocError, Global};
 
 /// Returns whether two open productions are the same, with the same dot.
@@ -128,7 +128,7 @@ fn action_from(
 }
 
 /// Returns an example from the nearest rule on in which both actions are open and the token comes from.
-pub(crate) fn nearest(
+pub fn nearest(
     alloc: Global,
     grm: &Grammar,
     example: &ConflictExample<u32>,

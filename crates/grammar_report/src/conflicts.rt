@@ -4,13 +4,11 @@ use crate::asked::Asked;
 use crate::beginnings::nearest;
 use crate::examples::{push_example, push_no_example};
 use crate::listed::{
-    Listed, example_of, listed_pairs, listed_shifts, push_state, push_states_len, push_tokens,
-    same_productions_len,
+    Listed, conflict_blocks, example_of, push_state, push_states_len, push_tokens,
 };
-use crate::names::{push_prod, push_token};
-use crate::production_places::{production_span, token_span_after};
+use crate::production_places::{production_span, shift_span};
 use conflict_examples::{ConflictExample, ExampleFinder};
-use lrtable::Conflicts;
+use grammar_names::{push_prod, push_token};
 use parser_kit::ParserKit;
 use std::alloc::{AllocError, Global};
 use text_messages::{Severity, Source};
@@ -63,10 +61,7 @@ fn push_shift_place(
     view: &View<'_>,
     example: &ConflictExample<u32>,
 ) -> Result<(), AllocError> {
-    let Some(item) = example.first.spine.as_slice().last() else {
-        return Ok(());
-    };
-    let Some(span) = token_span_after(view.kit.grm(), view.kit.ast(), *item) else {
+    let Some(span) = shift_span(view.kit, example) else {
         return Ok(());
     };
     let mut message = String::from_str(alloc, "shift")?;
@@ -135,47 +130,6 @@ fn push_block(
     text.push('\n')
 }
 
-/// Returns how many conflicts at the front are in one block.
-fn block_len(view: &View<'_>, listed: &[Listed]) -> usize {
-    if view.each {
-        1
-    } else {
-        same_productions_len(listed).max(1)
-    }
-}
-
-/// Adds a block for each production or pair of productions, or for each conflict.
-fn push_blocks(
-    alloc: Global,
-    text: &mut String,
-    view: &View<'_>,
-    finder: &ExampleFinder<'_, u32>,
-    listed: &[Listed],
-) -> Result<(), AllocError> {
-    let mut start: usize = 0;
-    'blocks: while start < listed.len() {
-        let (_, left) = listed.split_at(start);
-        let (block, _) = left.split_at(block_len(view, left).min(left.len()));
-        push_block(alloc, text, view, finder, block)?;
-        start = start.saturating_add(block.len().max(1));
-    }
-    Ok(())
-}
-
-/// Adds both lists, pairs of reductions first.
-fn push_lists(
-    alloc: Global,
-    text: &mut String,
-    view: &View<'_>,
-    finder: &ExampleFinder<'_, u32>,
-    conflicts: &Conflicts<u32>,
-) -> Result<(), AllocError> {
-    let pairs = listed_pairs(alloc, conflicts)?;
-    push_blocks(alloc, text, view, finder, pairs.as_slice())?;
-    let shifts = listed_shifts(alloc, conflicts)?;
-    push_blocks(alloc, text, view, finder, shifts.as_slice())
-}
-
 /// Adds the conflicts that no precedence settles: as notes where they are as many as expected, else as warnings.
 pub(crate) fn push_conflicts(
     alloc: Global,
@@ -185,9 +139,10 @@ pub(crate) fn push_conflicts(
     severity: Severity,
     asked: Asked<'_>,
 ) -> Result<(), AllocError> {
-    let Some(conflicts) = kit.conflicts() else {
+    let blocks = conflict_blocks(alloc, kit, asked.each)?;
+    if blocks.is_empty() {
         return Ok(());
-    };
+    }
     let view = View {
         source,
         kit,
@@ -196,7 +151,21 @@ pub(crate) fn push_conflicts(
         full: asked.full,
     };
     let finder = ExampleFinder::new(alloc, kit.grm(), kit.sgraph())?;
-    let pushed = push_lists(alloc, text, &view, &finder, conflicts);
+    let pushed = push_blocks(alloc, text, &view, &finder, blocks.as_slice());
     drop(finder);
     pushed
+}
+
+/// Adds blocks.
+fn push_blocks(
+    alloc: Global,
+    text: &mut String,
+    view: &View<'_>,
+    finder: &ExampleFinder<'_, u32>,
+    blocks: &[Vec<Listed>],
+) -> Result<(), AllocError> {
+    'blocks: for block in blocks {
+        push_block(alloc, text, view, finder, block.as_slice())?;
+    }
+    Ok(())
 }

@@ -1,17 +1,50 @@
 //! Counts of a grammar, and whether its conflicts are expected.
 
-ghost use Rattle.std.specs.Prelude.{◌≡◌, Some};
-ghost use Rattle.grammar_report.specs.Outcomes.{TellsExpected, expect_of, expect_rr_of};
+ghost use Rattle.std.specs.Prelude.{◌≡◌, Some, IfOk};
+ghost use Rattle.grammar_report.specs.Outcomes.{TellsExpected, TellsOutcome, expect_of, expect_rr_of};
 
 use crate::outcome::Outcome;
+use crate::sentences::has_sentences;
 use cfg_base::index::IndexStorage;
 use lrtable::Conflicts;
 use parser_kit::ParserKit;
 use std::alloc::{AllocError, Global};
 
-/// Whether a kit lists as many conflicts as `%expect` and `%expect-rr` say. A missing number counts as nought. A kit with no
-/// conflict is as expected, whatever is said.
-pub(crate) fn outcome_of(kit: &ParserKit<u32>) -> Outcome
+/// Counts of a grammar. Those of rules, tokens and productions are of what the text has, with what optional symbols stand for.
+#[derive(Clone, Copy, Debug, PartialEq, Eq)]
+pub struct Counts {
+    /// Rules of the text.
+    pub rules: usize,
+    /// Tokens of the text.
+    pub tokens: usize,
+    /// Alternatives of the text.
+    pub productions: usize,
+    /// States of the graph.
+    pub states: usize,
+    /// Listed conflicts of a shift and a reduction.
+    pub shift_reduce: usize,
+    /// Listed pairs of reductions.
+    pub reduce_reduce: usize,
+    /// The number of `%expect`, else 0.
+    pub expected_shift_reduce: usize,
+    /// The number of `%expect-rr`, else 0.
+    pub expected_reduce_reduce: usize,
+}
+
+/// Returns the outcome of a text that gives a kit.
+pub(crate) fn outcome_of(alloc: Global, kit: &ParserKit<u32>) -> Result<Outcome, AllocError>
+    ensures { IfOk result (TellsOutcome kit.now) }
+{
+    if has_sentences(alloc, kit.grm())? {
+        Ok(expectation_of(kit))
+    } else {
+        Ok(Outcome::Barren)
+    }
+}
+
+/// Returns whether a kit lists as many conflicts as `%expect` and `%expect-rr` say. A missing number counts as zero. A kit with
+/// no conflict is as expected, whatever they say.
+pub(crate) fn expectation_of(kit: &ParserKit<u32>) -> Outcome
     ensures { TellsExpected kit.now result }
 {
     match kit.conflicts() {
@@ -20,7 +53,7 @@ pub(crate) fn outcome_of(kit: &ParserKit<u32>) -> Outcome
     }
 }
 
-/// How many shifts against reductions are expected, and how many pairs of reductions.
+/// Returns how many shifts against reductions are expected, and how many pairs of reductions.
 fn expected(kit: &ParserKit<u32>) -> (usize, usize)
     ensures { result ≡ (expect_of kit.now, expect_rr_of kit.now) }
 {
@@ -42,15 +75,41 @@ fn compare(kit: &ParserKit<u32>, conflicts: &Conflicts<u32>) -> Outcome
     }
 }
 
-/// Adds how many conflicts are listed, and how many are expected.
+/// Returns how many shifts against reductions are listed, and how many pairs of reductions.
+fn listed_counts(kit: &ParserKit<u32>) -> (usize, usize) {
+    match kit.conflicts() {
+        Some(conflicts) => (conflicts.sr_len(), conflicts.rr_len()),
+        None => (0, 0),
+    }
+}
+
+/// Returns the counts of a kit's text, graph and conflicts.
+pub fn counts_of(kit: &ParserKit<u32>) -> Counts {
+    let (shift_reduce, reduce_reduce) = listed_counts(kit);
+    let (expected_shift_reduce, expected_reduce_reduce) = expected(kit);
+    Counts {
+        rules: kit.ast().rules().len(),
+        tokens: kit.ast().tokens().len(),
+        productions: kit.ast().prods().len(),
+        states: kit.sgraph().all_states_len().0.to_usize(),
+        shift_reduce,
+        reduce_reduce,
+        expected_shift_reduce,
+        expected_reduce_reduce,
+    }
+}
+
+/// Adds how many conflicts are listed, and how many are expected, if any are listed.
 fn push_conflict_counts(
     alloc: Global,
     text: &mut String,
-    kit: &ParserKit<u32>,
-    conflicts: &Conflicts<u32>,
+    counts: Counts,
 ) -> Result<(), AllocError> {
-    let (sr, rr) = (conflicts.sr_len(), conflicts.rr_len());
-    let (expect, expect_rr) = expected(kit);
+    let (sr, rr) = (counts.shift_reduce, counts.reduce_reduce);
+    if sr == 0 && rr == 0 {
+        return Ok(());
+    }
+    let (expect, expect_rr) = (counts.expected_shift_reduce, counts.expected_reduce_reduce);
     let line = format!(in alloc;
         "conflicts: {sr} shift/reduce, {rr} reduce/reduce, expected {expect} and {expect_rr}\n"
     )?;
@@ -61,17 +120,14 @@ fn push_conflict_counts(
 pub(crate) fn push_counts(
     alloc: Global,
     text: &mut String,
-    kit: &ParserKit<u32>,
+    counts: Counts,
 ) -> Result<(), AllocError> {
-    let (rules, tokens) = (kit.ast().rules().len(), kit.ast().tokens().len());
-    let prods = kit.ast().prods().len();
-    let states = kit.sgraph().all_states_len().0.to_usize();
+    let (rules, tokens, prods) = (counts.rules, counts.tokens, counts.productions);
+    let states = counts.states;
     let line = format!(in alloc;
         "rules: {rules}, tokens: {tokens}, productions: {prods}, states: {states}\n"
     )?;
     text.push_str(line.as_str())?;
-    if let Some(conflicts) = kit.conflicts() {
-        push_conflict_counts(alloc, text, kit, conflicts)?;
-    }
+    push_conflict_counts(alloc, text, counts)?;
     text.push('\n')
 }

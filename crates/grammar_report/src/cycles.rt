@@ -2,9 +2,9 @@
 
 ghost use Rattle.std.specs.Prelude.{◌<◌, length};
 
-use crate::names::{Grammar, prod_body, push_symbols, symbols_behind};
 use cfg_base::index::IndexStorage;
 use cfg_base::symbol::{PIdx, SIdx};
+use grammar_names::{Grammar, prod_body, push_symbols, symbols_behind};
 use std::alloc::AllocError;
 
 /// Adds the form that opening productions makes of the start: the symbols of the production at an index, and what stands

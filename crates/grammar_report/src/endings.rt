@@ -2,16 +2,15 @@
 
 use crate::cycles::push_cycle;
 use crate::examples::{push_end_example, push_no_example};
-use crate::names::push_prod;
 use crate::production_places::production_span;
-use cfg_base::span::Span;
 use cfg_base::symbol::PIdx;
 use cfg_numbered::yacc::NumberedGrammar;
 use cfg_read::yacc::{ASTWithValidityInfo, YaccGrammarFailure, YaccKind, YaccOriginalActionKind};
 use cfgrammar::yacc::{YaccGrammar, YaccGrammarMakeError};
 use conflict_examples::accept_reduce;
+use grammar_names::push_prod;
 use std::alloc::{AllocError, Global};
-use text_messages::{Severity, Source};
+use text_messages::{Message, Severity};
 
 /// What is kept of a text, of the kind that its section tells, else of `Original(GenericParseTree)`.
 pub(crate) fn kept_of(alloc: Global, source: &str) -> Result<ASTWithValidityInfo, AllocError> {
@@ -36,58 +35,56 @@ fn grammar_of(
     }
 }
 
-/// Adds what is wrong with the production, and an example.
-fn push_told(
+/// Adds what is wrong with the production, and an example to a second text.
+fn push_cause(
     alloc: Global,
-    text: &mut String,
-    source: &Source<'_>,
+    words: &mut String,
+    shown: &mut String,
     grm: &NumberedGrammar<u32>,
-    span: Option<Span>,
     pidx: PIdx<u32>,
 ) -> Result<(), AllocError> {
+    words.push_str("accept/reduce conflict: where a text has ended, reduce ")?;
+    push_prod(words, grm, pidx)?;
     let example = accept_reduce(alloc, grm, pidx)?;
-    let mut message = String::from_str(
-        alloc,
-        "accept/reduce conflict: where a text has ended, reduce ",
-    )?;
-    push_prod(&mut message, grm, pidx)?;
-    if let Some(example) = &example {
-        message.push_str(", since")?;
-        push_cycle(&mut message, grm, example.second.spine.as_slice())?;
-    }
-    source.push_message_if(alloc, text, Severity::Error, span, message.as_str())?;
     match &example {
-        Some(example) => push_end_example(alloc, text, grm, example, pidx),
-        None => push_no_example(text),
+        Some(example) => {
+            words.push_str(", since")?;
+            push_cycle(words, grm, example.second.spine.as_slice())?;
+            push_end_example(alloc, shown, grm, example, pidx)
+        }
+        None => push_no_example(shown),
     }
 }
 
 /// Adds what is wrong with the production in the grammar of what is kept of a text.
 fn push_ending_in(
     alloc: Global,
-    text: &mut String,
-    source: &Source<'_>,
+    messages: &mut Vec<Message>,
     kept: &ASTWithValidityInfo,
     pidx: PIdx<u32>,
 ) -> Result<(), AllocError> {
     let Some(grm) = grammar_of(alloc, kept)? else {
         return Ok(());
     };
-    let span = production_span(kept.ast(), pidx);
-    let pushed = push_told(alloc, text, source, &grm, span, pidx);
+    let (mut words, mut shown) = (String::new(alloc), String::new(alloc));
+    let pushed = push_cause(alloc, &mut words, &mut shown, &grm, pidx);
     drop(grm);
-    pushed
+    pushed?;
+    let span = production_span(kept.ast(), pidx);
+    let mut message = Message::new(Severity::Error, span, words);
+    message.example = Some(shown);
+    message.push_to(messages)
 }
 
 /// Adds that a production may be reduced where a text has ended, how the start rule derives itself, and an example.
 pub(crate) fn push_ending(
     alloc: Global,
-    text: &mut String,
-    source: &Source<'_>,
+    messages: &mut Vec<Message>,
+    text: &str,
     pidx: PIdx<u32>,
 ) -> Result<(), AllocError> {
-    let kept = kept_of(alloc, source.text())?;
-    let pushed = push_ending_in(alloc, text, source, &kept, pidx);
+    let kept = kept_of(alloc, text)?;
+    let pushed = push_ending_in(alloc, messages, &kept, pidx);
     drop(kept);
     pushed
 }

@@ -1,12 +1,12 @@
 //! Examples of conflicts as a person reads them.
 
-use crate::names::{
-    Grammar, body_len, prod_body, push_body, push_item, push_prod, push_symbols, push_token,
-    push_word,
-};
 use cfg_base::index::IndexStorage;
 use cfg_base::symbol::{PIdx, SIdx, Symbol};
 use conflict_examples::{ActionExample, ConflictExample};
+use grammar_names::{
+    Grammar, body_len, prod_body, push_body, push_item, push_prod, push_symbols, push_token,
+    push_word,
+};
 use std::alloc::{AllocError, Global};
 
 /// How many symbols the forms behind a reduction may have, all together, but for the last one. Where they would have more,
@@ -193,7 +193,7 @@ fn push_reduction(
 }
 
 /// Adds the example of a shift against a reduction, or of a pair of reductions.
-pub(crate) fn push_example(
+pub fn push_example(
     alloc: Global,
     text: &mut String,
     grm: &Grammar,

@@ -1,6 +1,6 @@
 //! Errors and warnings of a text.
 
-use crate::endings::kept_of;
+use crate::endings::{kept_of, push_ending};
 use cfg_base::span::Span;
 use cfg_read::yacc::YaccGrammarError;
 use cfg_read::yacc::ast::GrammarAST;
@@ -8,54 +8,51 @@ use cfg_read::yacc::ast::warnings::YaccGrammarWarning;
 use grammar_hints::{Hint, hint_of, token_warnings};
 use parser_kit::KitError;
 use std::alloc::{AllocError, Global};
-use text_messages::{Severity, Source, part};
+use text_messages::{Message, Severity, part};
 
-/// Adds what may help: at its own place, or below what was said last.
-fn push_hint(
-    alloc: Global,
-    text: &mut String,
-    source: &Source<'_>,
-    hint: &Hint,
-) -> Result<(), AllocError> {
-    if let Some(span) = hint.span {
-        return source.push_message(alloc, text, Severity::Note, span, hint.words.as_str());
+/// Adds what may help: as a note at its own place, or to the message before it.
+fn push_hint(messages: &mut Vec<Message>, hint: Hint) -> Result<(), AllocError> {
+    let Hint { words, span } = hint;
+    if span.is_some() {
+        return Message::new(Severity::Note, span, words).push_to(messages);
     }
-    text.push_str("      = help: ")?;
-    text.push_str(hint.words.as_str())?;
-    text.push('\n')
+    if let Some(last) = messages.as_mut_slice().last_mut() {
+        last.help = Some(words);
+    }
+    Ok(())
 }
 
 /// Adds an error at the first of its places, a note at each other one, and what may help.
 fn push_error(
     alloc: Global,
-    text: &mut String,
-    source: &Source<'_>,
+    messages: &mut Vec<Message>,
+    text: &str,
     ast: &GrammarAST,
     error: &YaccGrammarError,
 ) -> Result<(), AllocError> {
-    let message = error.to_string(alloc)?;
     let first = error.spans.as_slice().first().copied();
-    source.push_message_if(alloc, text, Severity::Error, first, message.as_str())?;
+    let words = error.to_string(alloc)?;
+    Message::new(Severity::Error, first, words).push_to(messages)?;
     'spans: for index in 1..error.spans.len() {
-        let span = error.spans[index];
-        source.push_message(alloc, text, Severity::Note, span, "and here again")?;
+        let span = Some(error.spans[index]);
+        let words = String::from_str(alloc, "and here again")?;
+        Message::new(Severity::Note, span, words).push_to(messages)?;
     }
-    let hint = hint_of(alloc, source.text(), ast, error)?;
-    match &hint {
-        Some(hint) => push_hint(alloc, text, source, hint),
+    match hint_of(alloc, text, ast, error)? {
+        Some(hint) => push_hint(messages, hint),
         None => Ok(()),
     }
 }
 
 fn push_errors(
     alloc: Global,
-    text: &mut String,
-    source: &Source<'_>,
+    messages: &mut Vec<Message>,
+    text: &str,
     ast: &GrammarAST,
     errors: &[YaccGrammarError],
 ) -> Result<(), AllocError> {
     'errors: for error in errors {
-        push_error(alloc, text, source, ast, error)?;
+        push_error(alloc, messages, text, ast, error)?;
     }
     Ok(())
 }
@@ -63,70 +60,77 @@ fn push_errors(
 /// Adds all that is wrong with a text.
 fn push_all_errors(
     alloc: Global,
-    text: &mut String,
-    source: &Source<'_>,
+    messages: &mut Vec<Message>,
+    text: &str,
     errors: &[YaccGrammarError],
 ) -> Result<(), AllocError> {
-    let kept = kept_of(alloc, source.text())?;
-    let pushed = push_errors(alloc, text, source, kept.ast(), errors);
+    let kept = kept_of(alloc, text)?;
+    let pushed = push_errors(alloc, messages, text, kept.ast(), errors);
     drop(kept);
     pushed
 }
 
-/// Adds why a text gives no parser.
-pub(crate) fn push_refusal(
+/// Adds why a text gives no parser: errors, and notes on the error before them.
+pub fn push_refusal(
     alloc: Global,
-    text: &mut String,
-    source: &Source<'_>,
+    messages: &mut Vec<Message>,
+    text: &str,
     refusal: &KitError<u32>,
 ) -> Result<(), AllocError> {
     match refusal {
-        KitError::Grammar(errors) => push_all_errors(alloc, text, source, errors.as_slice()),
+        KitError::Grammar(errors) => push_all_errors(alloc, messages, text, errors.as_slice()),
+        KitError::AcceptReduce(pidx) => push_ending(alloc, messages, text, *pidx),
         other => {
-            let message = other.to_string(alloc)?;
-            source.push_unplaced(alloc, text, Severity::Error, message.as_str())
+            let words = other.to_string(alloc)?;
+            Message::new(Severity::Error, None, words).push_to(messages)
         }
     }
 }
 
-/// Adds a message about the name that stands at a place.
+/// Adds a message about the name at a place.
 pub(crate) fn push_named(
     alloc: Global,
-    text: &mut String,
-    source: &Source<'_>,
+    messages: &mut Vec<Message>,
+    text: &str,
     severity: Severity,
     span: Span,
     what: &str,
 ) -> Result<(), AllocError> {
-    let name = part(source.text(), span.start(), span.end());
-    let message = format!(in alloc; "{what} '{name}'")?;
-    source.push_message(alloc, text, severity, span, message.as_str())
+    let name = part(text, span.start(), span.end());
+    let words = format!(in alloc; "{what} '{name}'")?;
+    Message::new(severity, Some(span), words).push_to(messages)
 }
 
 fn push_warning(
     alloc: Global,
-    text: &mut String,
-    source: &Source<'_>,
+    messages: &mut Vec<Message>,
+    text: &str,
     warning: &YaccGrammarWarning,
 ) -> Result<(), AllocError> {
     let what = warning.kind.to_string(alloc)?;
-    let severity = Severity::Warning;
     match warning.spans.as_slice().first() {
-        Some(span) => push_named(alloc, text, source, severity, *span, what.as_str()),
-        None => source.push_unplaced(alloc, text, severity, what.as_str()),
+        Some(span) => push_named(
+            alloc,
+            messages,
+            text,
+            Severity::Warning,
+            *span,
+            what.as_str(),
+        ),
+        None => Message::new(Severity::Warning, None, what).push_to(messages),
     }
 }
 
 /// Adds what a text declares and doesn't use.
 fn push_unused(
     alloc: Global,
-    text: &mut String,
-    source: &Source<'_>,
+    messages: &mut Vec<Message>,
+    text: &str,
     ast: &GrammarAST,
 ) -> Result<(), AllocError> {
     let warnings = ast.warnings(alloc)?;
     'warnings: for warning in &warnings {
-        push_warning(alloc, text, source, warning)?;
+        push_warning(alloc, messages, text, warning)?;
     }
     Ok(())
 }
@@ -134,13 +138,13 @@ fn push_unused(
 /// Adds what of the declared tokens means something else than it seems to.
 fn push_token_warnings(
     alloc: Global,
-    text: &mut String,
-    source: &Source<'_>,
+    messages: &mut Vec<Message>,
+    text: &str,
 ) -> Result<(), AllocError> {
-    let hints = token_warnings(alloc, source.text())?;
+    let hints = token_warnings(alloc, text)?;
     'hints: for hint in &hints {
-        let words = hint.words.as_str();
-        source.push_message_if(alloc, text, Severity::Warning, hint.span, words)?;
+        let words = String::from_str(alloc, hint.words.as_str())?;
+        Message::new(Severity::Warning, hint.span, words).push_to(messages)?;
     }
     Ok(())
 }
@@ -148,10 +152,10 @@ fn push_token_warnings(
 /// Adds what a text declares and doesn't use, or declares twice.
 pub(crate) fn push_warnings(
     alloc: Global,
-    text: &mut String,
-    source: &Source<'_>,
+    messages: &mut Vec<Message>,
+    text: &str,
     ast: &GrammarAST,
 ) -> Result<(), AllocError> {
-    push_unused(alloc, text, source, ast)?;
-    push_token_warnings(alloc, text, source)
+    push_unused(alloc, messages, text, ast)?;
+    push_token_warnings(alloc, messages, text)
 }

@@ -1,16 +1,16 @@
 //! Warnings of what has no effect: precedences that settle nothing, and productions that are never reduced.
 
 use crate::faults::push_named;
-use crate::names::{Grammar, push_prod};
 use crate::production_places::production_span;
 use crate::settled::{Pair, action_on, ended_items};
 use cfg_base::index::IndexStorage;
 use cfg_base::symbol::PIdx;
 use cfg_read::yacc::ast::{self, GrammarAST, Production};
+use grammar_names::{Grammar, push_prod};
 use lrtable::{Action, Itemset, StIdx};
 use parser_kit::ParserKit;
 use std::alloc::{AllocError, Global};
-use text_messages::{Severity, Source};
+use text_messages::{Message, Severity};
 
 /// Returns the name of the last token of a production.
 fn last_token(production: &Production) -> Option<&str> {
@@ -61,8 +61,8 @@ fn set_named(flags: &mut Vec<bool>, ast: &GrammarAST, name: &str) {
 /// Adds a warning for each precedence that settles no conflict, as that of the token or of the production.
 fn push_idle_precedences(
     alloc: Global,
-    text: &mut String,
-    source: &Source<'_>,
+    messages: &mut Vec<Message>,
+    text: &str,
     kit: &ParserKit<u32>,
     pairs: &[Pair],
 ) -> Result<(), AllocError> {
@@ -85,7 +85,7 @@ fn push_idle_precedences(
     let mut index: usize = 0;
     'precedences: for (_name, kept) in kit.ast().precs() {
         if !is_set(used.as_slice(), index) {
-            push_named(alloc, text, source, Severity::Warning, kept.1, what)?;
+            push_named(alloc, messages, text, Severity::Warning, kept.1, what)?;
         }
         index = index.saturating_add(1);
     }
@@ -103,8 +103,7 @@ fn has_idle_prec(production: &Production, settles: bool) -> bool {
 /// Adds a warning for each `%prec` that changes nothing.
 fn push_idle_precs(
     alloc: Global,
-    text: &mut String,
-    source: &Source<'_>,
+    messages: &mut Vec<Message>,
     ast: &GrammarAST,
     pairs: &[Pair],
 ) -> Result<(), AllocError> {
@@ -115,14 +114,9 @@ fn push_idle_precs(
     'productions: for index in 0..ast.prods().len() {
         let production = &ast.prods()[index];
         if has_idle_prec(production, is_set(settles.as_slice(), index)) {
-            let span = production.prod_span();
-            source.push_message(
-                alloc,
-                text,
-                Severity::Warning,
-                span,
-                "%prec changes nothing",
-            )?;
+            let span = Some(production.prod_span());
+            let words = String::from_str(alloc, "%prec changes nothing")?;
+            Message::new(Severity::Warning, span, words).push_to(messages)?;
         }
     }
     Ok(())
@@ -180,8 +174,7 @@ fn all_ended(
 /// Adds a warning for each production of the text that stands complete in some state, and is reduced in none.
 fn push_unreduced(
     alloc: Global,
-    text: &mut String,
-    source: &Source<'_>,
+    messages: &mut Vec<Message>,
     kit: &ParserKit<u32>,
 ) -> Result<(), AllocError> {
     let count = kit.ast().prods().len();
@@ -190,7 +183,7 @@ fn push_unreduced(
     'productions: for index in 0..ended.len() {
         let number = ended[index].0.to_usize();
         if number < count && !is_set(reduced.as_slice(), number) {
-            push_never(alloc, text, source, kit, ended[index])?;
+            push_never(alloc, messages, kit, ended[index])?;
         }
     }
     Ok(())
@@ -199,26 +192,25 @@ fn push_unreduced(
 /// Adds the warning that a production is never reduced.
 fn push_never(
     alloc: Global,
-    text: &mut String,
-    source: &Source<'_>,
+    messages: &mut Vec<Message>,
     kit: &ParserKit<u32>,
     pidx: PIdx<u32>,
 ) -> Result<(), AllocError> {
-    let mut message = String::from_str(alloc, "Never reduced: ")?;
-    push_prod(&mut message, kit.grm(), pidx)?;
+    let mut words = String::from_str(alloc, "Never reduced: ")?;
+    push_prod(&mut words, kit.grm(), pidx)?;
     let span = production_span(kit.ast(), pidx);
-    source.push_message_if(alloc, text, Severity::Warning, span, message.as_str())
+    Message::new(Severity::Warning, span, words).push_to(messages)
 }
 
 /// Adds warnings of what has no effect, with these pairs settled by precedence.
 pub(crate) fn push_idle(
     alloc: Global,
-    text: &mut String,
-    source: &Source<'_>,
+    messages: &mut Vec<Message>,
+    text: &str,
     kit: &ParserKit<u32>,
     pairs: &[Pair],
 ) -> Result<(), AllocError> {
-    push_idle_precedences(alloc, text, source, kit, pairs)?;
-    push_idle_precs(alloc, text, source, kit.ast(), pairs)?;
-    push_unreduced(alloc, text, source, kit)
+    push_idle_precedences(alloc, messages, text, kit, pairs)?;
+    push_idle_precs(alloc, messages, kit.ast(), pairs)?;
+    push_unreduced(alloc, messages, kit)
 }

@@ -21,8 +21,9 @@
 //! ```
 //!
 //! For `%start E %% E: E '+' 'n' | 'n';` it answers 0, for `%start E %% E: E '+' E | 'n';` 1, and for `%start E %% E: E '+'`
-//! 2. The contract of `report` is that its outcome is so of the text (`specs/Outcomes`); which text it has is said in
-//! `docs/CHECKER.md`, and tested.
+//! 2. The contract of `report` is that its outcome holds for the text (`specs/Outcomes`); `docs/CHECKER.md` says which text it
+//! has, which is tested. A report is made of messages, counts and blocks of conflicts, which other forms may
+//! take too.
 #![tactic(auto)]
 
 mod asked;
@@ -35,14 +36,22 @@ mod examples;
 mod faults;
 mod idle;
 mod listed;
-mod names;
 mod next;
 mod outcome;
 mod production_places;
+mod reading;
 mod reporting;
 mod sentences;
 mod settled;
 
 pub use asked::{Asked, LineFile};
+pub use beginnings::nearest;
+pub use counts::{Counts, counts_of};
+pub use examples::push_example;
+pub use faults::push_refusal;
+pub use listed::{Listed, conflict_blocks, example_of, states_of};
 pub use outcome::{Outcome, Report, status};
-pub use reporting::{report, report_on};
+pub use production_places::{production_span, shift_span};
+pub use reading::{Reading, read_grammar};
+pub use reporting::{push_kit_warnings, report, report_on};
+pub use sentences::push_unproductive;

@@ -1,26 +1,27 @@
 //! Listed conflicts, ordered and taken together by their productions.
 
-use crate::names::{Grammar, push_token};
 use cfg_base::symbol::{PIdx, TIdx};
 use conflict_examples::{ConflictExample, ExampleFinder};
+use grammar_names::{Grammar, push_token};
 use lrtable::{Conflicts, StIdx};
+use parser_kit::ParserKit;
 use std::alloc::{AllocError, Global};
 
 /// A listed conflict: a reduction against a shift, or against another reduction.
-#[derive(Clone, Copy, PartialEq, Eq, PartialOrd, Ord)]
-pub(crate) struct Listed {
+#[derive(Clone, Copy, Debug, PartialEq, Eq, PartialOrd, Ord)]
+pub struct Listed {
+    /// The production that is reduced.
     pub pidx: PIdx<u32>,
     /// The other production of a pair.
     pub other: Option<PIdx<u32>>,
+    /// The token ahead.
     pub token: TIdx<u32>,
+    /// The state of both actions.
     pub state: StIdx<u32>,
 }
 
 /// Returns the listed shifts against reductions, ordered by production, token and state.
-pub(crate) fn listed_shifts(
-    alloc: Global,
-    conflicts: &Conflicts<u32>,
-) -> Result<Vec<Listed>, AllocError> {
+fn listed_shifts(alloc: Global, conflicts: &Conflicts<u32>) -> Result<Vec<Listed>, AllocError> {
     let mut listed = Vec::new(alloc);
     'entries: for entry in conflicts.sr_conflicts() {
         let (token, pidx, state) = *entry;
@@ -37,10 +38,7 @@ pub(crate) fn listed_shifts(
 }
 
 /// Returns the listed pairs of reductions, ordered by their productions, token and state.
-pub(crate) fn listed_pairs(
-    alloc: Global,
-    conflicts: &Conflicts<u32>,
-) -> Result<Vec<Listed>, AllocError> {
+fn listed_pairs(alloc: Global, conflicts: &Conflicts<u32>) -> Result<Vec<Listed>, AllocError> {
     let mut listed = Vec::new(alloc);
     'entries: for entry in conflicts.rr_conflicts() {
         let (token, pidx, second, state) = *entry;
@@ -57,7 +55,7 @@ pub(crate) fn listed_pairs(
 }
 
 /// Returns how many conflicts at the front are of the productions of the first one.
-pub(crate) fn same_productions_len(listed: &[Listed]) -> usize {
+fn same_productions_len(listed: &[Listed]) -> usize {
     let Some(first) = listed.first() else {
         return 0;
     };
@@ -69,6 +67,59 @@ pub(crate) fn same_productions_len(listed: &[Listed]) -> usize {
         count = count.saturating_add(1);
     }
     count
+}
+
+/// Returns how many conflicts at the front are in one block.
+fn block_len(listed: &[Listed], each: bool) -> usize {
+    if each {
+        1
+    } else {
+        same_productions_len(listed).max(1)
+    }
+}
+
+/// Adds a block for each production or pair of productions, or for each conflict.
+fn push_blocks(
+    alloc: Global,
+    blocks: &mut Vec<Vec<Listed>>,
+    listed: &[Listed],
+    each: bool,
+) -> Result<(), AllocError> {
+    let mut start: usize = 0;
+    'blocks: while start < listed.len() {
+        let (_, left) = listed.split_at(start);
+        let (block, _) = left.split_at(block_len(left, each).min(left.len()));
+        blocks.push(Vec::from_slice(alloc, block)?)?;
+        start = start.saturating_add(block.len().max(1));
+    }
+    Ok(())
+}
+
+/// Returns the listed conflicts in blocks: one for each production or pair of productions, or for each conflict. Pairs of
+/// reductions come first. Blocks are in the order of the productions, and conflicts in that of the tokens, then of the states.
+pub fn conflict_blocks(
+    alloc: Global,
+    kit: &ParserKit<u32>,
+    each: bool,
+) -> Result<Vec<Vec<Listed>>, AllocError> {
+    let mut blocks = Vec::new(alloc);
+    if let Some(conflicts) = kit.conflicts() {
+        push_all_blocks(alloc, &mut blocks, conflicts, each)?;
+    }
+    Ok(blocks)
+}
+
+/// Adds the blocks of both lists.
+fn push_all_blocks(
+    alloc: Global,
+    blocks: &mut Vec<Vec<Listed>>,
+    conflicts: &Conflicts<u32>,
+    each: bool,
+) -> Result<(), AllocError> {
+    let pairs = listed_pairs(alloc, conflicts)?;
+    push_blocks(alloc, blocks, pairs.as_slice(), each)?;
+    let shifts = listed_shifts(alloc, conflicts)?;
+    push_blocks(alloc, blocks, shifts.as_slice(), each)
 }
 
 /// Adds the tokens of conflicts that are ordered by token.
@@ -87,15 +138,15 @@ pub(crate) fn push_tokens(
     Ok(())
 }
 
-/// Returns how many states conflicts are in.
-fn states_len(alloc: Global, listed: &[Listed]) -> Result<usize, AllocError> {
+/// Returns the states that conflicts are in, in order.
+pub fn states_of(alloc: Global, listed: &[Listed]) -> Result<Vec<StIdx<u32>>, AllocError> {
     let mut states = Vec::new(alloc);
     'entries: for entry in listed {
         states.push(entry.state)?;
     }
     states.sort()?;
     states.dedup();
-    Ok(states.len())
+    Ok(states)
 }
 
 /// Adds how many states conflicts are in.
@@ -104,7 +155,8 @@ pub(crate) fn push_states_len(
     text: &mut String,
     listed: &[Listed],
 ) -> Result<(), AllocError> {
-    let told = match states_len(alloc, listed)? {
+    let states = states_of(alloc, listed)?;
+    let told = match states.len() {
         1 => String::from_str(alloc, " in 1 state")?,
         count => format!(in alloc; " in {count} states")?,
     };
@@ -134,7 +186,7 @@ fn example_of_one(
 }
 
 /// Returns an example of the first conflict that has one.
-pub(crate) fn example_of(
+pub fn example_of(
     alloc: Global,
     finder: &ExampleFinder<'_, u32>,
     listed: &[Listed],

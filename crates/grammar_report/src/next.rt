@@ -1,10 +1,10 @@
 //! Errors of lines, each with the tokens that may come there.
 
 use crate::asked::LineFile;
-use crate::names::push_token;
 use cfg_base::index::IndexStorage;
 use cfg_base::span::Span;
 use cfg_base::symbol::TIdx;
+use grammar_names::push_token;
 use lrpar::{LexError, LexParseError, Lexer, ParseRefusal, Prefix, RTParserBuilder};
 use parser_kit::ParserKit;
 use std::alloc::{AllocError, Global};
@@ -163,9 +163,10 @@ fn errors_of(
     alloc: Global,
     kit: &ParserKit<u32>,
     lines: LineFile<'_>,
+    color: bool,
 ) -> Result<String, AllocError> {
     let mut text = String::new(alloc);
-    let source = Source::new(alloc, lines.text, lines.path)?;
+    let source = Source::new(alloc, lines.text, lines.path)?.with_color(color);
     let pushed = push_lines(alloc, &mut text, &source, kit, lines.text);
     drop(source);
     pushed?;
@@ -178,9 +179,10 @@ pub(crate) fn push_next(
     text: &mut String,
     kit: &ParserKit<u32>,
     lines: LineFile<'_>,
+    color: bool,
 ) -> Result<(), AllocError> {
     text.push_str("\nLines:\n")?;
-    let errors = errors_of(alloc, kit, lines)?;
+    let errors = errors_of(alloc, kit, lines, color)?;
     if errors.is_empty() {
         return text.push_str("No line has an error.\n");
     }

@@ -1,4 +1,4 @@
-//! What a report comes to.
+//! What a report says of a text.
 
 ghost use Rattle.std.specs.Prelude.{◌≡◌};
 ghost use Rattle.grammar_report.specs.Outcomes.{status_of};
@@ -8,6 +8,8 @@ ghost use Rattle.grammar_report.specs.Outcomes.{status_of};
 pub enum Outcome {
     /// It gives no parser.
     Invalid,
+    /// It gives one that accepts no text: the start rule derives none.
+    Barren,
     /// It gives one, with other conflicts than expected.
     Unexpected,
     /// It gives one, with no conflicts, or as many as expected.
@@ -23,13 +25,14 @@ pub struct Report {
     pub outcome: Outcome,
 }
 
-/// The exit status of a program that tells the report.
+/// Returns the exit status of a program that shows the report.
 pub fn status(outcome: Outcome) -> u8
     ensures { result ≡ status_of outcome }
 {
     match outcome {
         Outcome::Expected => 0,
         Outcome::Unexpected => 1,
+        Outcome::Barren => 2,
         Outcome::Invalid => 2,
     }
 }

@@ -1,13 +1,15 @@
 //! Where a text has its productions and their tokens.
 
-use crate::names::{Grammar, prod_body};
 use cfg_base::index::IndexStorage;
 use cfg_base::span::Span;
 use cfg_base::symbol::{PIdx, SIdx, Symbol};
 use cfg_read::yacc::ast::{self, GrammarAST};
+use conflict_examples::ConflictExample;
+use grammar_names::{Grammar, prod_body};
+use parser_kit::ParserKit;
 
 /// Returns where a production stands. One that is added to those of the text has no place.
-pub(crate) fn production_span(ast: &GrammarAST, pidx: PIdx<u32>) -> Option<Span> {
+pub fn production_span(ast: &GrammarAST, pidx: PIdx<u32>) -> Option<Span> {
     let production = ast.prods().get(pidx.0.to_usize())?;
     Some(production.prod_span())
 }
@@ -38,13 +40,15 @@ fn nth_token_span(symbols: &[ast::Symbol], number: usize) -> Option<Span> {
     None
 }
 
+/// Returns where the token of an example of a shift is shifted: in the production of the item, if the text has it.
+pub fn shift_span(kit: &ParserKit<u32>, example: &ConflictExample<u32>) -> Option<Span> {
+    let item = example.first.spine.as_slice().last()?;
+    token_span_after(kit.grm(), kit.ast(), *item)
+}
+
 /// Returns where the token after the dot stands. The rules that may follow the tokens of a production, where its kind has
 /// implicit tokens, are passed over, since the text doesn't have them.
-pub(crate) fn token_span_after(
-    grm: &Grammar,
-    ast: &GrammarAST,
-    item: (PIdx<u32>, SIdx<u32>),
-) -> Option<Span> {
+fn token_span_after(grm: &Grammar, ast: &GrammarAST, item: (PIdx<u32>, SIdx<u32>)) -> Option<Span> {
     let (pidx, dot) = item;
     let production = ast.prods().get(pidx.0.to_usize())?;
     nth_token_span(production.symbols(), tokens_before(grm, pidx, dot))

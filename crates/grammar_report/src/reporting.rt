@@ -1,25 +1,21 @@
 //! The report on a text.
 
-ghost use Rattle.std.specs.Prelude.{IfOk, OnOk};
-ghost use Rattle.parser_kit.specs.KitErrors.{IsMemory};
+ghost use Rattle.std.specs.Prelude.{IfOk};
 ghost use Rattle.grammar_report.specs.Outcomes.{IsOutcome};
 
 use crate::asked::Asked;
 use crate::conflicts::push_conflicts;
-use crate::counts::{outcome_of, push_counts};
-use crate::endings::push_ending;
+use crate::counts::{counts_of, expectation_of, push_counts};
 use crate::faults::{push_refusal, push_warnings};
 use crate::idle::push_idle;
 use crate::next::push_next;
 use crate::outcome::{Outcome, Report};
-use crate::sentences::{push_all_unproductive, push_sentences};
-use crate::settled::{Pair, all_pairs, push_settled};
+use crate::reading::{Reading, read_grammar};
+use crate::sentences::{push_sentences, push_unproductive};
+use crate::settled::{all_pairs, push_settled};
 use parser_kit::{KitError, ParserKit};
 use std::alloc::{AllocError, Global};
-use text_messages::{Severity, Source};
-
-// No chain of reductions on one token goes past this.
-const CAP: u16 = 1000;
+use text_messages::{Message, Severity, Source};
 
 /// Adds whether each line that is a sentence gets its only tree, or that no line is one.
 fn push_completeness(
@@ -39,59 +35,108 @@ fn push_completeness(
     }
 }
 
-/// Adds the rules that derive no list of tokens, if there are any, and returns whether the start rule is one of them.
-fn push_unproductive(
+/// Adds the warnings of a text that gives a parser.
+pub fn push_kit_warnings(
     alloc: Global,
-    text: &mut String,
-    source: &Source<'_>,
+    messages: &mut Vec<Message>,
+    text: &str,
     kit: &ParserKit<u32>,
-) -> Result<bool, AllocError> {
-    if kit.all_productive() {
-        return Ok(false);
-    }
-    push_all_unproductive(alloc, text, source, kit.grm(), kit.ast())
+) -> Result<(), AllocError> {
+    push_warnings(alloc, messages, text, kit.ast())?;
+    let pairs = all_pairs(alloc, kit)?;
+    push_idle(alloc, messages, text, kit, pairs.as_slice())
 }
 
-/// Adds the warnings of a text that gives a parser, and an empty line behind them.
-fn push_all_warnings(
+/// Adds messages.
+fn push_messages(
+    alloc: Global,
+    text: &mut String,
+    source: &Source<'_>,
+    messages: &[Message],
+) -> Result<(), AllocError> {
+    'messages: for message in messages {
+        source.push(alloc, text, message)?;
+    }
+    Ok(())
+}
+
+/// Adds messages that were collected, and returns whether there are any.
+fn push_collected(
+    alloc: Global,
+    text: &mut String,
+    source: &Source<'_>,
+    messages: Vec<Message>,
+    collected: Result<(), AllocError>,
+) -> Result<bool, AllocError> {
+    let pushed = match collected {
+        Ok(()) => push_messages(alloc, text, source, messages.as_slice()),
+        Err(e) => Err(e),
+    };
+    let has_some = !messages.is_empty();
+    drop(messages);
+    pushed?;
+    Ok(has_some)
+}
+
+/// Adds messages that were collected, and an empty line behind them, if there are any.
+fn push_part(
+    alloc: Global,
+    text: &mut String,
+    source: &Source<'_>,
+    messages: Vec<Message>,
+    collected: Result<(), AllocError>,
+) -> Result<(), AllocError> {
+    if push_collected(alloc, text, source, messages, collected)? {
+        return text.push('\n');
+    }
+    Ok(())
+}
+
+/// Adds the warnings, as a part.
+fn push_warning_part(
     alloc: Global,
     text: &mut String,
     source: &Source<'_>,
     kit: &ParserKit<u32>,
-    pairs: &[Pair],
 ) -> Result<(), AllocError> {
-    push_warnings(alloc, text, source, kit.ast())?;
-    push_idle(alloc, text, source, kit, pairs)?;
-    if text.is_empty() {
-        return Ok(());
-    }
-    text.push('\n')
+    let mut messages = Vec::new(alloc);
+    let collected = push_kit_warnings(alloc, &mut messages, source.text(), kit);
+    push_part(alloc, text, source, messages, collected)
+}
+
+/// Adds the rules that derive no list of tokens, as a part.
+fn push_unproductive_part(
+    alloc: Global,
+    text: &mut String,
+    source: &Source<'_>,
+    kit: &ParserKit<u32>,
+) -> Result<(), AllocError> {
+    let mut messages = Vec::new(alloc);
+    let collected = push_unproductive(alloc, &mut messages, source.text(), kit);
+    push_part(alloc, text, source, messages, collected)
 }
 
 /// Returns how grave listed conflicts are.
-fn severity_of(outcome: Outcome) -> Severity {
-    match outcome {
+fn conflict_severity(kit: &ParserKit<u32>) -> Severity {
+    match expectation_of(kit) {
         Outcome::Expected => Severity::Note,
         _ => Severity::Warning,
     }
 }
 
-/// Adds what a report tells of each kit.
-fn push_told(
+/// Adds what a report has of each kit behind its warnings.
+fn push_findings(
     alloc: Global,
     text: &mut String,
     source: &Source<'_>,
     kit: &ParserKit<u32>,
-    severity: Severity,
     asked: Asked<'_>,
 ) -> Result<(), AllocError> {
+    push_counts(alloc, text, counts_of(kit))?;
+    push_unproductive_part(alloc, text, source, kit)?;
+    push_conflicts(alloc, text, source, kit, conflict_severity(kit), asked)?;
     let pairs = all_pairs(alloc, kit)?;
-    push_all_warnings(alloc, text, source, kit, pairs.as_slice())?;
-    push_counts(alloc, text, kit)?;
-    let barren = push_unproductive(alloc, text, source, kit)?;
-    push_conflicts(alloc, text, source, kit, severity, asked)?;
-    push_settled(text, kit.grm(), pairs.as_slice())?;
-    push_completeness(text, kit, barren)
+    push_settled(text, kit.grm(), pairs.as_slice())
 }
 
 /// Adds the closed states.
@@ -108,6 +153,7 @@ fn push_asked(
     text: &mut String,
     kit: &ParserKit<u32>,
     asked: Asked<'_>,
+    color: bool,
 ) -> Result<(), AllocError> {
     if asked.states {
         push_states(alloc, text, kit)?;
@@ -116,77 +162,66 @@ fn push_asked(
         push_sentences(alloc, text, kit.grm(), kit.ast())?;
     }
     if let Some(lines) = asked.next {
-        push_next(alloc, text, kit, lines)?;
+        push_next(alloc, text, kit, lines, color)?;
     }
     Ok(())
 }
 
+/// Returns the report on a text that gives a parser.
 fn text_of_kit(
     alloc: Global,
     source: &Source<'_>,
     kit: &ParserKit<u32>,
-    severity: Severity,
+    outcome: Outcome,
     asked: Asked<'_>,
 ) -> Result<String, AllocError> {
     let mut text = String::new(alloc);
-    push_told(alloc, &mut text, source, kit, severity, asked)?;
-    push_asked(alloc, &mut text, kit, asked)?;
+    push_warning_part(alloc, &mut text, source, kit)?;
+    push_findings(alloc, &mut text, source, kit, asked)?;
+    push_completeness(&mut text, kit, outcome == Outcome::Barren)?;
+    push_asked(alloc, &mut text, kit, asked, source.in_color())?;
     Ok(text)
 }
 
-/// Adds why a text gives no parser.
-fn push_cause(
-    alloc: Global,
-    text: &mut String,
-    source: &Source<'_>,
-    refusal: &KitError<u32>,
-) -> Result<(), AllocError> {
-    match refusal {
-        KitError::AcceptReduce(pidx) => { push_ending(alloc, text, source, *pidx) }
-        _ => push_refusal(alloc, text, source, refusal),
-    }
-}
-
-/// The report on a text that gives no parser.
+/// Returns the errors of a text that gives no parser.
 fn text_of_refusal(
     alloc: Global,
     source: &Source<'_>,
     refusal: &KitError<u32>,
-) -> Result<String, AllocError>
-    ensures { OnOk result (IsMemory refusal.now → ⊥) }
-{
-    if let KitError::Memory(e) = refusal {
-        return Err(*e);
-    }
+) -> Result<String, AllocError> {
+    let mut messages = Vec::new(alloc);
+    let collected = push_refusal(alloc, &mut messages, source.text(), refusal);
     let mut text = String::new(alloc);
-    push_cause(alloc, &mut text, source, refusal)?;
+    push_collected(alloc, &mut text, source, messages, collected)?;
     Ok(text)
 }
 
-/// Returns the report on a source's text, of the kind that its section tells, else of `Original(GenericParseTree)`. Places are
-/// those of the source. No chain of reductions on one token goes past 1000.
-pub fn report_on(alloc: Global, source: &Source<'_>, asked: Asked<'_>) -> Result<Report, AllocError>
-    ensures { IfOk result (λ r. IsOutcome source.now.text r.outcome) }
-{
-    match ParserKit::of_text(alloc, source.text(), CAP) {
-        Ok(kit) => {
-            let outcome = outcome_of(&kit);
-            let told = text_of_kit(alloc, source, &kit, severity_of(outcome), asked);
-            drop(kit);
-            let text = told?;
-            Ok(Report { text, outcome })
-        }
-        Err(refusal) => {
-            let told = text_of_refusal(alloc, source, &refusal);
-            drop(refusal);
-            let text = told?;
-            let outcome = Outcome::Invalid;
-            Ok(Report { text, outcome })
-        }
+/// Returns the report on what a source's text gives.
+fn text_of(
+    alloc: Global,
+    source: &Source<'_>,
+    reading: &Reading,
+    asked: Asked<'_>,
+) -> Result<String, AllocError> {
+    match &reading.kit {
+        Ok(kit) => text_of_kit(alloc, source, kit, reading.outcome, asked),
+        Err(refusal) => text_of_refusal(alloc, source, refusal),
     }
 }
 
-/// The report on a grammar's text, as `report_on` makes it. Places are told with the path.
+/// Returns the report on a source's text, as `read_grammar` reads it. Places are those of the source.
+pub fn report_on(alloc: Global, source: &Source<'_>, asked: Asked<'_>) -> Result<Report, AllocError>
+    ensures { IfOk result (λ r. IsOutcome source.now.text r.outcome) }
+{
+    let reading = read_grammar(alloc, source.text())?;
+    let outcome = reading.outcome;
+    let told = text_of(alloc, source, &reading, asked);
+    drop(reading);
+    let text = told?;
+    Ok(Report { text, outcome })
+}
+
+/// Returns the report on a grammar's text, as `report_on` makes it. Places have the path.
 pub fn report(alloc: Global, text: &str, path: &str, asked: Asked<'_>) -> Result<Report, AllocError>
     ensures { IfOk result (λ r. IsOutcome text.now r.outcome) }
 {

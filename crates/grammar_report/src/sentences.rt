@@ -1,14 +1,17 @@
 //! Cheapest sentences of rules, and rules without sentences. Each token costs one.
 
-ghost use Rattle.std.specs.Prelude.{◌≡◌, ◌<◌};
+ghost use Rattle.std.specs.Prelude.{◌≡◌, ◌<◌, IfOk};
+ghost use Rattle.cfg_sets.specs.Productive.{Tells};
+ghost use Rattle.cfg_theory.specs.Derivation.{IsProductive};
 
 use crate::faults::push_named;
-use crate::names::{Grammar, push_line, push_token, push_word};
 use cfg_base::symbol::{RIdx, TIdx};
 use cfg_read::yacc::ast::GrammarAST;
 use cfg_sentences::{CostError, SentenceError, SentenceGenerator};
+use grammar_names::{Grammar, push_line, push_token, push_word};
+use parser_kit::ParserKit;
 use std::alloc::{AllocError, Global};
-use text_messages::{Severity, Source};
+use text_messages::{Message, Severity};
 
 /// Whether a rule of the text derives no list of tokens.
 fn is_unproductive(grm: &Grammar, costs: &SentenceGenerator<'_, u32>, name: &str) -> bool
@@ -31,22 +34,20 @@ fn is_start(ast: &GrammarAST, name: &str) -> bool {
     }
 }
 
-/// Adds the rules of the text that derive no list of tokens, and returns whether the start rule is one of them.
+/// Adds the rules of the text that derive no list of tokens: the start rule as an error.
 fn push_unproductive_of(
     alloc: Global,
-    text: &mut String,
-    source: &Source<'_>,
+    messages: &mut Vec<Message>,
+    text: &str,
     grm: &Grammar,
     ast: &GrammarAST,
     costs: &SentenceGenerator<'_, u32>,
-) -> Result<bool, AllocError>
+) -> Result<(), AllocError>
     requires { costs.now.grammar ≡ grm.now.grammar }
 {
-    let mut barren = false;
     'rules: for (name, rule) in ast.rules() {
         if is_unproductive(grm, costs, name.as_str()) {
             let (severity, what) = if is_start(ast, name.as_str()) {
-                barren = true;
                 (
                     Severity::Error,
                     "No line is a sentence: unproductive start rule",
@@ -54,26 +55,41 @@ fn push_unproductive_of(
             } else {
                 (Severity::Warning, "Unproductive rule")
             };
-            push_named(alloc, text, source, severity, rule.name.1, what)?;
+            push_named(alloc, messages, text, severity, rule.name.1, what)?;
         }
     }
-    Ok(barren)
+    Ok(())
 }
 
-/// Adds the rules of the text that derive no list of tokens, and an empty line behind them. It returns whether the start rule
-/// is one of them.
-pub(crate) fn push_all_unproductive(
+/// Adds a message for each rule of the text that derives no list of tokens: an error for the start rule, warnings for others.
+pub fn push_unproductive(
     alloc: Global,
-    text: &mut String,
-    source: &Source<'_>,
-    grm: &Grammar,
-    ast: &GrammarAST,
-) -> Result<bool, AllocError> {
-    let costs = SentenceGenerator::new(alloc, grm, |_token| 1)?;
-    let pushed = push_unproductive_of(alloc, text, source, grm, ast, &costs);
+    messages: &mut Vec<Message>,
+    text: &str,
+    kit: &ParserKit<u32>,
+) -> Result<(), AllocError> {
+    if kit.all_productive() {
+        return Ok(());
+    }
+    let costs = SentenceGenerator::new(alloc, kit.grm(), |_token| 1)?;
+    let pushed = push_unproductive_of(alloc, messages, text, kit.grm(), kit.ast(), &costs);
     drop(costs);
-    text.push('\n')?;
     pushed
+}
+
+/// Returns whether the start rule derives some list of tokens.
+pub(crate) fn has_sentences(alloc: Global, grm: &Grammar) -> Result<bool, AllocError>
+    ensures { IfOk result (λ b. Tells (IsProductive grm.now.grammar 0) b) }
+{
+    let start = grm.start_rule_idx();
+    let costs = SentenceGenerator::new(alloc, grm, |_token| 1)?;
+    let least = costs.min_sentence_cost(start);
+    drop(costs);
+    match least {
+        Ok(_) => Ok(true),
+        Err(CostError::CostTooLarge) => Ok(true),
+        Err(CostError::NoSentence) => Ok(false),
+    }
 }
 
 fn push_tokens(text: &mut String, grm: &Grammar, tokens: &[TIdx<u32>]) -> Result<(), AllocError> {

@@ -1,8 +1,8 @@
 //! Where precedences choose between a shift and a reduction.
 
-use crate::names::{Grammar, body_len, push_prod, push_token};
 use cfg_base::index::IndexStorage;
 use cfg_base::symbol::{PIdx, SIdx, Symbol, TIdx};
+use grammar_names::{Grammar, body_len, push_prod, push_token};
 use lrtable::{Action, Itemset, StIdx, StateTable};
 use parser_kit::ParserKit;
 use std::alloc::{AllocError, Global};

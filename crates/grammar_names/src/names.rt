@@ -1,21 +1,22 @@
-//! Symbols, productions and items by their names. Each word of a line has a space before it.
+//! Names of symbols, productions and items.
 
 use cfg_base::index::IndexStorage;
 use cfg_base::symbol::{PIdx, RIdx, SIdx, Symbol, TIdx};
 use cfg_numbered::yacc::NumberedGrammar;
 use std::alloc::AllocError;
 
-/// A grammar as reports see it.
-pub(crate) type Grammar = NumberedGrammar<u32>;
+/// A grammar, as names of it are asked for.
+pub type Grammar = NumberedGrammar<u32>;
 
-/// The name of a token; `$` for the end token.
-fn token_name(grm: &Grammar, tidx: TIdx<u32>) -> &str {
+/// Returns the name of a token; `$` for the end token.
+pub fn token_name(grm: &Grammar, tidx: TIdx<u32>) -> &str {
     if !grm.has_token(tidx) {
         return "$";
     }
     grm.token_name(tidx).unwrap_or("$")
 }
 
+/// Returns the name of a rule; none of one that the grammar doesn't have.
 fn rule_name(grm: &Grammar, ridx: RIdx<u32>) -> &str {
     if !grm.has_rule(ridx) {
         return "";
@@ -23,14 +24,15 @@ fn rule_name(grm: &Grammar, ridx: RIdx<u32>) -> &str {
     grm.rule_name_str(ridx)
 }
 
-fn symbol_name(grm: &Grammar, symbol: Symbol<u32>) -> &str {
+/// Returns the name of a symbol.
+pub fn symbol_name(grm: &Grammar, symbol: Symbol<u32>) -> &str {
     match symbol {
         Symbol::Rule(ridx) => rule_name(grm, ridx),
         Symbol::Token(tidx) => token_name(grm, tidx),
     }
 }
 
-/// The rule of a production, and its symbols.
+/// Returns the rule of a production, and its symbols.
 fn rule_and_body(grm: &Grammar, pidx: PIdx<u32>) -> (&str, &[Symbol<u32>]) {
     if !grm.has_prod(pidx) {
         return ("", &[]);
@@ -39,40 +41,36 @@ fn rule_and_body(grm: &Grammar, pidx: PIdx<u32>) -> (&str, &[Symbol<u32>]) {
 }
 
 /// Returns the symbols of a production.
-pub(crate) fn prod_body(grm: &Grammar, pidx: PIdx<u32>) -> &[Symbol<u32>] {
+pub fn prod_body(grm: &Grammar, pidx: PIdx<u32>) -> &[Symbol<u32>] {
     let (_, body) = rule_and_body(grm, pidx);
     body
 }
 
 /// Returns how many symbols a production has.
-pub(crate) fn body_len(grm: &Grammar, pidx: PIdx<u32>) -> usize {
+pub fn body_len(grm: &Grammar, pidx: PIdx<u32>) -> usize {
     prod_body(grm, pidx).len()
 }
 
 /// Returns the symbols behind the rule after the dot.
-pub(crate) fn symbols_behind(grm: &Grammar, item: (PIdx<u32>, SIdx<u32>)) -> &[Symbol<u32>] {
+pub fn symbols_behind(grm: &Grammar, item: (PIdx<u32>, SIdx<u32>)) -> &[Symbol<u32>] {
     let (pidx, dot) = item;
     let from = dot.0.to_usize().saturating_add(1);
     prod_body(grm, pidx).get(from..).unwrap_or(&[])
 }
 
 /// Adds a word.
-pub(crate) fn push_word(text: &mut String, word: &str) -> Result<(), AllocError> {
+pub fn push_word(text: &mut String, word: &str) -> Result<(), AllocError> {
     text.push(' ')?;
     text.push_str(word)
 }
 
 /// Adds a token.
-pub(crate) fn push_token(
-    text: &mut String,
-    grm: &Grammar,
-    tidx: TIdx<u32>,
-) -> Result<(), AllocError> {
+pub fn push_token(text: &mut String, grm: &Grammar, tidx: TIdx<u32>) -> Result<(), AllocError> {
     push_word(text, token_name(grm, tidx))
 }
 
 /// Adds symbols.
-pub(crate) fn push_symbols(
+pub fn push_symbols(
     text: &mut String,
     grm: &Grammar,
     symbols: &[Symbol<u32>],
@@ -84,7 +82,7 @@ pub(crate) fn push_symbols(
 }
 
 /// Adds symbols, and `%empty` in place of none.
-pub(crate) fn push_body(
+pub fn push_body(
     text: &mut String,
     grm: &Grammar,
     symbols: &[Symbol<u32>],
@@ -96,11 +94,7 @@ pub(crate) fn push_body(
 }
 
 /// Adds a production: `RULE: X Y`.
-pub(crate) fn push_prod(
-    text: &mut String,
-    grm: &Grammar,
-    pidx: PIdx<u32>,
-) -> Result<(), AllocError> {
+pub fn push_prod(text: &mut String, grm: &Grammar, pidx: PIdx<u32>) -> Result<(), AllocError> {
     let (rule, body) = rule_and_body(grm, pidx);
     text.push_str(rule)?;
     text.push(':')?;
@@ -108,7 +102,7 @@ pub(crate) fn push_prod(
 }
 
 /// Adds a production with a dot: `RULE: X . Y`.
-pub(crate) fn push_item(
+pub fn push_item(
     text: &mut String,
     grm: &Grammar,
     pidx: PIdx<u32>,
@@ -124,7 +118,7 @@ pub(crate) fn push_item(
 }
 
 /// Adds a line.
-pub(crate) fn push_line(text: &mut String, line: &str) -> Result<(), AllocError> {
+pub fn push_line(text: &mut String, line: &str) -> Result<(), AllocError> {
     text.push_str(line)?;
     text.push('\n')
 }

@@ -1,7 +1,7 @@
 //! What the kit promises: a function a promise, its sentence above it, the clauses below it.
 //!
 //! A promise on a call is a function that makes the call and has those of its clauses that say the promise; one on values is
-//! a law, a function with nothing to run. Nothing is promised by prose alone: `tools/promises` makes `docs/PROMISES.md` of
+//! a law, a function with nothing to run. Nothing is promised by prose alone: `tools/docs/promises` makes `docs/PROMISES.md` of
 //! this crate. `kits` is of texts and what they give, `lists` of conflict lists, `parses` of values and errors, `runs` of whole runs.
 #![tactic(auto)]
 

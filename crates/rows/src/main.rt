@@ -1,5 +1,5 @@
 //! Prints files of rows, each with what a crate answers to its texts in the place of the answers that it holds: a file of right
-//! answers is printed as it is. `tools/rows` makes `args` and `stdout` of the files in `data/`.
+//! answers is printed as it is. `tools/rows/rows` makes `args` and `stdout` of the files in `data/`.
 //!
 //! The arguments are words of `Kind` and paths: a file is answered by the crate of the word before it.
 #![tactic(auto)]

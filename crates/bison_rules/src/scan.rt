@@ -55,7 +55,7 @@ pub(crate) struct Scanner {
     /// The byte before, or 0.
     last: u8,
     /// A byte for each brace or tag that is open.
-    open: Vec<u8>,
+    brackets: Vec<u8>,
     /// The quote that ends a quote.
     quote: u8,
     /// The bytes of a word or a quote so far.
@@ -131,7 +131,7 @@ impl Scanner {
             place: Place::Gap,
             home: Place::Gap,
             last: 0,
-            open: Vec::new(alloc),
+            brackets: Vec::new(alloc),
             quote: 0,
             word: Vec::new(alloc),
             has_rules: false,
@@ -161,7 +161,7 @@ impl Scanner {
         ensures { scan_model self.new ≡ deep_in place 0 (scan_model self.old) }
     {
         self.in_place(place);
-        self.open.clear();
+        self.brackets.clear();
     }
 
     /// Goes on in a place with one pair of brackets.
@@ -169,7 +169,7 @@ impl Scanner {
         ensures { OnOk result (scan_model self.new ≡ deep_in place 1 (scan_model self.old)) }
     {
         self.unopened_in(place);
-        self.open.push(0)?;
+        self.brackets.push(0)?;
         Ok(())
     }
 
@@ -434,27 +434,27 @@ impl Scanner {
     }
 
     /// Goes on in one more pair of brackets.
-    fn open(&mut self, place: Place) -> Result<(), AllocError>
-        ensures { OnOk result (scan_model self.new ≡ deep_in place (length self.old.open.items + 1) (scan_model self.old)) }
+    fn open_another(&mut self, place: Place) -> Result<(), AllocError>
+        ensures { OnOk result (scan_model self.new ≡ deep_in place (length self.old.brackets.items + 1) (scan_model self.old)) }
     {
         self.in_place(place);
-        self.open.push(0)?;
+        self.brackets.push(0)?;
         Ok(())
     }
 
     /// Goes on in one pair of brackets less.
     fn close(&mut self, place: Place)
-        ensures { scan_model self.new ≡ deep_in place (length self.old.open.items - 1) (scan_model self.old) }
+        ensures { scan_model self.new ≡ deep_in place (length self.old.brackets.items - 1) (scan_model self.old) }
     {
         self.in_place(place);
-        let _closed = self.open.pop();
+        let _closed = self.brackets.pop();
     }
 
     /// Closes a tag.
     fn close_tag(&mut self)
         ensures { scan_model self.new ≡ close_tag (scan_model self.old) }
     {
-        if self.open.len() == 1 {
+        if self.brackets.len() == 1 {
             self.in_place(Place::Gap);
         } else {
             self.close(Place::Tag);
@@ -466,7 +466,7 @@ impl Scanner {
         ensures { OnOk result (scan_model self.new ≡ in_tag b (scan_model self.old)) }
     {
         if b == b'<' {
-            return self.open(Place::Tag);
+            return self.open_another(Place::Tag);
         }
         if b == b'>' && self.last != b'-' {
             self.close_tag();
@@ -489,7 +489,7 @@ impl Scanner {
     fn close_code(&mut self) -> Result<(), AllocError>
         ensures { OnOk result (scan_model self.new ≡ close_code (scan_model self.old)) }
     {
-        if self.open.len() == 1 {
+        if self.brackets.len() == 1 {
             self.in_place(Place::Gap);
             return self.reading.take_action();
         }
@@ -502,7 +502,7 @@ impl Scanner {
         ensures { OnOk result (scan_model self.new ≡ in_braces b (scan_model self.old)) }
     {
         if b == b'{' || (self.last == b'<' && b == b'%') {
-            return self.open(Place::Code);
+            return self.open_another(Place::Code);
         }
         if b == b'}' || (self.last == b'%' && b == b'>') {
             return self.close_code();

@@ -1,5 +1,5 @@
 -- Sequences of few edits.
-use Rattle.std.proofs.Common.{◌≤◌, ◌<◌, ◌+◌, ◌-◌, ℕ, List, [], ◌∷◌, ◌++◌, length, arith}
+use Rattle.std.proofs.Common.{◌≤◌, ◌<◌, ◌-◌, ℕ, List, [], ◌∷◌, ◌++◌, length, arith}
 use Rattle.std.specs.List.{AllByRecursion}
 use Rattle.lr_theory.specs.Repair.{Edit}
 use Rattle.repair_search.specs.FewEdits.{AreFew, edits_in}

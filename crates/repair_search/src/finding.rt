@@ -1,6 +1,6 @@
 //! The search at each error of a list.
 
-ghost use Rattle.std.specs.Prelude.{◌≡◌, ◌+◌, ◌≤◌, IfOk, OnOk};
+ghost use Rattle.std.specs.Prelude.{◌≡◌, ◌+◌, ◌<◌, ◌≤◌, ◌^◌, IfOk, OnOk};
 ghost use Rattle.repair_search.specs.FewEdits.{most_edits, steps_made};
 
 use crate::repairs::{Found, Repairs};
@@ -104,6 +104,7 @@ fn search_within<S: IndexStorage>(
 impl<'a, S: IndexStorage> Finder<'a, S> {
     /// Searches at an error, and goes behind the first sequence. Returns whether there is one.
     fn repair(&mut self, alloc: Global, task: &Task<'_, S>) -> Result<bool, AllocError>
+        requires { self.old.used + self.old.left < 2 ^ 64 }
         ensures steps { OnOk result (self.new.used + self.new.left ≡ self.old.used + self.old.left) }
         ensures left { OnOk result (self.new.stacks.left ≤ self.old.stacks.left) }
     {
@@ -122,6 +123,7 @@ impl<'a, S: IndexStorage> Finder<'a, S> {
 
     /// Goes through a list.
     fn find(&mut self, alloc: Global, task: &Task<'_, S>) -> Result<(), AllocError>
+        requires { self.old.used + self.old.left < 2 ^ 64 }
         ensures { OnOk result (self.new.used + self.new.left ≡ self.old.used + self.old.left) }
     {
         'tokens: while self.stacks.left > 0 {

@@ -67,11 +67,7 @@ impl<S: IndexStorage> Repairs<S> {
     }
 
     /// Returns the sequences for the error at a lexeme.
-    fn few_at(
-        &self,
-        alloc: Global,
-        index: usize,
-    ) -> Result<Vec<Vec<RepairStep<S>>>, AllocError>
+    fn few_at(&self, alloc: Global, index: usize) -> Result<Vec<Vec<RepairStep<S>>>, AllocError>
         ensures { IfOk result (λ r. AreFew (most_edits self.now) (sequences_of S.number r.items)) }
     {
         let number = self.count_before(index);

@@ -10,7 +10,8 @@ tells_more : (source : SourceValue) (es : List (ParseError TextLexeme ℕ)) (e :
 tells_more source [] e a b c is t = let P : Option (List ℕ) → Type 0 = λ k. TellsError source e.lexeme.span k c in (c, subst P is t, refl)
 tells_more source (x ∷ xs) e a b c (between, first, rest) t = (between, first, tells_more source xs e between b c rest t)
 
-pub tells_next : (source : SourceValue) (es : List (ParseError TextLexeme ℕ)) (i : ℕ) (e : ParseError TextLexeme ℕ) (a b c : Option (List ℕ)) → i < length es → TellsErrors source (take i es) a b → TellsError source (get_or es i e).lexeme.span b c → TellsErrors source (take (i + 1) es) a c
-tells_next source es i e a b c lt told t =
+pub tells_next : (source : SourceValue) (es : List (ParseError TextLexeme ℕ)) (i : ℕ) (e : ParseError TextLexeme ℕ) (a b c : Option (List ℕ)) → i < length es → e ≡ get_or es i e → TellsErrors source (take i es) a b → TellsError source e.lexeme.span b c → TellsErrors source (take (i + 1) es) a c
+tells_next source es i e a b c lt is told t =
     let P : List (ParseError TextLexeme ℕ) → Type 0 = λ xs. TellsErrors source xs a c in
-    subst P (sym (take_more es i e lt)) (tells_more source (take i es) (get_or es i e) a b c told t)
+    let Q : ParseError TextLexeme ℕ → Type 0 = λ x. TellsError source x.lexeme.span b c in
+    subst P (sym (take_more es i e lt)) (tells_more source (take i es) (get_or es i e) a b c told (subst Q is t))

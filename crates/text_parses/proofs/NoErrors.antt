@@ -21,6 +21,10 @@ all_of_none : {X : Type 0} (P : X → Type 0) (xs : List X) → xs ≡ [] → Al
 all_of_none P [] e = tt
 all_of_none P (x ∷ xs) e = cc
 
+pub nil_of : {X : Type 0} (xs : List X) → length xs ≡ 0 → xs ≡ []
+nil_of [] e = refl
+nil_of (x ∷ xs) e = cc
+
 not_some : {L : Type 0} (at : L → Span) (tree : Option (Tree L)) → IsSome tree → HasFlat at None tree → ⊥
 not_some at None some gives = absurd (true≢false (sym some))
 not_some at (Some t) some gives = absurd gives

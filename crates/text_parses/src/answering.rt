@@ -55,7 +55,7 @@ fn write_parsed<W: Sink>(
     parsed: &Parsed,
     out: &mut W,
 ) -> Result<bool, AnswerFault>
-    requires { IsParsed kit.now.parser lexer.now.items input.entry.edits parsed.now }
+    requires { IsParsed kit.now.parser lexer.now.items input.edits parsed.now }
     ensures { IfOk result (Answers kit.now.parser lexer.now.items (asked_of input.entry) (W.known out.old) (W.known out.new)) }
 {
     match parsed {

@@ -89,14 +89,24 @@ impl<'a> Reader<'a> {
         Ok(())
     }
 
+    /// Reads the next lexeme, if it begins before an offset, and returns whether it does.
+    fn read_one(&mut self, end: usize) -> Result<bool, AllocError> {
+        if let Some(lexeme) = self.lexemes.get(self.next).copied() {
+            if lexeme.span.start() < end {
+                self.push(lexeme.tok_id)?;
+                self.next = self.next.saturating_add(1);
+                return Ok(true);
+            }
+        }
+        Ok(false)
+    }
+
     /// Reads the lexemes before an offset.
     fn read_before(&mut self, end: usize) -> Result<(), AllocError> {
-        'lexemes: while let Some(lexeme) = self.lexemes.get(self.next).copied() {
-            if lexeme.span.start() >= end {
+        'lexemes: for _index in self.next..self.lexemes.len() {
+            if !self.read_one(end)? {
                 return Ok(());
             }
-            self.push(lexeme.tok_id)?;
-            self.next += 1;
         }
         Ok(())
     }

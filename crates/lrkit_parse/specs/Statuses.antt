@@ -2,10 +2,6 @@
 use Rattle.std.specs.Prelude.{◌≡◌, ◌<◌, ℕ, List, length, Result, Ok, Err, Option, None, Some}
 use Rattle.std.specs.Str.Lossy.{utf8_valid_len}
 use Rattle.byte_streams.specs.Inputs.{most_bytes}
-use Rattle.parse_trees.specs.declared.lexemes.ParseRefusal.{ParseRefusal}
-use Rattle.parse_trees.specs.declared.lexemes.ParseRefusal.TheVariants as refusals
-use Rattle.lrkit_parse.specs.declared.answer_fault.AnswerFault.{AnswerFault}
-use Rattle.lrkit_parse.specs.declared.answer_fault.AnswerFault.TheVariants as answers
 use Rattle.lrkit_parse.specs.declared.fault.Outcome.{Outcome}
 use Rattle.lrkit_parse.specs.declared.fault.Outcome.TheVariants.{Parsed, Faulty, NoParser}
 use Rattle.lrkit_parse.specs.declared.fault.ParseFault.{ParseFault}
@@ -33,12 +29,6 @@ path_of Lexemes = None
 path_of (Write cause) = None
 path_of Closed = None
 path_of Memory = None
-
--- why a text is not answered whose parse is refused
-abbrev pub fault_of_parse : ParseRefusal → AnswerFault
-fault_of_parse (refusals.LexemeOutside k) = answers.Lexemes
-fault_of_parse (refusals.StartDecreases k) = answers.Lexemes
-fault_of_parse (refusals.Memory e) = answers.Memory e
 
 -- more bytes than an input may have, or no text from this byte on
 abbrev pub IsTextFault : ℕ → List ℕ → ParseFault → Type 0

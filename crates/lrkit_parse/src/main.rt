@@ -1,22 +1,13 @@
-//! The program `lrkit-parse GRAMMAR LEXER FILE .. [--tree | --sexp | --quiet]`: trees of texts, by a grammar and a lexer file.
+//! The program `lrkit-parse GRAMMAR LEXER FILE .. [--tree | --sexp | --quiet] [--repairs N]`: trees of texts, by a grammar and a lexer file.
 #![tactic(auto)]
 
 ghost use Rattle.std.specs.Prelude.{◌≡◌};
 
-mod answer_fault;
-mod answering;
-mod expected;
 mod fault;
-mod lines;
 mod making;
-mod names;
-mod parsing;
 mod recorded;
-mod repeated;
 mod running;
-mod sexps;
 mod streams;
-mod trees;
 mod warnings;
 mod words;
 
@@ -35,15 +26,16 @@ const OUT_OF_MEMORY: u8 = 6;
 const WRITE_FAULT: u8 = 5;
 
 const HELP: &str = "\
-usage: lrkit-parse GRAMMAR LEXER FILE .. [--tree | --sexp | --quiet]
+usage: lrkit-parse GRAMMAR LEXER FILE .. [--tree | --sexp | --quiet] [--repairs N]
        lrkit-parse --help | --version
 
-Parses each file as a whole, by a grammar and the rules of a lexer file, and writes its tree, or its first error. A path may be
-`-`, for standard input; behind `--` each word is a path.
+Parses each file as a whole, by a grammar and the rules of a lexer file, and writes its tree, or its errors. Behind an error
+parsing goes on with a repair. A path may be `-`, for standard input; behind `--` each word is a path.
 
   --tree        a line for each node of the tree, as without this word
   --sexp        each tree as one expression, on a line
   --quiet       errors alone
+  --repairs N   repairs of at most N insertions and deletions, which are listed; with 0 only the first error. Else N is 3
 
 Status: 0 each file has a tree; 1 some has an error; 2 no parser or no lexer; 5 input or output; 6 memory; 64 usage.
 ";
@@ -102,7 +94,9 @@ fn tell<R: Print>(rt: &R, text: &str) -> u8 {
 fn usage(rt: &impl Eprint) -> u8
     ensures { result ≡ USAGE }
 {
-    let _ = eprintln!(rt; "usage: lrkit-parse GRAMMAR LEXER FILE .. [--tree | --sexp | --quiet]");
+    let _ = eprintln!(rt;
+        "usage: lrkit-parse GRAMMAR LEXER FILE .. [--tree | --sexp | --quiet] [--repairs N]"
+    );
     USAGE
 }
 

@@ -1,6 +1,5 @@
 //! From the words to the trees.
 
-use crate::answering::{Input, answer_text};
 use crate::fault::{Outcome, ParseFault};
 use crate::making::{make_kit, make_rules};
 use crate::recorded::Recorded;
@@ -12,6 +11,7 @@ use parser_kit::ParserKit;
 use std::io;
 use std::io::Write;
 use std::rt::Files;
+use text_parses::{Input, answer_text};
 
 /// How many paths are behind the program's name where there is one text.
 const ONE_TEXT: usize = 3;
@@ -31,6 +31,8 @@ fn answer_file<R: Files + io::Input + AllocGlobal, W: Write>(
         text: text.as_str(),
         form: words.form,
         named: words.paths.len() > ONE_TEXT,
+        edits: words.edits,
+        listed: words.listed,
     };
     match answer_text(rt.alloc(), kit, bound, input, out) {
         Ok(well) => Ok(well),
@@ -88,7 +90,7 @@ fn answer_with<R: Files + io::Input + Print + Eprint + AllocGlobal>(
     }
 }
 
-/// Reads the grammar and the lexer, and writes for each text its tree or its first error.
+/// Reads the grammar and the lexer, and writes for each text its tree or its errors.
 pub fn run<R: Files + io::Input + Print + Eprint + AllocGlobal>(
     rt: &R,
     words: &Words,

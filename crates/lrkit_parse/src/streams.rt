@@ -3,7 +3,6 @@
 ghost use Rattle.std.specs.Prelude.{◌≡◌, IfErr, IfOk, string_bytes};
 ghost use Rattle.lrkit_parse.specs.Statuses.{IsTextFault};
 
-use crate::answer_fault::AnswerFault;
 use crate::fault::ParseFault;
 use crate::recorded::{Recorded, cause_of};
 use crate::words::Words;
@@ -12,6 +11,7 @@ use std::alloc::Global;
 use std::io::{ErrorKind, Read, Write};
 use std::rt::Files;
 use std::{fs, io};
+use text_parses::AnswerFault;
 
 /// How many bytes are read of an input at most: one more than it may have.
 const MOST_TAKEN: u64 = 67_108_865;

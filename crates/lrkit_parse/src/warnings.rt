@@ -1,11 +1,11 @@
 //! What is said of a grammar and a lexer that serve: names that only one of them has, and conflicts.
 
-use crate::names::token_name;
 use cfg_base::index::IndexStorage;
 use cfg_base::symbol::TIdx;
 use lrlex::{BoundRules, LexRules};
 use parser_kit::ParserKit;
 use std::alloc::AllocError;
+use text_parses::token_name;
 
 /// Returns the name of a rule of the lexer; nothing for one that is skipped.
 fn rule_name(rules: &LexRules, rule: usize) -> &str {

@@ -5,17 +5,10 @@ ghost use Rattle.lrkit_parse.specs.Paths.{path_at};
 
 use std::alloc::{AllocError, Global};
 use std::env::Args;
+use text_parses::Form;
 
-/// How a tree is written.
-#[derive(Clone, Copy, Debug, PartialEq, Eq)]
-pub enum Form {
-    /// A line for each node.
-    Tree,
-    /// One expression, on a line.
-    Sexp,
-    /// Not at all.
-    Quiet,
-}
+/// How many edits a repair has at most where the arguments don't say.
+const EDITS: usize = 3;
 
 /// What is to be parsed.
 #[derive(Drop)]
@@ -24,6 +17,10 @@ pub struct Words {
     pub paths: Vec<String>,
     /// How trees are written.
     pub form: Form,
+    /// How many lexemes a repair deletes and inserts at most.
+    pub edits: usize,
+    /// Whether repairs are listed.
+    pub listed: bool,
 }
 
 /// What the arguments ask for.
@@ -81,14 +78,34 @@ fn call_of(word: &str) -> Call {
     }
 }
 
+/// Takes the number of edits.
+fn take_edits(read: &mut Words, word: Option<String>) -> bool {
+    let number = match &word {
+        Some(word) => word.as_str().parse::<usize>(),
+        None => return false,
+    };
+    match number {
+        Ok(edits) => {
+            read.edits = edits;
+            read.listed = true;
+            true
+        }
+        Err(_) => false,
+    }
+}
+
 /// Takes the words behind the program's name, and returns another call where they ask for one. Behind `--` each word is a path.
-fn take_words(read: &mut Words, words: Args) -> Result<Option<Call>, AllocError> {
+fn take_words(read: &mut Words, mut words: Args) -> Result<Option<Call>, AllocError> {
     let mut only_paths = false;
-    'words: for word in words {
+    'words: while let Some(word) = words.next() {
         if only_paths || !word.as_str().starts_with("--") {
             read.paths.push(word)?;
         } else if word.as_str() == "--" {
             only_paths = true;
+        } else if word.as_str() == "--repairs" {
+            if !take_edits(read, words.next()) {
+                return Ok(Some(Call::Wrong));
+            }
         } else if let Some(form) = form_of(word.as_str()) {
             read.form = form;
         } else {
@@ -107,6 +124,8 @@ pub fn read_words(alloc: Global, mut words: Args) -> Result<Call, AllocError> {
     let mut read = Words {
         paths: Vec::new(alloc),
         form: Form::Tree,
+        edits: EDITS,
+        listed: false,
     };
     match take_words(&mut read, words) {
         Ok(None) => Ok(Call::Parse(read)),

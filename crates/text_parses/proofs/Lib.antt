@@ -1,0 +1,5 @@
+pub mod Repeats
+pub mod OutBut
+pub mod NoErrors
+pub mod ErrorsTold
+pub mod Begun

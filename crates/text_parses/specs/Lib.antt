@@ -1,0 +1,4 @@
+pub mod Answers
+pub mod AskedTexts
+pub mod Quoted
+pub mod AnswerFaults

@@ -1,0 +1,44 @@
+//! Parses of whole texts by a kit and the rules of a lexer: the tree, or the errors.
+//!
+//! ```rust
+//! use byte_streams::Sink;
+//! use lrlex::BoundRules;
+//! use parser_kit::ParserKit;
+//! use std::alloc::Global;
+//! use text_parses::{AnswerFault, Form, Input, answer_text};
+//!
+//! /// Writes the tree or the errors of a text, and returns whether it has a tree.
+//! fn answer<W: Sink>(
+//!     alloc: Global,
+//!     kit: &ParserKit<u32>,
+//!     bound: &BoundRules<'_, u32>,
+//!     text: &str,
+//!     out: &mut W,
+//! ) -> Result<bool, AnswerFault> {
+//!     let input = Input { path: "text", text, form: Form::Tree, named: false, edits: 3, listed: false };
+//!     answer_text(alloc, kit, bound, input, out)
+//! }
+//! ```
+//!
+//! A text's lexemes are its parts by the longest match (`lrlex`). Where they have no error, their tree is written in the form that
+//! is asked for; else a message for each error, in their order. A parse goes on behind an error by the first repair that
+//! `repair_search` finds there. `specs/Answers` says what is written.
+#![tactic(auto)]
+
+mod answer_fault;
+mod answering;
+mod errors;
+mod expected;
+mod form;
+mod lines;
+mod listing;
+mod names;
+mod parsing;
+mod repeated;
+mod sexps;
+mod trees;
+
+pub use answer_fault::AnswerFault;
+pub use answering::answer_text;
+pub use form::{Form, Input};
+pub use names::{Grammar, token_name};

@@ -78,13 +78,9 @@ fn call_of(word: &str) -> Call {
     }
 }
 
-/// Takes the number of edits.
-fn take_edits(read: &mut Words, word: Option<String>) -> bool {
-    let number = match &word {
-        Some(word) => word.as_str().parse::<usize>(),
-        None => return false,
-    };
-    match number {
+/// Takes the number of edits, and returns whether the word is one.
+fn take_edits(read: &mut Words, word: &str) -> bool {
+    match word.parse::<usize>() {
         Ok(edits) => {
             read.edits = edits;
             read.listed = true;
@@ -95,24 +91,28 @@ fn take_edits(read: &mut Words, word: Option<String>) -> bool {
 }
 
 /// Takes the words behind the program's name, and returns another call where they ask for one. Behind `--` each word is a path.
-fn take_words(read: &mut Words, mut words: Args) -> Result<Option<Call>, AllocError> {
+fn take_words(read: &mut Words, words: Args) -> Result<Option<Call>, AllocError> {
     let mut only_paths = false;
-    'words: while let Some(word) = words.next() {
-        if only_paths || !word.as_str().starts_with("--") {
+    let mut wants_edits = false;
+    'words: for word in words {
+        if wants_edits {
+            wants_edits = false;
+            if !take_edits(read, word.as_str()) {
+                return Ok(Some(Call::Wrong));
+            }
+        } else if only_paths || !word.as_str().starts_with("--") {
             read.paths.push(word)?;
         } else if word.as_str() == "--" {
             only_paths = true;
         } else if word.as_str() == "--repairs" {
-            if !take_edits(read, words.next()) {
-                return Ok(Some(Call::Wrong));
-            }
+            wants_edits = true;
         } else if let Some(form) = form_of(word.as_str()) {
             read.form = form;
         } else {
             return Ok(Some(call_of(word.as_str())));
         }
     }
-    if !read.is_complete() {
+    if wants_edits || !read.is_complete() {
         return Ok(Some(Call::Wrong));
     }
     Ok(None)

@@ -384,7 +384,7 @@ impl Scanner {
     }
 
     /// Takes a string or a character of the file.
-    fn quoted(&mut self) -> Result<(), AllocError>
+    fn take_quoted_byte(&mut self) -> Result<(), AllocError>
         ensures { OnOk result (scan_model self.new ≡ quoted (scan_model self.old)) }
     {
         if self.quote == b'"' {
@@ -415,7 +415,7 @@ impl Scanner {
             self.in_place(Place::Wrong);
             return Ok(());
         }
-        self.quoted()
+        self.take_quoted_byte()
     }
 
     /// Takes a byte of a quote.

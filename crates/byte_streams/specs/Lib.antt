@@ -3,3 +3,4 @@ pub mod Sink
 pub mod Counting
 pub mod Inputs
 pub mod FaultTexts
+pub mod Recording

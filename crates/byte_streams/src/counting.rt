@@ -36,7 +36,7 @@ impl<T> Counted<T> {
 }
 
 // Returns the count raised by one, up to `u64::MAX`.
-fn raised(count: u64) -> u64
+fn count_one_more(count: u64) -> u64
     ensures { result ≡ one_more count }
 {
     count.saturating_add(1)
@@ -47,7 +47,7 @@ fn after_taking(taken: usize, handed: usize, count: u64) -> u64
     ensures { CountsTaken taken handed count result }
 {
     if taken == 0 && handed > 0 {
-        raised(count)
+        count_one_more(count)
     } else {
         count
     }
@@ -64,7 +64,7 @@ impl<R: Read> Source for Counted<R> {
         match self.inner.read(buf) {
             Ok(n) => Ok(n),
             Err(e) => {
-                self.failures = raised(self.failures);
+                self.failures = count_one_more(self.failures);
                 Err(e)
             }
         }
@@ -89,7 +89,7 @@ impl<W: Write> Sink for Counted<W> {
                 Ok(n)
             }
             Err(e) => {
-                self.failures = raised(self.failures);
+                self.failures = count_one_more(self.failures);
                 Err(e)
             }
         }

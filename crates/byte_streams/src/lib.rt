@@ -1,5 +1,5 @@
 //! Sources and sinks of bytes with a count of failures: the traits `Source` and `Sink`, and `Counted`, which makes
-//! either of any reader or writer of std. `read_text` reads an input to its end as a text. `write_all` writes a whole
+//! either of any reader or writer of std; `Recorded` also keeps the last failure. `read_text` reads an input to its end as a text. `write_all` writes a whole
 //! text, and `write_long` writes a text in parts as it is made, so that few bytes wait.
 //!
 //! ```rust
@@ -23,8 +23,10 @@
 
 mod counting;
 mod reading;
+mod recorded;
 mod writing;
 
 pub use counting::Counted;
 pub use reading::{InputFault, MOST_BYTES, Source, read_text};
+pub use recorded::{Recorded, cause_of};
 pub use writing::{MOST_WAITING, Sink, WriteFault, write_all, write_long};

@@ -104,6 +104,24 @@ pub data LacksKind (text : List ℕ) (fs : List FailureText) : Type 0 where
   without_section : FailsSection text fs → LacksKind text fs
   without_kind : (pairs : List PairText) (end : ℕ) → HasSection text pairs end → FailsKind (told_kind pairs) fs → LacksKind text fs
 
+-- the text has no section, or one without a key for the kind
+pub record TellsNoKind (text : List ℕ) : Type 0 where
+  pub pairs : List PairText
+  pub end : ℕ
+  pub section : HasSection text pairs end
+  pub lacks : told_kind pairs ≡ None
+
+-- the key is there, and its value stands for no kind
+pub record FailsValue (told : Option (Meaning SpanModel)) (fs : List FailureText) : Type 0 where
+  pub meaning : Meaning SpanModel
+  pub some : told ≡ Some meaning
+  pub fails : FailsMeaning meaning fs
+
+-- the section is faulty, or the value of its key stands for no kind
+pub data FailsToTell (text : List ℕ) (fs : List FailureText) : Type 0 where
+  faulty_section : FailsSection text fs → FailsToTell text fs
+  faulty_kind : (pairs : List PairText) (end : ℕ) → HasSection text pairs end → FailsValue (told_kind pairs) fs → FailsToTell text fs
+
 pub data KindOutcome (text : List ℕ) : Type 0 where
   tells_kind : (kind : YaccKind) → TellsKind text kind → KindOutcome text
   lacks_kind : (fs : List FailureText) → LacksKind text fs → KindOutcome text

@@ -8,6 +8,7 @@ mod name;
 mod name_table;
 mod names;
 pub mod parser;
+mod text_kind;
 pub mod validity;
 mod validity_info;
 
@@ -17,6 +18,7 @@ pub use file::{YaccGrammarFailure, YaccGrammarResult, one_file, one_kind};
 pub use kind::{KindError, kind_comes_back};
 pub use name::Name;
 pub use parser::error::YaccGrammarErrorKind;
+pub use text_kind::kind_of;
 pub use validity::YaccGrammarError;
 pub use validity_info::{
     ASTModificationError, ASTWithValidityInfo, one_answer, valid_trees_are_well_formed,

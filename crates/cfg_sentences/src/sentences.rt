@@ -9,13 +9,13 @@ ghost use Rattle.cfg_sentences.specs.declared.sentences.SentenceError.TheVariant
 mod bounded;
 mod cheapest;
 mod cheapest_first;
+mod dirty_productions;
 mod first_cheapest;
 mod groups;
 mod kept_costs;
 mod least;
 mod max_cost;
 mod needed;
-mod once;
 mod shared_lists;
 mod shared_order;
 mod token_costs;

@@ -14,7 +14,8 @@ use Rattle.cfg_theory.specs.Grammar.{Sym, rule, token, Grammar, WellFormed, IsNe
 use Rattle.cfg_theory.specs.Productive.{RulesIn, ProductiveIsExact, ProductiveTablesAreExact}
 use Rattle.cfg_theory.proofs.Derivation.{derives_rule}
 use Rattle.cfg_theory.proofs.Productive.{list_of}
-use Rattle.cfg_sets.specs.Productive.{EachProductive, Tells}
+use Rattle.cfg_sets.specs.Productive.{EachProductive}
+use Rattle.cfg_theory.specs.Decides.{Decides}
 use Rattle.cfg_sets.specs.Searching.{AllFoundFrom, IsLookedAt, IsSearch, KeepsLooks, LooksAt, NamesUnfound, TellsHeld, TellsHold}
 use Rattle.cfg_sets.specs.declared.productive.Search.{Search}
 
@@ -181,7 +182,7 @@ module _ (exact : ProductiveTablesAreExact) (G : Grammar) (s : Search) (is : IsS
   table : ProductiveIsExact G Found
   table = exact.exact G (is_set s.found.bits) (record { productive = is.productive; closed = closed })
 
-  pub tells_each : (b : Bool) → Tells ((A : ℕ) → A < length s.found.bits → Found A) b → Tells (EachProductive G) b
+  pub tells_each : (b : Bool) → Decides ((A : ℕ) → A < length s.found.bits → Found A) b → Decides (EachProductive G) b
   tells_each true all = λ A lt. is.productive A (all A (let n = is.rules in omega (arith, lt, n)))
   tells_each false not_all = λ each. not_all (λ A lt. (table.rule_productive A).1 (each A (let n = is.rules in omega (arith, lt, n))))
 

@@ -6,8 +6,3 @@ use Rattle.cfg_theory.specs.Grammar.{Grammar}
 -- each rule derives some token list
 abbrev pub EachProductive : Grammar → Type 0
 EachProductive G = (A : ℕ) → A < G.rules → IsProductive G A
-
--- an answer to whether P holds
-abbrev pub Tells : Type 0 → Bool → Type 0
-Tells P true = P
-Tells P false = P → ⊥

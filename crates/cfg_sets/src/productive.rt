@@ -8,7 +8,8 @@ ghost use Rattle.std.specs.Prelude.{◌≡◌, ℕ, ◌<◌, ◌≤◌, [], ◌�
 ghost use Rattle.vob.specs.Sets.{is_set};
 ghost use Rattle.cfg_numbered.specs.Symbols.{sym_of};
 ghost use Rattle.cfg_sets.specs.WorkLists.{HasList, ListsNaming};
-ghost use Rattle.cfg_sets.specs.Productive.{EachProductive, Tells};
+ghost use Rattle.cfg_sets.specs.Productive.{EachProductive};
+ghost use Rattle.cfg_theory.specs.Decides.{Decides};
 ghost use Rattle.cfg_sets.specs.Searching.{AllFoundFrom, IsLookedAt, IsSearch, LooksAt, NamesUnfound, TellsHeld, TellsHold, room};
 
 use crate::naming::Naming;
@@ -190,7 +191,7 @@ impl Search {
 
     /// Whether all rules are found.
     fn has_all(&self) -> bool
-        ensures { Tells ((A : ℕ) → A < length self.now.found.bits → IsTrue (is_set self.now.found.bits A)) result }
+        ensures { Decides ((A : ℕ) → A < length self.now.found.bits → IsTrue (is_set self.now.found.bits A)) result }
     {
         'rules: for rule in 0..self.found.len() {
             if !self.found.get_unchecked(rule) {
@@ -206,7 +207,7 @@ pub fn all_productive<S: IndexStorage>(
     alloc: Global,
     grm: &NumberedGrammar<S>,
 ) -> Result<bool, AllocError>
-    ensures { IfOk result (Tells (EachProductive grm.now.grammar)) }
+    ensures { IfOk result (Decides (EachProductive grm.now.grammar)) }
 {
     productive_tables_are_exact();
     let naming = Naming::new(alloc, grm)?;

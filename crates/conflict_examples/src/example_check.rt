@@ -12,7 +12,9 @@ ghost use Rattle.conflict_examples.specs.Spines.{IsExample};
 use crate::examples::ConflictExample;
 use crate::goto::leads_to;
 use crate::source::Source;
-use crate::witness::{Candidate, Witness, accept_witness, paired, reduce_witness, shift_witness};
+use crate::witness::{
+    Candidate, Witness, accept_witness, pair_witnesses, reduce_witness, shift_witness,
+};
 use cfg_base::index::IndexStorage;
 use cfg_base::symbol::PIdx;
 use cfg_numbered::yacc::NumberedGrammar;
@@ -33,7 +35,7 @@ fn paired_in<'a, S: IndexStorage>(
     if !leads_to(source.graph, first.symbols.as_slice(), stidx) {
         return None;
     }
-    paired(source.token, first, second)
+    pair_witnesses(source.token, first, second)
 }
 
 /// Returns the example of a shift against a reduction, if the candidates are one.
@@ -100,5 +102,5 @@ pub(crate) fn accept_example<S: IndexStorage>(
     let Some(other) = reduce_witness(alloc, grm, &candidates.1, token, production)? else {
         return Ok(None);
     };
-    Ok(paired(token, one, other))
+    Ok(pair_witnesses(token, one, other))
 }

@@ -9,7 +9,7 @@ ghost use Rattle.conflict_examples.specs.Spines.{around, forms_by};
 
 use crate::derivation::{first_of, put_first};
 use crate::productions::{symbols_behind, symbols_of};
-use crate::symbols::{push_reversed, reversed};
+use crate::symbols::{push_reversed, reverse_form};
 use cfg_base::index::IndexStorage;
 use cfg_base::symbol::{PIdx, SIdx, Symbol};
 use cfg_numbered::yacc::NumberedGrammar;
@@ -64,7 +64,7 @@ fn with_form<S: IndexStorage>(
     ensures { IfOk result (λ v. map (λ f. syms_of S.number f.items) v.items ≡ map (λ f. syms_of S.number f.items) forms.items ++ reverse (syms_of S.number form.now) ∷ []) }
 {
     let mut forms = forms;
-    forms.push(reversed(alloc, form)?)?;
+    forms.push(reverse_form(alloc, form)?)?;
     Ok(forms)
 }
 
@@ -83,7 +83,7 @@ fn forms_from<S: IndexStorage>(
         if !begins_with_rule(form.as_slice()) {
             return with_form(alloc, forms, form.as_slice());
         }
-        forms.push(reversed(alloc, form.as_slice())?)?;
+        forms.push(reverse_form(alloc, form.as_slice())?)?;
         put_first(grm, steps[k], &mut form)?;
     }
     with_form(alloc, forms, form.as_slice())

@@ -6,7 +6,7 @@ use crate::forms::behind_innermost;
 use crate::nullable::Nullable;
 use crate::productions::symbols_of;
 use crate::source::Source;
-use crate::symbols::reversed;
+use crate::symbols::reverse_form;
 use cfg_base::index::IndexStorage;
 use cfg_base::symbol::{PIdx, SIdx, Symbol};
 use cfg_numbered::yacc::NumberedGrammar;
@@ -211,7 +211,7 @@ pub(crate) fn steps_behind<'a, S: IndexStorage>(
         return steps_to_empty(alloc, source.grm, &source.tables.nullable, items);
     }
     let rest = behind_innermost(alloc, source.grm, items)?;
-    let form = reversed(alloc, rest.as_slice())?;
+    let form = reverse_form(alloc, rest.as_slice())?;
     let Some(way) = way_from(alloc, source, form.as_slice())? else {
         return Ok(None);
     };

@@ -55,7 +55,7 @@ pub(crate) fn push_reversed<S: IndexStorage>(
 }
 
 /// Returns the symbols in reverse order.
-pub(crate) fn reversed<S: IndexStorage>(
+pub(crate) fn reverse_form<S: IndexStorage>(
     alloc: Global,
     symbols: &[Symbol<S>],
 ) -> Result<Vec<Symbol<S>>, AllocError>

@@ -187,7 +187,7 @@ pub(crate) fn reduce_witness<S: IndexStorage>(
 }
 
 /// Makes the example of two actions. None where they come after different symbols.
-pub(crate) fn paired<S: IndexStorage>(
+pub(crate) fn pair_witnesses<S: IndexStorage>(
     token: TIdx<S>,
     first: Witness<S>,
     second: Witness<S>,

@@ -20,14 +20,15 @@ fn push_of_table<S: IndexStorage>(
     formatter: &SpannedDiagnosticFormatter,
     ast: &GrammarAST,
     grm: &YaccGrammar<S>,
-    graph: &StateGraph<S>,
-    table: &StateTable<S>,
+    tables: &(StateGraph<S>, StateTable<S>),
 ) -> Result<(), AllocError>
-    requires listed { IfSome table.now.conflicts (ConflictsInRange grm.now) }
+    requires listed { IfSome tables.now.1.conflicts (ConflictsInRange grm.now) }
 {
-    match table.conflicts() {
+    match tables.1.conflicts() {
         Some(conflicts) => {
-            let text = formatter.format_conflicts(alloc, grm, ast, conflicts, graph, table)?;
+            let text = formatter.format_conflicts(
+                alloc, grm, ast, conflicts, &tables.0, &tables.1,
+            )?;
             push_lines(out, text.as_str())
         }
         None => out.push_str("no conflict\n"),
@@ -42,10 +43,9 @@ fn push_of_grammar<S: IndexStorage>(
     grm: &YaccGrammar<S>,
 ) -> Result<(), AllocError> {
     match from_yacc(alloc, grm, Minimiser::Pager) {
-        Ok((graph, table)) => {
-            let pushed = push_of_table(alloc, out, formatter, ast, grm, &graph, &table);
-            drop(graph);
-            drop(table);
+        Ok(tables) => {
+            let pushed = push_of_table(alloc, out, formatter, ast, grm, &tables);
+            drop(tables);
             pushed
         }
         Err(FromYaccError::Memory(e)) => Err(e),

@@ -11,7 +11,7 @@ use Rattle.state_table.specs.Tables.{automaton_of}
 use Rattle.lrpar.specs.Acting.{acted_by, HasAction}
 use Rattle.parse_trees.specs.Lex.{Lex, token_by, span_by}
 use Rattle.parse_trees.specs.Lexemes.{IsFirstLexError}
-use Rattle.lrpar.specs.Told.{IsToldParse, IsToldOutcome, HandsOut, IsHandedOut}
+use Rattle.lrpar.specs.Told.{IsToldParse, IsReportedOutcome, HandsOut, IsHandedOut}
 use Rattle.lrpar.specs.declared.folded_parse.FoldedOutcome.{FoldedOutcome}
 use Rattle.lrpar.specs.declared.folded_parse.FoldedOutcome.TheVariants as folded
 use Rattle.lrpar.specs.declared.parse_actions.AStackType.{AStackType}
@@ -90,7 +90,7 @@ module _ {S E : Type 0} (line : List ℕ) (number : S → ℕ) (lex : Word → L
       let flawless = told.parse.flawless closed complete t (subst P (one_list xs told.lexemes items are told.are_items) derives) in
       found_is line G (span_by lex) found t (subst Q flawless.is_tree told.parse.parsed.gives_tree)
 
-  outcome_value : {X : Type 0} (fault : E → X) (wrong : ParseError Word S → X) (value : Option ℕ) (errors : List X) → (o : FoldedOutcome S Word E ℕ) → IsToldOutcome number lex faulty G g v (HasAction G (acts line) (span_by lex)) answers items o → HandsOut fault wrong o value errors → value ≡ Some (fold G (number_of line) valued (span_by lex) no_span t)
+  outcome_value : {X : Type 0} (fault : E → X) (wrong : ParseError Word S → X) (value : Option ℕ) (errors : List X) → (o : FoldedOutcome S Word E ℕ) → IsReportedOutcome number lex faulty G g v (HasAction G (acts line) (span_by lex)) answers items o → HandsOut fault wrong o value errors → value ≡ Some (fold G (number_of line) valued (span_by lex) no_span t)
   outcome_value fault wrong value errors (folded.Fault e) h k = absurd (faulty_list items e xs h are)
   outcome_value fault wrong value errors (folded.Parsed found es) h k = k.0 ∙ told_value found es.items h
 

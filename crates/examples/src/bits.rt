@@ -1,6 +1,6 @@
 //! Joins sets of small numbers to one, and counts the joins that changed it.
 //!
-//! The clause `seldom` of `joined` is proved by the law `vob::laws::or_changes_seldom` from the clauses `bits` and `changed`
+//! The clause `seldom` of `join_each` is proved by the law `vob::laws::or_changes_seldom` from the clauses `bits` and `changed`
 //! of `Vob::or`. An `or` that answers true where nothing changed, or one that drops an item of the set, would break it.
 ghost use Rattle.std.specs.Prelude.{◌≡◌, ◌<◌, ◌≤◌, length, All, IfOk};
 
@@ -19,7 +19,7 @@ fn set_of(alloc: Global, number: usize) -> Result<Vob, AllocError>
 
 /// Joins each of the others to a set, and counts the joins that changed it. However many are joined, at most as many as
 /// the set has items do.
-fn joined(set: &mut Vob, others: &[Vob]) -> usize
+fn join_each(set: &mut Vob, others: &[Vob]) -> usize
     requires { All (λ other. length other.bits ≡ length set.old.bits) others.now }
     ensures length { length set.new.bits ≡ length set.old.bits }
     ensures seldom { result ≤ length set.old.bits }
@@ -43,7 +43,7 @@ pub fn output(alloc: Global) -> Result<String, AllocError> {
         set_of(alloc, 1)?,
         set_of(alloc, 7)?,
     ];
-    let count = joined(&mut set, &others);
+    let count = join_each(&mut set, &others);
     let mut out = format!(in alloc;
         "{count} of {} joins changed the set. It holds:\n",
         others.len()

@@ -2,7 +2,7 @@
 
 use cfg_read::yacc::ast::GrammarAST;
 use std::alloc::{AllocError, Global};
-use strsim::levenshtein;
+use strsim::osa_distance;
 
 /// The name that is nearest so far, and how many characters differ.
 #[derive(Clone, Copy)]
@@ -24,7 +24,7 @@ fn nearer<'a>(
     other: &'a str,
     before: Option<Nearest<'a>>,
 ) -> Result<Option<Nearest<'a>>, AllocError> {
-    let distance = levenshtein(alloc, name, other)?;
+    let distance = osa_distance(alloc, name, other)?;
     let below = match before {
         Some(nearest) => nearest.distance,
         None => most_distant(name).saturating_add(1),

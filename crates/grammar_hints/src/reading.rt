@@ -40,9 +40,10 @@ const DECLARATIONS: &[(&str, &str)] = &[
 
 const NO_RULES: &str = "no `%%` stands before the rules";
 
-/// What is said where a token is wanted in a list and the text goes on so.
-fn list_words(next: Option<char>) -> Option<&'static str> {
+/// What is said where a token is wanted in a list behind this beginning of a text, and the text goes on so.
+fn list_words(front: &str, next: Option<char>) -> Option<&'static str> {
     match next {
+        Some(':') if front.find("%%").is_none() => Some(NO_RULES),
         Some('<') => Some("tokens have no <types>"),
         Some(',') => Some("a list has no commas: its items stand side by side"),
         Some(c) if c.is_ascii_digit() => Some("a token has no number of its own"),
@@ -138,7 +139,10 @@ pub(crate) fn reading_hint(
     match kind {
         YaccGrammarErrorKind::UnknownDeclaration => hint_of_words(alloc, declaration_words(rest)),
         YaccGrammarErrorKind::PrematureEnd => hint_of_words(alloc, Some(NO_RULES)),
-        YaccGrammarErrorKind::IllegalName => hint_of_words(alloc, list_words(rest.chars().next())),
+        YaccGrammarErrorKind::IllegalName => hint_of_words(
+            alloc,
+            list_words(front, rest.chars().next()),
+        ),
         YaccGrammarErrorKind::IncompleteRule => missing_end(alloc, text, front.trim_end()),
         YaccGrammarErrorKind::ProductionNotTerminated => alternative_hint(alloc, text, front, rest),
         _ => Ok(None),

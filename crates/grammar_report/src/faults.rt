@@ -1,12 +1,14 @@
 //! Errors and warnings of a text.
 
-use crate::endings::{kept_of, push_ending};
+use crate::accept_reduce::{kept_of, push_ending};
+use crate::long_chains::push_long_chain;
 use cfg_base::span::Span;
 use cfg_read::yacc::YaccGrammarError;
 use cfg_read::yacc::ast::GrammarAST;
 use cfg_read::yacc::ast::warnings::YaccGrammarWarning;
 use grammar_hints::{Hint, hint_of, token_warnings};
 use parser_kit::KitError;
+use refused_tables::Beginning;
 use std::alloc::{AllocError, Global};
 use text_messages::{Message, Severity, part};
 
@@ -80,6 +82,19 @@ pub fn push_refusal(
     match refusal {
         KitError::Grammar(errors) => push_all_errors(alloc, messages, text, errors.as_slice()),
         KitError::AcceptReduce(pidx) => push_ending(alloc, messages, text, *pidx),
+        KitError::TooManyReductions {
+            state,
+            rule,
+            token,
+            cap,
+        } => {
+            let beginning = Beginning {
+                state: *state,
+                rule: *rule,
+                token: *token,
+            };
+            push_long_chain(alloc, messages, text, *cap, beginning)
+        }
         other => {
             let words = other.to_string(alloc)?;
             Message::new(Severity::Error, None, words).push_to(messages)

@@ -21,21 +21,21 @@
 //! ```
 //!
 //! For `%start E %% E: E '+' 'n' | 'n';` it answers 0, for `%start E %% E: E '+' E | 'n';` 1, and for `%start E %% E: E '+'`
-//! 2. The contract of `report` is that its outcome holds for the text (`specs/Outcomes`); `docs/CHECKER.md` says which text it
+//! 2. The contract of `report` is that its outcome holds for the text (`specs/Outcomes`); `docs/PROGRAMS.md` says which text it
 //! has, which is tested. A report is made of messages, counts and blocks of conflicts, which other forms may
 //! take too.
 #![tactic(auto)]
 
+mod accept_reduce;
 mod asked;
 mod beginnings;
 mod conflicts;
 mod counts;
-mod cycles;
-mod endings;
 mod examples;
 mod faults;
 mod idle;
 mod listed;
+mod long_chains;
 mod next;
 mod outcome;
 mod production_places;

@@ -68,26 +68,32 @@ fn span_in_file(span: Span, start: usize) -> Span {
     Span::new(first, first.max(last))
 }
 
-/// Adds an error of the line that begins at `start`.
+/// The words of a line, and the byte offset in the file at which the line begins.
+#[derive(Drop)]
+struct PlacedLine<'a, 'w> {
+    lexer: &'a WordLexer<'w, u32>,
+    start: usize,
+}
+
+/// Adds an error of a line.
 fn push_error(
     alloc: Global,
     text: &mut String,
     source: &Source<'_>,
     kit: &ParserKit<u32>,
-    lexer: &WordLexer<'_, u32>,
+    line: &PlacedLine<'_, '_>,
     error: &LexParseError<WordLexerTypes<u32>>,
-    start: usize,
 ) -> Result<(), AllocError> {
     match error {
         LexParseError::LexError(e) => {
-            let span = span_in_file(e.span(), start);
+            let span = span_in_file(e.span(), line.start);
             source.push_message(alloc, text, Severity::Error, span, "no token has this name")
         }
         LexParseError::ParseError(e) => {
             let span = e.lexeme.span;
             let token = TIdx(e.lexeme.token);
-            let message = unexpected_text(alloc, kit, lexer, token, span.start())?;
-            let span = span_in_file(span, start);
+            let message = unexpected_text(alloc, kit, line.lexer, token, span.start())?;
+            let span = span_in_file(span, line.start);
             source.push_message(alloc, text, Severity::Error, span, message.as_str())
         }
     }
@@ -99,14 +105,13 @@ fn push_first(
     text: &mut String,
     source: &Source<'_>,
     kit: &ParserKit<u32>,
-    lexer: &WordLexer<'_, u32>,
-    start: usize,
+    line: &PlacedLine<'_, '_>,
 ) -> Result<(), AllocError> {
     let parser = RTParserBuilder::<WordLexerTypes<u32>, _>::new(kit.parser_data());
-    match parser.parse_noaction(alloc, lexer) {
+    match parser.parse_noaction(alloc, line.lexer) {
         Ok(errors) => {
             match errors.first() {
-                Some(error) => push_error(alloc, text, source, kit, lexer, error, start),
+                Some(error) => push_error(alloc, text, source, kit, line, error),
                 None => Ok(()),
             }
         }
@@ -133,7 +138,11 @@ fn push_line_error(
     start: usize,
 ) -> Result<(), AllocError> {
     let lexer = WordLexer::new(alloc, kit.grm(), words)?;
-    let pushed = push_first(alloc, text, source, kit, &lexer, start);
+    let line = PlacedLine {
+        lexer: &lexer,
+        start,
+    };
+    let pushed = push_first(alloc, text, source, kit, &line);
     drop(lexer);
     pushed
 }

@@ -30,7 +30,7 @@ fn push_completeness(
         text.push_str("Each line that is a sentence gets its tree, which is its only one.\n")
     } else {
         text.push_str(
-            "A line that is a sentence may have other trees than the one it gets, or get none.\n",
+            "This grammar is ambiguous or has conflicts: a valid line may have several trees, or be rejected.\n",
         )
     }
 }

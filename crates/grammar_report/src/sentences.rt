@@ -1,7 +1,7 @@
 //! Cheapest sentences of rules, and rules without sentences. Each token costs one.
 
 ghost use Rattle.std.specs.Prelude.{◌≡◌, ◌<◌, IfOk};
-ghost use Rattle.cfg_sets.specs.Productive.{Tells};
+ghost use Rattle.cfg_theory.specs.Decides.{Decides};
 ghost use Rattle.cfg_theory.specs.Derivation.{IsProductive};
 
 use crate::faults::push_named;
@@ -79,7 +79,7 @@ pub fn push_unproductive(
 
 /// Returns whether the start rule derives some list of tokens.
 pub(crate) fn has_sentences(alloc: Global, grm: &Grammar) -> Result<bool, AllocError>
-    ensures { IfOk result (λ b. Tells (IsProductive grm.now.grammar 0) b) }
+    ensures { IfOk result (λ b. Decides (IsProductive grm.now.grammar 0) b) }
 {
     let start = grm.start_rule_idx();
     let costs = SentenceGenerator::new(alloc, grm, |_token| 1)?;

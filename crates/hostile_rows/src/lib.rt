@@ -6,7 +6,6 @@
 //! for a byte that isn't shown.
 #![tactic(auto)]
 
-mod bytes;
 mod kits;
 mod rows;
 mod runs;

@@ -1,7 +1,7 @@
 //! Rows of a file: grammars, each with lines and repairs.
 
-use crate::bytes::push_line;
 use crate::{kits, runs};
+use row_files::push_line;
 use std::alloc::{AllocError, Global};
 
 /// The inputs of a row.

@@ -14,7 +14,6 @@
 #![tactic(auto)]
 
 mod answer;
-mod bytes;
 mod fault;
 mod row;
 mod streams;

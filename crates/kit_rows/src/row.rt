@@ -1,8 +1,8 @@
 //! A row: a grammar, lines and repairs, under a heading.
 
-use crate::bytes::push_line;
 use crate::streams::{Giver, kind_in, number_in};
 use lrkit::Counted;
+use row_files::push_line;
 use std::alloc::{AllocError, Global};
 
 /// The inputs of a row so far. Each has its lines, with an LF between two of them.

@@ -6,7 +6,7 @@ ghost use Rattle.std.specs.List.{suffix_len};
 ghost use Rattle.lex_files.specs.Pieces.{trimmed, before_name, name_part, after_byte, cut_at, is_gap, begins_white};
 
 /// Returns a line without the white at its end.
-pub(crate) fn trimmed(line: &str) -> &str
+pub(crate) fn trim_end(line: &str) -> &str
     ensures { result.now ≡ trimmed line.now }
 {
     line.trim_ascii_end()

@@ -6,7 +6,7 @@ ghost use Rattle.lex_files.specs.LexFiles.{file_value, first_file, read_before, 
 
 use crate::conditions::{Condition, declare, fault_at, read_declaration};
 use crate::fault::{FaultKind, LexFileError};
-use crate::pieces::{begins_white, is_gap, trimmed};
+use crate::pieces::{begins_white, is_gap, trim_end};
 use crate::rules::{RuleText, read_rule};
 use cfg_sections::header::{GrmtoolsSectionParser, SectionError};
 use std::alloc::{AllocError, Global};
@@ -80,7 +80,7 @@ fn read_line<'t>(
     if is_gap(line) {
         return Ok(());
     }
-    let line = trimmed(line);
+    let line = trim_end(line);
     match file.part {
         FilePart::Declarations => read_before(file, line, at),
         FilePart::Rules => read_behind(alloc, file, line, at),

@@ -6,7 +6,7 @@ ghost use Rattle.lex_files.specs.LexFiles.{condition_value, rule_value, add_numb
 
 use crate::conditions::{Condition, fault_at, number_of};
 use crate::fault::{Fault, FaultKind, LexFileError};
-use crate::pieces::{after_byte, cut_at, cut_name, trimmed};
+use crate::pieces::{after_byte, cut_at, cut_name, trim_end};
 use maximal_munch::Target;
 use std::alloc::{AllocError, Global};
 
@@ -229,7 +229,7 @@ pub(crate) fn read_rule<'t>(
     if front.is_empty() {
         return Err(LexFileError::Line(fault_at(FaultKind::MissingSpace, at)));
     }
-    let whole = trimmed(front);
+    let whole = trim_end(front);
     let (target, name) = read_word(conditions, rules.as_slice(), word, at + front.len())?;
     let (numbers, expression) = read_prefix(alloc, conditions, whole, at)?;
     let rule = RuleText {

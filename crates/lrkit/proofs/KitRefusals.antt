@@ -8,8 +8,8 @@ use Rattle.cfg_read.specs.declared.yacc.YaccKind.{YaccKind}
 use Rattle.cfg_read.specs.declared.yacc.parser.error.YaccGrammarErrorKind.TheVariants as faults
 use Rattle.cfg_read.specs.declared.yacc.validity.YaccGrammarError.{YaccGrammarError}
 use Rattle.cfg_read.specs.ErrorModels.{failures_in}
-use Rattle.cfg_read.specs.Files.{LacksKind, TellsKind, fault_failure, no_key, no_kind, without_kind, without_section}
-use Rattle.cfg_read.specs.Validity.{FailureText, header_failure}
+use Rattle.cfg_read.specs.Files.{FailsToTell, LacksKind, TellsKind, TellsNoKind, fault_failure, no_key, no_kind, without_kind, without_section}
+use Rattle.cfg_read.specs.Validity.{Fault, FailureKind, FailureText, header_failure}
 use Rattle.cfg_read.specs.ValidityInfo.{CheckedAst, IsChecked, IsWellMade, is_valid}
 use Rattle.cfg_read.specs.Asts.{Ast}
 use Rattle.cfg_read.specs.WellFormedAst.{IsWellFormedAst}
@@ -26,10 +26,11 @@ use Rattle.lrpar.specs.Reducing.{rule_number}
 use Rattle.state_table.specs.Graphs.{GraphValue, IsGraphOf}
 use Rattle.state_table.specs.TableValues.{TableValue}
 use Rattle.state_table.specs.Tables.{IsRefusal, IsTableOf, Refusal, automaton_of}
-use Rattle.parser_kit.specs.Kit.{KitValue, grammar_of}
+use Rattle.lrpar.specs.Checked.{ParserValue}
+use Rattle.parser_kit.specs.Kit.{grammar_of}
 use Rattle.parser_kit.specs.KitErrors.{HasFitting, IsKeptRefusal, IsKitRefusal, IsMemory, IsTextRefusal, IsToldRefusal, IsUntold, told_as}
 use Rattle.parser_kit.specs.Tabled.{HasLeastChain, IsTabled, IsTabledRefusal}
-use Rattle.parser_kit.specs.TextKinds.{FailsToTell, IsKindOfText, TellsNoKind, begins_untold}
+use Rattle.parser_kit.specs.TextKinds.{IsKindOfText}
 use Rattle.parser_kit.specs.declared.grammar_kit_error.GrammarKitError.{GrammarKitError}
 use Rattle.parser_kit.specs.declared.grammar_kit_error.GrammarKitError.TheVariants as tabled
 use Rattle.parser_kit.specs.declared.kit_error.KitError.{KitError}
@@ -59,17 +60,26 @@ not_both b e f = cc
 
 -- ---- texts that fail to tell their kind
 
+-- the failure of a text without a key for the kind
+abbrev is_of_no_kind : FailureKind → Bool
+is_of_no_kind (Fault faults.InvalidYaccKind) = true
+is_of_no_kind kind = false
+
+abbrev begins_untold : List FailureText → Bool
+begins_untold [] = false
+begins_untold (f ∷ fs) = is_of_no_kind f.kind
+
 not_headers : (errors : List ErrorText) → begins_untold (map header_failure errors) ≡ false
 not_headers [] = refl
 not_headers (e ∷ es) = refl
 
 lacks : (text : List ℕ) (fs : List FailureText) → FailsToTell text fs → LacksKind text fs
 lacks text fs (FailsToTell.faulty_section f) = without_section f
-lacks text fs (FailsToTell.faulty_kind pairs end m s some f) = without_kind pairs end s (no_kind m some f)
+lacks text fs (FailsToTell.faulty_kind pairs end s v) = without_kind pairs end s (no_kind v.meaning v.some v.fails)
 
 tells_fault : (text : List ℕ) (fs : List FailureText) → FailsToTell text fs → begins_untold fs ≡ false
 tells_fault text fs (FailsToTell.faulty_section f) = ap begins_untold f.is ∙ not_headers f.errors
-tells_fault text fs (FailsToTell.faulty_kind pairs end m s some f) = ap begins_untold f.is
+tells_fault text fs (FailsToTell.faulty_kind pairs end s v) = ap begins_untold v.fails.is
 
 lacks_none : (text : List ℕ) → TellsNoKind text → LacksKind text (fault_failure faults.InvalidYaccKind 0 ∷ [])
 lacks_none text t = without_kind t.pairs t.end t.section (no_key t.lacks refl)
@@ -209,38 +219,38 @@ module _ (laws : Below) (text : List ℕ) where
       laws.answers other text c d (subst P (laws.kinds text kind other is_kind is_other) x) y
 
   -- a kit's table is refused for nothing
-  no_cause : (k : KitValue) → IsTabled top k.parser → k.parser.cap ≡ cap → (x : GrammarKitError ℕ) → IsCause x → IsTabledRefusal (λ n. n) top k.parser.grammar cap x → ⊥
-  no_cause k is cap_is (tabled.TooManyStates n) a h = no_refusal laws k.parser.grammar is.well_formed k.parser.graph k.parser.table (Refusal.states n) is.states is.table h (λ e. cc)
-  no_cause k is cap_is (tabled.AcceptReduce p) a h = no_refusal laws k.parser.grammar is.well_formed k.parser.graph k.parser.table (Refusal.told p.0) is.states is.table h (λ e. cc)
-  no_cause k is cap_is tabled.TooLarge a h = no_refusal laws k.parser.grammar is.well_formed k.parser.graph k.parser.table Refusal.cells is.states is.table h (λ e. cc)
+  no_cause : (k : ParserValue) → IsTabled top k → k.cap ≡ cap → (x : GrammarKitError ℕ) → IsCause x → IsTabledRefusal (λ n. n) top k.grammar cap x → ⊥
+  no_cause k is cap_is (tabled.TooManyStates n) a h = no_refusal laws k.grammar is.well_formed k.graph k.table (Refusal.states n) is.states is.table h (λ e. cc)
+  no_cause k is cap_is (tabled.AcceptReduce p) a h = no_refusal laws k.grammar is.well_formed k.graph k.table (Refusal.told p.0) is.states is.table h (λ e. cc)
+  no_cause k is cap_is tabled.TooLarge a h = no_refusal laws k.grammar is.well_formed k.graph k.table Refusal.cells is.states is.table h (λ e. cc)
   no_cause k is cap_is (tabled.TooManyReductions s r t n) a h =
       let c : Chain = record { state = s.0; rule = rule_number (λ m. m) r; token = t.0 } in
-      let P : ℕ → Type 0 = λ m. IsLeastChain k.parser.grammar.grammar (automaton_of k.parser.graph k.parser.table) m c in
-      let least = chain_at laws k.parser.grammar is.well_formed k.parser.graph k.parser.table is.graph is.table cap c h.2 in
+      let P : ℕ → Type 0 = λ m. IsLeastChain k.grammar.grammar (automaton_of k.graph k.table) m c in
+      let least = chain_at laws k.grammar is.well_formed k.graph k.table is.graph is.table cap c h.2 in
       let long = subst P (sym cap_is) least in
-      (long_chains_are_exact.none k.parser.grammar.grammar (automaton_of k.parser.graph k.parser.table) k.parser.cap).1 is.chains c long.passes
+      (long_chains_are_exact.none k.grammar.grammar (automaton_of k.graph k.table) k.cap).1 is.chains c long.passes
   no_cause k is cap_is (tabled.Memory e) a h = absurd a
 
   -- nothing is wrong with the text of a kit
-  is_valid_kit : (k : KitValue) → IsRunKit text k → is_valid k.kept.errors ≡ true
+  is_valid_kit : (k : ParserValue) (run : IsRunKit text k) → is_valid run.kept.errors ≡ true
   is_valid_kit k run = ap (λ (c : CheckedAst). is_valid c.errors) run.is_kit.kept ∙ ap is_valid run.is_kit.valid
 
-  kit_or_parts : (k : KitValue) (run : IsRunKit text k) (e : KitError ℕ) → Parts k.kept e → ⊥
+  kit_or_parts : (k : ParserValue) (run : IsRunKit text k) (e : KitError ℕ) → Parts run.kept e → ⊥
   kit_or_parts k run e (Parts.invalid es is wrong h) = not_both _ (is_valid_kit k run) wrong
   kit_or_parts k run e (Parts.counted n is valid h) = let fits = run.is_kit.fits in cc
   kit_or_parts k run e (Parts.refused x is cause fits h) =
       let P : GrammarValue → Type 0 = λ v. IsTabledRefusal (λ n. n) top v cap x in
       no_cause k run.is_kit.tabled run.is_kit.cap_is x cause (subst P (sym run.is_kit.grammar) h)
 
-  kit_or_of : (k : KitValue) → IsRunKit text k → (e : KitError ℕ) → (IsMemory e → ⊥) → IsOf text e → ⊥
+  kit_or_of : (k : ParserValue) → IsRunKit text k → (e : KitError ℕ) → (IsMemory e → ⊥) → IsOf text e → ⊥
   kit_or_of k run e ne (IsOf.untold es is fails) = untold_or_kind laws text _ run.kind fails run.is_kind
   kit_or_of k run e ne (IsOf.kept kind c is_kind checked h) =
       let is_read = IsChecked.reads_as run.is_kit.reading run.is_kit.reads run.is_kit.kept in
       let P : CheckedAst → Type 0 = λ d. KeptRefusal d e in
-      kit_or_parts k run e (parts k.kept e ne (subst P (same_checked kind run.kind c k.kept is_kind run.is_kind checked is_read) h))
+      kit_or_parts k run e (parts run.kept e ne (subst P (same_checked kind run.kind c run.kept is_kind run.is_kind checked is_read) h))
 
   -- a text with a kit isn't refused
-  pub kit_or_refusal : (k : KitValue) → IsRunKit text k → (e : KitError ℕ) → (IsMemory e → ⊥) → IsRunKitRefusal text e → ⊥
+  pub kit_or_refusal : (k : ParserValue) → IsRunKit text k → (e : KitError ℕ) → (IsMemory e → ⊥) → IsRunKitRefusal text e → ⊥
   kit_or_refusal k run e ne h = kit_or_of k run e ne (of_told text e ne h.refused)
 
   -- the same cause is told as the same error

@@ -5,7 +5,7 @@ use Rattle.std.specs.Io.KnownBytes.{Keeps}
 use Rattle.std.proofs.KnownBytes.{Appends-nil, Appends-trans, Appends-kept}
 use Rattle.std.proofs.lemmas.List.{take_more, take_all}
 use Rattle.lr_theory.specs.Repair.{Edit}
-use Rattle.parser_kit.specs.Kit.{KitValue}
+use Rattle.lrpar.specs.Checked.{ParserValue}
 use Rattle.lrkit.specs.Output.{LineText, LineTexts, BeginsTexts}
 use Rattle.lrkit.specs.Writing.{WritesLine, BeginsLineText, BeginsLine, WritesLines}
 use Rattle.lrkit.specs.declared.fault.RunFault.{RunFault}
@@ -20,7 +20,7 @@ or-false : (a : Bool) → a ≡ (a || false)
 or-false true = refl
 or-false false = refl
 
-LineTexts-push : (k : KitValue) (rs : List (List Edit)) (xs : List (List ℕ)) (x t u : List ℕ) (f g : Bool) → LineTexts k rs xs t f → LineText k rs x u g → LineTexts k rs (xs ++ x ∷ []) (t ++ u) (f || g)
+LineTexts-push : (k : ParserValue) (rs : List (List Edit)) (xs : List (List ℕ)) (x t u : List ℕ) (f g : Bool) → LineTexts k rs xs t f → LineText k rs x u g → LineTexts k rs (xs ++ x ∷ []) (t ++ u) (f || g)
 LineTexts-push k rs [] x t u f g e l = record {
   first_text = u;
   other_text = [];
@@ -42,7 +42,7 @@ LineTexts-push k rs (y ∷ ys) x t u f g e l = record {
   faulty_is = ap (λ b. b || g) e.faulty_is ∙ or-assoc e.first_faulty e.other_faulty g;
 }
 
-module _ (k : KitValue) (rs : List (List Edit)) (all : List (List ℕ)) (i : ℕ) (x : List ℕ) (a b c : Option (List ℕ)) (f : Bool) (turn : (i < length all) × (x ≡ get_or all i x)) (s : WritesLines k rs (take i all) a b f) where
+module _ (k : ParserValue) (rs : List (List Edit)) (all : List (List ℕ)) (i : ℕ) (x : List ℕ) (a b c : Option (List ℕ)) (f : Bool) (turn : (i < length all) × (x ≡ get_or all i x)) (s : WritesLines k rs (take i all) a b f) where
   pushed : (u : List ℕ) (g : Bool) → LineText k rs x u g → LineTexts k rs (take (i + 1) all) (s.text ++ u) (f || g)
   pushed u g l =
       let P : List (List ℕ) → Type 0 = λ xs. LineTexts k rs xs (s.text ++ u) (f || g) in
@@ -72,8 +72,8 @@ module _ (k : KitValue) (rs : List (List Edit)) (all : List (List ℕ)) (i : ℕ
   BeginsTexts-more (Read input) l = absurd l
   BeginsTexts-more (TooLong input) l = absurd l
 
-pub WritesLines-start : (k : KitValue) (rs : List (List Edit)) (all : List (List ℕ)) (a : Option (List ℕ)) → WritesLines k rs (take 0 all) a a false
+pub WritesLines-start : (k : ParserValue) (rs : List (List Edit)) (all : List (List ℕ)) (a : Option (List ℕ)) → WritesLines k rs (take 0 all) a a false
 WritesLines-start k rs all a = record { text = []; texts = (refl, refl); written = Appends-nil a }
 
-pub WritesLines-end : (k : KitValue) (rs : List (List Edit)) (all : List (List ℕ)) (i : ℕ) (a b : Option (List ℕ)) (f : Bool) → WritesLines k rs (take i all) a b f → length all ≤ i → WritesLines k rs all a b f
+pub WritesLines-end : (k : ParserValue) (rs : List (List Edit)) (all : List (List ℕ)) (i : ℕ) (a b : Option (List ℕ)) (f : Bool) → WritesLines k rs (take i all) a b f → length all ≤ i → WritesLines k rs all a b f
 WritesLines-end k rs all i a b f s h = rw (take_all i all h) at s

@@ -10,6 +10,7 @@ use Rattle.lr_theory.specs.Repair.{Edit}
 use Rattle.parse_trees.specs.ErrorTexts.{parsing_error_text}
 use Rattle.lrpar.specs.Told.{ToldError, told_of}
 use Rattle.lrpar.specs.declared.parse_error.ParseError.{ParseError}
+use Rattle.lrpar.specs.Checked.{ParserValue}
 use Rattle.parser_kit.specs.Kit.{IsKitOf, KitValue}
 use Rattle.parser_kit.specs.KitParses.{ParseAlike}
 use Rattle.parser_kit.specs.TextKinds.{IsKindOfText}
@@ -68,7 +69,7 @@ some_same [] (y ∷ ys) e = cc
 some_same (x ∷ xs) [] e = cc
 some_same (x ∷ xs) (y ∷ ys) e = refl
 
-module _ (k : KitValue) (rs : List (List Edit)) (alike : ParseAlike ℕ ℕ Word WordLexError k.parser k.parser) where
+module _ (k : ParserValue) (rs : List (List Edit)) (alike : ParseAlike ℕ ℕ Word WordLexError k k) where
   one_line : (line t u : List ℕ) (f g : Bool) → LineText k rs line t f → LineText k rs line u g → (t ≡ u) × (f ≡ g)
   one_line line t u f g (LineText.lexing_error e h text faulty) (LineText.lexing_error d i other wrong) =
       (text ∙ ap (fault_line line) (first_same h.before i.before e d h.after i.after (sym h.is ∙ i.is)) ∙ sym other, faulty ∙ sym wrong)
@@ -76,7 +77,7 @@ module _ (k : KitValue) (rs : List (List Edit)) (alike : ParseAlike ℕ ℕ Word
   one_line line t u f g (LineText.parsed r es p text faulty) (LineText.lexing_error d i other wrong) = absurd (not_all i.before p.lexemes d i.after (sym i.is ∙ p.are_items))
   one_line line t u f g (LineText.parsed r es p text faulty) (LineText.parsed s fs q other wrong) =
       let same = alike id id (lex_of id) made_up (λ state index lexeme. rs) (items k rs line) r s es fs p q in
-      (text ∙ texts_same k.parser.grammar line es fs r s same.0 same.1 ∙ sym other, faulty ∙ some_same es fs same.0 ∙ sym wrong)
+      (text ∙ texts_same k.grammar line es fs r s same.0 same.1 ∙ sym other, faulty ∙ some_same es fs same.0 ∙ sym wrong)
 
   one_text : (xs : List (List ℕ)) (t u : List ℕ) (f g : Bool) → LineTexts k rs xs t f → LineTexts k rs xs u g → (t ≡ u) × (f ≡ g)
   one_text [] t u f g h i = (h.0 ∙ sym i.0, h.1 ∙ sym i.1)
@@ -92,10 +93,12 @@ module _ (k : KitValue) (rs : List (List Edit)) (alike : ParseAlike ℕ ℕ Word
 module _ (kinds : (text : List ℕ) (k l : YaccKind) → IsKindOfText text k → IsKindOfText text l → k ≡ l)
     (kits : (top top' cap : ℕ) (kind : YaccKind) (text : List ℕ) (k l : KitValue) → IsKitOf top kind text cap k → IsKitOf top' kind text cap l → k ≡ l) where
   -- a grammar has one kit
-  pub one_run_kit : (grammar : List ℕ) (k l : KitValue) → IsRunKit grammar k → IsRunKit grammar l → k ≡ l
+  pub one_run_kit : (grammar : List ℕ) (k l : ParserValue) → IsRunKit grammar k → IsRunKit grammar l → k ≡ l
   one_run_kit grammar k l x y =
-      let P : YaccKind → Type 0 = λ kind. IsKitOf top kind grammar cap k in
-      kits top top cap y.kind grammar k l (subst P (kinds grammar x.kind y.kind x.is_kind y.is_kind) x.is_kit) y.is_kit
+      let a : KitValue = record { kept = x.kept; parser = k } in
+      let b : KitValue = record { kept = y.kept; parser = l } in
+      let P : YaccKind → Type 0 = λ kind. IsKitOf top kind grammar cap a in
+      ap (λ (v : KitValue). v.parser) (kits top top cap y.kind grammar a b (subst P (kinds grammar x.kind y.kind x.is_kind y.is_kind) x.is_kit) y.is_kit)
 
 module _ (kinds : (text : List ℕ) (k l : YaccKind) → IsKindOfText text k → IsKindOfText text l → k ≡ l)
     (kits : (top top' cap : ℕ) (kind : YaccKind) (text : List ℕ) (k l : KitValue) → IsKitOf top kind text cap k → IsKitOf top' kind text cap l → k ≡ l)
@@ -103,10 +106,11 @@ module _ (kinds : (text : List ℕ) (k l : YaccKind) → IsKindOfText text k →
   pub one_output : (grammar line_text repair_text text other : List ℕ) (faulty wrong : Bool) → Output grammar line_text repair_text text faulty → Output grammar line_text repair_text other wrong → (text ≡ other) × (faulty ≡ wrong)
   one_output grammar line_text repair_text text other faulty wrong o p =
       let kit = one_run_kit kinds kits grammar o.kit p.kit o.ready.is_kit p.ready.is_kit in
-      let read = sym o.ready.are_repairs ∙ ap (λ (k : KitValue). map (repair_line k.parser.grammar) (lines repair_text)) kit ∙ p.ready.are_repairs in
+      let read = sym o.ready.are_repairs ∙ ap (λ (k : ParserValue). map (repair_line k.grammar) (lines repair_text)) kit ∙ p.ready.are_repairs in
       let repairs = somes_same o.repairs p.repairs read in
-      let P : KitValue → Type 0 = λ k. LineTexts k p.repairs (lines line_text) other wrong in
+      let P : ParserValue → Type 0 = λ k. LineTexts k p.repairs (lines line_text) other wrong in
       let Q : List (List Edit) → Type 0 = λ rs. LineTexts o.kit rs (lines line_text) other wrong in
       let moved = subst Q (sym repairs) (subst P (sym kit) p.texts) in
       let is_kit = o.ready.is_kit in
-      one_text o.kit o.repairs (alike top top cap is_kit.kind grammar o.kit o.kit is_kit.is_kit is_kit.is_kit) (lines line_text) text other faulty wrong o.texts moved
+      let whole : KitValue = record { kept = is_kit.kept; parser = o.kit } in
+      one_text o.kit o.repairs (alike top top cap is_kit.kind grammar whole whole is_kit.is_kit is_kit.is_kit) (lines line_text) text other faulty wrong o.texts moved

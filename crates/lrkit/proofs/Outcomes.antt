@@ -3,7 +3,7 @@ use Rattle.std.proofs.Common.{◌≡◌, ℕ, Bool, Option, List, Result, Ok, Er
 use Rattle.std.specs.Str.Lines.{lines}
 use Rattle.std.proofs.KnownBytes.{Keeps-refl}
 use Rattle.lr_theory.specs.Repair.{Edit}
-use Rattle.parser_kit.specs.Kit.{KitValue}
+use Rattle.lrpar.specs.Checked.{ParserValue}
 use Rattle.parser_kit.specs.declared.kit_error.KitError.{KitError}
 use Rattle.parser_kit.specs.declared.kit_error.KitError.TheVariants as kit
 use Rattle.lrkit.specs.Output.{BeginsTexts, IsReady}
@@ -25,7 +25,7 @@ IsRefusal-kit known others text kit.TooLarge input h = record { text = text; inp
 IsRefusal-kit known others text (kit.TooManyReductions s x t n) input h = record { text = text; input = input; refused = h }
 
 -- so are counts that aren't expected
-pub IsRefusal-counts : (known others : Option (List ℕ)) (text : List ℕ) (k : KitValue) (e : RunFault) → IsInput known text → IsRunKit text k → HasOtherCounts k e → IsRefusal known others e
+pub IsRefusal-counts : (known others : Option (List ℕ)) (text : List ℕ) (k : ParserValue) (e : RunFault) → IsInput known text → IsRunKit text k → HasOtherCounts k e → IsRefusal known others e
 IsRefusal-counts known others text k (Conflicts p q x y) input is h = record { text = text; input = input; k = k; is_kit = is; other = h }
 IsRefusal-counts known others text k (Kit e) input is h = absurd h
 IsRefusal-counts known others text k (NotARepair n) input is h = absurd h
@@ -66,7 +66,7 @@ IsOutAt-unwritten g l r a input (Read i) h = Keeps-refl a
 IsOutAt-unwritten g l r a input (TooLong i) h = Keeps-refl a
 IsOutAt-unwritten g l r a input Write h = absurd h
 
-module _ (g l r a b : Option (List ℕ)) (k : KitValue) (rs : List (List Edit)) (text : List ℕ) (good : IsGoodKitIn g k) (reads : ReadsRepairsIn k r rs) (input : IsInput l text) where
+module _ (g l r a b : Option (List ℕ)) (k : ParserValue) (rs : List (List Edit)) (text : List ℕ) (good : IsGoodKitIn g k) (reads : ReadsRepairsIn k r rs) (input : IsInput l text) where
   is_ready : IsReady good.text reads.text k rs
   is_ready = record { is_kit = good.is_kit; expected = good.expected; are_repairs = reads.are_repairs }
 

@@ -14,7 +14,7 @@ use Rattle.parse_trees.specs.FlatTrees.{FlatValue}
 use Rattle.parse_trees.specs.Lexemes.{AreItems, IsFirstLexError}
 use Rattle.parse_trees.specs.Lex.{span_by}
 use Rattle.lrpar.specs.declared.parse_error.ParseError.{ParseError}
-use Rattle.parser_kit.specs.Kit.{KitValue}
+use Rattle.lrpar.specs.Checked.{ParserValue}
 use Rattle.parser_kit.specs.KitParses.{IsExactParse, IsKitParse}
 use Rattle.word_lines.specs.Lexing.{items_of, lex_of}
 use Rattle.word_lines.specs.LineTexts.{ErrorCanBeShown, TreeCanBeShown, fault_line}
@@ -55,16 +55,16 @@ abbrev pub HandsIn : List (List Edit) → ℕ → ℕ → Word → List (List Ed
 HandsIn repairs state index lexeme offered = offered ≡ repairs
 
 -- the parse of a line, whose flat tree or none this is
-abbrev pub IsLineParse : KitValue → List (List Edit) → List ℕ → Option (FlatValue Word) → List (ParseError Word ℕ) → Type 0
-IsLineParse k repairs line value errors = IsKitParse id (lex_of id) made_up k.parser (HandsIn repairs) (items_of id k.parser.grammar line) (HasFlat (span_by (lex_of id)) value) errors
+abbrev pub IsLineParse : ParserValue → List (List Edit) → List ℕ → Option (FlatValue Word) → List (ParseError Word ℕ) → Type 0
+IsLineParse k repairs line value errors = IsKitParse id (lex_of id) made_up k (HandsIn repairs) (items_of id k.grammar line) (HasFlat (span_by (lex_of id)) value) errors
 
-module _ (k : KitValue) (repairs : List (List Edit)) (line : List ℕ) (well_formed : WellFormed k.parser.grammar.grammar) (utf8 : IsUtf8 line)
+module _ (k : ParserValue) (repairs : List (List Edit)) (line : List ℕ) (well_formed : WellFormed k.grammar.grammar) (utf8 : IsUtf8 line)
     (law : FlatParsesCanBeShown ℕ Word WordLexError (HandsIn repairs))
     (fit : (g : GrammarValue) (text : List ℕ) (lexemes : List Word) → IsUtf8 text → AreItems (items_of id g text) lexemes → AllByRecursion (FitsText text (lex_of id)) lexemes) where
   abbrev top : ℕ
-  top = end_token k.parser.grammar.grammar + sum_all repairs
+  top = end_token k.grammar.grammar + sum_all repairs
 
-  within : MakesWithin top k.parser.grammar (lex_of id) made_up (HandsIn repairs) line
+  within : MakesWithin top k.grammar (lex_of id) made_up (HandsIn repairs) line
   within = record {
     text = utf8;
     well_formed = well_formed;
@@ -74,17 +74,17 @@ module _ (k : KitValue) (repairs : List (List Edit)) (line : List ℕ) (well_for
   }
 
   flat_parse : (value : Option (FlatValue Word)) (errors : List (ParseError Word ℕ)) → IsLineParse k repairs line value errors →
-      IsFlatParse id (lex_of id) made_up k.parser.grammar.grammar k.parser.graph k.parser.table (HandsIn repairs) (items_of id k.parser.grammar line) value errors
+      IsFlatParse id (lex_of id) made_up k.grammar.grammar k.graph k.table (HandsIn repairs) (items_of id k.grammar line) value errors
   flat_parse value errors q = record { lexemes = q.lexemes; are_items = q.are_items; are_lexemes = q.are_lexemes; found = q.found; parse = q.exact.parse; told = q.told }
 
-  pub errors_can_be_shown : (value : Option (FlatValue Word)) (errors : List (ParseError Word ℕ)) → IsLineParse k repairs line value errors → AllByRecursion (ErrorCanBeShown id k.parser.grammar line) errors
+  pub errors_can_be_shown : (value : Option (FlatValue Word)) (errors : List (ParseError Word ℕ)) → IsLineParse k repairs line value errors → AllByRecursion (ErrorCanBeShown id k.grammar line) errors
   errors_can_be_shown value errors q =
-      law.errors top id k.parser.grammar k.parser.graph k.parser.table (lex_of id) made_up line (items_of id k.parser.grammar line) value errors within (λ lexemes items. fit k.parser.grammar line lexemes utf8 items) (flat_parse value errors q)
+      law.errors top id k.grammar k.graph k.table (lex_of id) made_up line (items_of id k.grammar line) value errors within (λ lexemes items. fit k.grammar line lexemes utf8 items) (flat_parse value errors q)
 
-  pub tree_can_be_shown : (value : Option (FlatValue Word)) (errors : List (ParseError Word ℕ)) → IsLineParse k repairs line value errors → TreeCanBeShown id k.parser.grammar line value
+  pub tree_can_be_shown : (value : Option (FlatValue Word)) (errors : List (ParseError Word ℕ)) → IsLineParse k repairs line value errors → TreeCanBeShown id k.grammar line value
   tree_can_be_shown None errors q = tt
   tree_can_be_shown (Some v) errors q =
-      law.tree top id k.parser.grammar k.parser.graph k.parser.table (lex_of id) made_up line (items_of id k.parser.grammar line) v errors within (λ lexemes items. fit k.parser.grammar line lexemes utf8 items) (flat_parse (Some v) errors q)
+      law.tree top id k.grammar k.graph k.table (lex_of id) made_up line (items_of id k.grammar line) v errors within (λ lexemes items. fit k.grammar line lexemes utf8 items) (flat_parse (Some v) errors q)
 
 -- ---- what is written of it
 
@@ -92,10 +92,10 @@ pub some_or_none : {X : Type 0} (xs : List X) (n : ℕ) (empty : Bool) → empty
 some_or_none [] n empty is long = ap not (is ∙ ap (λ m. eqb m 0) long)
 some_or_none (x ∷ xs) n empty is long = ap not (is ∙ ap (λ m. eqb m 0) long) ∙ (let e : eqb (suc (length xs)) 0 ≡ false = grind (arith, nat_tests) in ap not e)
 
-module _ (k : KitValue) (repairs : List (List Edit)) (line : List ℕ) where
+module _ (k : ParserValue) (repairs : List (List Edit)) (line : List ℕ) where
   -- the text of a parse
   parsed_is : (value : Option (FlatValue Word)) (errors : List (ParseError Word ℕ)) → (q : IsLineParse k repairs line value errors) →
-      (faulty : Bool) → faulty ≡ has_some errors → LineText k repairs line (parsed_text k.parser.grammar line errors q.exact.parse.parsed.tree) faulty
+      (faulty : Bool) → faulty ≡ has_some errors → LineText k repairs line (parsed_text k.grammar line errors q.exact.parse.parsed.tree) faulty
   parsed_is value errors q faulty is =
       let p = q.exact.parse in
       let tree = p.parsed.tree in
@@ -127,17 +127,17 @@ module _ (k : KitValue) (repairs : List (List Edit)) (line : List ℕ) where
 
   module _ (a b : Option (List ℕ)) where
     pub writes_parsed : (value : Option (FlatValue Word)) (errors : List (ParseError Word ℕ)) → (q : IsLineParse k repairs line value errors) →
-        (faulty : Bool) → WritesParsed k.parser.grammar line a b q.exact.parse.parsed.tree errors faulty → WritesLine k repairs line a b faulty
-    writes_parsed value errors q faulty w = record { text = parsed_text k.parser.grammar line errors q.exact.parse.parsed.tree; is_text = parsed_is value errors q faulty w.faulty_is; written = w.written }
+        (faulty : Bool) → WritesParsed k.grammar line a b q.exact.parse.parsed.tree errors faulty → WritesLine k repairs line a b faulty
+    writes_parsed value errors q faulty w = record { text = parsed_text k.grammar line errors q.exact.parse.parsed.tree; is_text = parsed_is value errors q faulty w.faulty_is; written = w.written }
 
     pub begins_parsed : (value : Option (FlatValue Word)) (errors : List (ParseError Word ℕ)) → (q : IsLineParse k repairs line value errors) →
-        BeginningWritten a b (parsed_text k.parser.grammar line errors q.exact.parse.parsed.tree) → BeginsLineText k repairs line a b
-    begins_parsed value errors q w = record { text = parsed_text k.parser.grammar line errors q.exact.parse.parsed.tree; faulty = has_some errors; is_text = parsed_is value errors q (has_some errors) refl; written = w }
+        BeginningWritten a b (parsed_text k.grammar line errors q.exact.parse.parsed.tree) → BeginsLineText k repairs line a b
+    begins_parsed value errors q w = record { text = parsed_text k.grammar line errors q.exact.parse.parsed.tree; faulty = has_some errors; is_text = parsed_is value errors q (has_some errors) refl; written = w }
 
-    pub writes_fault : (e : WordLexError) → IsFirstLexError (items_of id k.parser.grammar line) e → (faulty : Bool) → Appends a b (fault_line line e) × (faulty ≡ true) → WritesLine k repairs line a b faulty
+    pub writes_fault : (e : WordLexError) → IsFirstLexError (items_of id k.grammar line) e → (faulty : Bool) → Appends a b (fault_line line e) × (faulty ≡ true) → WritesLine k repairs line a b faulty
     writes_fault e is faulty (written, wrong) = record { text = fault_line line e; is_text = LineText.lexing_error e is refl wrong; written = written }
 
-    pub begins_fault : (e : WordLexError) → IsFirstLexError (items_of id k.parser.grammar line) e → BeginningWritten a b (fault_line line e) → BeginsLineText k repairs line a b
+    pub begins_fault : (e : WordLexError) → IsFirstLexError (items_of id k.grammar line) e → BeginningWritten a b (fault_line line e) → BeginsLineText k repairs line a b
     begins_fault e is w = record { text = fault_line line e; faulty = true; is_text = LineText.lexing_error e is refl refl; written = w }
 
     -- whatever fault of writing it is

@@ -6,7 +6,7 @@ use Rattle.byte_streams.specs.Inputs.{most_bytes, HasNoText}
 use Rattle.byte_streams.specs.Source.{HasMoreThan}
 use Rattle.lr_theory.specs.Repair.{Edit}
 use Rattle.table_theory.specs.Cells.{Conflicts as Listed}
-use Rattle.parser_kit.specs.Kit.{KitValue}
+use Rattle.lrpar.specs.Checked.{ParserValue}
 use Rattle.parser_kit.specs.KitErrors.{IsMemory}
 use Rattle.parser_kit.specs.declared.kit_error.KitError.{KitError}
 use Rattle.parser_kit.specs.declared.kit_error.KitError.TheVariants as kit
@@ -125,7 +125,7 @@ bad_same i bs o p (IsBad.no_text h e) (IsBad.too_long k f) = absurd (long_or_sho
 bad_same i bs o p (IsBad.too_long h e) (IsBad.no_text k f) = absurd (long_or_short bs h k)
 bad_same i bs o p (IsBad.too_long h e) (IsBad.too_long k f) = both_same o p _ e f
 
-counts_same : (k : KitValue) (a b c d a' b' c' d' : ℕ) → HasOtherCounts k (Conflicts a b c d) → HasOtherCounts k (Conflicts a' b' c' d') → Conflicts a b c d ≡ Conflicts a' b' c' d'
+counts_same : (k : ParserValue) (a b c d a' b' c' d' : ℕ) → HasOtherCounts k (Conflicts a b c d) → HasOtherCounts k (Conflicts a' b' c' d') → Conflicts a b c d ≡ Conflicts a' b' c' d'
 counts_same k a b c d a' b' c' d' x y =
     let (l, listed, sr, rr) = x.3 in
     let (l', listed', sr', rr') = y.3 in
@@ -144,17 +144,17 @@ data AtLines (l : List ℕ) (o : Option RunFault) : Type 0 where
   good : IsInput (Some l) l → o ≡ None → AtLines l o
 
 -- what the repairs come to, where the grammar is good
-data AtRepairs (k : KitValue) (r l : List ℕ) (o : Option RunFault) : Type 0 where
+data AtRepairs (k : ParserValue) (r l : List ℕ) (o : Option RunFault) : Type 0 where
   bad : IsBad inputs.Repairs r o → AtRepairs k r l o
-  none : (n : ℕ) → IsInput (Some r) r → IsFirstBadLine k.parser.grammar (lines r) n → o ≡ Some (NotARepair n) → AtRepairs k r l o
+  none : (n : ℕ) → IsInput (Some r) r → IsFirstBadLine k.grammar (lines r) n → o ≡ Some (NotARepair n) → AtRepairs k r l o
   good : (rs : List (List Edit)) → IsInput (Some r) r → ReadsRepairs k r rs → AtLines l o → AtRepairs k r l o
 
 -- what the inputs come to
 data AtGrammar (g r l : List ℕ) (o : Option RunFault) : Type 0 where
   bad : IsBad inputs.Grammar g o → AtGrammar g r l o
   none : (x : KitError ℕ) → IsInput (Some g) g → (IsMemory x → ⊥) → IsRunKitRefusal g x → o ≡ Some (Kit x) → AtGrammar g r l o
-  counted : (k : KitValue) (a b c d : ℕ) → IsInput (Some g) g → IsRunKit g k → HasOtherCounts k (Conflicts a b c d) → o ≡ Some (Conflicts a b c d) → AtGrammar g r l o
-  good : (k : KitValue) → IsInput (Some g) g → IsRunKit g k → AreExpected k → AtRepairs k r l o → AtGrammar g r l o
+  counted : (k : ParserValue) (a b c d : ℕ) → IsInput (Some g) g → IsRunKit g k → HasOtherCounts k (Conflicts a b c d) → o ≡ Some (Conflicts a b c d) → AtGrammar g r l o
+  good : (k : ParserValue) → IsInput (Some g) g → IsRunKit g k → AreExpected k → AtRepairs k r l o → AtGrammar g r l o
 
 lines_same : (l : List ℕ) (o p : Option RunFault) → AtLines l o → AtLines l p → IsSame o p
 lines_same l o p (AtLines.bad x) (AtLines.bad y) = bad_same inputs.Lines l o p x y
@@ -162,13 +162,13 @@ lines_same l o p (AtLines.bad x) (AtLines.good is f) = absurd (bad_or_good input
 lines_same l o p (AtLines.good is e) (AtLines.bad y) = absurd (bad_or_good inputs.Lines l l p y is)
 lines_same l o p (AtLines.good is e) (AtLines.good also f) = both_same o p None e f
 
-module _ (k : KitValue) (r l : List ℕ) where
-  bad_line : (n : ℕ) (rs : List (List Edit)) → IsFirstBadLine k.parser.grammar (lines r) n → ReadsRepairs k r rs → ⊥
-  bad_line n rs x read = not_all_some (repair_line k.parser.grammar) x.before x.bad x.after rs x.is_bad (ap (map (repair_line k.parser.grammar)) (sym x.are_lines) ∙ read)
+module _ (k : ParserValue) (r l : List ℕ) where
+  bad_line : (n : ℕ) (rs : List (List Edit)) → IsFirstBadLine k.grammar (lines r) n → ReadsRepairs k r rs → ⊥
+  bad_line n rs x read = not_all_some (repair_line k.grammar) x.before x.bad x.after rs x.is_bad (ap (map (repair_line k.grammar)) (sym x.are_lines) ∙ read)
 
-  one_line : (n m : ℕ) → IsFirstBadLine k.parser.grammar (lines r) n → IsFirstBadLine k.parser.grammar (lines r) m → n ≡ m
+  one_line : (n m : ℕ) → IsFirstBadLine k.grammar (lines r) n → IsFirstBadLine k.grammar (lines r) m → n ≡ m
   one_line n m x y =
-      let same = first_none (repair_line k.parser.grammar) x.before y.before x.bad y.bad x.after y.after x.repairs y.repairs x.is_bad y.is_bad x.are_repairs y.are_repairs (sym x.are_lines ∙ y.are_lines) in
+      let same = first_none (repair_line k.grammar) x.before y.before x.bad y.bad x.after y.after x.repairs y.repairs x.is_bad y.is_bad x.are_repairs y.are_repairs (sym x.are_lines ∙ y.are_lines) in
       x.number_is ∙ ap (λ (i : ℕ). i + 1) same ∙ sym y.number_is
 
   repairs_same : (o p : Option RunFault) → AtRepairs k r l o → AtRepairs k r l p → IsSame o p
@@ -182,8 +182,8 @@ module _ (k : KitValue) (r l : List ℕ) where
   repairs_same o p (AtRepairs.good rs is x v) (AtRepairs.none m also y f) = absurd (bad_line m rs y x)
   repairs_same o p (AtRepairs.good rs is x v) (AtRepairs.good ss also y w) = lines_same l o p v w
 
-module _ (laws : Below) (kits : (grammar : List ℕ) (k l : KitValue) → IsRunKit grammar k → IsRunKit grammar l → k ≡ l) (g r l : List ℕ) where
-  expected_or_not : (k m : KitValue) (a b c d : ℕ) → IsRunKit g k → IsRunKit g m → HasOtherCounts k (Conflicts a b c d) → AreExpected m → ⊥
+module _ (laws : Below) (kits : (grammar : List ℕ) (k l : ParserValue) → IsRunKit grammar k → IsRunKit grammar l → k ≡ l) (g r l : List ℕ) where
+  expected_or_not : (k m : ParserValue) (a b c d : ℕ) → IsRunKit g k → IsRunKit g m → HasOtherCounts k (Conflicts a b c d) → AreExpected m → ⊥
   expected_or_not k m a b c d is also other fits = other.0 (subst AreExpected (sym (kits g k m is also)) fits)
 
   grammars_same : (o p : Option RunFault) → AtGrammar g r l o → AtGrammar g r l p → IsSame o p
@@ -200,14 +200,14 @@ module _ (laws : Below) (kits : (grammar : List ℕ) (k l : KitValue) → IsRunK
   grammars_same o p (AtGrammar.counted k a b c d is run h e) (AtGrammar.bad y) = absurd (bad_or_good inputs.Grammar g g p y is)
   grammars_same o p (AtGrammar.counted k a b c d is run h e) (AtGrammar.none y also ny m f) = absurd (kit_or_refusal laws g k run y ny m)
   grammars_same o p (AtGrammar.counted k a b c d is run h e) (AtGrammar.counted m a' b' c' d' also too i f) =
-      let P : KitValue → Type 0 = λ x. HasOtherCounts x (Conflicts a b c d) in
+      let P : ParserValue → Type 0 = λ x. HasOtherCounts x (Conflicts a b c d) in
       equal_same o p (e ∙ ap Some (counts_same m a b c d a' b' c' d' (subst P (kits g k m run too) h) i) ∙ sym f)
   grammars_same o p (AtGrammar.counted k a b c d is run h e) (AtGrammar.good m also too fits w) = absurd (expected_or_not k m a b c d run too h fits)
   grammars_same o p (AtGrammar.good k is run fits v) (AtGrammar.bad y) = absurd (bad_or_good inputs.Grammar g g p y is)
   grammars_same o p (AtGrammar.good k is run fits v) (AtGrammar.none y also ny m f) = absurd (kit_or_refusal laws g k run y ny m)
   grammars_same o p (AtGrammar.good k is run fits v) (AtGrammar.counted m a b c d also too h f) = absurd (expected_or_not m k a b c d too run h fits)
   grammars_same o p (AtGrammar.good k is run fits v) (AtGrammar.good m also too fine w) =
-      let P : KitValue → Type 0 = λ x. AtRepairs x r l o in
+      let P : ParserValue → Type 0 = λ x. AtRepairs x r l o in
       repairs_same m r l o p (subst P (kits g k m run too) v) w
 
 -- ---- what inputs give comes so
@@ -217,10 +217,10 @@ itself : (bs text : List ℕ) → IsInput (Some bs) text → IsInput (Some bs) b
 itself bs text is = subst (λ (t : List ℕ). IsInput (Some bs) t) (sym is.whole) is
 
 module _ (g l r : List ℕ) where
-  with_kit : (o : Option RunFault) (k : KitValue) (is : IsGoodKitIn (Some g) k) → AtRepairs k r l o → AtGrammar g r l o
+  with_kit : (o : Option RunFault) (k : ParserValue) (is : IsGoodKitIn (Some g) k) → AtRepairs k r l o → AtGrammar g r l o
   with_kit o k is v = AtGrammar.good k (itself g is.text is.input) (subst (λ (t : List ℕ). IsRunKit t k) (sym is.input.whole) is.is_kit) is.expected v
 
-  with_repairs : (o : Option RunFault) (k : KitValue) (rs : List (List Edit)) (is : IsGoodKitIn (Some g) k) (read : ReadsRepairsIn k (Some r) rs) → AtLines l o → AtGrammar g r l o
+  with_repairs : (o : Option RunFault) (k : ParserValue) (rs : List (List Edit)) (is : IsGoodKitIn (Some g) k) (read : ReadsRepairsIn k (Some r) rs) → AtLines l o → AtGrammar g r l o
   with_repairs o k rs is read v = with_kit o k is (AtRepairs.good rs (itself r read.text read.input) (subst (λ (t : List ℕ). ReadsRepairs k t rs) (sym read.input.whole) read.are_repairs) v)
 
   at_bad : (i : Input) (o : Option RunFault) → IsBad i (bytes_of g l r i) o → GoodBefore (Some g) (Some r) i → AtGrammar g r l o
@@ -245,7 +245,7 @@ module _ (g l r : List ℕ) where
   of_fault (Kit (kit.TooManyReductions s x t n)) h = of_kit (kit.TooManyReductions s x t n) (λ m. m) h.text h.input h.refused
   of_fault (Kit (kit.Memory e)) h = absurd h
   of_fault (Conflicts a b c d) h = AtGrammar.counted h.k a b c d (itself g h.text h.input) (subst (λ (t : List ℕ). IsRunKit t h.k) (sym h.input.whole) h.is_kit) h.other refl
-  of_fault (NotARepair n) h = with_kit (Some (NotARepair n)) h.k h.is_kit (AtRepairs.none n (itself r h.text h.input) (subst (λ (t : List ℕ). IsFirstBadLine h.k.parser.grammar (lines t) n) (sym h.input.whole) h.bad) refl)
+  of_fault (NotARepair n) h = with_kit (Some (NotARepair n)) h.k h.is_kit (AtRepairs.none n (itself r h.text h.input) (subst (λ (t : List ℕ). IsFirstBadLine h.k.grammar (lines t) n) (sym h.input.whole) h.bad) refl)
   of_fault (NotUtf8 i) h = at_bad i (Some (NotUtf8 i)) (IsBad.no_text h.0 refl) h.1
   of_fault (Read i) h = absurd h
   of_fault (TooLong i) h = at_bad i (Some (TooLong i)) (IsBad.too_long h.0 refl) h.1
@@ -253,7 +253,7 @@ module _ (g l r : List ℕ) where
 
 -- ---- one output or one refusal
 
-module _ (laws : Below) (kits : (grammar : List ℕ) (k l : KitValue) → IsRunKit grammar k → IsRunKit grammar l → k ≡ l) where
+module _ (laws : Below) (kits : (grammar : List ℕ) (k l : ParserValue) → IsRunKit grammar k → IsRunKit grammar l → k ≡ l) where
   pub output_or_fault : (g l r text : List ℕ) (faulty : Bool) (e : RunFault) → GivesOutput g l r text faulty → GivesFault g l r e → ⊥
   output_or_fault g l r text faulty e x y = grammars_same laws kits g r l None (Some e) (of_output g l r text faulty x) (of_fault g l r e y)
 

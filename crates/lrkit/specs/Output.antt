@@ -8,7 +8,7 @@ use Rattle.cfg_theory.specs.Tree.{Tree}
 use Rattle.lr_theory.specs.Repair.{Edit}
 use Rattle.parse_trees.specs.Lexemes.{IsFirstLexError}
 use Rattle.lrpar.specs.declared.parse_error.ParseError.{ParseError}
-use Rattle.parser_kit.specs.Kit.{KitValue}
+use Rattle.lrpar.specs.Checked.{ParserValue}
 use Rattle.parser_kit.specs.KitParses.{IsKitParse}
 use Rattle.word_lines.specs.Lexing.{items_of, lex_of}
 use Rattle.word_lines.specs.LineTexts.{error_line, fault_line, value_text}
@@ -36,16 +36,16 @@ has_some (x ∷ xs) = true
 abbrev pub parsed_text : GrammarValue → List ℕ → List (ParseError Word ℕ) → Option (Tree Word) → List ℕ
 parsed_text g line errors tree = flat_map (error_line id g line) errors ++ value_text id g line tree
 
-module _ (k : KitValue) (repairs : List (List Edit)) (line : List ℕ) where
+module _ (k : ParserValue) (repairs : List (List Edit)) (line : List ℕ) where
   abbrev pub items : List (Result Word WordLexError)
-  items = items_of id k.parser.grammar line
+  items = items_of id k.grammar line
 
   -- the text of a line, and whether the line has an error
   pub data LineText (text : List ℕ) (faulty : Bool) : Type 0 where
     lexing_error : (e : WordLexError) → IsFirstLexError items e → text ≡ fault_line line e → faulty ≡ true → LineText text faulty
     parsed : (tree : Option (Tree Word)) (errors : List (ParseError Word ℕ)) →
-        IsKitParse id (lex_of id) made_up k.parser (λ state index lexeme offered. offered ≡ repairs) items (λ t. t ≡ tree) errors →
-        text ≡ parsed_text k.parser.grammar line errors tree → faulty ≡ has_some errors → LineText text faulty
+        IsKitParse id (lex_of id) made_up k (λ state index lexeme offered. offered ≡ repairs) items (λ t. t ≡ tree) errors →
+        text ≡ parsed_text k.grammar line errors tree → faulty ≡ has_some errors → LineText text faulty
 
 -- the text of a line before those of others
 pub record BeforeTexts (First Others : List ℕ → Bool → Type 0) (text : List ℕ) (faulty : Bool) : Type 0 where
@@ -59,29 +59,29 @@ pub record BeforeTexts (First Others : List ℕ → Bool → Type 0) (text : Lis
   pub faulty_is : faulty ≡ (first_faulty || other_faulty)
 
 -- the texts of the lines one behind the other, and whether some line has an error
-abbrev pub LineTexts : KitValue → List (List Edit) → List (List ℕ) → List ℕ → Bool → Type 0
+abbrev pub LineTexts : ParserValue → List (List Edit) → List (List ℕ) → List ℕ → Bool → Type 0
 LineTexts k repairs [] text faulty = (text ≡ []) × (faulty ≡ false)
 LineTexts k repairs (line ∷ others) text faulty = BeforeTexts (LineText k repairs line) (LineTexts k repairs others) text faulty
 
 -- each line of a text is a repair: these
-abbrev pub ReadsRepairs : KitValue → List ℕ → List (List Edit) → Type 0
-ReadsRepairs k text repairs = map (repair_line k.parser.grammar) (lines text) ≡ map Some repairs
+abbrev pub ReadsRepairs : ParserValue → List ℕ → List (List Edit) → Type 0
+ReadsRepairs k text repairs = map (repair_line k.grammar) (lines text) ≡ map Some repairs
 
 -- what all is answered by: the kit of the grammar, whose conflicts are expected, and the repairs
-pub record IsReady (grammar repair_text : List ℕ) (k : KitValue) (repairs : List (List Edit)) : Type 0 where
+pub record IsReady (grammar repair_text : List ℕ) (k : ParserValue) (repairs : List (List Edit)) : Type 0 where
   pub is_kit : IsRunKit grammar k
   pub expected : AreExpected k
   pub are_repairs : ReadsRepairs k repair_text repairs
 
 -- the text that a grammar, lines and repairs give, and whether some line has an error
 pub record Output (grammar line_text repair_text text : List ℕ) (faulty : Bool) : Type 0 where
-  pub kit : KitValue
+  pub kit : ParserValue
   pub repairs : List (List Edit)
   pub ready : IsReady grammar repair_text kit repairs
   pub texts : LineTexts kit repairs (lines line_text) text faulty
 
 -- a beginning of the texts of the first so many lines is out
-pub record BeginsTexts (k : KitValue) (repairs : List (List Edit)) (all : List (List ℕ)) (known known' : Option (List ℕ)) : Type 0 where
+pub record BeginsTexts (k : ParserValue) (repairs : List (List Edit)) (all : List (List ℕ)) (known known' : Option (List ℕ)) : Type 0 where
   pub count : ℕ
   pub text : List ℕ
   pub faulty : Bool
@@ -90,7 +90,7 @@ pub record BeginsTexts (k : KitValue) (repairs : List (List Edit)) (all : List (
 
 -- a beginning of what a grammar, lines and repairs give is out
 pub record BeginsOutput (grammar line_text repair_text : List ℕ) (known known' : Option (List ℕ)) : Type 0 where
-  pub kit : KitValue
+  pub kit : ParserValue
   pub repairs : List (List Edit)
   pub ready : IsReady grammar repair_text kit repairs
   pub begins : BeginsTexts kit repairs (lines line_text) known known'

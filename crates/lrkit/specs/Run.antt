@@ -6,7 +6,7 @@ use Rattle.std.specs.Str.Lines.{lines}
 use Rattle.byte_streams.specs.Inputs.{most_bytes, HasNoText}
 use Rattle.byte_streams.specs.Source.{one_more, IsWhole, HasMoreThan}
 use Rattle.lr_theory.specs.Repair.{Edit}
-use Rattle.parser_kit.specs.Kit.{KitValue}
+use Rattle.lrpar.specs.Checked.{ParserValue}
 use Rattle.parser_kit.specs.declared.kit_error.KitError.TheVariants as kit
 use Rattle.word_lines.specs.Repairs.{IsFirstBadLine}
 use Rattle.lrkit.specs.Output.{Output, BeginsOutput, ReadsRepairs}
@@ -63,14 +63,14 @@ IsWriteCause faults faults' Write = faults' ≡ one_more faults
 IsWriteCause faults faults' e = faults' ≡ faults
 
 -- the kit is that of the text that the source held, and its conflicts are expected
-pub record IsGoodKitIn (known : Option (List ℕ)) (k : KitValue) : Type 0 where
+pub record IsGoodKitIn (known : Option (List ℕ)) (k : ParserValue) : Type 0 where
   pub text : List ℕ
   pub input : IsInput known text
   pub is_kit : IsRunKit text k
   pub expected : AreExpected k
 
 -- the source held these repairs
-pub record ReadsRepairsIn (k : KitValue) (known : Option (List ℕ)) (repairs : List (List Edit)) : Type 0 where
+pub record ReadsRepairsIn (k : ParserValue) (known : Option (List ℕ)) (repairs : List (List Edit)) : Type 0 where
   pub text : List ℕ
   pub input : IsInput known text
   pub are_repairs : ReadsRepairs k text repairs
@@ -79,7 +79,7 @@ pub record ReadsRepairsIn (k : KitValue) (known : Option (List ℕ)) (repairs : 
 pub record HasCountsIn (known : Option (List ℕ)) (e : RunFault) : Type 0 where
   pub text : List ℕ
   pub input : IsInput known text
-  pub k : KitValue
+  pub k : ParserValue
   pub is_kit : IsRunKit text k
   pub other : HasOtherCounts k e
 
@@ -91,11 +91,11 @@ pub record HasKitRefusalIn (known : Option (List ℕ)) (P : List ℕ → Type 0)
 
 -- this line of the repairs is the first that is none
 pub record HasBadLineIn (grammar repairs : Option (List ℕ)) (n : ℕ) : Type 0 where
-  pub k : KitValue
+  pub k : ParserValue
   pub is_kit : IsGoodKitIn grammar k
   pub text : List ℕ
   pub input : IsInput repairs text
-  pub bad : IsFirstBadLine k.parser.grammar (lines text) n
+  pub bad : IsFirstBadLine k.grammar (lines text) n
 
 -- what a fault says of the grammar and of the repairs
 abbrev pub IsRefusal : Option (List ℕ) → Option (List ℕ) → RunFault → Type 0
@@ -108,8 +108,8 @@ IsRefusal grammar repairs e = Unit {0}
 -- the grammar gives a kit; it does, and the repairs are repairs
 abbrev pub GoodBefore : Option (List ℕ) → Option (List ℕ) → Input → Type 0
 GoodBefore grammar repairs inputs.Grammar = Unit {0}
-GoodBefore grammar repairs inputs.Repairs = (k : KitValue) × IsGoodKitIn grammar k
-GoodBefore grammar repairs inputs.Lines = (k : KitValue) × (rs : List (List Edit)) × IsGoodKitIn grammar k × ReadsRepairsIn k repairs rs
+GoodBefore grammar repairs inputs.Repairs = (k : ParserValue) × IsGoodKitIn grammar k
+GoodBefore grammar repairs inputs.Lines = (k : ParserValue) × (rs : List (List Edit)) × IsGoodKitIn grammar k × ReadsRepairsIn k repairs rs
 
 -- a fault that names an input, or comes of writing, says that the inputs before it were good
 abbrev pub AreGoodBefore : Option (List ℕ) → Option (List ℕ) → RunFault → Type 0

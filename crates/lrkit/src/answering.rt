@@ -20,7 +20,7 @@ use crate::fault::RunFault;
 use crate::trees::write_tree;
 use byte_streams::{Sink, write_all};
 use lrpar::{FlatTree, ParseError, ParseRefusal};
-use parser_kit::ParserKit;
+use parser_kit::GrammarKit;
 use std::alloc::Global;
 use word_lines::laws::{flat_parses_can_be_shown, items_are_parts_of_their_line};
 use word_lines::shown::{push_errors, push_fault};
@@ -36,7 +36,7 @@ type LineLexer<'a> = WordLexer<'a, u32>;
 /// room of its lexer's list, which serves the next line.
 pub(crate) fn write_line<W: Sink>(
     alloc: Global,
-    kit: &ParserKit<u32>,
+    kit: &GrammarKit<u32>,
     repairs: &RepairLines<u32>,
     room: LexerRoom<u32>,
     line: &str,
@@ -58,15 +58,15 @@ pub(crate) fn write_line<W: Sink>(
 // Writes the text of a line whose items are at hand.
 fn write_lexed<'a, W: Sink>(
     alloc: Global,
-    kit: &'a ParserKit<u32>,
+    kit: &'a GrammarKit<u32>,
     repairs: &RepairLines<u32>,
     line: &'a str,
     lexer: &LineLexer<'a>,
     out: &mut W,
 ) -> Result<bool, RunFault>
     requires line { lexer.now.text ≡ line.now }
-    requires items { lexer.now.items ≡ items_of id kit.now.parser.grammar line.now }
-    requires not_refused { (m : Misfit) → HasMisfit kit.now.parser.grammar.grammar (lex_of id) lexer.now.items m → ⊥ }
+    requires items { lexer.now.items ≡ items_of id kit.now.grammar line.now }
+    requires not_refused { (m : Misfit) → HasMisfit kit.now.grammar.grammar (lex_of id) lexer.now.items m → ⊥ }
     ensures ok { IfOk result (WritesLine kit.now repairs.now line.now (W.known out.old) (W.known out.new)) }
     ensures late { IfErr result IsLate }
     ensures begins { IfErr result (BeginsLine kit.now repairs.now line.now (W.known out.old) (W.known out.new)) }
@@ -75,12 +75,15 @@ fn write_lexed<'a, W: Sink>(
 {
     flat_parses_can_be_shown::<WordLexerTypes<u32>, RepairLines<u32>>();
     items_are_parts_of_their_line::<u32>();
-    kit.kit().stays_tabled();
-    let parsed = kit
-        .kit()
-        .parse_flat::<WordLexerTypes<u32>, LineLexer<'_>, RepairLines<u32>>(alloc, lexer, repairs);
+    kit.stays_tabled();
+    let parsed = kit.parse_flat::<WordLexerTypes<u32>, LineLexer<'_>, RepairLines<u32>>(
+        alloc, lexer, repairs,
+    );
     match parsed {
-        Ok(Ok((tree, errors))) => write_parsed(alloc, kit, line, lexer, &tree, errors, out),
+        Ok(Ok((tree, errors))) => {
+            let lexed = ReadLine { line, lexer };
+            write_parsed(alloc, kit, &lexed, &tree, errors, out)
+        }
         Ok(Err(error)) => write_first_fault(alloc, kit, lexer, error, out),
         Err(ParseRefusal::Memory(e)) => Err(RunFault::from(e)),
         Err(ParseRefusal::LexemeOutside(_)) => unreachable!(),
@@ -88,36 +91,42 @@ fn write_lexed<'a, W: Sink>(
     }
 }
 
+// A line, and the lexer of its words.
+#[derive(Drop)]
+struct ReadLine<'r, 'a> {
+    line: &'r str,
+    lexer: &'r LineLexer<'a>,
+}
+
 // Writes the texts of these errors, and then that of the tree, if there is one.
 fn write_parsed<'a, W: Sink>(
     alloc: Global,
-    kit: &'a ParserKit<u32>,
-    line: &str,
-    lexer: &LineLexer<'a>,
+    kit: &'a GrammarKit<u32>,
+    lexed: &ReadLine<'_, 'a>,
     tree: &Option<LineTree>,
     errors: Vec<LineError>,
     out: &mut W,
 ) -> Result<bool, RunFault>
-    requires line { lexer.now.text ≡ line.now }
-    requires errors { AllByRecursion (ErrorCanBeShown id kit.now.parser.grammar line.now) errors.items }
-    requires tree { TreeCanBeShown id kit.now.parser.grammar line.now tree.now }
-    ensures ok { (t : Option (Tree Word)) → HasFlat (span_by (lex_of id)) tree.now t → IfOk result (WritesParsed kit.now.parser.grammar line.now (W.known out.old) (W.known out.new) t errors.items) }
+    requires line { lexed.now.lexer.now.text ≡ lexed.now.line.now }
+    requires errors { AllByRecursion (ErrorCanBeShown id kit.now.grammar lexed.now.line.now) errors.items }
+    requires tree { TreeCanBeShown id kit.now.grammar lexed.now.line.now tree.now }
+    ensures ok { (t : Option (Tree Word)) → HasFlat (span_by (lex_of id)) tree.now t → IfOk result (WritesParsed kit.now.grammar lexed.now.line.now (W.known out.old) (W.known out.new) t errors.items) }
     ensures late { IfErr result IsLate }
-    ensures begins { (t : Option (Tree Word)) → HasFlat (span_by (lex_of id)) tree.now t → OnErr result (BeginningWritten (W.known out.old) (W.known out.new) (parsed_text kit.now.parser.grammar line.now errors.items t)) }
+    ensures begins { (t : Option (Tree Word)) → HasFlat (span_by (lex_of id)) tree.now t → OnErr result (BeginningWritten (W.known out.old) (W.known out.new) (parsed_text kit.now.grammar lexed.now.line.now errors.items t)) }
     ensures cause { IfErr result (IsWriteCause (W.faults out.old) (W.faults out.new)) }
     ensures kept { OnOk result (W.faults out.new ≡ W.faults out.old) }
 {
     let faulty = !errors.is_empty();
     let mut text = Vec::new(alloc);
-    push_errors(alloc, kit.grm(), lexer, errors, &mut text)?;
-    write_tree(alloc, kit.grm(), line, tree, &mut text, out)?;
+    push_errors(alloc, kit.grm(), lexed.lexer, errors, &mut text)?;
+    write_tree(alloc, kit.grm(), lexed.line, tree, &mut text, out)?;
     Ok(faulty)
 }
 
 // Writes the text of the line's first word that is no token's name.
 fn write_first_fault<'a, W: Sink>(
     alloc: Global,
-    kit: &'a ParserKit<u32>,
+    kit: &'a GrammarKit<u32>,
     lexer: &LineLexer<'a>,
     error: WordLexError,
     out: &mut W,

@@ -5,11 +5,11 @@ ghost use Rattle.lrkit.specs.RunKits.{AreExpected, HasOtherCounts};
 
 use crate::fault::RunFault;
 use lrtable::Conflicts;
-use parser_kit::ParserKit;
+use parser_kit::GrammarKit;
 
 /// Refuses a kit whose listed conflicts aren't as many as `%expect` and `%expect-rr` say. A missing number counts as
 /// nought. A kit with no conflict is taken, whatever is expected.
-pub(crate) fn check_counts(kit: &ParserKit<u32>) -> Result<(), RunFault>
+pub(crate) fn check_counts(kit: &GrammarKit<u32>) -> Result<(), RunFault>
     ensures ok { OnOk result (AreExpected kit.now) }
     ensures err { IfErr result (HasOtherCounts kit.now) }
 {
@@ -20,8 +20,8 @@ pub(crate) fn check_counts(kit: &ParserKit<u32>) -> Result<(), RunFault>
 }
 
 // Compares the counts of these conflicts with those that are expected.
-fn compare(kit: &ParserKit<u32>, conflicts: &Conflicts<u32>) -> Result<(), RunFault>
-    requires { kit.now.parser.table.conflicts ≡ Some conflicts.now }
+fn compare(kit: &GrammarKit<u32>, conflicts: &Conflicts<u32>) -> Result<(), RunFault>
+    requires { kit.now.table.conflicts ≡ Some conflicts.now }
     ensures ok { OnOk result (AreExpected kit.now) }
     ensures err { IfErr result (HasOtherCounts kit.now) }
 {

@@ -5,13 +5,14 @@ ghost use Rattle.std.specs.Str.Lines.{lines};
 ghost use Rattle.byte_streams.specs.Inputs.{most_bytes, TakesAtMost};
 ghost use Rattle.lrkit.specs.Output.{BeginsTexts};
 ghost use Rattle.lrkit.specs.Run.{AreGoodBefore, IsCauseIn, IsEarlyIn, IsGoodKitIn, IsInput, IsLate, IsOutAt, IsReadFaultOf, IsRefusal, IsWriteCause, ReadsRepairsIn, WritesOutput};
+ghost use Rattle.lrkit.specs.RunKits.{IsRunKit, IsRunKitRefusal};
 ghost use Rattle.lrkit.specs.Writing.{WritesLines};
 
 use crate::answering::write_line;
 use crate::counts::check_counts;
 use crate::fault::{Input, RunFault, run_fault};
 use byte_streams::{Sink, Source, read_text};
-use parser_kit::ParserKit;
+use parser_kit::{GrammarKit, KitError, ParserKit};
 use std::alloc::Global;
 use word_lines::{LexerRoom, RepairLines, RepairsError, read_repairs};
 
@@ -55,7 +56,7 @@ pub fn run<G: Source, L: Source, R: Source, W: Sink>(
 // What is left of a run with a kit: it reads the repairs and all lines, and then writes.
 fn run_kit<L: Source, R: Source, W: Sink>(
     alloc: Global,
-    kit: &ParserKit<u32>,
+    kit: &GrammarKit<u32>,
     lines: &mut L,
     repairs: &mut R,
     out: &mut W,
@@ -77,8 +78,19 @@ fn run_kit<L: Source, R: Source, W: Sink>(
     write_lines(alloc, kit, &repair_lines, line_text.as_str(), out)
 }
 
+// The parser of the grammar of a text, whose syntax tree is dropped.
+fn kit_of(alloc: Global, text: &str) -> Result<GrammarKit<u32>, KitError<u32>>
+    ensures kit { IfOk result (IsRunKit text.now) }
+    ensures refused { IfErr result (IsRunKitRefusal text.now) }
+{
+    match ParserKit::of_text(alloc, text, CAP) {
+        Ok(kit) => Ok(kit.into_kit()),
+        Err(e) => Err(e),
+    }
+}
+
 // The parser of the grammar that the source holds, whose conflicts are expected.
-fn read_kit<G: Source>(alloc: Global, grammar: &mut G) -> Result<ParserKit<u32>, RunFault>
+fn read_kit<G: Source>(alloc: Global, grammar: &mut G) -> Result<GrammarKit<u32>, RunFault>
     ensures ok { IfOk result (IsGoodKitIn (G.known grammar.old)) }
     ensures early { IfErr result (IsEarlyIn Input.Grammar) }
     ensures refused { IfErr result (IsRefusal (G.known grammar.old) None) }
@@ -86,7 +98,7 @@ fn read_kit<G: Source>(alloc: Global, grammar: &mut G) -> Result<ParserKit<u32>,
     ensures took { TakesAtMost (most_bytes + 1) (G.known grammar.old) (G.known grammar.new) }
 {
     let text = read_input(alloc, Input::Grammar, grammar)?;
-    let kit = ParserKit::of_text(alloc, text.as_str(), CAP)?;
+    let kit = kit_of(alloc, text.as_str())?;
     match check_counts(&kit) {
         Ok(()) => Ok(kit),
         Err(e) => {
@@ -99,7 +111,7 @@ fn read_kit<G: Source>(alloc: Global, grammar: &mut G) -> Result<ParserKit<u32>,
 // The repairs that the source holds.
 fn read_repair_lines<R: Source>(
     alloc: Global,
-    kit: &ParserKit<u32>,
+    kit: &GrammarKit<u32>,
     repairs: &mut R,
 ) -> Result<RepairLines<u32>, RunFault>
     ensures ok { IfOk result (ReadsRepairsIn kit.now (R.known repairs.old)) }
@@ -136,7 +148,7 @@ fn read_input<S: Source>(alloc: Global, input: Input, source: &mut S) -> Result<
 // Writes the texts of all lines. It answers whether some line has an error.
 fn write_lines<W: Sink>(
     alloc: Global,
-    kit: &ParserKit<u32>,
+    kit: &GrammarKit<u32>,
     repairs: &RepairLines<u32>,
     line_text: &str,
     out: &mut W,

@@ -1,2 +1,3 @@
+pub mod Forms
 pub mod Statuses
-pub mod Recording
+pub mod Texts

@@ -5,16 +5,19 @@ ghost use Rattle.lrkit_check.specs.Statuses.{fault_of, input_of, status_of};
 
 use byte_streams::InputFault;
 use grammar_report::Outcome;
+use report_values::FindingsError;
 use std::alloc::AllocError;
 use thiserror::Error;
 
-/// An input of the program.
+/// A file of the program.
 #[derive(Clone, Copy, Debug, PartialEq, Eq)]
 pub enum Input {
     /// The grammar's file.
     Grammar,
     /// The file of lines whose next tokens are asked for.
     Lines,
+    /// The page that is written.
+    Page,
 }
 
 /// Why no report is written, or not all of it. The system's cause is in words.
@@ -38,6 +41,15 @@ pub enum CheckFault {
     /// The request for memory that was refused.
     #[error("out of memory")]
     Memory(AllocError),
+    /// Memory was refused to what writes an object.
+    #[error("out of memory")]
+    Unwritten,
+    /// The grammar has this many states, which are too many to draw.
+    #[error("{0} states are too many to draw: at most 2000")]
+    TooManyStates(usize),
+    /// The page can't be written.
+    #[error("{0}")]
+    Page(String),
 }
 
 impl From<AllocError> for CheckFault {
@@ -50,8 +62,21 @@ impl From<AllocError> for CheckFault {
     }
 }
 
+impl From<FindingsError> for CheckFault {
+    ghost use Rattle.lrkit_check.specs.Forms.{fault_of_findings};
+
+    ghost from_gives = { λ x e. e ≡ fault_of_findings x };
+
+    fn from(e: FindingsError) -> CheckFault {
+        match e {
+            FindingsError::TooManyStates(count) => CheckFault::TooManyStates(count),
+            FindingsError::Memory(e) => CheckFault::Memory(e),
+        }
+    }
+}
+
 impl CheckFault {
-    /// Returns the input that the fault is about, if it is about one.
+    /// Returns the file that the fault is about, if it is about one.
     pub fn input(&self) -> Option<Input>
         ensures { result ≡ input_of self.now }
     {
@@ -62,6 +87,9 @@ impl CheckFault {
             CheckFault::Write(_) => None,
             CheckFault::Closed => None,
             CheckFault::Memory(_) => None,
+            CheckFault::Unwritten => None,
+            CheckFault::TooManyStates(_) => Some(Input::Grammar),
+            CheckFault::Page(_) => Some(Input::Page),
         }
     }
 }
@@ -85,6 +113,7 @@ pub fn status(outcome: &Result<Outcome, CheckFault>) -> u8
     match outcome {
         Ok(told) => grammar_report::status(*told),
         Err(CheckFault::Memory(_)) => 6,
+        Err(CheckFault::Unwritten) => 6,
         Err(_) => 5,
     }
 }

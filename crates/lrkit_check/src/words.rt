@@ -1,15 +1,32 @@
 //! The arguments.
 
 use crate::fault::Input;
-use std::env::Args;
+use clap::error::ErrorKind;
+use clap::{Arg, ArgAction, ArgMatches, Command, Error};
+use std::alloc::{AllocError, Global};
+
+/// The form of a report.
+#[derive(Clone, Copy, PartialEq, Eq)]
+pub enum Shape {
+    /// For a person.
+    Text,
+    /// One JSON object.
+    Json,
+    /// The states for Graphviz.
+    Dot,
+    /// A page.
+    Html,
+}
 
 /// What a report is asked for.
-#[derive(Drop)]
-pub struct Words {
+#[derive(Clone, Copy)]
+pub struct Words<'a> {
     /// The path of the grammar.
-    pub grammar: Option<String>,
+    pub grammar: &'a str,
     /// The path of the lines, where their errors are asked for.
-    pub lines: Option<String>,
+    pub lines: Option<&'a str>,
+    /// The path of the page, where one is asked for.
+    pub page: Option<&'a str>,
     /// Whether the grammar is said to be a Bison file.
     pub bison: bool,
     /// Whether each conflict is to have a block.
@@ -20,115 +37,119 @@ pub struct Words {
     pub states: bool,
     /// Whether a sentence of each rule is asked for.
     pub sentences: bool,
+    /// Whether messages are to be in color.
+    pub color: bool,
+    /// The form of the report.
+    pub shape: Shape,
 }
 
-/// What the arguments ask for.
-#[derive(Drop)]
-pub enum Call {
-    /// A report.
-    Report(Words),
-    /// How the program is called.
-    Help,
-    /// The form of its reports.
-    Version,
-    /// Nothing that can be done.
-    Wrong,
-}
-
-impl Words {
-    /// Returns the path of an input, as it was given.
-    pub fn path(&self, input: Input) -> &str {
-        let path = match input {
-            Input::Grammar => &self.grammar,
-            Input::Lines => &self.lines,
-        };
-        match path {
-            Some(path) => path.as_str(),
-            None => "",
+impl<'a> Words<'a> {
+    /// Returns the path of a file, as it was given.
+    pub fn path(&self, input: Input) -> &'a str {
+        match input {
+            Input::Grammar => self.grammar,
+            Input::Lines => self.lines.unwrap_or(""),
+            Input::Page => self.page.unwrap_or(""),
         }
     }
 }
 
-/// Takes the path of the grammar, and returns whether there was none before.
-fn take_path(read: &mut Words, word: String) -> bool {
-    if read.grammar.is_some() {
-        return false;
-    }
-    read.grammar = Some(word);
-    true
+/// Makes an option without a value, which may be repeated.
+fn flag(alloc: Global, name: &str) -> Result<Arg<'_>, AllocError> {
+    let arg = Arg::new(alloc, name).long(name).action(ArgAction::SetTrue);
+    arg.overrides_with(name)
 }
 
-/// Takes an option without a value, and returns whether it is one.
-fn take_option(read: &mut Words, word: &str) -> bool {
-    match word {
-        "--bison" => read.bison = true,
-        "--each" => read.each = true,
-        "--full" => read.full = true,
-        "--states" => read.states = true,
-        "--sentences" => read.sentences = true,
-        _ => return false,
-    }
-    true
+/// Makes an option whose value is the path that comes next.
+fn path_option<'a>(alloc: Global, name: &'a str, value: &'a str) -> Arg<'a> {
+    Arg::new(alloc, name).long(name).value_name(value)
 }
 
-/// Returns whether standard input is to be both the grammar and the lines.
-fn reads_twice(read: &Words) -> bool {
-    read.path(Input::Grammar) == "-" && read.path(Input::Lines) == "-"
+/// Refuses what only a report for a person has.
+fn without_parts(arg: Arg<'_>) -> Result<Arg<'_>, AllocError> {
+    arg.conflicts_with("states")?
+        .conflicts_with("sentences")?
+        .conflicts_with("next")
 }
 
-/// Returns what a word asks for by itself, whatever else stands there.
-fn call_of(word: &str) -> Option<Call> {
-    match word {
-        "--help" => Some(Call::Help),
-        "--version" => Some(Call::Version),
-        _ => None,
+/// Refuses what only a report for a person and one object have.
+fn without_examples(arg: Arg<'_>) -> Result<Arg<'_>, AllocError> {
+    without_parts(arg)?
+        .conflicts_with("each")?
+        .conflicts_with("full")
+}
+
+/// Makes the options of the forms, of which one may be asked for.
+fn with_forms<'a>(alloc: Global, command: Command<'a>) -> Result<Command<'a>, AllocError> {
+    let json = without_parts(flag(alloc, "json")?)?;
+    let dot = without_examples(flag(alloc, "dot")?)?.conflicts_with("json")?;
+    let page = without_examples(path_option(alloc, "html", "FILE"))?
+        .conflicts_with("json")?
+        .conflicts_with("dot")?;
+    command.arg(json)?.arg(dot)?.arg(page)
+}
+
+/// Makes what reads the words.
+fn command<'a>(alloc: Global) -> Result<Command<'a>, AllocError> {
+    let color = Arg::new(alloc, "color")
+        .long("color")
+        .value_name("WHEN")
+        .value_parser(["always", "never"].as_slice())
+        .require_equals(true)
+        .overrides_with("color")?;
+    let command = Command::new(alloc, "lrkit-check")
+        .version("")
+        .no_binary_name(true)
+        .arg(Arg::new(alloc, "GRAMMAR").required(true))?
+        .arg(flag(alloc, "bison")?)?
+        .arg(flag(alloc, "each")?)?
+        .arg(flag(alloc, "full")?)?
+        .arg(flag(alloc, "states")?)?
+        .arg(flag(alloc, "sentences")?)?
+        .arg(path_option(alloc, "next", "LINES"))?
+        .arg(color)?;
+    with_forms(alloc, command)
+}
+
+/// Returns the form that is asked for.
+fn shape_of(matches: &ArgMatches<'_>) -> Shape {
+    if matches.get_flag("json") {
+        Shape::Json
+    } else if matches.get_flag("dot") {
+        Shape::Dot
+    } else if matches.get_str("html").is_some() {
+        Shape::Html
+    } else {
+        Shape::Text
     }
 }
 
-/// Fills in what the words behind the program's name say, and returns another call where they ask for one. Behind `--` each
-/// word is a path.
-fn take_words(read: &mut Words, words: Args) -> Option<Call> {
-    let mut wants_lines = false;
-    let mut only_paths = false;
-    'words: for word in words {
-        if wants_lines {
-            read.lines = Some(word);
-            wants_lines = false;
-        } else if only_paths || !word.as_str().starts_with("--") {
-            if !take_path(read, word) {
-                return Some(Call::Wrong);
-            }
-        } else if word.as_str() == "--" {
-            only_paths = true;
-        } else if word.as_str() == "--next" && read.lines.is_none() {
-            wants_lines = true;
-        } else if !take_option(read, word.as_str()) {
-            return Some(call_of(word.as_str()).unwrap_or(Call::Wrong));
-        }
-    }
-    if wants_lines || read.grammar.is_none() || reads_twice(read) {
-        return Some(Call::Wrong);
-    }
-    None
+/// Refuses standard input as both the grammar and the lines.
+fn reads_twice(alloc: Global) -> Result<Error, AllocError> {
+    let mut command = command(alloc)?;
+    let words = "standard input can't be both the grammar and the lines";
+    command.error(ErrorKind::ArgumentConflict, words)
 }
 
-/// Returns what the arguments ask for.
-pub fn read_words(mut words: Args) -> Call {
-    let _program = words.next();
-    let mut read = Words {
-        grammar: None,
-        lines: None,
-        bison: false,
-        each: false,
-        full: false,
-        states: false,
-        sentences: false,
+/// Returns what the arguments behind the program's name ask for, or the text for who called it otherwise.
+pub fn read_words<'a>(alloc: Global, args: &'a [String]) -> Result<Words<'a>, Error> {
+    let command = command(alloc)?;
+    let matches = command.try_get_matches_from(args)?;
+    let words = Words {
+        grammar: matches.get_str("GRAMMAR").unwrap_or(""),
+        lines: matches.get_str("next"),
+        page: matches.get_str("html"),
+        bison: matches.get_flag("bison"),
+        each: matches.get_flag("each"),
+        full: matches.get_flag("full"),
+        states: matches.get_flag("states"),
+        sentences: matches.get_flag("sentences"),
+        color: matches.get_str("color") == Some("always"),
+        shape: shape_of(&matches),
     };
-    match take_words(&mut read, words) {
-        Some(call) => {
-            drop(read);
-            call
-        }
-        None => Call::Report(read),
+    drop(matches);
+    if words.grammar == "-" && words.lines == Some("-") {
+        return Err(reads_twice(alloc)?);
     }
+    Ok(words)
 }

@@ -1,1 +1,4 @@
 pub mod Statuses
+pub mod Counts
+pub mod Calls
+pub mod Runs

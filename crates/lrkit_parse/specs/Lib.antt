@@ -1,3 +1,4 @@
+pub mod Calls
+pub mod Faults
 pub mod Paths
 pub mod Statuses
-pub mod Recording

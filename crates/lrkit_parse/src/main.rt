@@ -1,11 +1,11 @@
-//! The program `lrkit-parse GRAMMAR LEXER FILE .. [--tree | --sexp | --quiet] [--repairs N]`: trees of texts, by a grammar and a lexer file.
+//! The program `lrkit-parse GRAMMAR LEXER FILE .. [OPTION ..]`: trees of texts, by a grammar and a lexer file.
 #![tactic(auto)]
 
 ghost use Rattle.std.specs.Prelude.{◌≡◌};
 
 mod fault;
+mod lines;
 mod making;
-mod recorded;
 mod running;
 mod streams;
 mod warnings;
@@ -26,7 +26,8 @@ const OUT_OF_MEMORY: u8 = 6;
 const WRITE_FAULT: u8 = 5;
 
 const HELP: &str = "\
-usage: lrkit-parse GRAMMAR LEXER FILE .. [--tree | --sexp | --quiet] [--repairs N]
+usage: lrkit-parse GRAMMAR LEXER FILE .. [--tree | --sexp | --json | --dot | --quiet] [--bison] [--next] [--repairs N]
+       lrkit-parse --lines GRAMMAR LINES [OPTION ..]
        lrkit-parse --help | --version
 
 Parses each file as a whole, by a grammar and the rules of a lexer file, and writes its tree, or its errors. Behind an error
@@ -34,8 +35,14 @@ parsing goes on with a repair. A path may be `-`, for standard input; behind `--
 
   --tree        a line for each node of the tree, as without this word
   --sexp        each tree as one expression, on a line
+  --json        for each file a JSON object on a line, with its errors, repairs and tree
+  --dot         each tree for Graphviz, without --next
   --quiet       errors alone
+  --bison       reads the grammar as a Bison or Yacc file, and lists what is left out or changed of it; without this word if it
+                looks like one
+  --next        at the first error of each file, else at its end, which tokens may come there
   --repairs N   repairs of at most N insertions and deletions, which are listed; with 0 only the first error. Else N is 3
+  --lines       each line of a file is a text: names of tokens with spaces between, without a lexer and --dot
 
 Status: 0 each file has a tree; 1 some has an error; 2 no parser or no lexer; 5 input or output; 6 memory; 64 usage.
 ";
@@ -95,7 +102,7 @@ fn usage(rt: &impl Eprint) -> u8
     ensures { result ≡ USAGE }
 {
     let _ = eprintln!(rt;
-        "usage: lrkit-parse GRAMMAR LEXER FILE .. [--tree | --sexp | --quiet] [--repairs N]"
+        "usage: lrkit-parse GRAMMAR LEXER FILE .. [--tree | --sexp | --json | --dot | --quiet] [--bison] [--next] [--repairs N]\n       lrkit-parse --lines GRAMMAR LINES [OPTION ..]"
     );
     USAGE
 }

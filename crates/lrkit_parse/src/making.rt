@@ -7,7 +7,7 @@ ghost use Rattle.lrlex.specs.LexTexts.{ReadsRules};
 use crate::fault::ParseFault;
 use cfg_base::span::Span;
 use cfg_sections::header::HeaderError;
-use grammar_report::{Asked, Report, report};
+use grammar_report::{Asked, Report, report_on};
 use lrlex::{LexFileError, LexRules, LexTextError};
 use parser_kit::{KitError, ParserKit};
 use std::alloc::{AllocError, Global};
@@ -16,35 +16,29 @@ use text_messages::{Severity, Source};
 /// No chain of reductions on one token goes past this.
 const CAP: u16 = 1000;
 
-/// Returns the report on a grammar's text.
-fn report_on(alloc: Global, text: &str, path: &str) -> Result<Report, AllocError>
-    ensures { IfOk result (λ r. IsOutcome text.now r.outcome) }
-{
-    let asked = Asked {
-        each: false,
-        full: false,
-        states: false,
-        sentences: false,
-        next: None,
-    };
-    report(alloc, text, path, asked)
-}
+/// What a report is asked for that says what is wrong with a text.
+const PLAIN: Asked<'static> = Asked {
+    each: false,
+    full: false,
+    states: false,
+    sentences: false,
+    next: None,
+};
 
 /// Makes the parser of a grammar's text, or returns the report that says what is wrong with the text.
 pub fn make_kit(
     alloc: Global,
-    text: &str,
-    path: &str,
+    source: &Source<'_>,
 ) -> Result<Result<ParserKit<u32>, Report>, AllocError>
-    ensures kit { IfOk result (λ r. IfOk r (IsKitIn text.now)) }
-    ensures report { IfOk result (λ r. IfErr r (λ told. IsOutcome text.now told.outcome)) }
+    ensures kit { IfOk result (λ r. IfOk r (IsKitIn source.now.text)) }
+    ensures report { IfOk result (λ r. IfErr r (λ told. IsOutcome source.now.text told.outcome)) }
 {
-    match ParserKit::of_text(alloc, text, CAP) {
+    match ParserKit::of_text(alloc, source.text(), CAP) {
         Ok(kit) => Ok(Ok(kit)),
         Err(KitError::Memory(e)) => Err(e),
         Err(refusal) => {
             drop(refusal);
-            let told = report_on(alloc, text, path)?;
+            let told = report_on(alloc, source, PLAIN)?;
             Ok(Err(told))
         }
     }

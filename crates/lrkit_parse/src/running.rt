@@ -1,16 +1,19 @@
 //! From the words to the trees.
 
 use crate::fault::{Outcome, ParseFault};
+use crate::lines::answer_lines;
 use crate::making::{make_kit, make_rules};
-use crate::recorded::Recorded;
 use crate::streams::{fault_of_answer, read_file};
-use crate::warnings::say_warnings;
+use crate::warnings::{say_notes, say_refusal, say_warnings};
 use crate::words::Words;
+use bison_sources::{BisonFile, BisonImport, bison_file, import_file};
+use byte_streams::Recorded;
 use lrlex::{BoundRules, LexRules};
 use parser_kit::ParserKit;
 use std::io;
 use std::io::Write;
 use std::rt::Files;
+use text_messages::Source;
 use text_parses::{Input, answer_text};
 
 /// How many paths are behind the program's name where there is one text.
@@ -33,6 +36,7 @@ fn answer_file<R: Files + io::Input + AllocGlobal, W: Write>(
         named: words.paths.len() > ONE_TEXT,
         edits: words.edits,
         listed: words.listed,
+        next: words.next,
     };
     match answer_text(rt.alloc(), kit, bound, input, out) {
         Ok(well) => Ok(well),
@@ -70,12 +74,15 @@ fn answer_by<R: Files + io::Input + Print + Eprint + AllocGlobal>(
     answer_files(rt, words, kit, &bound, &mut out)
 }
 
-/// Reads the lexer, and answers all texts.
+/// Answers all lines; or reads the lexer, and answers all texts.
 fn answer_with<R: Files + io::Input + Print + Eprint + AllocGlobal>(
     rt: &R,
     words: &Words,
     kit: &ParserKit<u32>,
 ) -> Result<Outcome, ParseFault> {
+    if words.lines {
+        return answer_lines(rt, words, kit);
+    }
     let lexer = read_file(rt, words, 1)?;
     match make_rules(rt.alloc(), lexer.as_str(), words.path(1))? {
         Ok(rules) => {
@@ -90,13 +97,13 @@ fn answer_with<R: Files + io::Input + Print + Eprint + AllocGlobal>(
     }
 }
 
-/// Reads the grammar and the lexer, and writes for each text its tree or its errors.
-pub fn run<R: Files + io::Input + Print + Eprint + AllocGlobal>(
+/// Makes the parser of a grammar's text, reads the lexer, and answers all texts.
+fn answer_grammar<R: Files + io::Input + Print + Eprint + AllocGlobal>(
     rt: &R,
     words: &Words,
+    grammar: &Source<'_>,
 ) -> Result<Outcome, ParseFault> {
-    let grammar = read_file(rt, words, 0)?;
-    match make_kit(rt.alloc(), grammar.as_str(), words.path(0))? {
+    match make_kit(rt.alloc(), grammar)? {
         Ok(kit) => {
             let answered = answer_with(rt, words, &kit);
             drop(kit);
@@ -108,4 +115,62 @@ pub fn run<R: Files + io::Input + Print + Eprint + AllocGlobal>(
             Ok(Outcome::NoParser)
         }
     }
+}
+
+/// Imports a grammar's file, and answers all texts by the import.
+fn answer_bison<R: Files + io::Input + Print + Eprint + AllocGlobal>(
+    rt: &R,
+    words: &Words,
+    file: BisonFile<'_>,
+) -> Result<Outcome, ParseFault> {
+    match import_file(rt.alloc(), file) {
+        Ok(import) => {
+            let answered = answer_import(rt, words, file, &import);
+            drop(import);
+            answered
+        }
+        Err(error) => {
+            say_refusal(rt, file, error)?;
+            Ok(Outcome::NoParser)
+        }
+    }
+}
+
+/// Answers all texts by the import of a grammar's file.
+fn answer_import<R: Files + io::Input + Print + Eprint + AllocGlobal>(
+    rt: &R,
+    words: &Words,
+    file: BisonFile<'_>,
+    import: &BisonImport,
+) -> Result<Outcome, ParseFault> {
+    say_notes(rt, file, import.imported.notes.as_slice())?;
+    let source = import.source(rt.alloc(), file)?;
+    let answered = answer_grammar(rt, words, &source);
+    drop(source);
+    answered
+}
+
+/// Answers all texts by a grammar's file.
+fn answer_by_file<R: Files + io::Input + Print + Eprint + AllocGlobal>(
+    rt: &R,
+    words: &Words,
+    text: &str,
+    path: &str,
+) -> Result<Outcome, ParseFault> {
+    if let Some(file) = bison_file(text, path, words.bison) {
+        return answer_bison(rt, words, file);
+    }
+    let source = Source::new(rt.alloc(), text, path)?;
+    let answered = answer_grammar(rt, words, &source);
+    drop(source);
+    answered
+}
+
+/// Reads the grammar and the lexer, and writes for each text its tree or its errors.
+pub fn run<R: Files + io::Input + Print + Eprint + AllocGlobal>(
+    rt: &R,
+    words: &Words,
+) -> Result<Outcome, ParseFault> {
+    let grammar = read_file(rt, words, 0)?;
+    answer_by_file(rt, words, grammar.as_str(), words.path(0))
 }

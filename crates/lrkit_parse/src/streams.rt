@@ -1,12 +1,14 @@
 //! Files to read, and what failed of them or of standard output.
 
-ghost use Rattle.std.specs.Prelude.{◌≡◌, IfErr, IfOk, string_bytes};
+ghost use Rattle.std.specs.Prelude.{◌≡◌, ◌≤◌, IfErr, IfOk, string_bytes, string_len};
+ghost use Rattle.byte_streams.specs.Inputs.{most_bytes};
+ghost use Rattle.byte_streams.specs.Recording.{failure_of};
+ghost use Rattle.lrkit_parse.specs.Faults.{IsFaultOf, IsInputFault, IsReadFault, IsWriteFault};
 ghost use Rattle.lrkit_parse.specs.Statuses.{IsTextFault};
 
 use crate::fault::ParseFault;
-use crate::recorded::{Recorded, cause_of};
 use crate::words::Words;
-use byte_streams::MOST_BYTES;
+use byte_streams::{MOST_BYTES, Recorded, cause_of};
 use std::alloc::Global;
 use std::io::{ErrorKind, Read, Write};
 use std::rt::Files;
@@ -19,6 +21,7 @@ const MOST_TAKEN: u64 = 67_108_865;
 /// Returns the bytes of an input as its text.
 fn text_of(index: usize, bytes: Vec<u8>) -> Result<String, ParseFault>
     ensures ok { IfOk result (λ t. string_bytes t ≡ bytes.items) }
+    ensures short { IfOk result (λ t. string_len t ≤ most_bytes) }
     ensures err { IfErr result (IsTextFault index bytes.items) }
 {
     if bytes.len() > MOST_BYTES {
@@ -31,7 +34,9 @@ fn text_of(index: usize, bytes: Vec<u8>) -> Result<String, ParseFault>
 }
 
 /// Returns why an input can't be opened or read.
-fn read_fault(alloc: Global, index: usize, failure: &io::Error) -> ParseFault {
+fn read_fault(alloc: Global, index: usize, failure: &io::Error) -> ParseFault
+    ensures { IsReadFault index result }
+{
     if failure.kind() == ErrorKind::OutOfMemory {
         return ParseFault::Memory;
     }
@@ -42,7 +47,10 @@ fn read_fault(alloc: Global, index: usize, failure: &io::Error) -> ParseFault {
 }
 
 /// Reads an input to its end as a text.
-fn read_from<S: Read + Drop>(alloc: Global, index: usize, from: S) -> Result<String, ParseFault> {
+fn read_from<S: Read + Drop>(alloc: Global, index: usize, from: S) -> Result<String, ParseFault>
+    ensures short { IfOk result (λ t. string_len t ≤ most_bytes) }
+    ensures err { IfErr result (IsInputFault index) }
+{
     let mut bytes = Vec::new(alloc);
     let mut limited = from.take(MOST_TAKEN);
     match limited.read_to_end(&mut bytes) {
@@ -56,7 +64,10 @@ pub fn read_file<R: Files + io::Input + AllocGlobal>(
     rt: &R,
     words: &Words,
     index: usize,
-) -> Result<String, ParseFault> {
+) -> Result<String, ParseFault>
+    ensures short { IfOk result (λ t. string_len t ≤ most_bytes) }
+    ensures err { IfErr result (IsInputFault index) }
+{
     let path = words.path(index);
     if path == "-" {
         return read_from(rt.alloc(), index, rt.reader());
@@ -68,7 +79,9 @@ pub fn read_file<R: Files + io::Input + AllocGlobal>(
 }
 
 /// Returns why a write failed.
-fn write_fault<W: Write>(alloc: Global, out: &Recorded<W>) -> ParseFault {
+fn write_fault<W: Write>(alloc: Global, out: &Recorded<W>) -> ParseFault
+    ensures { IsWriteFault (failure_of out.now) result }
+{
     if out.is_closed_pipe() {
         return ParseFault::Closed;
     }
@@ -79,14 +92,13 @@ fn write_fault<W: Write>(alloc: Global, out: &Recorded<W>) -> ParseFault {
 }
 
 /// Returns why a text is not answered as the program's fault, with the system's cause.
-pub fn fault_of_answer<W: Write>(
-    alloc: Global,
-    out: &Recorded<W>,
-    fault: AnswerFault,
-) -> ParseFault {
+pub fn fault_of_answer<W: Write>(alloc: Global, out: &Recorded<W>, fault: AnswerFault) -> ParseFault
+    ensures { IsFaultOf (failure_of out.now) fault result }
+{
     match fault {
         AnswerFault::Write => write_fault(alloc, out),
         AnswerFault::Lexemes => ParseFault::Lexemes,
         AnswerFault::Memory(e) => ParseFault::from(e),
+        AnswerFault::Unwritten => ParseFault::Memory,
     }
 }

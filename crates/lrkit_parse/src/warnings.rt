@@ -1,11 +1,15 @@
 //! What is said of a grammar and a lexer that serve: names that only one of them has, and conflicts.
 
+use bison_sources::{BisonFile, note_messages, push_notes, refusal_message};
 use cfg_base::index::IndexStorage;
 use cfg_base::symbol::TIdx;
+use checked_import::CheckedError;
 use lrlex::{BoundRules, LexRules};
 use parser_kit::ParserKit;
 use std::alloc::AllocError;
+use text_messages::Source;
 use text_parses::token_name;
+use yacc_import::Note;
 
 /// Returns the name of a rule of the lexer; nothing for one that is skipped.
 fn rule_name(rules: &LexRules, rule: usize) -> &str {
@@ -49,7 +53,7 @@ fn say_unlexed<R: Eprint + AllocGlobal>(
 }
 
 /// Says how many conflicts are listed, where they are others than the grammar expects.
-fn say_conflicts(rt: &impl Eprint, path: &str, kit: &ParserKit<u32>) {
+pub fn say_conflicts(rt: &impl Eprint, path: &str, kit: &ParserKit<u32>) {
     if let Some(conflicts) = kit.conflicts() {
         let shift_reduce = conflicts.sr_len();
         let reduce_reduce = conflicts.rr_len();
@@ -75,4 +79,33 @@ pub fn say_warnings<R: Eprint + AllocGlobal>(
     say_conflicts(rt, grammar, kit);
     say_unknown(rt, lexer, rules, bound)?;
     say_unlexed(rt, grammar, kit, bound)
+}
+
+/// Says how a Bison file was read: all that was left out or changed, or what a user of its parser should know.
+pub fn say_notes<R: Eprint + AllocGlobal>(
+    rt: &R,
+    file: BisonFile<'_>,
+    notes: &[Note],
+) -> Result<(), AllocError> {
+    let source = Source::new(rt.alloc(), file.text, file.path)?;
+    let mut text = String::new(rt.alloc());
+    let notes = note_messages(rt.alloc(), notes, file.sign)?;
+    push_notes(rt.alloc(), &mut text, &source, notes.as_slice())?;
+    let _ = eprint!(rt; "{text}");
+    Ok(())
+}
+
+/// Says why a Bison file is not imported.
+pub fn say_refusal<R: Eprint + AllocGlobal>(
+    rt: &R,
+    file: BisonFile<'_>,
+    error: CheckedError,
+) -> Result<(), AllocError> {
+    let error = refusal_message(rt.alloc(), error)?;
+    say_notes(rt, file, &[])?;
+    let source = Source::new(rt.alloc(), file.text, file.path)?;
+    let mut text = String::new(rt.alloc());
+    source.push(rt.alloc(), &mut text, &error)?;
+    let _ = eprint!(rt; "{text}");
+    Ok(())
 }

@@ -1,9 +1,10 @@
 //! Expressions, compiled.
 
-ghost use Rattle.std.specs.Prelude.{IfOk};
-ghost use Rattle.lrlex.specs.Expressions.{SearchesFor};
+ghost use Rattle.std.specs.Prelude.{◌≡◌, IfOk};
+ghost use Rattle.lrlex.specs.Expressions.{SearchesFor, lex_config};
 
 use regex::{Error, Regex, RegexBuilder};
+use regex_syntax::Config;
 use std::alloc::Global;
 
 /// Compiles the expression of a rule, to be searched for at the front of a text. `.` matches LF too, `^` and `$` match at the
@@ -17,4 +18,15 @@ pub fn compile(alloc: Global, expression: &str) -> Result<Regex, Error>
         .multi_line(true)
         .dot_matches_new_line(true)
         .build(alloc)
+}
+
+/// Returns the options that expressions are compiled with.
+pub(crate) fn options() -> Config
+    ensures { result ≡ lex_config }
+{
+    let mut config = Config::default();
+    config.octal = true;
+    config.flags.multi_line = true;
+    config.flags.dot_matches_new_line = true;
+    config
 }

@@ -2,9 +2,11 @@
 
 ghost use Rattle.std.specs.Prelude.{◌≡◌, ◌++◌, ◌∷◌, [], OnOk, OnErr, IfOk, string_bytes, option_map};
 ghost use Rattle.maximal_munch.specs.RuleValues.{rule_value};
+ghost use Rattle.lrlex.specs.Expressions.{lex_config};
 ghost use Rattle.lrlex.specs.Lexing.{rules_of, names_of, AddsRule};
+ghost use Rattle.regex.specs.Strings.{regex_config, IsReadFromSource};
 
-use crate::expression::compile;
+use crate::expression::{compile, options};
 use maximal_munch::{Rule, RuleSet, Target};
 use regex::Error;
 use std::alloc::{AllocError, Global};
@@ -76,6 +78,8 @@ impl LexRules {
         rule: Rule,
         name: Option<&str>,
     ) -> Result<(), AllocError>
+        requires config { regex_config rule.regex ≡ lex_config }
+        requires read { IsReadFromSource rule.regex }
         ensures rules { OnOk result (rules_of self.new ≡ record (rules_of self.old) { rules = (rules_of self.old).rules ++ rule_value rule ∷ [] }) }
         ensures names { OnOk result (names_of self.new ≡ names_of self.old ++ option_map (λ s. s.now) name.entry ∷ []) }
         ensures refused { OnErr result (rules_of self.new ≡ rules_of self.old) }
@@ -83,7 +87,7 @@ impl LexRules {
     {
         let name = owned_name(alloc, name)?;
         self.names.push(name)?;
-        if let Err(e) = self.set.push(rule) {
+        if let Err(e) = self.set.push_read(alloc, rule, &options()) {
             drop(self.names.pop());
             return Err(e);
         }

@@ -13,7 +13,7 @@ use Rattle.state_table.specs.TableValues.{TableValue}
 use Rattle.state_table.specs.Tables.{CountsAgree, IsTableOf, automaton_of}
 use Rattle.lrpar.specs.Pair.{IsSafePair}
 use Rattle.lrpar.specs.Safety.{PairCell, counts, items, on_token, on_rule, AllFit, CellFits, IsLeastMisfit}
-use Rattle.lrpar.specs.Fitting.{Tells}
+use Rattle.cfg_theory.specs.Decides.{Decides}
 use Rattle.lrpar.proofs.Completed.{tells_both}
 use Rattle.lrpar.proofs.SafePairs.{fitting_pairs_are_safe}
 
@@ -41,7 +41,7 @@ module _ (v : GrammarValue) (g : GraphValue) (t : TableValue) (good : WellFormed
   unlisted bare = subst (λ (o : Option Conflicts). Complete v.grammar (automaton_of g t) ↔ IsNone o) (sym is.conflicts) (list_law.unlisted v.grammar (precedences_of v) (automaton_of g t) good is.built bare)
 
   -- and an answer to whether it is complete is one to whether no conflict is listed
-  pub complete_tells : (b : Bool) → Tells (Complete v.grammar (automaton_of g t)) b → NoPrecedences (precedences_of v) → IsTrue b ↔ IsNone t.conflicts
+  pub complete_tells : (b : Bool) → Decides (Complete v.grammar (automaton_of g t)) b → NoPrecedences (precedences_of v) → IsTrue b ↔ IsNone t.conflicts
   complete_tells b tells bare =
       let told = tells_both (Complete v.grammar (automaton_of g t)) b tells in
       let lists = unlisted bare in

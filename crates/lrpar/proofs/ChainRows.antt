@@ -11,8 +11,8 @@ use Rattle.state_table.specs.TableValues.{TableValue, action_at}
 use Rattle.state_table.specs.Tables.{automaton_of}
 use Rattle.lrpar.specs.Reducing.{IsLong, BeginsNone, chain_top, chain_depth, chain_stack, ShortAt, ShortIn}
 use Rattle.lrpar.specs.Branching.{AreReducers}
-use Rattle.lrpar.specs.declared.shorts.Short.{Short}
-use Rattle.lrpar.specs.declared.shorts.Short.TheVariants as shorts
+use Rattle.lrpar.specs.declared.unit_chains.Short.{Short}
+use Rattle.lrpar.specs.declared.unit_chains.Short.TheVariants as shorts
 
 -- an action that begins no chain
 module _ (G : Grammar) (x : GraphValue) (v : TableValue) (limit : ℕ) where

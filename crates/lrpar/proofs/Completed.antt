@@ -8,18 +8,19 @@ use Rattle.lr_theory.specs.Itemset.{ItemSet, entry_at, HasItem, HasLook}
 use Rattle.state_table.specs.Graphs.{GraphValue}
 use Rattle.state_table.specs.TableValues.{TableValue, action_at}
 use Rattle.state_table.specs.Tables.{automaton_of}
-use Rattle.lrpar.specs.Fitting.{Tells, closed_at}
+use Rattle.lrpar.specs.Fitting.{closed_at}
+use Rattle.cfg_theory.specs.Decides.{Decides}
 use Rattle.lrpar.specs.Completing.{ItemStands}
 use Rattle.lrpar.proofs.Edging.{same_token}
 
 module _ (G : Grammar) (v : TableValue) (s p d : ℕ) where
-  pub next_tells : (n : ℕ) (k : Action) (b : Bool) → symbol_at G p d ≡ Some (token n) → k ≡ action_at v s n → Tells ((q : ℕ) × (k ≡ shift q)) b → Tells ((t : ℕ) → IsNext G p d (token t) → (q : ℕ) × (action_at v s t ≡ shift q)) b
+  pub next_tells : (n : ℕ) (k : Action) (b : Bool) → symbol_at G p d ≡ Some (token n) → k ≡ action_at v s n → Decides ((q : ℕ) × (k ≡ shift q)) b → Decides ((t : ℕ) → IsNext G p d (token t) → (q : ℕ) × (action_at v s t ≡ shift q)) b
   next_tells n k true e is h = λ t next.
       let same : n ≡ t = same_token n t (same_Some (token n) (token t) (sym e ∙ next.at)) in
       (h.0, ap (action_at v s) (sym same) ∙ sym is ∙ h.1)
   next_tells n k false e is h = λ all. let q = all n (record { at = e }) in h (q.0, is ∙ q.1)
 
-  pub looks_tell : (items : ItemSet) (bits : List Bool) (b : Bool) → entry_at items p d ≡ Some bits → d ≡ length (body_of G p) → p ≢ G.start → ((t : ℕ) → IsNext G p d (token t) → (q : ℕ) × (action_at v s t ≡ shift q)) → Tells ((t : ℕ) → slice_get bits t ≡ Some true → action_at v s t ≡ reduce p) b → Tells (ItemStands G v items s p d) b
+  pub looks_tell : (items : ItemSet) (bits : List Bool) (b : Bool) → entry_at items p d ≡ Some bits → d ≡ length (body_of G p) → p ≢ G.start → ((t : ℕ) → IsNext G p d (token t) → (q : ℕ) × (action_at v s t ≡ shift q)) → Decides ((t : ℕ) → slice_get bits t ≡ Some true → action_at v s t ≡ reduce p) b → Decides (ItemStands G v items s p d) b
   looks_tell items bits true at end ne next h = record {
     before_token = next;
     at_end = λ _ _ t look. h t (ap (λ (l : List Bool). slice_get l t) (same_Some bits look.lookaheads (sym at ∙ look.at)) ∙ look.set);
@@ -45,6 +46,6 @@ module _ (G : Grammar) (g : GraphValue) (v : TableValue) where
     at_start_end = λ s item. (all s G.start (length (body_of G G.start)) item).at_start_end refl refl;
   }
 
-pub tells_both : (P : Type 0) (b : Bool) → Tells P b → IsTrue b ↔ P
+pub tells_both : (P : Type 0) (b : Bool) → Decides P b → IsTrue b ↔ P
 tells_both P true h = (λ _. h, λ _. refl)
 tells_both P false h = (λ e. cc e, λ p. absurd (h p))

@@ -10,7 +10,7 @@ use Rattle.state_table.specs.Graphs.{AreInOrder, target_in, SymBefore}
 use Rattle.state_table.specs.Rows.{at_of}
 use Rattle.state_table.specs.SparseRows.{full_cells, full_targets, IsCellRow, IsTargetRow}
 use Rattle.state_table.specs.TableValues.{TableValue, action_at, goto_at}
-use Rattle.lrpar.specs.Fitting.{LeastNot, IsFor, Passed, AreEdges}
+use Rattle.lrpar.specs.Fitting.{LeastNot, JustifiesAction, Passed, AreEdges}
 use Rattle.lrpar.proofs.Edging.{found_edge, order_at, passed_none, passed_on, target_of}
 use Rattle.lrpar.proofs.RowWalks.{RowTo, row_none, row_more, rises_at, found_at, at_there, cell_inside, cell_there, before_cell, all_cells, goto_of_row, goto_nowhere}
 
@@ -18,10 +18,10 @@ use Rattle.lrpar.proofs.RowWalks.{RowTo, row_none, row_more, rises_at, found_at,
 
 module _ (G : Grammar) (items : ItemSet) (es : List (Sym × ℕ)) (v : TableValue) (s : ℕ) where
   abbrev pub FitsOn : ℕ → Type 0
-  FitsOn t = t < v.tokens → IsFor G items (target_in es (token t)) t (action_at v s t)
+  FitsOn t = t < v.tokens → JustifiesAction G items (target_in es (token t)) t (action_at v s t)
 
   errors_fit : (t : ℕ) → action_at v s t ≡ error → FitsOn t
-  errors_fit t e lt = subst (IsFor G items (target_in es (token t)) t) (sym e) tt
+  errors_fit t e lt = subst (JustifiesAction G items (target_in es (token t)) t) (sym e) tt
 
 -- the cells before the i-th fit, and the edges before the place are passed by the others
 pub record ActionsTo (G : Grammar) (items : ItemSet) (es : List (Sym × ℕ)) (v : TableValue) (s : ℕ) (row : List (ℕ × Action)) (place i : ℕ) : Type 0 where
@@ -39,23 +39,23 @@ module _ (G : Grammar) (items : ItemSet) (es : List (Sym × ℕ)) (v : TableValu
   actions_none = record { passed = λ k t a le at. passed_none es (token t); below = row_none row Fits }
 
   -- as it is read at the edge that was found
-  at_edge : (t n : ℕ) (a : Action) (o : Option ℕ) → n ≡ t → o ≡ target_in es (token n) → IsFor G items o n a → IsFor G items (target_in es (token t)) t a
-  at_edge t n a o e eo h = subst (λ m. IsFor G items (target_in es (token m)) m a) e (subst (λ p. IsFor G items p n a) eo h)
+  at_edge : (t n : ℕ) (a : Action) (o : Option ℕ) → n ≡ t → o ≡ target_in es (token n) → JustifiesAction G items o n a → JustifiesAction G items (target_in es (token t)) t a
+  at_edge t n a o e eo h = subst (λ m. JustifiesAction G items (target_in es (token m)) m a) e (subst (λ p. JustifiesAction G items p n a) eo h)
 
-  from_edge : (t n : ℕ) (a : Action) (o : Option ℕ) → n ≡ t → o ≡ target_in es (token n) → IsFor G items (target_in es (token t)) t a → IsFor G items o n a
-  from_edge t n a o e eo h = subst (λ p. IsFor G items p n a) (sym eo) (subst (λ m. IsFor G items (target_in es (token m)) m a) (sym e) h)
+  from_edge : (t n : ℕ) (a : Action) (o : Option ℕ) → n ≡ t → o ≡ target_in es (token n) → JustifiesAction G items (target_in es (token t)) t a → JustifiesAction G items o n a
+  from_edge t n a o e eo h = subst (λ p. JustifiesAction G items p n a) (sym eo) (subst (λ m. JustifiesAction G items (target_in es (token m)) m a) (sym e) h)
 
-  pub actions_more : (place new i t n : ℕ) (a : Action) (o : Option ℕ) → To place i → slice_get row i ≡ Some (t, a) → n ≡ t → Passed es new (token n) → o ≡ target_in es (token n) → IsFor G items o n a → To new (i + 1)
+  pub actions_more : (place new i t n : ℕ) (a : Action) (o : Option ℕ) → To place i → slice_get row i ≡ Some (t, a) → n ≡ t → Passed es new (token n) → o ≡ target_in es (token n) → JustifiesAction G items o n a → To new (i + 1)
   actions_more place new i t n a o h at e passed eo fits = record {
     passed = λ k u b le atk.
         let lt = rises_at row i k (t, a) (u, b) is.rises at atk (omega (arith, le)) in
         passed_on es (token n) (token u) new (omega (arith, e, lt)) passed;
-    below = row_more row Fits i t a h.below at (λ lt. subst (IsFor G items (target_in es (token t)) t) (sym (cell_there v s row whole is i t a at)) (at_edge t n a o e eo fits));
+    below = row_more row Fits i t a h.below at (λ lt. subst (JustifiesAction G items (target_in es (token t)) t) (sym (cell_there v s row whole is i t a at)) (at_edge t n a o e eo fits));
   }
 
-  pub actions_least : (place i t n : ℕ) (a : Action) (o : Option ℕ) → To place i → slice_get row i ≡ Some (t, a) → n ≡ t → o ≡ target_in es (token n) → (IsFor G items o n a → ⊥) → LeastNot Fits (Some n)
+  pub actions_least : (place i t n : ℕ) (a : Action) (o : Option ℕ) → To place i → slice_get row i ≡ Some (t, a) → n ≡ t → o ≡ target_in es (token n) → (JustifiesAction G items o n a → ⊥) → LeastNot Fits (Some n)
   actions_least place i t n a o h at e eo fails = (
-    λ fits. fails (from_edge t n a o e eo (subst (IsFor G items (target_in es (token t)) t) (cell_there v s row whole is i t a at) (subst Fits e fits (cell_inside v s row whole is i t a at)))),
+    λ fits. fails (from_edge t n a o e eo (subst (JustifiesAction G items (target_in es (token t)) t) (cell_there v s row whole is i t a at) (subst Fits e fits (cell_inside v s row whole is i t a at)))),
     λ m lt. before_cell v s row whole is Fits (errors_fit G items es v s) i t a h.below at m (omega (arith, lt, e)),
   )
 

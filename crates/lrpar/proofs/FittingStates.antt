@@ -11,7 +11,7 @@ use Rattle.state_table.specs.Tables.{CountsAgree, HasFullRows, automaton_of}
 use Rattle.lrpar.specs.Ranges.{IsTable}
 use Rattle.lrpar.specs.Reducing.{IsTableFor}
 use Rattle.lrpar.specs.Safety.{ItemFits, ItemsFit, ActionFits, TokenFits, RuleFits, PairCell, counts, items, on_token, on_rule, CellFits, CellBefore, IsLeastMisfit}
-use Rattle.lrpar.specs.Fitting.{IsFor, NoneBad, BadToken, BadRule, HasGotos, AreFlags, closed_at}
+use Rattle.lrpar.specs.Fitting.{JustifiesAction, NoneBad, BadToken, BadRule, HasGotos, AreFlags, closed_at}
 use Rattle.lrpar.proofs.CarriedItems.{target_within}
 use Rattle.lrpar.proofs.Edging.{found_edge}
 
@@ -45,20 +45,20 @@ module _ (v : TableValue) (rows : HasFullRows v) where
   no_goto s A (inr le) = ⊎_elim (λ lt. goto_row s A lt le) (λ past. no_gotos s A past) (cases_lt s v.states)
 
 module _ (G : Grammar) (a : Automaton) (s t : ℕ) where
-  is_for : (k : Action) → ActionFits G a s t k → IsFor G (closed_of a s) (a.graph.edge s (token t)) t k
+  is_for : (k : Action) → ActionFits G a s t k → JustifiesAction G (closed_of a s) (a.graph.edge s (token t)) t k
   is_for (shift q) h = h
   is_for (reduce p) h = h
   is_for accept h = h
   is_for error h = h
 
-  of_for : (k : Action) → IsFor G (closed_of a s) (a.graph.edge s (token t)) t k → ActionFits G a s t k
+  of_for : (k : Action) → JustifiesAction G (closed_of a s) (a.graph.edge s (token t)) t k → ActionFits G a s t k
   of_for (shift q) h = h
   of_for (reduce p) h = h
   of_for accept h = h
   of_for error h = h
 
 module _ (G : Grammar) (g : GraphValue) (v : TableValue) (rows : HasFullRows v) (s : ℕ) where
-  pub token_fits : (t : ℕ) → (t < v.tokens → IsFor G (closed_at g s) (target_in (get_or g.edges s []) (token t)) t (action_at v s t)) × NoneBad (get_or g.edges s []) token (BadToken g.start) t → TokenFits G (automaton_of g v) s t
+  pub token_fits : (t : ℕ) → (t < v.tokens → JustifiesAction G (closed_at g s) (target_in (get_or g.edges s []) (token t)) t (action_at v s t)) × NoneBad (get_or g.edges s []) token (BadToken g.start) t → TokenFits G (automaton_of g v) s t
   token_fits t h = record {
     action = ⊎_elim
         (λ within. of_for G (automaton_of g v) s t (action_at v s t) (h.0 within))
@@ -67,7 +67,7 @@ module _ (G : Grammar) (g : GraphValue) (v : TableValue) (rows : HasFullRows v) 
     apart = λ e. h.1 g.start e refl;
   }
 
-  pub token_parts : (t : ℕ) → TokenFits G (automaton_of g v) s t → (t < v.tokens → IsFor G (closed_at g s) (target_in (get_or g.edges s []) (token t)) t (action_at v s t)) × NoneBad (get_or g.edges s []) token (BadToken g.start) t
+  pub token_parts : (t : ℕ) → TokenFits G (automaton_of g v) s t → (t < v.tokens → JustifiesAction G (closed_at g s) (target_in (get_or g.edges s []) (token t)) t (action_at v s t)) × NoneBad (get_or g.edges s []) token (BadToken g.start) t
   token_parts t h = (λ within. is_for G (automaton_of g v) s t (action_at v s t) h.action, λ q e bad. h.apart (e ∙ ap Some bad))
 
   edge_past : (A : ℕ) (o : Option ℕ) → target_in (get_or g.edges s []) (rule A) ≡ o → NoneBad (get_or g.edges s []) rule (BadRule g.start v.rules) A → v.rules ≤ A → target_in (get_or g.edges s []) (rule A) ≡ None

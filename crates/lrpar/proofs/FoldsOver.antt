@@ -19,7 +19,7 @@ use Rattle.parse_trees.specs.Lex.{Lex, token_by, span_by}
 use Rattle.lrpar.specs.Made.{end_of, made_by}
 use Rattle.lrpar.specs.Parses.{HasValue}
 use Rattle.parse_trees.specs.Stacks.{span_of_places}
-use Rattle.lrpar.specs.Told.{IsToldParse, IsToldOutcome, IsFoldedOutcome}
+use Rattle.lrpar.specs.Told.{IsToldParse, IsReportedOutcome, IsFoldedOutcome}
 use Rattle.lrpar.specs.declared.folded_parse.FoldedOutcome.{FoldedOutcome}
 use Rattle.lrpar.specs.declared.folded_parse.FoldedOutcome.TheVariants as folded
 use Rattle.lrpar.specs.declared.parse_actions.AStackType.{AStackType}
@@ -72,7 +72,7 @@ module _ {S L E : Type 0} (number : S → ℕ) (lex : L → Lex) (faulty : ℕ �
   }
 
   pub outcome_gives : {V : Type 0} (gives gives' : Option V → Option (Tree L) → Type 0) → ((value : Option V) (tree : Option (Tree L)) → gives value tree → gives' value tree) → (o : FoldedOutcome S L E V) →
-      IsToldOutcome number lex faulty G g v gives answers items o → IsToldOutcome number lex faulty G g v gives' answers items o
+      IsReportedOutcome number lex faulty G g v gives answers items o → IsReportedOutcome number lex faulty G g v gives' answers items o
   outcome_gives gives gives' f (folded.Fault e) h = h
   outcome_gives gives gives' f (folded.Parsed value errors) h = told_gives (gives value) (gives' value) errors.items (λ tree roots k. f value tree k) h
 

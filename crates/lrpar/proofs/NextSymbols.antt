@@ -7,7 +7,7 @@ use Rattle.std.proofs.lemmas.Option.{slice_get_past, slice_get_read, slice_get-m
 use Rattle.cfg_theory.specs.Grammar.{Sym, Grammar, Production, body_of, IsNext}
 use Rattle.cfg_base.specs.declared.symbol.Symbol.{Symbol}
 use Rattle.cfg_numbered.specs.Symbols.{sym_of, syms_of}
-use Rattle.lrpar.specs.Fitting.{Tells}
+use Rattle.cfg_theory.specs.Decides.{Decides}
 
 body_past : (ps : List Production) (p : ℕ) → length ps ≤ p → (get_or ps p (record { head = 0; body = [] })).body ≡ []
 body_past [] p le = refl
@@ -34,6 +34,6 @@ symbol_is number G p d i y xs e at lt is =
     let seen : slice_get (syms_of number xs) i ≡ Some (sym_of number y) = slice_get-map (sym_of number) xs i ∙ ap (λ o. option_map (sym_of number) o) here in
     ap (slice_get (body_of G p)) (sym at) ∙ ap (λ (l : List Sym). slice_get l i) (sym e) ∙ seen
 
-pub tells_next : {S : Type 0} (number : S → ℕ) (G : Grammar) (p d i : ℕ) (x y : Symbol S) (b : Bool) (xs : List (Symbol S)) → syms_of number xs ≡ body_of G p → i ≡ d → i < length xs → y ≡ get_or xs i y → Tells (sym_of number y ≡ sym_of number x) b → Tells (IsNext G p d (sym_of number x)) b
+pub tells_next : {S : Type 0} (number : S → ℕ) (G : Grammar) (p d i : ℕ) (x y : Symbol S) (b : Bool) (xs : List (Symbol S)) → syms_of number xs ≡ body_of G p → i ≡ d → i < length xs → y ≡ get_or xs i y → Decides (sym_of number y ≡ sym_of number x) b → Decides (IsNext G p d (sym_of number x)) b
 tells_next number G p d i x y true xs e at lt is t = record { at = symbol_is number G p d i y xs e at lt is ∙ ap Some t }
 tells_next number G p d i x y false xs e at lt is t = λ h. t (same_Some (sym_of number y) (sym_of number x) (sym (symbol_is number G p d i y xs e at lt is) ∙ h.at))

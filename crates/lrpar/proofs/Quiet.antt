@@ -9,7 +9,7 @@ use Rattle.state_table.specs.TableValues.{TableValue, goto_at}
 use Rattle.lrpar.specs.Ranges.{IsTable}
 use Rattle.state_table.specs.Tables.{automaton_of}
 use Rattle.lrpar.specs.Reducing.{ShortAt}
-use Rattle.lrpar.specs.declared.shorts.Short.TheVariants as shorts
+use Rattle.lrpar.specs.declared.unit_chains.Short.TheVariants as shorts
 use Rattle.lr_theory.specs.Chains.{push_goto, goto_from, reduce_by, Reductions}
 
 module _ (G : Grammar) (a : Automaton) (t : ℕ) where

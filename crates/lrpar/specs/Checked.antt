@@ -11,10 +11,13 @@ use Rattle.state_table.specs.Tables.{CountsAgree, automaton_of}
 use Rattle.lrpar.specs.Pair.{IsSafePair}
 use Rattle.lrpar.specs.Reducing.{IsTableFor, chain_of, rule_number}
 use Rattle.lrpar.specs.Safety.{IsLeastMisfit}
-use Rattle.lrpar.specs.Fitting.{Tells, cell_of}
+use Rattle.lrpar.specs.Fitting.{cell_of}
+use Rattle.cfg_theory.specs.Decides.{Decides}
 use Rattle.lrpar.specs.declared.parserdata.Verdict.{Verdict}
 use Rattle.lrpar.specs.declared.parserdata.Verdict.TheVariants as verdicts
 use Rattle.lrpar.specs.declared.parserdata.Parts.{Parts}
+use Rattle.lrpar.specs.declared.parserdata.BuiltDataError.{BuiltDataError}
+use Rattle.lrpar.specs.declared.parserdata.BuiltDataError.TheVariants as built_errors
 use Rattle.lrpar.specs.declared.parserdata.ParserDataError.{ParserDataError}
 use Rattle.lrpar.specs.declared.parserdata.ParserDataError.TheVariants as errors
 
@@ -33,7 +36,7 @@ pub record IsData (G : Grammar) (g : GraphValue) (v : TableValue) (cap : ℕ) : 
 
 -- what a check of the three comes to
 abbrev pub TellsVerdict : {S : Type 0} → (S → ℕ) → Grammar → GraphValue → TableValue → ℕ → Verdict S → Type 0
-TellsVerdict number G g v cap (verdicts.Checked complete) = IsData G g v cap × Tells (Complete G (automaton_of g v)) complete
+TellsVerdict number G g v cap (verdicts.Checked complete) = IsData G g v cap × Decides (Complete G (automaton_of g v)) complete
 TellsVerdict number G g v cap (verdicts.Unsafe m) = IsLeastMisfit (CountsAgree G g v) G (automaton_of g v) (number m.state.0) (cell_of number m.cell)
 TellsVerdict number G g v cap (verdicts.Long c) = IsSafePair G g v × IsLeastChain G (automaton_of g v) cap (chain_of number c)
 
@@ -52,3 +55,8 @@ abbrev pub IsUnsafeTable : {S : Type 0} → ParserDataError S → Type 0
 IsUnsafeTable (errors.UnsafeTable state cell parts) = Unit {0}
 IsUnsafeTable (errors.TooManyReductions state above on cap parts) = ⊥
 IsUnsafeTable (errors.Memory e) = ⊥
+
+-- why a safe pair gives no data: a chain passes the cap, and which is the least
+abbrev pub IsBuiltRefusal : {S : Type 0} → (S → ℕ) → Grammar → GraphValue → TableValue → ℕ → BuiltDataError S → Type 0
+IsBuiltRefusal number G g t cap (built_errors.TooManyReductions c) = IsLeastChain G (automaton_of g t) cap (chain_of number c)
+IsBuiltRefusal number G g t cap (built_errors.Memory e) = Unit {0}

@@ -15,11 +15,6 @@ use Rattle.lrpar.specs.declared.parserdata.fitting.Cell.{Cell}
 use Rattle.lrpar.specs.declared.parserdata.fitting.Cell.TheVariants as cells
 use Rattle.lrpar.specs.declared.parserdata.fitting.Misfit.{Misfit}
 
--- an answer to whether P holds
-abbrev pub Tells : Type 0 → Bool → Type 0
-Tells P true = P
-Tells P false = P → ⊥
-
 -- the least number of which P doesn't hold, or that it holds of all
 abbrev pub LeastNot : (ℕ → Type 0) → Option ℕ → Type 0
 LeastNot P None = (n : ℕ) → P n
@@ -40,11 +35,11 @@ abbrev pub Carries : Grammar → ItemSet → Sym → ItemSet → Type 0
 Carries G from X to = (p d : ℕ) → HasItem to p (suc d) → HasItem from p d × IsNext G p d X
 
 -- an action on t of a state with these items and this edge on t
-abbrev pub IsFor : Grammar → ItemSet → Option ℕ → ℕ → Action → Type 0
-IsFor G s edge t (shift q) = (edge ≡ Some q) × (t ≢ end_token G)
-IsFor G s edge t (reduce p) = HasItem s p (length (body_of G p)) × (p ≢ G.start)
-IsFor G s edge t accept = HasItem s G.start (length (body_of G G.start)) × IsEnd G t
-IsFor G s edge t error = Unit {0}
+abbrev pub JustifiesAction : Grammar → ItemSet → Option ℕ → ℕ → Action → Type 0
+JustifiesAction G s edge t (shift q) = (edge ≡ Some q) × (t ≢ end_token G)
+JustifiesAction G s edge t (reduce p) = HasItem s p (length (body_of G p)) × (p ≢ G.start)
+JustifiesAction G s edge t accept = HasItem s G.start (length (body_of G G.start)) × IsEnd G t
+JustifiesAction G s edge t error = Unit {0}
 
 -- a reduction by the production, if there is one, fits a state with these items
 abbrev pub ReducesWell : {S : Type 0} → (S → ℕ) → Grammar → ItemSet → Option (PIdx S) → Type 0

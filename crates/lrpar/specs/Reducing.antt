@@ -7,8 +7,8 @@ use Rattle.lr_theory.specs.LongChains.{Chain, GoesPast, Passes, ChainBefore, IsL
 use Rattle.cfg_base.specs.declared.symbol.PIdx.{PIdx}
 use Rattle.cfg_base.specs.declared.symbol.RIdx.{RIdx}
 use Rattle.lrpar.specs.declared.chains.LongChain.{LongChain}
-use Rattle.lrpar.specs.declared.shorts.Short.{Short}
-use Rattle.lrpar.specs.declared.shorts.Short.TheVariants as shorts
+use Rattle.lrpar.specs.declared.unit_chains.Short.{Short}
+use Rattle.lrpar.specs.declared.unit_chains.Short.TheVariants as shorts
 use Rattle.state_table.specs.TableValues.{TableValue, action_at}
 use Rattle.lrpar.specs.Ranges.{IsTable}
 use Rattle.state_table.specs.declared.stidx.StIdx.{StIdx}

@@ -39,13 +39,13 @@ pub record IsToldParse {S L E : Type 0} (number : S → ℕ) (lex : L → Lex) (
   pub told : map (told_of number) errors ≡ map (as_told lexemes) found
 
 -- or the list's first fault; `gives` holds of the value or none and of the tree or none
-abbrev pub IsToldOutcome : {S L E V : Type 0} → (S → ℕ) → (L → Lex) → (ℕ → ℕ → ℕ → L) → Grammar → GraphValue → TableValue → (Option V → Option (Tree L) → Type 0) → (ℕ → ℕ → L → List (List Edit) → Type 0) → List (Result L E) → FoldedOutcome S L E V → Type 0
-IsToldOutcome number lex faulty G g v gives answers items (folded.Fault e) = IsFirstLexError items e
-IsToldOutcome number lex faulty G g v gives answers items (folded.Parsed value errors) = IsToldParse number lex faulty G g v (gives value) answers items errors.items
+abbrev pub IsReportedOutcome : {S L E V : Type 0} → (S → ℕ) → (L → Lex) → (ℕ → ℕ → ℕ → L) → Grammar → GraphValue → TableValue → (Option V → Option (Tree L) → Type 0) → (ℕ → ℕ → L → List (List Edit) → Type 0) → List (Result L E) → FoldedOutcome S L E V → Type 0
+IsReportedOutcome number lex faulty G g v gives answers items (folded.Fault e) = IsFirstLexError items e
+IsReportedOutcome number lex faulty G g v gives answers items (folded.Parsed value errors) = IsToldParse number lex faulty G g v (gives value) answers items errors.items
 
 -- the value is one that the tree folds to
 abbrev pub IsFoldedOutcome : {S L E V : Type 0} → (S → ℕ) → (L → Lex) → (ℕ → ℕ → ℕ → L) → Grammar → GraphValue → TableValue → Answers L V → (ℕ → ℕ → L → List (List Edit) → Type 0) → List (Result L E) → FoldedOutcome S L E V → Type 0
-IsFoldedOutcome number lex faulty G g v by answers items outcome = IsToldOutcome number lex faulty G g v (HasValue G by (span_by lex)) answers items outcome
+IsFoldedOutcome number lex faulty G g v by answers items outcome = IsReportedOutcome number lex faulty G g v (HasValue G by (span_by lex)) answers items outcome
 
 -- the value and errors that are handed out of an outcome, with a fault and an error of the parse each as one of these
 abbrev pub HandsOut : {S L E V X : Type 0} → (E → X) → (ParseError L S → X) → FoldedOutcome S L E V → Option V → List X → Type 0
@@ -55,5 +55,5 @@ HandsOut fault wrong (folded.Parsed v es) value errors = (value ≡ v) × (error
 -- what is handed out of a lexer's list: the value and the errors of what it comes to
 pub record IsHandedOut {S L E V X : Type 0} (fault : E → X) (wrong : ParseError L S → X) (number : S → ℕ) (lex : L → Lex) (faulty : ℕ → ℕ → ℕ → L) (G : Grammar) (g : GraphValue) (v : TableValue) (gives : Option V → Option (Tree L) → Type 0) (answers : ℕ → ℕ → L → List (List Edit) → Type 0) (items : List (Result L E)) (value : Option V) (errors : List X) : Type 0 where
   pub outcome : FoldedOutcome S L E V
-  pub comes_to : IsToldOutcome number lex faulty G g v gives answers items outcome
+  pub comes_to : IsReportedOutcome number lex faulty G g v gives answers items outcome
   pub hands_out : HandsOut fault wrong outcome value errors

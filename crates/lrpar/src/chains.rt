@@ -8,12 +8,12 @@ ghost use Rattle.lrpar.specs.Branching.{AreAllReducers};
 ghost use Rattle.state_table.specs.Graphs.{GraphValue};
 ghost use Rattle.state_table.specs.CellViews.{action_of, state_of};
 
-use crate::branches::{Rooms, ends_soon};
 use crate::machine::Chains;
 use crate::numbers::index_below;
 use crate::reducers::all_reducers;
 use crate::rows::{cell_of_row, goto_of_row};
-use crate::shorts::{Short, all_shorts, is_quiet, short_at};
+use crate::tokenless_chains::{Rooms, ends_soon};
+use crate::unit_chains::{Short, all_shorts, is_quiet, short_at};
 use cfg_base::index::IndexStorage;
 use cfg_base::symbol::{PIdx, RIdx, TIdx};
 use cfg_numbered::yacc::grammar::NumberedGrammar;

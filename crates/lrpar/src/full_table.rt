@@ -40,7 +40,7 @@ fn put<V: Copy>(full: &mut Vec<V>, number: usize, value: V)
 }
 
 /// Makes `count` entries with one value.
-fn repeated<V: Copy>(alloc: Global, value: V, count: usize) -> Result<Vec<V>, AllocError>
+fn copies_of<V: Copy>(alloc: Global, value: V, count: usize) -> Result<Vec<V>, AllocError>
     ensures { IfOk result (λ v. v.items ≡ replicate count value) }
 {
     let mut values = Vec::with_capacity(alloc, count)?;
@@ -59,7 +59,7 @@ fn full_row<V: Copy>(
     requires below { Below count row.now }
     ensures { IfOk result (λ v. IsFull count row.now empty v.items) }
 {
-    let mut full = repeated(alloc, empty, count)?;
+    let mut full = copies_of(alloc, empty, count)?;
     'entries: for i in 0..row.len() {
         let entry = row[i];
         put(&mut full, entry.0 as usize, entry.1);

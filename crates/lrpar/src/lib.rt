@@ -38,7 +38,6 @@
 #![tactic(auto)]
 
 mod apply;
-mod branches;
 pub mod builder;
 mod chains;
 pub mod default_lexeme;
@@ -66,8 +65,9 @@ mod reducers;
 mod repair;
 mod rows;
 mod run;
-mod shorts;
 mod stacks;
+mod tokenless_chains;
+mod unit_chains;
 
 pub use builder::RTParserBuilder;
 pub use default_lexeme::{DefaultLexeme, DefaultLexerTypes, LRLexError};
@@ -81,6 +81,6 @@ pub use parse_trees::lexemes::ParseRefusal;
 pub use parse_trees::node::Node;
 pub use parse_trees::parse_repair::ParseRepair;
 pub use parse_trees::{flat, lex_api, node, parse_repair};
-pub use parserdata::{Cell, ParserData, ParserDataError, Parts};
+pub use parserdata::{BuiltDataError, Cell, ParserData, ParserDataError, Parts};
 pub use prefix::Prefix;
 pub use recoverer::{NoRecovery, Recoverer, RepairStep};

@@ -97,7 +97,7 @@ fn find_error<S: IndexStorage, L: Lexeme<S>, E: Copy, R: Recoverer<S, L>>(
 }
 
 /// Finds the error of a run that failed at the index, and applies the first sequence that can be taken there.
-fn mend<S: IndexStorage, L: Lexeme<S>, E: Copy, V: ValueStack<S, L>, R: Recoverer<S, L>>(
+fn repair_at<S: IndexStorage, L: Lexeme<S>, E: Copy, V: ValueStack<S, L>, R: Recoverer<S, L>>(
     alloc: Global,
     machine: &Machine<'_, S>,
     stacks: &mut Stacks<S, V>,
@@ -183,7 +183,7 @@ pub(crate) fn parse_lexemes<
                 });
             }
             Ending::Failed(index) => {
-                let mended = mend(alloc, machine, &mut stack, lexemes, index, recoverer);
+                let mended = repair_at(alloc, machine, &mut stack, lexemes, index, recoverer);
                 let Mended { found, next } = match mended {
                     Ok(mended) => mended,
                     Err(e) => {

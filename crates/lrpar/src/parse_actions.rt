@@ -6,7 +6,7 @@ ghost use Rattle.lrpar.specs.Acting.{HasAction, action_in, node_in, IsNodeOver};
 ghost use Rattle.parse_trees.specs.Refusals.{IsParseRefusal};
 ghost use Rattle.parse_trees.specs.Lex.{span_by};
 ghost use Rattle.parse_trees.specs.Stacks.{span_of_places};
-ghost use Rattle.lrpar.specs.Told.{IsToldOutcome};
+ghost use Rattle.lrpar.specs.Told.{IsReportedOutcome};
 ghost use Rattle.lrpar.specs.declared.parse_actions.AStackType.TheVariants as variants;
 
 use crate::folded_parse::{FoldedOutcome, parse_folded};
@@ -122,7 +122,7 @@ pub(crate) fn parse_acted<
     lexer: &X,
     actions: &A,
 ) -> Result<FoldedOutcome<T::StorageT, T::LexemeT, T::LexErrorT, A::ActionT>, ParseRefusal>
-    ensures parsed { IfOk result (λ o. IsToldOutcome T.StorageT.number T.LexemeT.lex T.LexemeT.faulty_of machine.now.grm.now.grammar machine.now.sgraph.now machine.now.stable.now (HasAction machine.now.grm.now.grammar (A.answers actions.now lexer.now) (span_by T.LexemeT.lex)) (R.answers recoverer.now) items.now o) }
+    ensures parsed { IfOk result (λ o. IsReportedOutcome T.StorageT.number T.LexemeT.lex T.LexemeT.faulty_of machine.now.grm.now.grammar machine.now.sgraph.now machine.now.stable.now (HasAction machine.now.grm.now.grammar (A.answers actions.now lexer.now) (span_by T.LexemeT.lex)) (R.answers recoverer.now) items.now o) }
     ensures refused { IfErr result (IsParseRefusal machine.now.grm.now.grammar T.LexemeT.lex items.now) }
 {
     let term = |_alloc: Global, lexeme: T::LexemeT| -> Acted<T::LexemeT, A::ActionT>

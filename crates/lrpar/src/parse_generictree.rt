@@ -8,7 +8,7 @@ ghost use Rattle.parse_trees.specs.NodeValues.{HasNode};
 ghost use Rattle.lrpar.specs.Parses.{HoldsValue};
 ghost use Rattle.parse_trees.specs.Refusals.{IsParseRefusal};
 ghost use Rattle.parse_trees.specs.Shapes.{shape};
-ghost use Rattle.lrpar.specs.Told.{IsToldOutcome};
+ghost use Rattle.lrpar.specs.Told.{IsReportedOutcome};
 
 use crate::folded_parse::{FoldedOutcome, tell_errors};
 use crate::machine::Machine;
@@ -39,7 +39,7 @@ pub(crate) fn parse_nodes<S: IndexStorage, L: Lexeme<S>, E: Copy, R: Recoverer<S
     items: &[Result<L, E>],
     recoverer: &R,
 ) -> Result<FoldedOutcome<S, L, E, Node<L, S>>, ParseRefusal>
-    ensures parsed { IfOk result (λ o. IsToldOutcome S.number L.lex L.faulty_of machine.now.grm.now.grammar machine.now.sgraph.now machine.now.stable.now (HasNode S.number machine.now.grm.now.grammar) (R.answers recoverer.now) items.now o) }
+    ensures parsed { IfOk result (λ o. IsReportedOutcome S.number L.lex L.faulty_of machine.now.grm.now.grammar machine.now.sgraph.now machine.now.stable.now (HasNode S.number machine.now.grm.now.grammar) (R.answers recoverer.now) items.now o) }
     ensures refused { IfErr result (IsParseRefusal machine.now.grm.now.grammar L.lex items.now) }
 {
     // Room for a stack of 24; a higher one grows.

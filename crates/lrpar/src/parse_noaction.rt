@@ -2,7 +2,7 @@
 
 ghost use Rattle.std.specs.Prelude.{IfOk, IfErr};
 ghost use Rattle.parse_trees.specs.Refusals.{IsParseRefusal};
-ghost use Rattle.lrpar.specs.Told.{IsToldOutcome};
+ghost use Rattle.lrpar.specs.Told.{IsReportedOutcome};
 
 use crate::folded_parse::{FoldedOutcome, tell_errors};
 use crate::machine::Machine;
@@ -21,7 +21,7 @@ pub(crate) fn parse_unvalued<S: IndexStorage, L: Lexeme<S>, E: Copy, R: Recovere
     items: &[Result<L, E>],
     recoverer: &R,
 ) -> Result<FoldedOutcome<S, L, E, ()>, ParseRefusal>
-    ensures parsed { IfOk result (λ o. IsToldOutcome S.number L.lex L.faulty_of machine.now.grm.now.grammar machine.now.sgraph.now machine.now.stable.now (λ value tree. Unit {0}) (R.answers recoverer.now) items.now o) }
+    ensures parsed { IfOk result (λ o. IsReportedOutcome S.number L.lex L.faulty_of machine.now.grm.now.grammar machine.now.sgraph.now machine.now.stable.now (λ value tree. Unit {0}) (R.answers recoverer.now) items.now o) }
     ensures refused { IfErr result (IsParseRefusal machine.now.grm.now.grammar L.lex items.now) }
 {
     match parse_items(alloc, machine, items, recoverer, NoValues)? {

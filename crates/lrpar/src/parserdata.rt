@@ -9,8 +9,9 @@ ghost use Rattle.state_table.specs.Tables.{IsTableOf, automaton_of};
 ghost use Rattle.table_theory.specs.Cells.{NoPrecedences};
 ghost use Rattle.lrpar.specs.Pair.{IsSafePair};
 ghost use Rattle.lrpar.specs.Reducing.{IsTableFor};
-ghost use Rattle.lrpar.specs.Checked.{IsDataRefusal, IsUnsafeTable, TellsVerdict};
-ghost use Rattle.lrpar.specs.Fitting.{Tells};
+ghost use Rattle.lrpar.specs.Checked.{IsBuiltRefusal, IsData, IsDataRefusal, IsUnsafeTable, TellsVerdict};
+ghost use Rattle.cfg_theory.specs.Decides.{Decides};
+ghost use Rattle.lrpar.specs.declared.parserdata.BuiltDataError.TheVariants as built_errors;
 ghost use Rattle.lrpar.specs.declared.parserdata.ParserDataError.TheVariants as errors;
 
 mod carrying;
@@ -22,7 +23,8 @@ mod items;
 mod safety;
 mod tested_state;
 
-use crate::chains::{LongChain, long_chain};
+pub use crate::chains::LongChain;
+use crate::chains::long_chain;
 use crate::full_table::FullTable;
 use crate::machine::{Chains, Machine};
 use crate::parserdata::complete::is_complete;
@@ -55,13 +57,13 @@ impl<S: IndexStorage> Model for ParserData<S> {
     ghost use Rattle.lr_theory.specs.Automaton.{Complete};
     ghost use Rattle.state_table.specs.Tables.{automaton_of};
     ghost use Rattle.lrpar.specs.Checked.{ParserValue, IsData};
-    ghost use Rattle.lrpar.specs.Fitting.{Tells};
+    ghost use Rattle.cfg_theory.specs.Decides.{Decides};
 
     ghost Value = { ParserValue };
 
     ghost view = { λ d. record { grammar = d.grm; graph = d.sgraph; table = d.stable; cap = d.cap } };
 
-    ghost invariant = { λ d. IsData d.grm.grammar d.sgraph d.stable d.cap × Tells (Complete d.grm.grammar (automaton_of d.sgraph d.stable)) d.complete };
+    ghost invariant = { λ d. IsData d.grm.grammar d.sgraph d.stable d.cap × Decides (Complete d.grm.grammar (automaton_of d.sgraph d.stable)) d.complete };
 }
 
 /// The parts of data that were refused.
@@ -145,12 +147,74 @@ impl<S: IndexStorage> Display for ParserDataError<S> {
 
 impl<S: IndexStorage> Error for ParserDataError<S> {}
 
+/// Why data that the builder made were refused.
+#[derive(Clone, Copy, Debug, PartialEq, Eq)]
+pub enum BuiltDataError<S> {
+    /// More than the cap of reductions come one after another: the least such chain.
+    TooManyReductions(LongChain<S>),
+    /// There is no memory.
+    Memory(AllocError),
+}
+
+impl<S> From<AllocError> for BuiltDataError<S> {
+    ghost from_gives = { λ x e. e ≡ built_errors.Memory x };
+
+    fn from(e: AllocError) -> BuiltDataError<S> {
+        BuiltDataError::Memory(e)
+    }
+}
+
+impl<S> Display for BuiltDataError<S> {
+    fn fmt<W: Write>(&self, f: &mut Formatter<W>) -> fmt::Result {
+        match self {
+            BuiltDataError::TooManyReductions(_) => write!(f, "TooManyReductions"),
+            BuiltDataError::Memory(_) => write!(f, "Memory"),
+        }
+    }
+}
+
+impl<S: IndexStorage> Error for BuiltDataError<S> {}
+
 /// The result of a check.
 #[derive(Clone, Copy, PartialEq, Eq)]
 enum Verdict<S> {
     Checked(bool),
     Unsafe(Misfit<S>),
     Long(LongChain<S>),
+}
+
+/// Checks the chains of a pair that is safe, and returns whether it is complete.
+fn judge_chains<S: IndexStorage>(
+    alloc: Global,
+    grm: &NumberedGrammar<S>,
+    sgraph: &StateGraph<S>,
+    stable: &FullTable<S>,
+    cap: u16,
+) -> Result<bool, BuiltDataError<S>>
+    requires { IsSafePair grm.now.grammar sgraph.now stable.now }
+    ensures checked { IfOk result (λ complete. IsData grm.now.grammar sgraph.now stable.now cap × Decides (Complete grm.now.grammar (automaton_of sgraph.now stable.now)) complete) }
+    ensures refused { IfErr result (IsBuiltRefusal S.number grm.now.grammar sgraph.now stable.now cap) }
+{
+    // For the proof alone: this read gives it the invariant of each grammar, graph and table.
+    grm.start_prod();
+    sgraph.all_states_len();
+    let rows = stable.stable();
+    rows.states_len();
+    let chains = Chains {
+        grm,
+        stable: rows,
+        limit: cap,
+    };
+    if let Some(chain) = long_chain(alloc, &chains)? {
+        return Err(BuiltDataError::TooManyReductions(chain));
+    }
+    let machine = Machine {
+        grm,
+        sgraph,
+        stable,
+        limit: cap,
+    };
+    Ok(is_complete(&machine))
 }
 
 /// Checks the pair, and then the chains.
@@ -163,30 +227,14 @@ fn judge<S: IndexStorage>(
 ) -> Result<Verdict<S>, AllocError>
     ensures { IfOk result (TellsVerdict S.number grm.now.grammar sgraph.now stable.now cap) }
 {
-    // For the proof alone: this read gives it the invariant of each grammar, graph and table.
-    grm.start_prod();
-    sgraph.all_states_len();
-    let rows = stable.stable();
-    rows.states_len();
-    if let Some(misfit) = least_misfit(alloc, grm, sgraph, rows)? {
+    if let Some(misfit) = least_misfit(alloc, grm, sgraph, stable.stable())? {
         return Ok(Verdict::Unsafe(misfit));
     }
-    let chains = Chains {
-        grm,
-        stable: rows,
-        limit: cap,
-    };
-    if let Some(chain) = long_chain(alloc, &chains)? {
-        return Ok(Verdict::Long(chain));
+    match judge_chains(alloc, grm, sgraph, stable, cap) {
+        Ok(complete) => Ok(Verdict::Checked(complete)),
+        Err(BuiltDataError::TooManyReductions(chain)) => Ok(Verdict::Long(chain)),
+        Err(BuiltDataError::Memory(e)) => Err(e),
     }
-    let machine = Machine {
-        grm,
-        sgraph,
-        stable,
-        limit: cap,
-    };
-    let complete = is_complete(&machine);
-    Ok(Verdict::Checked(complete))
 }
 
 impl<S: IndexStorage> ParserData<S> {
@@ -216,6 +264,47 @@ impl<S: IndexStorage> ParserData<S> {
         // Cells and gotos are read at once from here on.
         let full = FullTable::new(alloc, stable)?;
         ParserData::of_parts(alloc, grm, sgraph, full, cap)
+    }
+
+    /// Makes data of the graph and the table that the builder made of the grammar. Such a pair is safe, so of it only
+    /// the chains of reductions are checked.
+    ///
+    /// # Errors
+    ///
+    /// The parts are dropped in both cases.
+    ///
+    /// - `TooManyReductions` where more than `cap` reductions follow each other on one token: the least such chain.
+    /// - `Memory` where memory is refused.
+    pub fn of_builder(
+        alloc: Global,
+        grm: NumberedGrammar<S>,
+        sgraph: StateGraph<S>,
+        stable: StateTable<S>,
+        cap: u16,
+    ) -> Result<ParserData<S>, BuiltDataError<S>>
+        requires { IsTableOf grm sgraph stable }
+        ensures holds { IfOk result (λ d. d ≡ record { grammar = grm; graph = sgraph; table = stable; cap = cap }) }
+        ensures chains { OnOk result (ChainsWithin grm.grammar (automaton_of sgraph stable) cap) }
+        ensures refused { IfErr result (IsBuiltRefusal S.number grm.grammar sgraph stable cap) }
+    {
+        // For the proof alone: this read gives it the invariant of each grammar.
+        grm.start_prod();
+        let full = FullTable::new(alloc, stable)?;
+        match judge_chains(alloc, &grm, &sgraph, &full, cap) {
+            Ok(complete) => Ok(ParserData {
+                grm,
+                sgraph,
+                stable: full,
+                cap,
+                complete,
+            }),
+            Err(e) => {
+                drop(grm);
+                drop(sgraph);
+                drop(full);
+                Err(e)
+            }
+        }
     }
 
     /// Checks data as `new` does, over a table that has its full rows.
@@ -329,7 +418,7 @@ impl<S: IndexStorage> ParserData<S> {
 
     /// Returns whether the data are complete.
     fn is_complete(&self) -> bool
-        ensures { Tells (Complete self.now.grammar.grammar (automaton_of self.now.graph self.now.table)) result }
+        ensures { Decides (Complete self.now.grammar.grammar (automaton_of self.now.graph self.now.table)) result }
     {
         self.complete
     }

@@ -14,8 +14,8 @@ use crate::machine::Machine;
 use cfg_base::index::IndexStorage;
 use cfg_base::symbol::PIdx;
 use parse_trees::lex_api::Lexeme;
-use parse_trees::tops::put_above;
 use parse_trees::values::ValueStack;
+use parse_trees::vec_stack::put_above;
 use state_table::StIdx;
 use std::alloc::{AllocError, Global};
 

@@ -6,12 +6,13 @@ ghost use Rattle.std.specs.String.{string_bytes};
 ghost use Rattle.state_table.specs.CellViews.{pair_of, pairs_of, shift_of, shifts_of};
 ghost use Rattle.state_table.specs.ConflictTexts.{ConflictsInRange, PairsInRange, ShiftsInRange};
 ghost use Rattle.lrpar_diagnostics.specs.Places.{located_text};
-ghost use Rattle.lrpar_diagnostics.specs.ConflictTexts.{told, told_if, reduced_text, shift_message, shift_parts, shift_text, pair_message, pair_parts, pair_text, conflicts_text, IsSpanOfToken};
+ghost use Rattle.lrpar_diagnostics.specs.ConflictTexts.{told, told_if, reduced_text, rule_span, shift_message, shift_parts, shift_text, token_span, pair_message, pair_parts, pair_text, conflicts_text, IsSpanOfToken};
 
 use crate::conflict_names::{
     production_spans, rule_name, rule_span, shown_token, span_of_token, token_span,
 };
 use crate::diagnostics::SpannedDiagnosticFormatter;
+use crate::marks::Underline;
 use cfg_base::index::IndexStorage;
 use cfg_base::span::Span;
 use cfg_base::symbol::{PIdx, TIdx};
@@ -22,6 +23,15 @@ use state_table::stategraph::StateGraph;
 use state_table::statetable::StateTable;
 use state_table::stidx::StIdx;
 use std::alloc::{AllocError, Global};
+
+/// A grammar that was read from the source.
+#[derive(Drop)]
+struct ReadGrammar<'g, S: IndexStorage> {
+    grm: &'g NumberedGrammar<S>,
+    ast: &'g GrammarAST,
+    /// Where the end token is shown.
+    dollar: &'g Option<Span>,
+}
 
 fn shift_message<S: IndexStorage>(
     alloc: Global,
@@ -88,7 +98,12 @@ impl<'a> SpannedDiagnosticFormatter<'a> {
     ) -> Result<(), AllocError>
         ensures { OnOk result (string_bytes text.new ≡ string_bytes text.old ++ told self.now.text span message.now) }
     {
-        self.push_underlined(alloc, text, "", span, message, '^')?;
+        let underline = Underline {
+            prefix: "",
+            span,
+            mark: '^',
+        };
+        self.push_underlined(alloc, text, &underline, message)?;
         text.push_str("\n")?;
         Ok(())
     }
@@ -126,22 +141,24 @@ impl<'a> SpannedDiagnosticFormatter<'a> {
     }
 
     /// Puts a shift against a reduction: its message, its rule, its token and its production.
-    fn push_shift_parts(
+    fn push_shift_parts<S: IndexStorage>(
         &self,
         alloc: Global,
         text: &mut String,
         message: &str,
-        rule: Span,
-        token: Option<Span>,
-        ast: &GrammarAST,
-        number: usize,
+        read: &ReadGrammar<'_, S>,
+        entry: (TIdx<S>, PIdx<S>, StIdx<S>),
     ) -> Result<(), AllocError>
-        ensures { OnOk result (string_bytes text.new ≡ string_bytes text.old ++ shift_parts self.now message.now rule token ast.now number) }
+        requires { S.number entry.1.0 < length read.now.grm.now.grammar.productions }
+        ensures { OnOk result (string_bytes text.new ≡ string_bytes text.old ++ shift_parts self.now message.now (rule_span read.now.grm.now (S.number entry.1.0)) (token_span read.now.grm.now read.now.dollar.now (S.number entry.0.0)) read.now.ast.now (S.number entry.1.0)) }
     {
+        let (tidx, pidx, _) = entry;
+        let rule = rule_span(read.grm, pidx);
+        let token = token_span(read.grm, read.dollar, tidx);
         self.push_located(alloc, text, message, rule)?;
         self.push_told_if(alloc, text, token, "Shift")?;
         self.push_told(alloc, text, rule, "Reduced rule")?;
-        self.push_reduced(alloc, text, ast, number)?;
+        self.push_reduced(alloc, text, read.ast, pidx.0.to_usize())?;
         Ok(())
     }
 
@@ -151,12 +168,12 @@ impl<'a> SpannedDiagnosticFormatter<'a> {
         alloc: Global,
         text: &mut String,
         message: &str,
-        rule: Span,
-        other: Span,
+        rules: (Span, Span),
         token: Option<Span>,
     ) -> Result<(), AllocError>
-        ensures { OnOk result (string_bytes text.new ≡ string_bytes text.old ++ pair_parts self.now message.now rule other token) }
+        ensures { OnOk result (string_bytes text.new ≡ string_bytes text.old ++ pair_parts self.now message.now rules.0 rules.1 token) }
     {
+        let (rule, other) = rules;
         self.push_located(alloc, text, message, rule)?;
         self.push_told(alloc, text, rule, "First reduce")?;
         self.push_told(alloc, text, other, "Second reduce")?;
@@ -170,27 +187,14 @@ impl<'a> SpannedDiagnosticFormatter<'a> {
         &self,
         alloc: Global,
         text: &mut String,
-        grm: &NumberedGrammar<S>,
-        ast: &GrammarAST,
-        dollar: &Option<Span>,
+        read: &ReadGrammar<'_, S>,
         entry: (TIdx<S>, PIdx<S>, StIdx<S>),
     ) -> Result<(), AllocError>
-        requires { S.number entry.1.0 < length grm.now.grammar.productions }
-        ensures { OnOk result (string_bytes text.new ≡ string_bytes text.old ++ shift_text self.now grm.now ast.now dollar.now (shift_of S.number entry)) }
+        requires { S.number entry.1.0 < length read.now.grm.now.grammar.productions }
+        ensures { OnOk result (string_bytes text.new ≡ string_bytes text.old ++ shift_text self.now read.now.grm.now read.now.ast.now read.now.dollar.now (shift_of S.number entry)) }
     {
-        let (tidx, pidx, _) = entry;
-        let message = shift_message(alloc, grm, tidx, pidx)?;
-        let rule = rule_span(grm, pidx);
-        let token = token_span(grm, dollar, tidx);
-        self.push_shift_parts(
-            alloc,
-            text,
-            message.as_str(),
-            rule,
-            token,
-            ast,
-            pidx.0.to_usize(),
-        )?;
+        let message = shift_message(alloc, read.grm, entry.0, entry.1)?;
+        self.push_shift_parts(alloc, text, message.as_str(), read, entry)?;
         Ok(())
     }
 
@@ -212,7 +216,7 @@ impl<'a> SpannedDiagnosticFormatter<'a> {
         let rule = rule_span(grm, first);
         let other = rule_span(grm, second);
         let token = token_span(grm, dollar, tidx);
-        self.push_pair_parts(alloc, text, message.as_str(), rule, other, token)?;
+        self.push_pair_parts(alloc, text, message.as_str(), (rule, other), token)?;
         Ok(())
     }
 
@@ -221,16 +225,14 @@ impl<'a> SpannedDiagnosticFormatter<'a> {
         &self,
         alloc: Global,
         text: &mut String,
-        grm: &NumberedGrammar<S>,
-        ast: &GrammarAST,
-        dollar: &Option<Span>,
+        read: &ReadGrammar<'_, S>,
         entries: &[(TIdx<S>, PIdx<S>, StIdx<S>)],
     ) -> Result<(), AllocError>
-        requires { ShiftsInRange grm.now (shifts_of S.number entries.now) }
-        ensures { OnOk result (string_bytes text.new ≡ string_bytes text.old ++ flat_map (shift_text self.now grm.now ast.now dollar.now) (shifts_of S.number entries.now)) }
+        requires { ShiftsInRange read.now.grm.now (shifts_of S.number entries.now) }
+        ensures { OnOk result (string_bytes text.new ≡ string_bytes text.old ++ flat_map (shift_text self.now read.now.grm.now read.now.ast.now read.now.dollar.now) (shifts_of S.number entries.now)) }
     {
         'entries: for i in 0..entries.len() {
-            self.push_shift(alloc, text, grm, ast, dollar, entries[i])?;
+            self.push_shift(alloc, text, read, entries[i])?;
         }
         Ok(())
     }
@@ -272,14 +274,12 @@ impl<'a> SpannedDiagnosticFormatter<'a> {
         let dollar = span_of_token(grm, "$");
         let mut text = String::new(alloc);
         self.push_pairs(alloc, &mut text, grm, &dollar, c.rr_conflicts().as_slice())?;
-        self.push_shifts(
-            alloc,
-            &mut text,
+        let read = ReadGrammar {
             grm,
             ast,
-            &dollar,
-            c.sr_conflicts().as_slice(),
-        )?;
+            dollar: &dollar,
+        };
+        self.push_shifts(alloc, &mut text, &read, c.sr_conflicts().as_slice())?;
         Ok(text)
     }
 
@@ -296,7 +296,12 @@ impl<'a> SpannedDiagnosticFormatter<'a> {
     {
         let dollar = span_of_token(grm, "$");
         let mut text = String::new(alloc);
-        self.push_shift(alloc, &mut text, grm, ast, &dollar, *entry)?;
+        let read = ReadGrammar {
+            grm,
+            ast,
+            dollar: &dollar,
+        };
+        self.push_shift(alloc, &mut text, &read, *entry)?;
         Ok(text)
     }
 

@@ -77,13 +77,13 @@ impl<'a> SpannedDiagnosticFormatter<'a> {
         ensures { IfOk result (λ text. string_bytes text ≡ located_text self.now msg.now span) }
     {
         match span {
-            Some(span) => self.located(alloc, msg, span),
-            None => self.unlocated(alloc, msg),
+            Some(span) => self.message_at(alloc, msg, span),
+            None => self.message_in_path(alloc, msg),
         }
     }
 
     /// Returns a message with the path alone.
-    fn unlocated(&self, alloc: Global, msg: &str) -> Result<String, AllocError>
+    fn message_in_path(&self, alloc: Global, msg: &str) -> Result<String, AllocError>
         ensures { IfOk result (λ text. string_bytes text ≡ located_text self.now msg.now None) }
     {
         let path = self.path;
@@ -92,7 +92,7 @@ impl<'a> SpannedDiagnosticFormatter<'a> {
     }
 
     /// Returns a message with the path and where the span starts.
-    fn located(&self, alloc: Global, msg: &str, span: Span) -> Result<String, AllocError>
+    fn message_at(&self, alloc: Global, msg: &str, span: Span) -> Result<String, AllocError>
         ensures { IfOk result (λ text. string_bytes text ≡ located_text self.now msg.now (Some span)) }
     {
         let path = self.path;

@@ -13,6 +13,16 @@ use cfg_base::span::Span;
 use cfg_base::text::line_end;
 use std::alloc::{AllocError, Global};
 
+/// How a span is underlined.
+#[derive(Clone, Copy)]
+pub(crate) struct Underline<'u> {
+    /// The text before each underline, in the place of as many spaces.
+    pub prefix: &'u str,
+    pub span: Span,
+    /// The character of the underline.
+    pub mark: char,
+}
+
 impl<'a> SpannedDiagnosticFormatter<'a> {
     /// Returns the span, where an offset past the source counts as its end.
     pub(crate) fn within(&self, span: Span) -> Span
@@ -71,20 +81,18 @@ impl<'a> SpannedDiagnosticFormatter<'a> {
         &self,
         alloc: Global,
         text: &mut String,
-        prefix: &str,
-        span: Span,
-        mark: char,
+        underline: &Underline<'_>,
         start: usize,
     ) -> Result<(), AllocError>
         requires { start ≤ length self.now.text }
-        ensures { OnOk result (string_bytes text.new ≡ string_bytes text.old ++ underlined_line self.now.text prefix.now span mark start) }
+        ensures { OnOk result (string_bytes text.new ≡ string_bytes text.old ++ underlined_line self.now.text underline.now.prefix.now underline.now.span underline.now.mark start) }
     {
         let end = shown_end(self.src, start);
-        let from = span.start().max(start).min(end);
-        let to = span.end().max(start).min(end);
-        self.push_shown(alloc, text, prefix, start)?;
+        let from = underline.span.start().max(start).min(end);
+        let to = underline.span.end().max(start).min(end);
+        self.push_shown(alloc, text, underline.prefix, start)?;
         push_blank(alloc, text, part(self.src, start, from))?;
-        push_underline(alloc, text, part(self.src, from, to), mark)?;
+        push_underline(alloc, text, part(self.src, from, to), underline.mark)?;
         Ok(())
     }
 
@@ -93,20 +101,18 @@ impl<'a> SpannedDiagnosticFormatter<'a> {
         &self,
         alloc: Global,
         text: &mut String,
-        prefix: &str,
-        span: Span,
-        mark: char,
+        underline: &Underline<'_>,
         first: usize,
         last: usize,
     ) -> Result<(), AllocError>
         requires first { first ≤ length self.now.text }
         requires last { last ≤ length self.now.text }
-        ensures { OnOk result (string_bytes text.new ≡ string_bytes text.old ++ flat_map (λ a. codes "\n" ++ underlined_line self.now.text prefix.now span mark a) (map suc (newline_offsets first (slice_range self.now.text first last)))) }
+        ensures { OnOk result (string_bytes text.new ≡ string_bytes text.old ++ flat_map (λ a. codes "\n" ++ underlined_line self.now.text underline.now.prefix.now underline.now.span underline.now.mark a) (map suc (newline_offsets first (slice_range self.now.text first last)))) }
     {
         let mut end = line_end(self.src, first);
         'lines: while end < last {
             text.push_str("\n")?;
-            self.push_line(alloc, text, prefix, span, mark, end + 1)?;
+            self.push_line(alloc, text, underline, end + 1)?;
             end = line_end(self.src, end + 1);
         }
         Ok(())
@@ -117,18 +123,21 @@ impl<'a> SpannedDiagnosticFormatter<'a> {
         &self,
         alloc: Global,
         text: &mut String,
-        prefix: &str,
-        span: Span,
+        underline: &Underline<'_>,
         message: &str,
-        mark: char,
     ) -> Result<(), AllocError>
-        ensures { OnOk result (string_bytes text.new ≡ string_bytes text.old ++ underlined self.now.text prefix.now span message.now mark) }
+        ensures { OnOk result (string_bytes text.new ≡ string_bytes text.old ++ underlined self.now.text underline.now.prefix.now underline.now.span message.now underline.now.mark) }
     {
-        let span = self.within(span);
+        let span = self.within(underline.span);
         let (first, _) = self.newlines.span_line_bytes(span);
         let last = line_end(self.src, span.end());
-        self.push_line(alloc, text, prefix, span, mark, first)?;
-        self.push_further(alloc, text, prefix, span, mark, first, last)?;
+        let inside = Underline {
+            prefix: underline.prefix,
+            span,
+            mark: underline.mark,
+        };
+        self.push_line(alloc, text, &inside, first)?;
+        self.push_further(alloc, text, &inside, first, last)?;
         text.push_str(" ")?;
         text.push_str(message)?;
         Ok(())
@@ -163,7 +172,12 @@ impl<'a> SpannedDiagnosticFormatter<'a> {
         ensures { IfOk result (λ text. string_bytes text ≡ underlined self.now.text prefix.now span s.now underline_c) }
     {
         let mut text = String::new(alloc);
-        self.push_underlined(alloc, &mut text, prefix, span, s, underline_c)?;
+        let underline = Underline {
+            prefix,
+            span,
+            mark: underline_c,
+        };
+        self.push_underlined(alloc, &mut text, &underline, s)?;
         Ok(text)
     }
 }

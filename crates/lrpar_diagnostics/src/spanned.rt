@@ -7,6 +7,7 @@ ghost use Rattle.lrpar_diagnostics.specs.Underlines.{underlined};
 ghost use Rattle.lrpar_diagnostics.specs.Occurrences.{occurrence_text, dots_before, later_texts, spanned_text};
 
 use crate::diagnostics::SpannedDiagnosticFormatter;
+use crate::marks::Underline;
 use cfg_base::span::{Span, Spanned, SpansKind};
 use std::alloc::{AllocError, Global};
 use std::error::Error;
@@ -66,16 +67,14 @@ impl<'a> SpannedDiagnosticFormatter<'a> {
         alloc: Global,
         text: &mut String,
         kind: SpansKind,
-        span: Span,
-        next: Option<&Span>,
+        underline: &Underline<'_>,
         number: usize,
     ) -> Result<(), AllocError>
-        ensures { OnOk result (string_bytes text.new ≡ string_bytes text.old ++ (codes "\n" ++ underlined self.now.text (dots_before self.now.text span (option_copied next.entry)) span (occurrence_text kind number) 94)) }
+        ensures { OnOk result (string_bytes text.new ≡ string_bytes text.old ++ (codes "\n" ++ underlined self.now.text underline.now.prefix.now underline.now.span (occurrence_text kind number) underline.now.mark)) }
     {
         let message = occurrence(alloc, kind, number)?;
-        let dots = self.dots_before(span, next);
         text.push_str("\n")?;
-        self.push_underlined(alloc, text, dots, span, message.as_str(), '^')?;
+        self.push_underlined(alloc, text, underline, message.as_str())?;
         Ok(())
     }
 
@@ -91,13 +90,19 @@ impl<'a> SpannedDiagnosticFormatter<'a> {
         ensures { OnOk result (string_bytes text.new ≡ string_bytes text.old ++ later_texts self.now.text kind 2 (drop 1 spans.now)) }
     {
         'spans: for i in 1..spans.len() {
-            self.push_occurrence(alloc, text, kind, spans[i], spans.get(i + 1), i + 1)?;
+            let span = spans[i];
+            let underline = Underline {
+                prefix: self.dots_before(span, spans.get(i + 1)),
+                span,
+                mark: '^',
+            };
+            self.push_occurrence(alloc, text, kind, &underline, i + 1)?;
         }
         Ok(())
     }
 
     /// Returns a message with its spans.
-    fn spanned(
+    fn message_with_spans(
         &self,
         alloc: Global,
         message: &str,
@@ -110,8 +115,12 @@ impl<'a> SpannedDiagnosticFormatter<'a> {
         let Some(first) = spans.first() else {
             return Ok(text);
         };
-        let dots = self.dots_before(*first, spans.get(1));
-        self.push_underlined(alloc, &mut text, dots, *first, message, '^')?;
+        let underline = Underline {
+            prefix: self.dots_before(*first, spans.get(1)),
+            span: *first,
+            mark: '^',
+        };
+        self.push_underlined(alloc, &mut text, &underline, message)?;
         self.push_later(alloc, &mut text, kind, spans)?;
         Ok(text)
     }
@@ -121,7 +130,7 @@ impl<'a> SpannedDiagnosticFormatter<'a> {
         ensures { IfOk result (λ text. IfSome (E.Display.output e.now) (λ message. string_bytes text ≡ spanned_text self.now.text message (E.spans_of e.now) (E.spanskind_of e.now))) }
     {
         let message = e.to_string(alloc)?;
-        let text = self.spanned(alloc, message.as_str(), e.spans(), e.spanskind())?;
+        let text = self.message_with_spans(alloc, message.as_str(), e.spans(), e.spanskind())?;
         Ok(text)
     }
 }

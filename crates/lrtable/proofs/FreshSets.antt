@@ -9,7 +9,7 @@ use Rattle.cfg_theory.specs.Grammar.{Sym, Grammar, InRange, IsOf, IsNext, WellFo
 use Rattle.cfg_numbered.specs.Value.{productions_of}
 use Rattle.cfg_numbered.proofs.RuleLists.{alone, ascending}
 use Rattle.lr_theory.specs.Itemset.{Items, Lookaheads, HasItem, HasLook, ItemSet, Goto}
-use Rattle.state_table.specs.Adding.{Adds, One, OneLooks}
+use Rattle.state_table.specs.Adding.{Adds, SingleItem, OneLooks}
 use Rattle.lrtable.specs.Closes.{AreFronts}
 use Rattle.state_table.specs.ItemRows.{no_core, Core, IsAt, IsCoreOf, map_of, BelongsAt}
 use Rattle.lrtable.specs.Gaining.{core_in, moved_by, AreSets, Gains}
@@ -45,15 +45,15 @@ pub none_in_empty : (G : Grammar) (I : Items) (n : ℕ) (sets : List Core) → s
 none_in_empty G I n sets e = λ X p d r g x. no_items p d (subst (λ (m : ItemSet). HasItem m p d) (ap (λ l. moved_by G l X) e ∙ none_moved G n X) x)
 
 -- an item of a core, after those before it
-pub none_of_core : (G : Grammar) (c : Core) (k p d : ℕ) (old new : List Core) → IsCoreOf G.tokens c → IsAt c.items k p d → HaveNone G (HasItem (map_of c)) old → Gains G (ItemsBelow c k) (LooksBelow c k) old new → HaveNone G (One p d) new
+pub none_of_core : (G : Grammar) (c : Core) (k p d : ℕ) (old new : List Core) → IsCoreOf G.tokens c → IsAt c.items k p d → HaveNone G (HasItem (map_of c)) old → Gains G (ItemsBelow c k) (LooksBelow c k) old new → HaveNone G (SingleItem p d) new
 none_of_core G c k p d old new good at none h =
-    none_next G (ItemsBelow c k) (One p d) (LooksBelow c k) old new h (none_of G (One p d) (HasItem (map_of c)) old (λ q e s. subst₂ (λ r f. HasItem (map_of c) r f) (sym s.0) (sym s.1) ((has_item c.items c.rows good.ascends good.count p d).1 (k, at))) none)
+    none_next G (ItemsBelow c k) (SingleItem p d) (LooksBelow c k) old new h (none_of G (SingleItem p d) (HasItem (map_of c)) old (λ q e s. subst₂ (λ r f. HasItem (map_of c) r f) (sym s.0) (sym s.1) ((has_item c.items c.rows good.ascends good.count p d).1 (k, at))) none)
     (λ q e s o. let same = one_place c.items good.ascends s.0 k p d (subst₂ (λ r f. IsAt c.items s.0 r f) o.0 o.1 s.2) at in let lt = s.1 in omega (arith, same, lt))
 
 -- a production of a rule, after those before it
-pub none_of_rule : (G : Grammar) (A k q : ℕ) (L : ℕ → Type 0) (old new : List Core) → take (k + 1) (productions_of G A) ≡ take k (productions_of G A) ++ q ∷ [] → k < length (productions_of G A) → Contains (productions_of G A) q → HaveNone G (OfRule G A) old → Gains G (ListedBelow G A k) (ListedLooks G A k L) old new → HaveNone G (One q 0) new
+pub none_of_rule : (G : Grammar) (A k q : ℕ) (L : ℕ → Type 0) (old new : List Core) → take (k + 1) (productions_of G A) ≡ take k (productions_of G A) ++ q ∷ [] → k < length (productions_of G A) → Contains (productions_of G A) q → HaveNone G (OfRule G A) old → Gains G (ListedBelow G A k) (ListedLooks G A k L) old new → HaveNone G (SingleItem q 0) new
 none_of_rule G A k q L old new e lt there none h =
-    none_next G (ListedBelow G A k) (One q 0) (ListedLooks G A k L) old new h (none_of G (One q 0) (OfRule G A) old (λ p d s. (s.1, subst (λ r. IsOf G r A) (sym s.0) (let a = alone G A q there in record { in_range = a.0; head = a.1 }))) none)
+    none_next G (ListedBelow G A k) (SingleItem q 0) (ListedLooks G A k L) old new h (none_of G (SingleItem q 0) (OfRule G A) old (λ p d s. (s.1, subst (λ r. IsOf G r A) (sym s.0) (let a = alone G A q there in record { in_range = a.0; head = a.1 }))) none)
     (λ p d s o. twice p s.1 o.0)
   where
     ps : List ℕ
@@ -126,8 +126,8 @@ module _ {S : Type 0} (number : S → ℕ) (rows : LookRows) where
     fits_there = good_at (set_of_moved number rows) G.tokens sets n x lt read good
 
     -- one item moved
-    pub one_moved : (y : Vec (MovedItem S) Global) (m : MovedItem S) (k : ℕ) → (moved_item number m).production ≡ p → (moved_item number m).dot ≡ d + 1 → length (row_from rows m.source) ≡ G.tokens → HaveNone G (One p d) (map (set_of_moved number rows) sets) →
-        BelongsAt (moved_items number x.items) (moved_item number m) k → y.items ≡ insert x.items k m → Gains G (One p d) (OneLooks p d (row_from rows m.source)) (map (set_of_moved number rows) sets) (map (set_of_moved number rows) (set sets n y))
+    pub one_moved : (y : Vec (MovedItem S) Global) (m : MovedItem S) (k : ℕ) → (moved_item number m).production ≡ p → (moved_item number m).dot ≡ d + 1 → length (row_from rows m.source) ≡ G.tokens → HaveNone G (SingleItem p d) (map (set_of_moved number rows) sets) →
+        BelongsAt (moved_items number x.items) (moved_item number m) k → y.items ≡ insert x.items k m → Gains G (SingleItem p d) (OneLooks p d (row_from rows m.source)) (map (set_of_moved number rows) sets) (map (set_of_moved number rows) (set sets n y))
     one_moved y m k a b wide none at e =
         let f = set_of_moved number rows in
         let seen = set_at f G.tokens sets n x lt read good in

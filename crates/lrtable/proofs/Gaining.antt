@@ -6,7 +6,7 @@ use Rattle.cfg_theory.specs.Grammar.{Sym, Grammar, InRange, IsNext}
 use Rattle.vob.specs.Sets.{is_set}
 use Rattle.lr_theory.specs.Itemset.{Items, Lookaheads, HasItem, HasLook, SameItems, SameLooks, Goto, GotoLook}
 use Rattle.state_table.specs.ItemRows.{Core, IsCoreOf, map_of, no_core}
-use Rattle.state_table.specs.Adding.{Adds, One, OneLooks}
+use Rattle.state_table.specs.Adding.{Adds, SingleItem, OneLooks}
 use Rattle.lrtable.specs.Handling.{rank}
 use Rattle.lrtable.specs.Gaining.{core_in, moved_by, AreSets, Gains}
 use Rattle.lrtable.proofs.Ranks.{rank_once, rank_below}
@@ -90,14 +90,14 @@ gains_as G I J L M a b same same_looks h = record {
 
 -- an item before X moved into the set of X
 pub gains_one : (G : Grammar) (sets : List Core) (new : Core) (p d : ℕ) (X : Sym) (bits : List Bool) → InRange G X → length sets ≡ G.rules + G.tokens → AreSets G.tokens sets → IsNext G p d X → IsCoreOf G.tokens new →
-    Adds (map_of (core_in sets (rank G X))) p (suc d) bits (map_of new) → Gains G (One p d) (OneLooks p d bits) sets (set sets (rank G X) new)
+    Adds (map_of (core_in sets (rank G X))) p (suc d) bits (map_of new) → Gains G (SingleItem p d) (OneLooks p d bits) sets (set sets (rank G X) new)
 gains_one G sets new p d X bits range size good next wide adds = record {
   count = length-set sets (rank G X) new;
   good = λ n lt. elim (cases_eq n (rank G X)) [
     | inl e ↦ subst (λ c. IsCoreOf G.tokens c) (sym (ap (λ m. core_in (set sets (rank G X) new) m) e ∙ here)) wide
     | inr ne ↦ subst (λ c. IsCoreOf G.tokens c) (sym (get_or-set_other sets (rank G X) n new no_core ne)) (good n (let l = length-set sets (rank G X) new in omega (arith, lt, l)))
   ];
-  items = λ Y r q e. elim (cases_eq (rank G Y) (rank G X)) [ inl s ↦ subst (λ Z. HasItem (moved_by G (set sets (rank G X) new) Z) q e ↔ (HasItem (moved_by G sets Z) q e ⊎ Goto G (One p d) Z q e)) (rank_once G X Y range r (sym s)) (items_here q e) | inr ne ↦ items_there Y r ne q e ];
+  items = λ Y r q e. elim (cases_eq (rank G Y) (rank G X)) [ inl s ↦ subst (λ Z. HasItem (moved_by G (set sets (rank G X) new) Z) q e ↔ (HasItem (moved_by G sets Z) q e ⊎ Goto G (SingleItem p d) Z q e)) (rank_once G X Y range r (sym s)) (items_here q e) | inr ne ↦ items_there Y r ne q e ];
   looks = λ Y r q e t. elim (cases_eq (rank G Y) (rank G X)) [ inl s ↦ subst (λ Z. HasLook (moved_by G (set sets (rank G X) new) Z) q e t ↔ (HasLook (moved_by G sets Z) q e t ⊎ GotoLook G (OneLooks p d bits) Z q e t)) (rank_once G X Y range r (sym s)) (looks_here q e t) | inr ne ↦ looks_there Y r ne q e t ];
 }
   where
@@ -107,19 +107,19 @@ gains_one G sets new p d X bits range size good next wide adds = record {
     here : core_in (set sets (rank G X) new) (rank G X) ≡ new
     here = get_or-set_same sets (rank G X) new no_core lt
 
-    one : (Y : Sym) {q e : ℕ} → Goto G (One p d) Y q e → (q ≡ p) × (e ≡ suc d) × IsNext G p d Y
+    one : (Y : Sym) {q e : ℕ} → Goto G (SingleItem p d) Y q e → (q ≡ p) × (e ≡ suc d) × IsNext G p d Y
     one Y (Goto.moved {p = q} {d = e} i n) = (i.0, ap suc i.1, subst₂ (λ r s. IsNext G r s Y) i.0 i.1 n)
 
     one_look : (Y : Sym) {q e t : ℕ} → GotoLook G (OneLooks p d bits) Y q e t → (q ≡ p) × (e ≡ suc d) × IsTrue (is_set bits t) × IsNext G p d Y
     one_look Y (GotoLook.moved {p = q} {d = e} {t = t} i n) = (i.0, ap suc i.1, i.2, subst₂ (λ r s. IsNext G r s Y) i.0 i.1 n)
 
-    moved : (q e : ℕ) → q ≡ p → e ≡ suc d → Goto G (One p d) X q e
-    moved q e x y = subst₂ (λ r s. Goto G (One p d) X r s) (sym x) (sym y) (Goto.moved {p = p} {d = d} (refl, refl) next)
+    moved : (q e : ℕ) → q ≡ p → e ≡ suc d → Goto G (SingleItem p d) X q e
+    moved q e x y = subst₂ (λ r s. Goto G (SingleItem p d) X r s) (sym x) (sym y) (Goto.moved {p = p} {d = d} (refl, refl) next)
 
     moved_look : (q e t : ℕ) → q ≡ p → e ≡ suc d → IsTrue (is_set bits t) → GotoLook G (OneLooks p d bits) X q e t
     moved_look q e t x y z = subst₂ (λ r s. GotoLook G (OneLooks p d bits) X r s t) (sym x) (sym y) (GotoLook.moved {p = p} {d = d} (refl, refl, z) next)
 
-    items_here : (q e : ℕ) → HasItem (moved_by G (set sets (rank G X) new) X) q e ↔ (HasItem (moved_by G sets X) q e ⊎ Goto G (One p d) X q e)
+    items_here : (q e : ℕ) → HasItem (moved_by G (set sets (rank G X) new) X) q e ↔ (HasItem (moved_by G sets X) q e ⊎ Goto G (SingleItem p d) X q e)
     items_here q e = (
       λ h. elim ((adds.items q e).1 (subst (λ c. HasItem (map_of c) q e) here h)) [ inl x ↦ inl x | inr x ↦ inr (moved q e x.0 x.1) ],
       λ h. subst (λ c. HasItem (map_of c) q e) (sym here) ((adds.items q e).0 (elim h [ inl x ↦ inl x | inr x ↦ (let g = one X x in inr (g.0, g.1)) ])),
@@ -137,7 +137,7 @@ gains_one G sets new p d X bits range size good next wide adds = record {
         some_once : {Z W : Sym} → Some Z ≡ Some W → Z ≡ W
         some_once e = cc
 
-    items_there : (Y : Sym) → InRange G Y → (rank G Y ≡ rank G X → ⊥) → (q e : ℕ) → HasItem (moved_by G (set sets (rank G X) new) Y) q e ↔ (HasItem (moved_by G sets Y) q e ⊎ Goto G (One p d) Y q e)
+    items_there : (Y : Sym) → InRange G Y → (rank G Y ≡ rank G X → ⊥) → (q e : ℕ) → HasItem (moved_by G (set sets (rank G X) new) Y) q e ↔ (HasItem (moved_by G sets Y) q e ⊎ Goto G (SingleItem p d) Y q e)
     items_there Y r ne q e =
         let same = get_or-set_other sets (rank G X) (rank G Y) new no_core ne in (
           λ h. inl (subst (λ c. HasItem (map_of c) q e) same h),

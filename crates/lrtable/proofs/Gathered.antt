@@ -6,14 +6,14 @@ use Rattle.lrtable.specs.LookRows.{LookRows}
 use Rattle.lrtable.specs.MovedItems.{core_of_moved, moved_items, rows_from}
 use Rattle.lrtable.specs.States.{StateValue, no_state, state_at}
 use Rattle.lrtable.specs.StateViews.{value_of}
-use Rattle.lrtable.specs.TakenAgain.{AreRowsBehind}
+use Rattle.lrtable.specs.Revisits.{AreRowsBehind}
 use Rattle.lrtable.specs.declared.moved_items.MovedItem.{MovedItem}
 use Rattle.lrtable.specs.declared.states.State.{State}
 use Rattle.state_table.specs.CoreViews.{item_of, items_of}
 use Rattle.state_table.specs.ItemRows.{Core, IsCoreOf}
 use Rattle.state_table.specs.declared.cores.CoreItem.{CoreItem}
 use Rattle.state_table.proofs.CoreSteps.{map_at}
-use Rattle.lrtable.proofs.TakenAgain.{same_behind, set_is_core}
+use Rattle.lrtable.proofs.Revisits.{same_behind, set_is_core}
 
 -- it has the items of the state, and the rows behind them
 pub record IsGathered (G : Grammar) (c led given : Core) : Type 0 where

@@ -39,7 +39,7 @@ pub mod MarkedSets
 pub mod Waiting
 pub mod Noting
 pub mod TakenStates
-pub mod TakenAgain
+pub mod Revisits
 pub mod Reaching
 pub mod Passing
 pub mod Copies

@@ -5,7 +5,7 @@ use Rattle.cfg_theory.specs.Grammar.{Sym, Grammar, IsNext}
 use Rattle.vob.specs.Sets.{is_set}
 use Rattle.lr_theory.specs.Itemset.{Items, Lookaheads, HasItem, HasLook, SameItems, SameLooks, Goto, GotoLook, Is}
 use Rattle.state_table.specs.declared.shared_sets.SharedSets.{SharedSets}
-use Rattle.state_table.specs.Adding.{One, OneLooks}
+use Rattle.state_table.specs.Adding.{SingleItem, OneLooks}
 use Rattle.state_table.specs.ItemRows.{no_core, IsAt, Core, IsCoreOf, map_of}
 use Rattle.state_table.specs.Meeting.{rows_in, row}
 use Rattle.state_table.specs.Sharing.{shared_core, shared_map, PointIn, TakesIn, GrowsBy}
@@ -43,10 +43,10 @@ goto_look_or G L M X p d t = (λ h. elim h [ inl x ↦ left x | inr x ↦ right 
 
 -- ---- one item
 
-pub no_goto : (G : Grammar) (p d : ℕ) (X : Sym) → (IsNext G p d X → ⊥) → (q e : ℕ) → Goto G (One p d) X q e → ⊥
+pub no_goto : (G : Grammar) (p d : ℕ) (X : Sym) → (IsNext G p d X → ⊥) → (q e : ℕ) → Goto G (SingleItem p d) X q e → ⊥
 no_goto G p d X none q e g = go g
   where
-    go : {q e : ℕ} → Goto G (One p d) X q e → ⊥
+    go : {q e : ℕ} → Goto G (SingleItem p d) X q e → ⊥
     go (Goto.moved {p = r} {d = s} i n) = none (subst₂ (λ r s. IsNext G r s X) i.0 i.1 n)
 
 pub no_goto_look : (G : Grammar) (p d : ℕ) (bits : List Bool) (X : Sym) → (IsNext G p d X → ⊥) → (q e t : ℕ) → GotoLook G (OneLooks p d bits) X q e t → ⊥
@@ -57,24 +57,24 @@ no_goto_look G p d bits X none q e t g = go g
 
 module _ {S : Type 0} (number : S → ℕ) (G : Grammar) (p d : ℕ) (bits : List Bool) (X : Sym) where
   -- the symbol doesn't stand behind the dot
-  pub stays : (s : SharedSets S) → IsCoreOf (length bits) (shared_core number s) → PointIn (rows_in s.sets.items) s.entries.items → (IsNext G p d X → ⊥) → GrowsBy number (length bits) (Goto G (One p d) X) (GotoLook G (OneLooks p d bits) X) s s
-  stays s core points none = grows_none number (length bits) (Goto G (One p d) X) (GotoLook G (OneLooks p d bits) X) s core points (no_goto G p d X none) (no_goto_look G p d bits X none)
+  pub stays : (s : SharedSets S) → IsCoreOf (length bits) (shared_core number s) → PointIn (rows_in s.sets.items) s.entries.items → (IsNext G p d X → ⊥) → GrowsBy number (length bits) (Goto G (SingleItem p d) X) (GotoLook G (OneLooks p d bits) X) s s
+  stays s core points none = grows_none number (length bits) (Goto G (SingleItem p d) X) (GotoLook G (OneLooks p d bits) X) s core points (no_goto G p d X none) (no_goto_look G p d bits X none)
 
   -- it does
-  pub moves : (a b : SharedSets S) (e : ℕ) → e ≡ d + 1 → IsNext G p d X → TakesIn number p e bits a b → GrowsBy number (length bits) (Goto G (One p d) X) (GotoLook G (OneLooks p d bits) X) a b
-  moves a b e q next h = grows_as number (length bits) (One p e) (Goto G (One p d) X) (OneLooks p e bits) (GotoLook G (OneLooks p d bits) X) a b
+  pub moves : (a b : SharedSets S) (e : ℕ) → e ≡ d + 1 → IsNext G p d X → TakesIn number p e bits a b → GrowsBy number (length bits) (Goto G (SingleItem p d) X) (GotoLook G (OneLooks p d bits) X) a b
+  moves a b e q next h = grows_as number (length bits) (SingleItem p e) (Goto G (SingleItem p d) X) (OneLooks p e bits) (GotoLook G (OneLooks p d bits) X) a b
       (λ r s. (λ x. to r s x.0 x.1, back)) (λ r s t. (λ x. to_look r s t x.0 x.1 x.2, back_look)) (grows_one number (length bits) p e bits a b refl h)
     where
       after : e ≡ suc d
       after = omega (arith, q)
 
-      to : (r s : ℕ) → r ≡ p → s ≡ e → Goto G (One p d) X r s
-      to r s x y = subst₂ (λ u v. Goto G (One p d) X u v) (sym x) (sym (y ∙ after)) (Goto.moved {p = p} {d = d} (refl, refl) next)
+      to : (r s : ℕ) → r ≡ p → s ≡ e → Goto G (SingleItem p d) X r s
+      to r s x y = subst₂ (λ u v. Goto G (SingleItem p d) X u v) (sym x) (sym (y ∙ after)) (Goto.moved {p = p} {d = d} (refl, refl) next)
 
       to_look : (r s t : ℕ) → r ≡ p → s ≡ e → IsTrue (is_set bits t) → GotoLook G (OneLooks p d bits) X r s t
       to_look r s t x y z = subst₂ (λ u v. GotoLook G (OneLooks p d bits) X u v t) (sym x) (sym (y ∙ after)) (GotoLook.moved {p = p} {d = d} (refl, refl, z) next)
 
-      back : {r s : ℕ} → Goto G (One p d) X r s → One p e r s
+      back : {r s : ℕ} → Goto G (SingleItem p d) X r s → SingleItem p e r s
       back (Goto.moved i n) = (i.0, ap suc i.1 ∙ sym after)
 
       back_look : {r s t : ℕ} → GotoLook G (OneLooks p d bits) X r s t → OneLooks p e bits r s t
@@ -93,22 +93,22 @@ module _ {S : Type 0} (number : S → ℕ) (G : Grammar) (c : Core) (X : Sym) wh
       no_look (GotoLook.moved {p} {d} {t} i n) = below_none c p d (i.0, i.1, i.2)
 
   pub moved_next : (k p d : ℕ) (bits : List Bool) (a b e : SharedSets S) → IsAt c.items k p d → row c.rows k ≡ bits → length bits ≡ G.tokens → GrowsBy number G.tokens (Goto G (ItemsBelow c k) X) (GotoLook G (LooksBelow c k) X) a b →
-      GrowsBy number (length bits) (Goto G (One p d) X) (GotoLook G (OneLooks p d bits) X) b e → GrowsBy number G.tokens (Goto G (ItemsBelow c (k + 1)) X) (GotoLook G (LooksBelow c (k + 1)) X) a e
+      GrowsBy number (length bits) (Goto G (SingleItem p d) X) (GotoLook G (OneLooks p d bits) X) b e → GrowsBy number G.tokens (Goto G (ItemsBelow c (k + 1)) X) (GotoLook G (LooksBelow c (k + 1)) X) a e
   moved_next k p d bits a b e at r wide h m =
-      let m' = subst (λ n. GrowsBy number n (Goto G (One p d) X) (GotoLook G (OneLooks p d bits) X) b e) wide m in
-      grows_as number G.tokens (λ q f. Goto G (ItemsBelow c k) X q f ⊎ Goto G (One p d) X q f) (Goto G (ItemsBelow c (k + 1)) X) (λ q f t. GotoLook G (LooksBelow c k) X q f t ⊎ GotoLook G (OneLooks p d bits) X q f t) (GotoLook G (LooksBelow c (k + 1)) X) a e same same_looks
-      (grows_on number G.tokens (Goto G (ItemsBelow c k) X) (Goto G (One p d) X) (GotoLook G (LooksBelow c k) X) (GotoLook G (OneLooks p d bits) X) a b e h m')
+      let m' = subst (λ n. GrowsBy number n (Goto G (SingleItem p d) X) (GotoLook G (OneLooks p d bits) X) b e) wide m in
+      grows_as number G.tokens (λ q f. Goto G (ItemsBelow c k) X q f ⊎ Goto G (SingleItem p d) X q f) (Goto G (ItemsBelow c (k + 1)) X) (λ q f t. GotoLook G (LooksBelow c k) X q f t ⊎ GotoLook G (OneLooks p d bits) X q f t) (GotoLook G (LooksBelow c (k + 1)) X) a e same same_looks
+      (grows_on number G.tokens (Goto G (ItemsBelow c k) X) (Goto G (SingleItem p d) X) (GotoLook G (LooksBelow c k) X) (GotoLook G (OneLooks p d bits) X) a b e h m')
     where
-      next : SameItems (λ q f. ItemsBelow c k q f ⊎ One p d q f) (ItemsBelow c (k + 1))
+      next : SameItems (λ q f. ItemsBelow c k q f ⊎ SingleItem p d q f) (ItemsBelow c (k + 1))
       next = below_next c k p d at
 
       next_looks : SameLooks (λ q f t. LooksBelow c k q f t ⊎ OneLooks p d bits q f t) (LooksBelow c (k + 1))
       next_looks = looks_next c k p d bits at r
 
-      same : SameItems (λ q f. Goto G (ItemsBelow c k) X q f ⊎ Goto G (One p d) X q f) (Goto G (ItemsBelow c (k + 1)) X)
+      same : SameItems (λ q f. Goto G (ItemsBelow c k) X q f ⊎ Goto G (SingleItem p d) X q f) (Goto G (ItemsBelow c (k + 1)) X)
       same q f = (
-        λ x. goto_as G (λ q f. ItemsBelow c k q f ⊎ One p d q f) (ItemsBelow c (k + 1)) X next q f ((goto_or G (ItemsBelow c k) (One p d) X q f).0 x),
-        λ x. (goto_or G (ItemsBelow c k) (One p d) X q f).1 (goto_as G (ItemsBelow c (k + 1)) (λ q f. ItemsBelow c k q f ⊎ One p d q f) X (λ q f. ((next q f).1, (next q f).0)) q f x),
+        λ x. goto_as G (λ q f. ItemsBelow c k q f ⊎ SingleItem p d q f) (ItemsBelow c (k + 1)) X next q f ((goto_or G (ItemsBelow c k) (SingleItem p d) X q f).0 x),
+        λ x. (goto_or G (ItemsBelow c k) (SingleItem p d) X q f).1 (goto_as G (ItemsBelow c (k + 1)) (λ q f. ItemsBelow c k q f ⊎ SingleItem p d q f) X (λ q f. ((next q f).1, (next q f).0)) q f x),
       )
 
       same_looks : SameLooks (λ q f t. GotoLook G (LooksBelow c k) X q f t ⊎ GotoLook G (OneLooks p d bits) X q f t) (GotoLook G (LooksBelow c (k + 1)) X)

@@ -10,7 +10,7 @@ use Rattle.vob.specs.Sets.{is_set}
 use Rattle.cfg_numbered.specs.Value.{productions_of}
 use Rattle.cfg_numbered.proofs.RuleLists.{listed, alone}
 use Rattle.lr_theory.specs.Itemset.{Items, Lookaheads, ItemSet, HasItem, HasLook, Closure, ClosureLook}
-use Rattle.state_table.specs.Adding.{Adds, One, OneLooks}
+use Rattle.state_table.specs.Adding.{Adds, SingleItem, OneLooks}
 use Rattle.lrtable.specs.Closes.{AreFronts}
 use Rattle.state_table.specs.ItemRows.{no_core, IsAt, Core, IsCoreOf, map_of}
 use Rattle.lrtable.specs.Gaining.{core_in, moved_by, AreSets, Gains}
@@ -40,9 +40,9 @@ pub listed_begin : (G : Grammar) (A : ℕ) (L : ℕ → Type 0) (sets : List Cor
 listed_begin G A L sets good = gains_none G (ListedBelow G A 0) (ListedLooks G A 0 L) sets good (λ p d X h n. none_contained p h.1) (λ p d t X h n. none_contained p h.1)
 
 pub listed_more : (G : Grammar) (A k q : ℕ) (bits : List Bool) (a b c : List Core) → take (k + 1) (productions_of G A) ≡ take k (productions_of G A) ++ q ∷ [] →
-    Gains G (ListedBelow G A k) (ListedLooks G A k (λ t. IsTrue (is_set bits t))) a b → Gains G (One q 0) (OneLooks q 0 bits) b c → Gains G (ListedBelow G A (k + 1)) (ListedLooks G A (k + 1) (λ t. IsTrue (is_set bits t))) a c
-listed_more G A k q bits a b c e h m = gains_as G (λ p d. ListedBelow G A k p d ⊎ One q 0 p d) (ListedBelow G A (k + 1)) (λ p d t. ListedLooks G A k (λ u. IsTrue (is_set bits u)) p d t ⊎ OneLooks q 0 bits p d t) (ListedLooks G A (k + 1) (λ t. IsTrue (is_set bits t))) a c
-    (λ p d. (to p d, back p d)) (λ p d t. (to_look p d t, back_look p d t)) (gains_on G (ListedBelow G A k) (One q 0) (ListedLooks G A k (λ t. IsTrue (is_set bits t))) (OneLooks q 0 bits) a b c h m)
+    Gains G (ListedBelow G A k) (ListedLooks G A k (λ t. IsTrue (is_set bits t))) a b → Gains G (SingleItem q 0) (OneLooks q 0 bits) b c → Gains G (ListedBelow G A (k + 1)) (ListedLooks G A (k + 1) (λ t. IsTrue (is_set bits t))) a c
+listed_more G A k q bits a b c e h m = gains_as G (λ p d. ListedBelow G A k p d ⊎ SingleItem q 0 p d) (ListedBelow G A (k + 1)) (λ p d t. ListedLooks G A k (λ u. IsTrue (is_set bits u)) p d t ⊎ OneLooks q 0 bits p d t) (ListedLooks G A (k + 1) (λ t. IsTrue (is_set bits t))) a c
+    (λ p d. (to p d, back p d)) (λ p d t. (to_look p d t, back_look p d t)) (gains_on G (ListedBelow G A k) (SingleItem q 0) (ListedLooks G A k (λ t. IsTrue (is_set bits t))) (OneLooks q 0 bits) a b c h m)
   where
     contained : (p : ℕ) → Contains (take k (productions_of G A)) p → Contains (take (k + 1) (productions_of G A)) p
     contained p x = subst (λ l. Contains l p) (sym e) (Contains-append_left (take k (productions_of G A)) (q ∷ []) p x)
@@ -53,11 +53,11 @@ listed_more G A k q bits a b c e h m = gains_as G (λ p d. ListedBelow G A k p d
     parts : (p : ℕ) → Contains (take (k + 1) (productions_of G A)) p → Contains (take k (productions_of G A)) p ⊎ (q ≡ p)
     parts p x = Contains-push_cases (take k (productions_of G A)) q p (subst (λ l. Contains l p) e x)
 
-    to : (p d : ℕ) → ListedBelow G A k p d ⊎ One q 0 p d → ListedBelow G A (k + 1) p d
+    to : (p d : ℕ) → ListedBelow G A k p d ⊎ SingleItem q 0 p d → ListedBelow G A (k + 1) p d
     to p d (inl (z, x)) = (z, contained p x)
     to p d (inr (s, z)) = (z, last p s)
 
-    back : (p d : ℕ) → ListedBelow G A (k + 1) p d → ListedBelow G A k p d ⊎ One q 0 p d
+    back : (p d : ℕ) → ListedBelow G A (k + 1) p d → ListedBelow G A k p d ⊎ SingleItem q 0 p d
     back p d (z, x) = elim (parts p x) [ inl y ↦ inl (z, y) | inr s ↦ inr (sym s, z) ]
 
     to_look : (p d t : ℕ) → ListedLooks G A k (λ u. IsTrue (is_set bits u)) p d t ⊎ OneLooks q 0 bits p d t → ListedLooks G A (k + 1) (λ u. IsTrue (is_set bits u)) p d t
@@ -156,17 +156,17 @@ all_moved G fronts c s n a b e good fit closed size none h k = record {
 pub items_begin : (G : Grammar) (c : Core) (sets : List Core) → AreSets G.tokens sets → Gains G (ItemsBelow c 0) (LooksBelow c 0) sets sets
 items_begin G c sets good = gains_none G (ItemsBelow c 0) (LooksBelow c 0) sets good (λ p d X h n. below_none c p d h) (λ p d t X h n. below_none c p d (h.0, h.1, h.2))
 
-pub items_more : (G : Grammar) (c : Core) (k p d : ℕ) (bits : List Bool) (a b e : List Core) → IsAt c.items k p d → row c.rows k ≡ bits → Gains G (ItemsBelow c k) (LooksBelow c k) a b → Gains G (One p d) (OneLooks p d bits) b e → Gains G (ItemsBelow c (k + 1)) (LooksBelow c (k + 1)) a e
-items_more G c k p d bits a b e at r h m = gains_as G (λ q f. ItemsBelow c k q f ⊎ One p d q f) (ItemsBelow c (k + 1)) (λ q f t. LooksBelow c k q f t ⊎ OneLooks p d bits q f t) (LooksBelow c (k + 1)) a e (below_next c k p d at) (looks_next c k p d bits at r)
-    (gains_on G (ItemsBelow c k) (One p d) (LooksBelow c k) (OneLooks p d bits) a b e h m)
+pub items_more : (G : Grammar) (c : Core) (k p d : ℕ) (bits : List Bool) (a b e : List Core) → IsAt c.items k p d → row c.rows k ≡ bits → Gains G (ItemsBelow c k) (LooksBelow c k) a b → Gains G (SingleItem p d) (OneLooks p d bits) b e → Gains G (ItemsBelow c (k + 1)) (LooksBelow c (k + 1)) a e
+items_more G c k p d bits a b e at r h m = gains_as G (λ q f. ItemsBelow c k q f ⊎ SingleItem p d q f) (ItemsBelow c (k + 1)) (λ q f t. LooksBelow c k q f t ⊎ OneLooks p d bits q f t) (LooksBelow c (k + 1)) a e (below_next c k p d at) (looks_next c k p d bits at r)
+    (gains_on G (ItemsBelow c k) (SingleItem p d) (LooksBelow c k) (OneLooks p d bits) a b e h m)
 
 pub items_end : (G : Grammar) (c : Core) (k : ℕ) (a b : List Core) → IsCoreOf G.tokens c → length c.items ≤ k → Gains G (ItemsBelow c k) (LooksBelow c k) a b → Gains G (HasItem (map_of c)) (HasLook (map_of c)) a b
 items_end G c k a b good le h = gains_as G (ItemsBelow c k) (HasItem (map_of c)) (LooksBelow c k) (HasLook (map_of c)) a b (below_all c G.tokens k good le) (looks_all c G.tokens k good le) h
 
 -- ---- one item
 
-pub no_move : (G : Grammar) (p d : ℕ) (bits : List Bool) (sets : List Core) → AreSets G.tokens sets → ((X : Sym) → IsNext G p d X → ⊥) → Gains G (One p d) (OneLooks p d bits) sets sets
-no_move G p d bits sets good none = gains_none G (One p d) (OneLooks p d bits) sets good (λ q e X h n. none X (subst₂ (λ r s. IsNext G r s X) h.0 h.1 n)) (λ q e t X h n. none X (subst₂ (λ r s. IsNext G r s X) h.0 h.1 n))
+pub no_move : (G : Grammar) (p d : ℕ) (bits : List Bool) (sets : List Core) → AreSets G.tokens sets → ((X : Sym) → IsNext G p d X → ⊥) → Gains G (SingleItem p d) (OneLooks p d bits) sets sets
+no_move G p d bits sets good none = gains_none G (SingleItem p d) (OneLooks p d bits) sets good (λ q e X h n. none X (subst₂ (λ r s. IsNext G r s X) h.0 h.1 n)) (λ q e t X h n. none X (subst₂ (λ r s. IsNext G r s X) h.0 h.1 n))
 
 module _ {V : Type 0} (f : V → Core) (tokens : ℕ) (sets : List V) (n : ℕ) (x : V) (lt : n < length sets) (read : x ≡ get_or sets n x) (good : AreSets tokens (map f sets)) where
   pub set_at : core_in (map f sets) n ≡ f x
@@ -176,7 +176,7 @@ module _ {V : Type 0} (f : V → Core) (tokens : ℕ) (sets : List V) (n : ℕ) 
   good_at = subst (IsCoreOf tokens) set_at (good n (let m = length-map sets f in omega (arith, m, lt)))
 
 pub move_set : {V : Type 0} (G : Grammar) (f : V → Core) (sets : List V) (n : ℕ) (x y : V) (p d : ℕ) (X : Sym) (bits : List Bool) → InRange G X → IsNext G p d X → n ≡ rank G X → length sets ≡ G.rules + G.tokens → AreSets G.tokens (map f sets) → x ≡ get_or sets n x →
-    (e : ℕ) → e ≡ d + 1 → Adds (map_of (f x)) p e bits (map_of (f y)) → IsCoreOf G.tokens (f y) → Gains G (One p d) (OneLooks p d bits) (map f sets) (map f (set sets n y))
+    (e : ℕ) → e ≡ d + 1 → Adds (map_of (f x)) p e bits (map_of (f y)) → IsCoreOf G.tokens (f y) → Gains G (SingleItem p d) (OneLooks p d bits) (map f sets) (map f (set sets n y))
 move_set G f sets n x y p d X bits range next r count good read e q adds fits =
     let lt = rank_below G X range in
     let lt' : n < length sets = omega (arith, lt, r, count) in
@@ -185,5 +185,5 @@ move_set G f sets n x y p d X bits range next r count good read e q adds fits =
     let s : e ≡ suc d = omega (arith, q) in
     let adds' = subst (λ k. Adds (map_of (f x)) p k bits (map_of (f y))) s adds in
     let there = subst (λ c. Adds (map_of c) p (suc d) bits (map_of (f y))) (sym at ∙ ap (core_in (map f sets)) r) adds' in
-    subst (λ l. Gains G (One p d) (OneLooks p d bits) (map f sets) l) (ap (λ k. set (map f sets) k (f y)) (sym r) ∙ sym (map-set f sets n y))
+    subst (λ l. Gains G (SingleItem p d) (OneLooks p d bits) (map f sets) l) (ap (λ k. set (map f sets) k (f y)) (sym r) ∙ sym (map-set f sets n y))
     (gains_one G (map f sets) (f y) p d X bits range (omega (arith, m, count)) good next fits there)

@@ -11,7 +11,7 @@ use Rattle.table_theory.proofs.CellLists.{contains_nil, contains_cases}
 use Rattle.cfg_numbered.proofs.RuleLists.{listed, alone}
 use Rattle.lr_theory.specs.Itemset.{ItemSet, HasItem, HasLook, SameItems, SameLooks, Closure, ClosureLook, Is}
 use Rattle.state_table.specs.declared.shared_sets.SharedSets.{SharedSets}
-use Rattle.state_table.specs.Adding.{One, OneLooks}
+use Rattle.state_table.specs.Adding.{SingleItem, OneLooks}
 use Rattle.lrtable.specs.Closes.{AreFronts}
 use Rattle.state_table.specs.ItemRows.{Core, IsCoreOf, map_of}
 use Rattle.state_table.specs.Meeting.{rows_in, row}
@@ -43,9 +43,9 @@ module _ {S : Type 0} (number : S → ℕ) (G : Grammar) where
 
   pub listed_next : (A k n q : ℕ) (bits : List Bool) (a b c : SharedSets S) → length bits ≡ G.tokens → take (k + 1) (productions_of G A) ≡ take k (productions_of G A) ++ q ∷ [] → AddsListed number G A k n bits a b → TakesIn number q 0 bits b c → AddsListed number G A (k + 1) n bits a c
   listed_next A k n q bits a b c wide e h m = record {
-    grows = grows_as number G.tokens (λ p d. ListedBelow G A k p d ⊎ One q 0 p d) (ListedBelow G A (k + 1)) (λ p d t. ListedLooks G A k (λ u. IsTrue (is_set bits u)) p d t ⊎ OneLooks q 0 bits p d t) (ListedLooks G A (k + 1) (λ t. IsTrue (is_set bits t))) a c
+    grows = grows_as number G.tokens (λ p d. ListedBelow G A k p d ⊎ SingleItem q 0 p d) (ListedBelow G A (k + 1)) (λ p d t. ListedLooks G A k (λ u. IsTrue (is_set bits u)) p d t ⊎ OneLooks q 0 bits p d t) (ListedLooks G A (k + 1) (λ t. IsTrue (is_set bits t))) a c
         (λ p d. (to p d, back p d)) (λ p d t. (to_look p d t, back_look p d t))
-        (grows_on number G.tokens (ListedBelow G A k) (One q 0) (ListedLooks G A k (λ t. IsTrue (is_set bits t))) (OneLooks q 0 bits) a b c h.grows (grows_one number G.tokens q 0 bits b c wide m));
+        (grows_on number G.tokens (ListedBelow G A k) (SingleItem q 0) (ListedLooks G A k (λ t. IsTrue (is_set bits t))) (OneLooks q 0 bits) a b c h.grows (grows_one number G.tokens q 0 bits b c wide m));
     set = (let s = h.set in let more = m.sets.more in omega (arith, s, more));
     is = m.sets.same n h.set ∙ h.is;
   }
@@ -59,11 +59,11 @@ module _ {S : Type 0} (number : S → ℕ) (G : Grammar) where
       parts : (p : ℕ) → Contains (take (k + 1) (productions_of G A)) p → Contains (take k (productions_of G A)) p ⊎ (q ≡ p)
       parts p x = Contains-push_cases (take k (productions_of G A)) q p (subst (λ l. Contains l p) e x)
 
-      to : (p d : ℕ) → ListedBelow G A k p d ⊎ One q 0 p d → ListedBelow G A (k + 1) p d
+      to : (p d : ℕ) → ListedBelow G A k p d ⊎ SingleItem q 0 p d → ListedBelow G A (k + 1) p d
       to p d (inl (z, x)) = (z, contained p x)
       to p d (inr (s, z)) = (z, last p s)
 
-      back : (p d : ℕ) → ListedBelow G A (k + 1) p d → ListedBelow G A k p d ⊎ One q 0 p d
+      back : (p d : ℕ) → ListedBelow G A (k + 1) p d → ListedBelow G A k p d ⊎ SingleItem q 0 p d
       back p d (z, x) = elim (parts p x) [ inl y ↦ inl (z, y) | inr s ↦ inr (sym s, z) ]
 
       to_look : (p d t : ℕ) → ListedLooks G A k (λ u. IsTrue (is_set bits u)) p d t ⊎ OneLooks q 0 bits p d t → ListedLooks G A (k + 1) (λ u. IsTrue (is_set bits u)) p d t

@@ -8,7 +8,7 @@ use Rattle.cfg_theory.specs.Derivation.{Nullable, IsFirst}
 use Rattle.lr_theory.specs.Canonical.{from_dot}
 use Rattle.lr_theory.specs.Itemset.{Items, Lookaheads, ItemSet, HasItem, HasLook, SameItems, SameLooks}
 use Rattle.vob.specs.Sets.{is_set}
-use Rattle.state_table.specs.Adding.{One, OneLooks}
+use Rattle.state_table.specs.Adding.{SingleItem, OneLooks}
 use Rattle.state_table.specs.ItemRows.{Item, IsAt, Core, IsCoreOf, map_of}
 use Rattle.state_table.specs.Meeting.{row}
 use Rattle.lrtable.specs.Opening.{Front, RuleSets, IsOpen, HasRuleLook, Brings, Follows}
@@ -36,20 +36,20 @@ module _ (G : Grammar) (p d A : ℕ) (bits begins : List Bool) (skipped : Bool) 
   front : Front
   front = record { rule = A; first = begins; nullable = skipped }
 
-  named : (B : ℕ) → (A ≡ B) ↔ Seeds G (One p d) B
+  named : (B : ℕ) → (A ≡ B) ↔ Seeds G (SingleItem p d) B
   named B = (
     λ e. (p, d, (refl, refl), subst (λ C. IsNext G p d (rule C)) e n),
     λ h. next_is G p d A B n (subst₂ (λ q e. IsNext G q e (rule B)) h.2.0 h.2.1 h.3),
   )
 
-  brought : (B t : ℕ) → ((A ≡ B) × Brings bits (record { rule = A; first = begins; nullable = skipped }) t) ↔ SeedsLook G (One p d) (OneLooks p d bits) B t
+  brought : (B t : ℕ) → ((A ≡ B) × Brings bits (record { rule = A; first = begins; nullable = skipped }) t) ↔ SeedsLook G (SingleItem p d) (OneLooks p d bits) B t
   brought B t = (to, back)
     where
-      to : (A ≡ B) × Brings bits (record { rule = A; first = begins; nullable = skipped }) t → SeedsLook G (One p d) (OneLooks p d bits) B t
+      to : (A ≡ B) × Brings bits (record { rule = A; first = begins; nullable = skipped }) t → SeedsLook G (SingleItem p d) (OneLooks p d bits) B t
       to (e, inl f) = inl (p, d, (refl, refl), subst (λ C. IsNext G p d (rule C)) e n, (rest.first t).0 f)
       to (e, inr f) = inr (p, d, (refl, refl, f.1), subst (λ C. IsNext G p d (rule C)) e n, rest.nullable.0 f.0)
 
-      back : SeedsLook G (One p d) (OneLooks p d bits) B t → (A ≡ B) × Brings bits (record { rule = A; first = begins; nullable = skipped }) t
+      back : SeedsLook G (SingleItem p d) (OneLooks p d bits) B t → (A ≡ B) × Brings bits (record { rule = A; first = begins; nullable = skipped }) t
       back (inl (q, e, i, m, f)) =
           let m' = subst₂ (λ r s. IsNext G r s (rule B)) i.0 i.1 m in
           (next_is G p d A B n m', inl ((rest.first t).1 (subst₂ (λ r s. IsFirst G (from_dot G r (suc s)) t) i.0 i.1 f)))
@@ -58,17 +58,17 @@ module _ (G : Grammar) (p d A : ℕ) (bits begins : List Bool) (skipped : Bool) 
           (next_is G p d A B n m', inr (rest.nullable.1 (subst₂ (λ r s. Nullable G (from_dot G r (suc s))) i.0 i.1 f), i.2))
 
   pub seeds_one : (old new : RuleSets) (was now : List ℕ) → Follows (λ B. A ≡ B) (λ B t. (A ≡ B) × Brings bits (record { rule = A; first = begins; nullable = skipped }) t) old new was now →
-      Follows (Seeds G (One p d)) (SeedsLook G (One p d) (OneLooks p d bits)) old new was now
+      Follows (Seeds G (SingleItem p d)) (SeedsLook G (SingleItem p d) (OneLooks p d bits)) old new was now
   seeds_one old new was now h = follow_as _ _ _ _ old new was now named brought h
 
 -- one that stands before none
-pub seeds_none : (G : Grammar) (p d : ℕ) (bits : List Bool) (s : RuleSets) (waiting : List ℕ) → ((A : ℕ) → IsNext G p d (rule A) → ⊥) → Follows (Seeds G (One p d)) (SeedsLook G (One p d) (OneLooks p d bits)) s s waiting waiting
-seeds_none G p d bits s waiting none = none_follow (Seeds G (One p d)) (SeedsLook G (One p d) (OneLooks p d bits)) s waiting rules looks
+pub seeds_none : (G : Grammar) (p d : ℕ) (bits : List Bool) (s : RuleSets) (waiting : List ℕ) → ((A : ℕ) → IsNext G p d (rule A) → ⊥) → Follows (Seeds G (SingleItem p d)) (SeedsLook G (SingleItem p d) (OneLooks p d bits)) s s waiting waiting
+seeds_none G p d bits s waiting none = none_follow (Seeds G (SingleItem p d)) (SeedsLook G (SingleItem p d) (OneLooks p d bits)) s waiting rules looks
   where
-    rules : (A : ℕ) → Seeds G (One p d) A → ⊥
+    rules : (A : ℕ) → Seeds G (SingleItem p d) A → ⊥
     rules A (q, e, i, n) = none A (subst₂ (λ r s. IsNext G r s (rule A)) i.0 i.1 n)
 
-    looks : (A t : ℕ) → SeedsLook G (One p d) (OneLooks p d bits) A t → ⊥
+    looks : (A t : ℕ) → SeedsLook G (SingleItem p d) (OneLooks p d bits) A t → ⊥
     looks A t (inl (q, e, i, n, f)) = none A (subst₂ (λ r s. IsNext G r s (rule A)) i.0 i.1 n)
     looks A t (inr (q, e, i, n, f)) = none A (subst₂ (λ r s. IsNext G r s (rule A)) i.0 i.1 n)
 
@@ -80,14 +80,14 @@ same_keys items k q e p d h at = (
 )
 
 -- the items of a core, one more
-pub below_next : (c : Core) (k p d : ℕ) → IsAt c.items k p d → SameItems (λ q e. ItemsBelow c k q e ⊎ One p d q e) (ItemsBelow c (k + 1))
+pub below_next : (c : Core) (k p d : ℕ) → IsAt c.items k p d → SameItems (λ q e. ItemsBelow c k q e ⊎ SingleItem p d q e) (ItemsBelow c (k + 1))
 below_next c k p d at q e = (to, back)
   where
-    to : ItemsBelow c k q e ⊎ One p d q e → ItemsBelow c (k + 1) q e
+    to : ItemsBelow c k q e ⊎ SingleItem p d q e → ItemsBelow c (k + 1) q e
     to (inl (j, lt, h)) = (j, omega (arith, lt), h)
     to (inr (x, y)) = (k, omega arith, subst₂ (λ r s. IsAt c.items k r s) (sym x) (sym y) at)
 
-    back : ItemsBelow c (k + 1) q e → ItemsBelow c k q e ⊎ One p d q e
+    back : ItemsBelow c (k + 1) q e → ItemsBelow c k q e ⊎ SingleItem p d q e
     back (j, lt, h) = elim (cases_eq j k) [
       | inl f ↦ inr (same_keys c.items k q e p d (subst (λ m. IsAt c.items m q e) f h) at)
       | inr ne ↦ inl (j, omega (arith, lt, ne), h)
@@ -123,28 +123,28 @@ looks_all c tokens k good le p d t = (
 
 -- the items of a core open what they open, one item more
 pub seeds_next : (G : Grammar) (c : Core) (k p d : ℕ) (bits : List Bool) (a b e : RuleSets) (u v w : List ℕ) → IsAt c.items k p d → row c.rows k ≡ bits →
-    Follows (Seeds G (ItemsBelow c k)) (SeedsLook G (ItemsBelow c k) (LooksBelow c k)) a b u v → Follows (Seeds G (One p d)) (SeedsLook G (One p d) (OneLooks p d bits)) b e v w →
+    Follows (Seeds G (ItemsBelow c k)) (SeedsLook G (ItemsBelow c k) (LooksBelow c k)) a b u v → Follows (Seeds G (SingleItem p d)) (SeedsLook G (SingleItem p d) (OneLooks p d bits)) b e v w →
     Follows (Seeds G (ItemsBelow c (k + 1))) (SeedsLook G (ItemsBelow c (k + 1)) (LooksBelow c (k + 1))) a e u w
 seeds_next G c k p d bits a b e u v w at r h m = follow_as _ _ _ _ a e u w rules looks
-    (follow_on (Seeds G (ItemsBelow c k)) (Seeds G (One p d)) (SeedsLook G (ItemsBelow c k) (LooksBelow c k)) (SeedsLook G (One p d) (OneLooks p d bits)) a b e u v w h m)
+    (follow_on (Seeds G (ItemsBelow c k)) (Seeds G (SingleItem p d)) (SeedsLook G (ItemsBelow c k) (LooksBelow c k)) (SeedsLook G (SingleItem p d) (OneLooks p d bits)) a b e u v w h m)
   where
-    rules : (A : ℕ) → (Seeds G (ItemsBelow c k) A ⊎ Seeds G (One p d) A) ↔ Seeds G (ItemsBelow c (k + 1)) A
+    rules : (A : ℕ) → (Seeds G (ItemsBelow c k) A ⊎ Seeds G (SingleItem p d) A) ↔ Seeds G (ItemsBelow c (k + 1)) A
     rules A = (
       λ x. elim x [ inl y ↦ (y.0, y.1, (below_next c k p d at y.0 y.1).0 (inl y.2), y.3) | inr y ↦ (y.0, y.1, (below_next c k p d at y.0 y.1).0 (inr y.2), y.3) ],
       λ x. elim ((below_next c k p d at x.0 x.1).1 x.2) [ inl y ↦ inl (x.0, x.1, y, x.3) | inr y ↦ inr (x.0, x.1, y, x.3) ],
     )
 
-    to : (A t : ℕ) → SeedsLook G (ItemsBelow c k) (LooksBelow c k) A t ⊎ SeedsLook G (One p d) (OneLooks p d bits) A t → SeedsLook G (ItemsBelow c (k + 1)) (LooksBelow c (k + 1)) A t
+    to : (A t : ℕ) → SeedsLook G (ItemsBelow c k) (LooksBelow c k) A t ⊎ SeedsLook G (SingleItem p d) (OneLooks p d bits) A t → SeedsLook G (ItemsBelow c (k + 1)) (LooksBelow c (k + 1)) A t
     to A t (inl (inl y)) = inl (y.0, y.1, (below_next c k p d at y.0 y.1).0 (inl y.2), y.3, y.4)
     to A t (inr (inl y)) = inl (y.0, y.1, (below_next c k p d at y.0 y.1).0 (inr y.2), y.3, y.4)
     to A t (inl (inr y)) = inr (y.0, y.1, (looks_next c k p d bits at r y.0 y.1 t).0 (inl y.2), y.3, y.4)
     to A t (inr (inr y)) = inr (y.0, y.1, (looks_next c k p d bits at r y.0 y.1 t).0 (inr y.2), y.3, y.4)
 
-    back : (A t : ℕ) → SeedsLook G (ItemsBelow c (k + 1)) (LooksBelow c (k + 1)) A t → SeedsLook G (ItemsBelow c k) (LooksBelow c k) A t ⊎ SeedsLook G (One p d) (OneLooks p d bits) A t
+    back : (A t : ℕ) → SeedsLook G (ItemsBelow c (k + 1)) (LooksBelow c (k + 1)) A t → SeedsLook G (ItemsBelow c k) (LooksBelow c k) A t ⊎ SeedsLook G (SingleItem p d) (OneLooks p d bits) A t
     back A t (inl x) = elim ((below_next c k p d at x.0 x.1).1 x.2) [ inl y ↦ inl (inl (x.0, x.1, y, x.3, x.4)) | inr y ↦ inr (inl (x.0, x.1, y, x.3, x.4)) ]
     back A t (inr x) = elim ((looks_next c k p d bits at r x.0 x.1 t).1 x.2) [ inl y ↦ inl (inr (x.0, x.1, y, x.3, x.4)) | inr y ↦ inr (inr (x.0, x.1, y, x.3, x.4)) ]
 
-    looks : (A t : ℕ) → (SeedsLook G (ItemsBelow c k) (LooksBelow c k) A t ⊎ SeedsLook G (One p d) (OneLooks p d bits) A t) ↔ SeedsLook G (ItemsBelow c (k + 1)) (LooksBelow c (k + 1)) A t
+    looks : (A t : ℕ) → (SeedsLook G (ItemsBelow c k) (LooksBelow c k) A t ⊎ SeedsLook G (SingleItem p d) (OneLooks p d bits) A t) ↔ SeedsLook G (ItemsBelow c (k + 1)) (LooksBelow c (k + 1)) A t
     looks A t = (to A t, back A t)
 
 -- none of them so far

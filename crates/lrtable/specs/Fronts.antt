@@ -1,7 +1,7 @@
 -- Openers as contracts see them.
 use Rattle.std.specs.Prelude.{ℕ}
 use Rattle.lrtable.specs.declared.openers.Opener.{Opener}
-use Rattle.lrtable.specs.declared.rests.Rest.{Rest}
+use Rattle.lrtable.specs.declared.tails.Rest.{Rest}
 use Rattle.lrtable.specs.Opening.{Front}
 
 -- a rule with what follows it

@@ -14,6 +14,6 @@ pub mod FinalStates
 pub mod Closers
 pub mod RefusalViews
 pub mod Waits
-pub mod TakenAgain
+pub mod Revisits
 pub mod Reachers
 pub mod Builders

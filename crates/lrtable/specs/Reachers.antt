@@ -1,6 +1,6 @@
 -- What the lists of reached rules are made with.
 use Rattle.std.specs.Prelude.{◌≡◌, ℕ, [], length}
-use Rattle.lrtable.specs.declared.reached.Reacher.{Reacher}
+use Rattle.lrtable.specs.declared.left_corners.Reacher.{Reacher}
 use Rattle.lrtable.specs.Opening.{IsTidy}
 
 -- its sets are of so many rules and tokens, and no rule waits

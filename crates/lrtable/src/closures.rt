@@ -1,28 +1,24 @@
 //! Closures and goto sets as items that share their sets of lookaheads.
 
 ghost use Rattle.std.specs.Prelude.{◌≡◌, ◌<◌, ℕ, length, IfOk, IsTrue, OnOk};
-ghost use Rattle.cfg_sets.specs.Firsts.{AreFirsts};
 ghost use Rattle.vob.specs.Sets.{is_set};
 ghost use Rattle.cfg_numbered.specs.Symbols.{sym_of};
 ghost use Rattle.lr_theory.specs.Itemset.{HasItem, HasLook, Closure, ClosureLook, Goto, GotoLook, Is};
-ghost use Rattle.state_table.specs.Adding.{One, OneLooks};
+ghost use Rattle.state_table.specs.Adding.{SingleItem, OneLooks};
 ghost use Rattle.lrtable.specs.Closers.{IsReady};
-ghost use Rattle.lrtable.specs.Closes.{AreFronts};
 ghost use Rattle.lrtable.specs.Stepping.{IsSized, OfRule, OfRuleLooks, OpenBelow, OpenLooksBelow};
 ghost use Rattle.state_table.specs.ItemRows.{IsCoreOf, map_of, FitsCore};
 ghost use Rattle.state_table.specs.Meeting.{rows_in};
 ghost use Rattle.state_table.specs.Sharing.{shared_core, shared_map, PointIn, GrowsBy};
 ghost use Rattle.state_table.specs.CoreViews.{core_of_set};
 
+use crate::capacities::opened_room;
 use crate::moves::dot_behind;
-use crate::openers::Openers;
 use crate::opening::{Closer, Opening};
-use crate::rests::symbol_after;
-use crate::rooms::opened_room;
+use crate::tails::symbol_after;
 use cfg_base::index::IndexStorage;
 use cfg_base::symbol::{PIdx, RIdx, SIdx, Symbol};
 use cfg_numbered::yacc::NumberedGrammar;
-use cfg_sets::YaccFirsts;
 use state_table::cores::{CoreItem, CoreSet};
 use state_table::shared_sets::SharedSets;
 use state_table::stategraph::same_symbols;
@@ -30,27 +26,7 @@ use std::alloc::{AllocError, Global};
 use vob::Vob;
 
 /// Returns the closure of a core: its items, each with a set of its own, and the productions of the rules that it
-/// opens, with one set for each rule.
-pub(crate) fn closed_set<S: IndexStorage>(
-    alloc: Global,
-    grm: &NumberedGrammar<S>,
-    firsts: &YaccFirsts<S>,
-    openers: &Openers,
-    core: &CoreSet<S>,
-) -> Result<SharedSets<S>, AllocError>
-    requires fits { FitsCore grm.now.grammar (core_of_set S.number core.now) }
-    requires firsts { AreFirsts grm.now.grammar firsts.now }
-    requires openers { AreFronts grm.now.grammar openers.now }
-    ensures is { IfOk result (λ s. Is (shared_map S.number s) (Closure grm.now.grammar (HasItem (map_of (core_of_set S.number core.now)))) (ClosureLook grm.now.grammar (HasItem (map_of (core_of_set S.number core.now))) (HasLook (map_of (core_of_set S.number core.now))))) }
-    ensures core { IfOk result (λ s. IsCoreOf grm.now.grammar.tokens (shared_core S.number s)) }
-    ensures within { IfOk result (λ s. PointIn (rows_in s.sets.items) s.entries.items) }
-{
-    let mut closer = Closer::new(alloc, grm, firsts, openers)?;
-    let set = closed_by(alloc, grm, &mut closer, core)?;
-    Ok(set)
-}
-
-/// Returns the closure of a core as `closed_set` does, with buffers that successive closures reuse.
+/// opens, with one set for each rule. Successive closures reuse the buffers.
 pub(crate) fn closed_by<S: IndexStorage>(
     alloc: Global,
     grm: &NumberedGrammar<S>,
@@ -128,7 +104,7 @@ fn move_one<S: IndexStorage>(
     requires production { S.number pidx.0 < length grm.now.grammar.productions }
     requires core { IsCoreOf (length looks.now.bits) (shared_core S.number moved.old) }
     requires within { PointIn (rows_in moved.old.sets.items) moved.old.entries.items }
-    ensures { OnOk result (GrowsBy S.number (length looks.now.bits) (Goto grm.now.grammar (One (S.number pidx.0) dot) (sym_of S.number symbol)) (GotoLook grm.now.grammar (OneLooks (S.number pidx.0) dot looks.now.bits) (sym_of S.number symbol)) moved.old moved.new) }
+    ensures { OnOk result (GrowsBy S.number (length looks.now.bits) (Goto grm.now.grammar (SingleItem (S.number pidx.0) dot) (sym_of S.number symbol)) (GotoLook grm.now.grammar (OneLooks (S.number pidx.0) dot looks.now.bits) (sym_of S.number symbol)) moved.old moved.new) }
 {
     match symbol_after(grm, pidx, dot) {
         Some(next) => {

@@ -17,13 +17,13 @@ ghost use Rattle.state_table.specs.CoreViews.{core_of_set};
 ghost use Rattle.lrtable.specs.StateViews.{edges_of, value_of};
 ghost use Rattle.lrtable.specs.declared.states.BuildError.TheVariants as faults;
 
+use crate::capacities::rules_behind;
 use crate::closures::closed_by;
+use crate::left_corners::with_reached;
 use crate::openers::Openers;
 use crate::opening::Closer;
 use crate::pager;
 use crate::pager::Buffers;
-use crate::reached::with_reached;
-use crate::rooms::rules_behind;
 use crate::states::{BuildError, EdgeTo, State};
 use cfg_base::index::IndexStorage;
 use cfg_base::symbol::Symbol;

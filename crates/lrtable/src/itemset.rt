@@ -5,8 +5,9 @@ ghost use Rattle.cfg_sets.specs.Firsts.{AreFirsts};
 ghost use Rattle.cfg_numbered.specs.Symbols.{sym_of};
 ghost use Rattle.lr_theory.specs.Itemset.{ItemSet, HasItem, HasLook, Closure, ClosureLook, Goto, GotoLook, Is, FitsGrammar};
 
-use crate::closures::{closed_set, moved_set};
+use crate::closures::{closed_by, moved_set};
 use crate::openers::Openers;
+use crate::opening::Closer;
 use cfg_base::index::IndexStorage;
 use cfg_base::symbol::Symbol;
 use cfg_numbered::yacc::NumberedGrammar;
@@ -53,9 +54,10 @@ impl<S: IndexStorage> Closing<S> for Itemset<S> {
         grm: &NumberedGrammar<S>,
         firsts: &YaccFirsts<S>,
     ) -> Result<Itemset<S>, AllocError> {
-        let core = self.shared().to_core(alloc)?;
+        let core = self.shared_sets().to_core(alloc)?;
         let openers = Openers::new(alloc, grm, firsts)?;
-        let set = closed_set(alloc, grm, firsts, &openers, &core)?;
+        let mut closer = Closer::new(alloc, grm, firsts, &openers)?;
+        let set = closed_by(alloc, grm, &mut closer, &core)?;
         Ok(of_shared(set))
     }
 
@@ -65,7 +67,7 @@ impl<S: IndexStorage> Closing<S> for Itemset<S> {
         grm: &NumberedGrammar<S>,
         sym: &Symbol<S>,
     ) -> Result<Itemset<S>, AllocError> {
-        let set = moved_set(alloc, grm, self.shared(), sym)?;
+        let set = moved_set(alloc, grm, self.shared_sets(), sym)?;
         Ok(of_shared(set))
     }
 }

@@ -35,25 +35,25 @@
 //! `itemset::Closing`.
 #![tactic(auto)]
 
+mod capacities;
 mod closures;
 mod finishing;
 mod grammar_table;
+mod insertion_list;
 pub mod itemset;
 pub mod laws;
-mod meeting;
+mod left_corners;
 mod moved_items;
 mod moves;
-mod noted;
 mod openers;
 mod opening;
 mod pager;
 mod pruning;
-mod reached;
-mod rests;
-mod retaking;
-mod rooms;
+mod revisiting;
 mod rule_rows;
 mod states;
+mod tails;
+mod weak_compatibility;
 
 pub use grammar_table::{FromYaccError, Minimiser, from_yacc, minimiser_is_its_value};
 pub use itemset::Itemset;

@@ -82,10 +82,10 @@ impl<'a> Rows<'a> {
     }
 
     /// Returns a flag for each rule: whether it is open.
-    pub(crate) fn opened(&self) -> &Vob
+    pub(crate) fn open_flags(&self) -> &Vob
         ensures { result.now.bits ≡ self.now.opening.opened }
     {
-        self.opening.opened()
+        self.opening.open_flags()
     }
 }
 

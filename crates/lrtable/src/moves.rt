@@ -5,7 +5,7 @@ ghost use Rattle.cfg_theory.specs.Grammar.{InRange, body_of};
 ghost use Rattle.vob.specs.Sets.{is_set};
 ghost use Rattle.cfg_numbered.specs.Symbols.{sym_of};
 ghost use Rattle.lr_theory.specs.Itemset.{HasItem, HasLook, Closure, ClosureLook};
-ghost use Rattle.state_table.specs.Adding.{One, OneLooks};
+ghost use Rattle.state_table.specs.Adding.{SingleItem, OneLooks};
 ghost use Rattle.lrtable.specs.Closes.{AreFronts};
 ghost use Rattle.lrtable.specs.Gaining.{AreMarked, AreSymbolSets, Gains, KeepsMarks};
 ghost use Rattle.lrtable.specs.Handling.{rank};
@@ -17,7 +17,7 @@ ghost use Rattle.state_table.specs.CoreViews.{core_of_set};
 ghost use Rattle.lrtable.specs.Stepping.{IsSized, IsClosureOf, OfRule, OfRuleLooks, OpenAt, OpenLooksAt, OpenBelow, OpenLooksBelow, AreGotos};
 
 use crate::moved_items::{MovedItem, Rows, Source, insert_moved, put_moved};
-use crate::rests::symbol_after;
+use crate::tails::symbol_after;
 use cfg_base::index::IndexStorage;
 use cfg_base::symbol::{PIdx, RIdx, SIdx, Symbol};
 use cfg_numbered::yacc::NumberedGrammar;
@@ -75,8 +75,8 @@ fn move_over<S: IndexStorage>(
     requires production { S.number item.now.pidx.0 < length grm.now.grammar.productions }
     requires sets { AreSymbolSets grm.now.grammar marks.old.bits (map (set_of_moved S.number rows.now) sets.old.items) }
     requires width { length (row_from rows.now source) ≡ grm.now.grammar.tokens }
-    requires fresh { HaveNone grm.now.grammar (One (S.number item.now.pidx.0) (S.number item.now.dot.0)) (map (set_of_moved S.number rows.now) sets.old.items) }
-    ensures gains { OnOk result (Gains grm.now.grammar (One (S.number item.now.pidx.0) (S.number item.now.dot.0)) (OneLooks (S.number item.now.pidx.0) (S.number item.now.dot.0) (row_from rows.now source)) (map (set_of_moved S.number rows.now) sets.old.items) (map (set_of_moved S.number rows.now) sets.new.items)) }
+    requires fresh { HaveNone grm.now.grammar (SingleItem (S.number item.now.pidx.0) (S.number item.now.dot.0)) (map (set_of_moved S.number rows.now) sets.old.items) }
+    ensures gains { OnOk result (Gains grm.now.grammar (SingleItem (S.number item.now.pidx.0) (S.number item.now.dot.0)) (OneLooks (S.number item.now.pidx.0) (S.number item.now.dot.0) (row_from rows.now source)) (map (set_of_moved S.number rows.now) sets.old.items) (map (set_of_moved S.number rows.now) sets.new.items)) }
     ensures marks { OnOk result (KeepsMarks marks.old.bits (map (set_of_moved S.number rows.now) sets.old.items) marks.new.bits (map (set_of_moved S.number rows.now) sets.new.items)) }
 {
     grm.start_prod();
@@ -110,8 +110,8 @@ fn move_first<S: IndexStorage>(
     requires production { S.number pidx.0 < length grm.now.grammar.productions }
     requires sets { AreSymbolSets grm.now.grammar marks.old.bits (map (set_of_moved S.number rows.now) sets.old.items) }
     requires width { length (row_from rows.now source) ≡ grm.now.grammar.tokens }
-    requires fresh { HaveNone grm.now.grammar (One (S.number pidx.0) 0) (map (set_of_moved S.number rows.now) sets.old.items) }
-    ensures gains { OnOk result (Gains grm.now.grammar (One (S.number pidx.0) 0) (OneLooks (S.number pidx.0) 0 (row_from rows.now source)) (map (set_of_moved S.number rows.now) sets.old.items) (map (set_of_moved S.number rows.now) sets.new.items)) }
+    requires fresh { HaveNone grm.now.grammar (SingleItem (S.number pidx.0) 0) (map (set_of_moved S.number rows.now) sets.old.items) }
+    ensures gains { OnOk result (Gains grm.now.grammar (SingleItem (S.number pidx.0) 0) (OneLooks (S.number pidx.0) 0 (row_from rows.now source)) (map (set_of_moved S.number rows.now) sets.old.items) (map (set_of_moved S.number rows.now) sets.new.items)) }
     ensures marks { OnOk result (KeepsMarks marks.old.bits (map (set_of_moved S.number rows.now) sets.old.items) marks.new.bits (map (set_of_moved S.number rows.now) sets.new.items)) }
 {
     grm.start_prod();
@@ -220,7 +220,7 @@ fn move_open<S: IndexStorage>(
     ensures gains { OnOk result (Gains grm.now.grammar (OpenBelow grm.now.grammar rows.now.opening grm.now.grammar.rules) (OpenLooksBelow grm.now.grammar rows.now.opening grm.now.grammar.rules) (map (set_of_moved S.number rows.now) sets.old.items) (map (set_of_moved S.number rows.now) sets.new.items)) }
     ensures marks { OnOk result (KeepsMarks marks.old.bits (map (set_of_moved S.number rows.now) sets.old.items) marks.new.bits (map (set_of_moved S.number rows.now) sets.new.items)) }
 {
-    'rules: for number in rows.opened().iter_set_bits(..) {
+    'rules: for number in rows.open_flags().iter_set_bits(..) {
         move_if_open(grm, sets, marks, rows, number)?;
     }
     Ok(())

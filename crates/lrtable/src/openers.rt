@@ -9,7 +9,7 @@ ghost use Rattle.lrtable.specs.Fronts.{front_of, front_with};
 ghost use Rattle.lrtable.specs.Opening.{Front};
 ghost use Rattle.lrtable.specs.Reaching.{AreReachedBy, IsReachedBy};
 
-use crate::rests::{Rest, rest_after, rule_after};
+use crate::tails::{Rest, fill_rest, rule_after};
 use cfg_base::index::IndexStorage;
 use cfg_base::symbol::{PIdx, RIdx};
 use cfg_numbered::yacc::NumberedGrammar;
@@ -82,7 +82,8 @@ fn put_opener<S: IndexStorage>(
 {
     match rule_after(grm, pidx, 0) {
         Some(ridx) => {
-            let rest = rest_after(alloc, grm, firsts, pidx, 0)?;
+            let mut rest = Rest::empty(alloc, grm.tokens_len().0.to_usize())?;
+            fill_rest(grm, firsts, pidx, 0, &mut rest);
             put_rest(openers, ridx.0.to_usize(), rest)
         }
         None => Ok(()),

@@ -8,7 +8,7 @@ ghost use Rattle.vob.specs.Sets.{joined_to, is_set, is_set_in, HasAllOf};
 ghost use Rattle.lrtable.specs.Fronts.{front_of, front_with};
 ghost use Rattle.cfg_sets.specs.Firsts.{AreFirsts};
 ghost use Rattle.lr_theory.specs.Itemset.{HasItem, HasLook};
-ghost use Rattle.state_table.specs.Adding.{One, OneLooks};
+ghost use Rattle.state_table.specs.Adding.{SingleItem, OneLooks};
 ghost use Rattle.lrtable.specs.Closes.{Seeds, SeedsLook, AreFronts};
 ghost use Rattle.state_table.specs.ItemRows.{map_of, FitsCore};
 ghost use Rattle.state_table.specs.Meeting.{rows_in};
@@ -19,16 +19,16 @@ ghost use Rattle.lrtable.specs.Opening.{AreNoted, Front, RuleSets, IsTidy, IsOpe
 ghost use Rattle.lrtable.specs.Reaching.{AreListed, IsAlone};
 ghost use Rattle.lrtable.specs.Waits.{WaitsToo};
 
-use crate::noted::Noted;
+use crate::capacities::production_counts;
+use crate::insertion_list::Noted;
 use crate::openers::{Opener, Openers};
-use crate::rests::{Rest, fill_rest, rule_after};
-use crate::rooms::production_counts;
 use crate::rule_rows::RuleRows;
+use crate::tails::{Rest, fill_rest, rule_after};
 use cfg_base::index::IndexStorage;
 use cfg_numbered::yacc::NumberedGrammar;
 use cfg_sets::YaccFirsts;
+use state_table::capacities::bits_set;
 use state_table::cores::{CoreItem, CoreSet};
-use state_table::rooms::bits_set;
 use std::alloc::{AllocError, Global};
 use std::marker::Model;
 use vob::Vob;
@@ -169,12 +169,12 @@ impl Opening {
     }
 
     /// Returns the open rules as they were opened, or most of them.
-    pub(crate) fn noted(&self) -> &[usize] {
+    pub(crate) fn noted_rules(&self) -> &[usize] {
         self.noted.numbers()
     }
 
     /// Returns a flag for each rule: whether it is open.
-    pub(crate) fn opened(&self) -> &Vob
+    pub(crate) fn open_flags(&self) -> &Vob
         ensures { result.now.bits ≡ self.now.opened }
     {
         &self.opened
@@ -415,7 +415,7 @@ impl Opening {
     }
 
     /// Returns the open rules with their lookaheads, and which of them are marked.
-    pub(crate) fn listed(&self, alloc: Global, passed: &Vob) -> Result<Vec<Opener>, AllocError>
+    pub(crate) fn to_openers(&self, alloc: Global, passed: &Vob) -> Result<Vec<Opener>, AllocError>
         requires { length passed.now.bits ≡ length self.now.opened }
         ensures { IfOk result (λ v. AreListed self.now passed.now.bits (map front_of v.items)) }
     {
@@ -467,7 +467,7 @@ impl Opening {
         requires width { length pair.1.now.bits ≡ grm.now.grammar.tokens }
         requires room { length rest.old.first.bits ≡ grm.now.grammar.tokens }
         ensures room { length rest.new.first.bits ≡ grm.now.grammar.tokens }
-        ensures follows { OnOk result (Follows (Seeds grm.now.grammar (One (S.number pair.entry.0.now.pidx.0) (S.number pair.entry.0.now.dot.0))) (SeedsLook grm.now.grammar (One (S.number pair.entry.0.now.pidx.0) (S.number pair.entry.0.now.dot.0)) (OneLooks (S.number pair.entry.0.now.pidx.0) (S.number pair.entry.0.now.dot.0) pair.entry.1.now.bits)) self.old self.new waiting.old.items waiting.new.items) }
+        ensures follows { OnOk result (Follows (Seeds grm.now.grammar (SingleItem (S.number pair.entry.0.now.pidx.0) (S.number pair.entry.0.now.dot.0))) (SeedsLook grm.now.grammar (SingleItem (S.number pair.entry.0.now.pidx.0) (S.number pair.entry.0.now.dot.0)) (OneLooks (S.number pair.entry.0.now.pidx.0) (S.number pair.entry.0.now.dot.0) pair.entry.1.now.bits)) self.old self.new waiting.old.items waiting.new.items) }
     {
         grm.start_prod();
         let (item, looks) = pair;

@@ -24,13 +24,13 @@ use crate::moved_items::{MovedItem, Rows};
 use crate::moves::{empty_sets, goto_sets, symbol_at};
 use crate::opening::Closer;
 use crate::pruning::prune;
-use crate::retaking::{Retaken, retake_all};
+use crate::revisiting::{Retaken, retake_all};
 use crate::states::{BuildError, Builder, EdgeTo, State, place};
 use cfg_base::index::IndexStorage;
 use cfg_base::symbol::SIdx;
 use cfg_numbered::yacc::NumberedGrammar;
+use state_table::capacities::bits_set;
 use state_table::cores::{CoreItem, CoreSet};
-use state_table::rooms::bits_set;
 use std::alloc::{AllocError, Global};
 use vob::Vob;
 

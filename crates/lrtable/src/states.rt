@@ -15,8 +15,8 @@ ghost use Rattle.lrtable.specs.declared.states.BuildError.TheVariants as faults;
 ghost use Rattle.state_table.specs.CoreViews.{item_of, items_of, core_of_set};
 ghost use Rattle.lrtable.specs.StateViews.{edge_of_pair, edges_of, value_of};
 
-use crate::meeting::{hold_all, weakly_compatible};
 use crate::moved_items::{MovedItem, Rows, same_items, to_core};
+use crate::weak_compatibility::{hold_all, weakly_compatible};
 use cfg_base::index::IndexStorage;
 use cfg_base::symbol::Symbol;
 use state_table::cores::{CoreSet, put_in};

@@ -5,7 +5,8 @@ use Rattle.std.proofs.lemmas.Option.{slice_get_past}
 use Rattle.regex.specs.Strings.{matcher_pattern, regex_pattern}
 use Rattle.regex.specs.declared.string.matcher.Matcher.{Matcher}
 use Rattle.maximal_munch.specs.RuleValues.{RuleSetValue, RuleValue, rule_value, pattern_of_rule}
-use Rattle.maximal_munch.specs.Munching.{match_len, rule_len, len_at}
+use Rattle.maximal_munch.specs.Beginnings.{match_len}
+use Rattle.maximal_munch.specs.Munching.{rule_len, len_at}
 use Rattle.maximal_munch.specs.declared.rules.Rule.{Rule}
 
 -- the matcher at i searches for rule i

@@ -1,4 +1,6 @@
 pub mod BestSoFar
+pub mod BeginningLemmas
+pub mod TriedLemmas
 pub mod AskedRules
 pub mod MunchSteps
 pub mod OneMunch

@@ -1,9 +1,10 @@
 -- A text munches in one way, and its parts follow one another.
-use Rattle.std.proofs.Common.{◌≡◌, ℕ, zero, suc, All, ◌+◌, ◌≤◌, List, ◌∷◌, length, drop, Bool, true, false, if◌then◌else◌, Option, None, Some, option_map, slice_get, refl, sym, ap, ap₂, ◌∙◌, subst, arith, length-drop, zero-add}
+use Rattle.std.proofs.Common.{◌≡◌, ℕ, zero, suc, All, ◌+◌, ◌≤◌, List, ◌∷◌, length, drop, Bool, true, false, if◌then◌else◌, Option, None, Some, option_map, slice_get, refl, sym, ap₂, subst, arith, length-drop, zero-add}
 use Rattle.regex.specs.Patterns.{Re, Match, find_str, span}
 use Rattle.regex.proofs.SearchLemmas.{leftmost_within}
 use Rattle.maximal_munch.specs.RuleValues.{RuleSetValue, RuleValue, Stack, target_at, moved, is_active_at}
-use Rattle.maximal_munch.specs.Munching.{MunchesFrom, Munches, Follow, IsLongest, front_len, match_len, rule_len, end_of, part_at, ends, stuck, part}
+use Rattle.maximal_munch.specs.Munching.{MunchesFrom, Munches, Follow, rule_len, end_of, part_at, ends, stuck, part}
+use Rattle.maximal_munch.specs.Beginnings.{front_len, match_len}
 use Rattle.maximal_munch.specs.declared.munching.Part.{Part}
 use Rattle.maximal_munch.specs.declared.munching.Ending.{Ending}
 use Rattle.maximal_munch.proofs.BestSoFar.{one_length, one_rule}

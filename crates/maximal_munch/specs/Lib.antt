@@ -1,2 +1,3 @@
 pub mod RuleValues
+pub mod Beginnings
 pub mod Munching

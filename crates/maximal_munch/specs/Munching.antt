@@ -1,19 +1,10 @@
 -- Maximal munch: at each offset the longest match of the active rules, and of these that of the first rule.
-use Rattle.std.specs.Prelude.{◌≡◌, ℕ, ◌+◌, ◌<◌, ◌≤◌, ◌==◌, if◌then◌else◌, List, [], ◌∷◌, length, drop, Option, None, Some, option_map, slice_get}
-use Rattle.regex.specs.Patterns.{Re, find_str, span}
+use Rattle.std.specs.Prelude.{◌≡◌, ℕ, ◌+◌, ◌<◌, ◌≤◌, if◌then◌else◌, List, [], ◌∷◌, length, drop, Option, None, Some, slice_get}
+use Rattle.maximal_munch.specs.Beginnings.{match_len}
 use Rattle.maximal_munch.specs.RuleValues.{RuleSetValue, RuleValue, Stack, start, is_active_at, target_at, moved}
 use Rattle.maximal_munch.specs.declared.munching.Part.{Part}
 use Rattle.maximal_munch.specs.declared.munching.Ending.{Ending}
 use Rattle.maximal_munch.specs.declared.munching.Ending.TheVariants.{Finished, NoMatch}
-
--- the bytes of what was found at the front; 0 where nothing was found, or only further on
-abbrev pub front_len : Option (ℕ × ℕ) → ℕ
-front_len None = 0
-front_len (Some s) = if s.0 == 0 then s.1 else 0
-
--- the bytes of the match that the pattern's search gives at the front of the rest
-abbrev pub match_len : Re → List ℕ → ℕ
-match_len pattern rest = front_len (option_map span (find_str pattern rest 0))
 
 abbrev pub rule_len : List ℕ → Option RuleValue → ℕ
 rule_len rest None = 0

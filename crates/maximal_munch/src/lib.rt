@@ -29,15 +29,20 @@
 //! other one is right, but looked for in all of the rest. Of the matches of one expression its regex chooses (leftmost-first: of
 //! `a|ab` the first branch that fits), and the longest of these over all rules counts. A match without a byte is none.
 //!
+//! A rule that is put in by `RuleSet::push` is tried at each offset, one by `RuleSet::push_read` only before the bytes that its
+//! matches may begin with, which takes the time of rules that match nothing away and changes no answer.
+//!
 //! `specs/Munching` defines what `munch` answers, and `laws` has what follows from it: one answer for each text, whose parts follow
 //! one another.
 #![tactic(auto)]
 
+mod beginnings;
 mod conditions;
 pub mod laws;
 mod matching;
 mod munching;
 mod rules;
+mod tried;
 
 pub use munching::{Ending, Munched, Part, munch};
 pub use rules::{Rule, RuleSet, Target};

@@ -1,10 +1,11 @@
 //! The longest match at one offset.
 
-ghost use Rattle.std.specs.Prelude.{◌≡◌, ◌≤◌, ◌<◌, map, length, vec_len, if◌then◌else◌};
+ghost use Rattle.std.specs.Prelude.{◌≡◌, ◌≤◌, ◌<◌, map, length, if◌then◌else◌};
 ghost use Rattle.std.specs.Prelude.{IsCharBoundary};
 ghost use Rattle.regex.specs.Strings.{matcher_pattern};
 ghost use Rattle.maximal_munch.specs.RuleValues.{rule_set_of, pattern_of_rule};
-ghost use Rattle.maximal_munch.specs.Munching.{match_len, len_at, IsBest};
+ghost use Rattle.maximal_munch.specs.Beginnings.{match_len};
+ghost use Rattle.maximal_munch.specs.Munching.{len_at, IsBest};
 
 use crate::rules::RuleSet;
 use regex::Matcher;
@@ -37,15 +38,13 @@ fn rule_len(
     condition: usize,
     rest: &str,
 ) -> usize
-    requires there { index < vec_len matchers.old }
     requires patterns { map matcher_pattern matchers.old.items ≡ map pattern_of_rule (rule_set_of rules.now).rules }
     ensures value { result ≡ len_at (rule_set_of rules.now) condition rest.now index }
     ensures within { result ≤ length rest.now }
     ensures cut { IsCharBoundary rest.now result }
     ensures same { map matcher_pattern matchers.new.items ≡ map matcher_pattern matchers.old.items }
-    ensures len { vec_len matchers.new ≡ vec_len matchers.old }
 {
-    if rules.is_active(index, condition) {
+    if index < matchers.len() && rules.is_active(index, condition) {
         match_len(&mut matchers[index], rest)
     } else {
         0
@@ -59,17 +58,20 @@ pub(crate) fn best_match(
     condition: usize,
     rest: &str,
 ) -> Best
-    requires { map matcher_pattern matchers.old.items ≡ map pattern_of_rule (rule_set_of rules.now).rules }
+    requires patterns { map matcher_pattern matchers.old.items ≡ map pattern_of_rule (rule_set_of rules.now).rules }
+    requires some { 0 < length rest.now }
     ensures best { IsBest (len_at (rule_set_of rules.now) condition rest.now) result.rule result.len }
     ensures within { result.len ≤ length rest.now }
     ensures cut { IsCharBoundary rest.now result.len }
     ensures same { map matcher_pattern matchers.new.items ≡ map matcher_pattern matchers.old.items }
 {
     let mut best = Best { rule: 0, len: 0 };
-    'rules: for index in 0..matchers.len() {
-        let len = rule_len(rules, matchers, index, condition, rest);
-        if len > best.len {
-            best = Best { rule: index, len };
+    let tried = rules.tried_before(rest.as_bytes()[0]);
+    'rules: for index in 0..tried.len() {
+        let rule = tried[index];
+        let len = rule_len(rules, matchers, rule, condition, rest);
+        if len > best.len || (len == best.len && rule < best.rule) {
+            best = Best { rule, len };
         }
     }
     best

@@ -23,7 +23,7 @@ enum Piece<S> {
 }
 
 /// Returns the end of the last part, where that is a deletion that starts at an offset.
-fn touched<S: IndexStorage>(pieces: &[Piece<S>], end: usize) -> Option<usize>
+fn deletion_end<S: IndexStorage>(pieces: &[Piece<S>], end: usize) -> Option<usize>
     ensures { Touches end (reverse (map (seen_as S.number) pieces.now)) result }
 {
     let Some(last) = pieces.last() else {
@@ -46,7 +46,7 @@ fn push_deletion<S: IndexStorage>(
 ) -> Result<(), AllocError>
     ensures { OnOk result (reverse (map (seen_as S.number) pieces.new.items) ≡ join start end (reverse (map (seen_as S.number) pieces.old.items))) }
 {
-    let Some(to) = touched(pieces.as_slice(), end) else {
+    let Some(to) = deletion_end(pieces.as_slice(), end) else {
         pieces.push(Piece::Delete(start, end))?;
         return Ok(());
     };
@@ -129,7 +129,7 @@ fn push_further(text: &mut String, parts: &[String]) -> Result<(), AllocError>
 }
 
 /// Texts with a comma and a space between them.
-fn joined(alloc: Global, parts: &[String]) -> Result<String, AllocError>
+fn comma_list(alloc: Global, parts: &[String]) -> Result<String, AllocError>
     ensures { IfOk result (λ text. string_bytes text ≡ comma_joined (map string_bytes parts.now)) }
 {
     let mut text = String::new(alloc);
@@ -305,7 +305,7 @@ fn sequence_of<
     let mut pieces = pieces_of(alloc, repairs)?;
     pieces.reverse();
     let parts = parts_of(alloc, lexer, epp, pieces.as_slice())?;
-    let text = joined(alloc, parts.as_slice())?;
+    let text = comma_list(alloc, parts.as_slice())?;
     Ok(text)
 }
 

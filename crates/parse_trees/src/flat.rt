@@ -15,7 +15,7 @@ ghost use Rattle.parse_trees.specs.FlatTrees.{term, nonterm, IsFlatStack, IsFlat
 use crate::flat_nodes::node_of;
 use crate::lex_api::Lexeme;
 use crate::node::{Node, push_lexeme_line, push_rule_line};
-use crate::tops::put_above;
+use crate::vec_stack::put_above;
 use cfg_base::index::IndexStorage;
 use cfg_base::span::Span;
 use cfg_base::symbol::PIdx;

@@ -12,8 +12,8 @@ ghost use Rattle.std.proofs.Common.{refl, ◌∙◌};
 ghost use Rattle.std.proofs.Math.Nat.{le_trans};
 
 use crate::lex_api::Lexeme;
-use crate::tops::put_above;
 use crate::values::ValueStack;
+use crate::vec_stack::put_above;
 use cfg_base::index::IndexStorage;
 use cfg_base::span::Span;
 use cfg_base::symbol::{PIdx, RIdx};
@@ -37,32 +37,38 @@ pub(crate) fn reduced_span(spans: &[Span], count: usize) -> Span
     Span::new(deepest.start(), top.end())
 }
 
-/// Takes the arguments of a reduction by a production of `count` symbols off the stacks, and puts the value that
-/// `fnonterm` returns and its span in their place.
+/// A reduction: its production, that one's rule and the number of its symbols.
+#[derive(Clone, Copy)]
+pub(crate) struct Reduction<S> {
+    pub pidx: PIdx<S>,
+    pub ridx: RIdx<S>,
+    pub count: usize,
+}
+
+/// Takes the arguments of a reduction off the stacks, and puts the value that `fnonterm` returns and its span in their
+/// place.
 pub(crate) fn fold_top<S: IndexStorage, V: Drop, R>(
     alloc: Global,
     values: &mut Vec<V>,
     spans: &mut Vec<Span>,
     fnonterm: &R,
-    pidx: PIdx<S>,
-    ridx: RIdx<S>,
-    count: usize,
+    reduction: Reduction<S>,
 ) -> Result<(), AllocError>
 where
     R: Fn(Global, PIdx<S>, RIdx<S>, Span, Vec<V>) -> Result<V, AllocError>,
     requires callable { R.IsAlwaysCallable fnonterm.now }
-    requires enough { count ≤ length values.old.items }
+    requires enough { reduction.count ≤ length values.old.items }
     requires same { length spans.old.items ≡ length values.old.items }
     requires ascend { StartsAscend spans.old.items }
-    ensures folded { OnOk result (IsFolded (NodeGives S.number (R.post fnonterm.now) alloc) (S.number pidx.0) (S.number ridx.0) count values.old.items spans.old.items values.new.items spans.new.items) }
+    ensures folded { OnOk result (IsFolded (NodeGives S.number (R.post fnonterm.now) alloc) (S.number reduction.pidx.0) (S.number reduction.ridx.0) reduction.count values.old.items spans.old.items values.new.items spans.new.items) }
     ensures same { OnOk result (length spans.new.items ≡ length values.new.items) }
     ensures ascend { OnOk result (StartsAscend spans.new.items) }
     ensures start { OnOk result ((offset : ℕ) → StartBy spans.old.items offset → StartBy spans.new.items offset) }
 {
-    let span = reduced_span(spans.as_slice(), count);
-    let left = values.len() - count;
+    let span = reduced_span(spans.as_slice(), reduction.count);
+    let left = values.len() - reduction.count;
     let args = values.split_off(left)?;
-    let value = fnonterm(alloc, pidx, ridx, span, args)?;
+    let value = fnonterm(alloc, reduction.pidx, reduction.ridx, span, args)?;
     values.push(value)?;
     put_above(spans, left, span)?;
     Ok(())
@@ -157,14 +163,14 @@ where
         ensures start { OnOk result ((offset : ℕ) → StartBy self.old.spans.items offset → StartBy self.new.spans.items offset) }
         ensures keeps { OnOk result ((self.new.fterm.now ≡ self.old.fterm.now) × (self.new.fnonterm.now ≡ self.old.fnonterm.now)) }
     {
+        let reduction = Reduction { pidx, ridx, count };
+        let fnonterm = self.fnonterm;
         fold_top(
             alloc,
             &mut self.values,
             &mut self.spans,
-            self.fnonterm,
-            pidx,
-            ridx,
-            count,
+            fnonterm,
+            reduction,
         )?;
         Ok(())
     }

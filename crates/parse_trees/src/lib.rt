@@ -35,5 +35,5 @@ pub mod node;
 mod node_lists;
 pub mod node_values;
 pub mod parse_repair;
-pub mod tops;
 pub mod values;
+pub mod vec_stack;

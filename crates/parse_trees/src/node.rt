@@ -8,7 +8,7 @@ ghost use Rattle.cfg_numbered.specs.Value.{GrammarValue};
 ghost use Rattle.parse_trees.specs.declared.node.Node.TheVariants as variants;
 
 use crate::lex_api::Lexeme;
-use crate::node_lists::{built, entries_of, same_lists};
+use crate::node_lists::{entries_of, node_of, same_lists};
 use cfg_base::index::IndexStorage;
 use cfg_base::symbol::{RIdx, TIdx};
 use cfg_numbered::yacc::grammar::NumberedGrammar;
@@ -69,7 +69,7 @@ impl<L: Lexeme<S>, S: IndexStorage> Node<L, S> {
         ensures { IfOk result (λ node. shape_of S.number node ≡ shape_of S.number self.now) }
     {
         let entries = entries_of(alloc, self)?;
-        let node = built(alloc, entries.as_slice())?;
+        let node = node_of(alloc, entries.as_slice())?;
         Ok(node)
     }
 
@@ -165,7 +165,7 @@ pub(crate) fn push_rule_line<S: IndexStorage>(
 }
 
 /// Returns the name of a token that isn't the end token.
-fn named<S: IndexStorage>(grm: &NumberedGrammar<S>, tidx: TIdx<S>) -> &str
+fn name_of<S: IndexStorage>(grm: &NumberedGrammar<S>, tidx: TIdx<S>) -> &str
     requires { S.number tidx.0 < end_token grm.now.grammar }
     ensures { result.now ≡ token_text grm.now (S.number tidx.0) }
 {
@@ -191,7 +191,7 @@ pub(crate) fn push_lexeme_line<L: Lexeme<S>, S: IndexStorage>(
 {
     let span = lexeme.span();
     push_spaces(text, depth)?;
-    text.push_str(named(grm, TIdx(lexeme.tok_id())))?;
+    text.push_str(name_of(grm, TIdx(lexeme.tok_id())))?;
     text.push_str(" ")?;
     text.push_str(&input[span.start()..span.end()])?;
     text.push_str("\n")?;

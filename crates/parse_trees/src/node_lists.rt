@@ -122,7 +122,7 @@ fn make_next<L: Lexeme<S>, S: IndexStorage>(
 }
 
 /// Returns the node that the entries list.
-pub(crate) fn built<L: Lexeme<S>, S: IndexStorage>(
+pub(crate) fn node_of<L: Lexeme<S>, S: IndexStorage>(
     alloc: Global,
     entries: &[NodeEntry<S, L>],
 ) -> Result<Node<L, S>, AllocError>

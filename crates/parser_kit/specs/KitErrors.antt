@@ -2,12 +2,13 @@
 use Rattle.std.specs.Prelude.{◌≡◌, ℕ, List, true, false, Some, None}
 use Rattle.cfg_read.specs.declared.yacc.YaccKind.{YaccKind}
 use Rattle.cfg_read.specs.ErrorModels.{failures_in}
+use Rattle.cfg_read.specs.Files.{FailsToTell}
 use Rattle.cfg_read.specs.ValidityInfo.{CheckedAst, IsChecked, is_valid}
 use Rattle.cfg_numbered.specs.Value.{GrammarValue}
 use Rattle.cfgrammar.specs.FromAst.{too_many}
 use Rattle.parser_kit.specs.Kit.{grammar_of}
 use Rattle.parser_kit.specs.Tabled.{HasTabledCause, IsTabledRefusal}
-use Rattle.parser_kit.specs.TextKinds.{FailsToTell, IsKindOfText}
+use Rattle.parser_kit.specs.TextKinds.{IsKindOfText}
 use Rattle.parser_kit.specs.declared.grammar_kit_error.GrammarKitError.{GrammarKitError}
 use Rattle.parser_kit.specs.declared.grammar_kit_error.GrammarKitError.TheVariants as tabled
 use Rattle.parser_kit.specs.declared.kit_error.KitError.{KitError}

@@ -6,8 +6,7 @@ use Rattle.lr_theory.specs.Canonical.{Contest, Look, Present, accept, reduce}
 use Rattle.lr_theory.specs.Chains.{ChainsWithin}
 use Rattle.lr_theory.specs.LongChains.{Chain, IsLeastChain}
 use Rattle.lr_theory.specs.Sizes.{StaysWithin}
-use Rattle.lrpar.specs.Checked.{IsDataRefusal, ParserValue}
-use Rattle.lrpar.specs.declared.parserdata.ParserDataError.{ParserDataError}
+use Rattle.lrpar.specs.Checked.{ParserValue}
 use Rattle.lrpar.specs.Reducing.{rule_number}
 use Rattle.state_table.specs.Graphs.{GraphValue, IsGraphOf}
 use Rattle.state_table.specs.TableValues.{TableValue}
@@ -50,21 +49,3 @@ HasTabledCause number top v (errors.AcceptReduce p) = HasCanonicalCause v.gramma
 HasTabledCause number top v errors.TooLarge = HasCanonicalCause v.grammar top Refusal.cells
 HasTabledCause number top v (errors.TooManyReductions s r t c) = Unit {0}
 HasTabledCause number top v (errors.Memory e) = Unit {0}
-
--- a step: why a grammar's own graph and table are no checked data
-abbrev pub IsDataFault : {S : Type 0} → (S → ℕ) → GrammarValue → GraphValue → TableValue → ℕ → GrammarKitError S → Type 0
-IsDataFault number v g u cap (errors.TooManyStates n) = ⊥
-IsDataFault number v g u cap (errors.AcceptReduce p) = ⊥
-IsDataFault number v g u cap errors.TooLarge = ⊥
-IsDataFault number v g u cap (errors.TooManyReductions s r t c) = (c ≡ cap) × IsLeastChain v.grammar (automaton_of g u) cap (record { state = number s.0; rule = rule_number number r; token = number t.0 })
-IsDataFault number v g u cap (errors.Memory e) = Unit {0}
-
--- the data of some grammar with its own graph and table were refused with this
-pub record IsOwnRefusal {S : Type 0} (number : S → ℕ) (e : ParserDataError S) : Type 0 where
-  pub grammar : GrammarValue
-  pub graph : GraphValue
-  pub table : TableValue
-  pub cap : ℕ
-  pub well_formed : WellFormed grammar.grammar
-  pub is_table : IsTableOf grammar graph table
-  pub refused : IsDataRefusal number grammar graph table cap e

@@ -15,7 +15,8 @@ ghost use Rattle.state_table.specs.Tables.{AreContested, automaton_of};
 ghost use Rattle.table_theory.specs.CellLaws.{SomeContested};
 ghost use Rattle.table_theory.specs.Cells.{NoPrecedences};
 ghost use Rattle.parser_kit.specs.Tabled.{HasTabledCause, IsTabled, IsTabledRefusal, NeverAcceptsAndReduces};
-ghost use Rattle.cfg_sets.specs.Productive.{EachProductive, Tells};
+ghost use Rattle.cfg_sets.specs.Productive.{EachProductive};
+ghost use Rattle.cfg_theory.specs.Decides.{Decides};
 ghost use Rattle.parser_kit.specs.KitParses.{IsHanded, IsKitOutcome, IsKitParse, ItemsFollowSentences, LeavesNoTrace, WhereParsed};
 
 use crate::grammar_kit_error::GrammarKitError;
@@ -43,14 +44,15 @@ pub struct GrammarKit<S: IndexStorage> {
 
 impl<S: IndexStorage> Model for GrammarKit<S> {
     ghost use Rattle.lrpar.specs.Checked.{ParserValue};
-    ghost use Rattle.cfg_sets.specs.Productive.{EachProductive, Tells};
+    ghost use Rattle.cfg_sets.specs.Productive.{EachProductive};
+    ghost use Rattle.cfg_theory.specs.Decides.{Decides};
     ghost use Rattle.parser_kit.specs.Tabled.{IsTabled};
 
     ghost Value = { ParserValue };
 
     ghost view = { λ k. k.data };
 
-    ghost invariant = { λ k. IsTabled S.MAX k.data × Tells (EachProductive k.data.grammar.grammar) k.all_productive };
+    ghost invariant = { λ k. IsTabled S.MAX k.data × Decides (EachProductive k.data.grammar.grammar) k.all_productive };
 }
 
 impl<S: IndexStorage> GrammarKit<S> {
@@ -258,7 +260,7 @@ impl<S: IndexStorage> GrammarKit<S> {
 
     /// Whether each rule derives some text, as it was found.
     fn tells_productive(&self) -> bool
-        ensures { Tells (EachProductive self.now.grammar.grammar) result }
+        ensures { Decides (EachProductive self.now.grammar.grammar) result }
     {
         self.all_productive
     }

@@ -22,8 +22,8 @@ ghost use Rattle.parser_kit.specs.KitParses.{IsHanded, IsKitOutcome, IsKitParse,
 ghost use Rattle.cfg_sets.specs.Productive.{EachProductive};
 ghost use Rattle.parser_kit.specs.TextKinds.{IsKindOfText};
 
+use crate::declared_kind::kind_or_default;
 use crate::grammar_kit::GrammarKit;
-use crate::kind_telling::kept_of;
 use crate::kit_error::KitError;
 use crate::text_making::kit_in;
 use cfg_base::index::IndexStorage;
@@ -100,14 +100,9 @@ impl<S: IndexStorage> ParserKit<S> {
         ensures crowded { IfErr result (IsToldRefusal text.now (λ kind. HasKitCause S.number S.MAX kind text.now)) }
         ensures accepts { IfOk result (λ k. NeverAcceptsAndReduces k.parser.grammar.grammar) }
     {
-        one_answer();
-        let kept = kept_of(alloc, text)?;
-        match kit_in(alloc, &kept, cap) {
-            Ok(kit) => Ok(ParserKit { kept, kit }),
-            Err(e) => {
-                drop(kept);
-                Err(e)
-            }
+        match kind_or_default(alloc, text) {
+            Ok(kind) => ParserKit::new(alloc, text, kind, cap),
+            Err(e) => Err(e),
         }
     }
 
@@ -116,6 +111,15 @@ impl<S: IndexStorage> ParserKit<S> {
         ensures { result.now ≡ self.now.kept.ast }
     {
         self.kept.ast()
+    }
+
+    /// Drops the syntax tree, and returns the kit of the grammar.
+    pub fn into_kit(self) -> GrammarKit<S>
+        ensures { result ≡ self.parser }
+    {
+        let ParserKit { kept, kit } = self;
+        drop(kept);
+        kit
     }
 
     /// Lends the kit of the grammar, whose contracts see the checked data, and which parses.

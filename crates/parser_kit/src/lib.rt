@@ -26,9 +26,9 @@
 //! a grammar that is at hand.
 #![tactic(auto)]
 
-pub mod grammar_kit;
+pub mod declared_kind;
+mod grammar_kit;
 pub mod grammar_kit_error;
-mod kind_telling;
 pub mod kit;
 pub mod kit_error;
 pub mod laws;

@@ -1,20 +1,16 @@
 //! The steps from a grammar to a kit.
 
 ghost use Rattle.std.specs.Prelude.{◌≡◌, ℕ, IfOk, IfErr, OnOk};
-ghost use Rattle.cfg_numbered.specs.Value.{GrammarValue};
 ghost use Rattle.cfg_theory.specs.Grammar.{WellFormed};
 ghost use Rattle.lr_theory.specs.Sizes.{StaysWithin};
-ghost use Rattle.lrpar.specs.Checked.{IsDataRefusal};
-ghost use Rattle.state_table.specs.Graphs.{GraphValue, IsGraphOf};
-ghost use Rattle.state_table.specs.TableValues.{TableValue};
+ghost use Rattle.state_table.specs.Graphs.{IsGraphOf};
 ghost use Rattle.state_table.specs.Tables.{IsTableOf};
-ghost use Rattle.parser_kit.specs.Tabled.{HasTabledCause, IsDataFault, IsOwnRefusal, IsTabled, IsTabledRefusal, NeverAcceptsAndReduces};
+ghost use Rattle.parser_kit.specs.Tabled.{HasTabledCause, IsTabled, IsTabledRefusal, NeverAcceptsAndReduces};
 
 use crate::grammar_kit_error::GrammarKitError;
 use cfg_base::index::IndexStorage;
 use cfg_numbered::yacc::NumberedGrammar;
-use lrpar::laws::fitting_pairs_are_safe;
-use lrpar::{ParserData, ParserDataError};
+use lrpar::{BuiltDataError, ParserData};
 use lrtable::{FromYaccError, Minimiser, StateGraph, StateTable, from_yacc};
 use std::alloc::Global;
 
@@ -39,35 +35,7 @@ pub(crate) fn tables_of<S: IndexStorage>(
     }
 }
 
-/// Why the data of a grammar with its own graph and table were refused.
-fn fault_of<S: IndexStorage>(e: &ParserDataError<S>) -> GrammarKitError<S>
-    requires { IsOwnRefusal S.number e.now }
-    ensures { (v : GrammarValue) (g : GraphValue) (u : TableValue) (cap : ℕ) → IsDataRefusal S.number v g u cap e.now → IsDataFault S.number v g u cap result }
-{
-    fitting_pairs_are_safe();
-    match e {
-        ParserDataError::UnsafeTable {
-            state: _,
-            cell: _,
-            parts: _,
-        } => unreachable!(),
-        ParserDataError::TooManyReductions {
-            state,
-            rule,
-            token,
-            cap,
-            parts: _,
-        } => GrammarKitError::TooManyReductions {
-            state: *state,
-            rule: *rule,
-            token: *token,
-            cap: *cap,
-        },
-        ParserDataError::Memory(e) => GrammarKitError::Memory(*e),
-    }
-}
-
-/// The checked data of a grammar with its own graph and table, which are safe for it.
+/// Makes the checked data of a grammar with its own graph and table.
 pub(crate) fn data_of<S: IndexStorage>(
     alloc: Global,
     grm: NumberedGrammar<S>,
@@ -84,12 +52,14 @@ pub(crate) fn data_of<S: IndexStorage>(
     ensures refused { IfErr result (IsTabledRefusal S.number S.MAX grm cap) }
     ensures crowded { IfErr result (HasTabledCause S.number S.MAX grm) }
 {
-    match ParserData::new(alloc, grm, graph, table, cap) {
-        Ok(checked) => Ok(checked),
-        Err(e) => {
-            let fault = fault_of(&e);
-            drop(e);
-            Err(fault)
-        }
+    match ParserData::of_builder(alloc, grm, graph, table, cap) {
+        Ok(data) => Ok(data),
+        Err(BuiltDataError::TooManyReductions(chain)) => Err(GrammarKitError::TooManyReductions {
+            state: chain.state,
+            rule: chain.ridx,
+            token: chain.tidx,
+            cap,
+        }),
+        Err(BuiltDataError::Memory(e)) => Err(GrammarKitError::Memory(e)),
     }
 }

@@ -1,8 +1,14 @@
 //! Reports on texts as answers.
 
-use grammar_report::{Asked, LineFile, Report, report, status};
+use grammar_report::{Asked, LineFile, Report, report_on, status};
+use report_forms::{Findings, dot_text, json_text};
+use report_values::{FindingsError, Found, Wanted, findings_on};
 use row_files::{Part, parts};
 use std::alloc::{AllocError, Global};
+use text_messages::Source;
+
+/// How many states are drawn at most.
+const MOST_STATES: usize = 2000;
 
 /// Adds a line behind a mark.
 fn push_line(out: &mut String, mark: &str, line: &str) -> Result<(), AllocError> {
@@ -57,6 +63,88 @@ fn grammar_and_lines(text: &str) -> (&str, Option<LineFile<'_>>) {
     }
 }
 
+/// What a heading asks of a report for a person.
+fn asked_of<'a>(heading: &str, next: Option<LineFile<'a>>) -> Asked<'a> {
+    Asked {
+        each: asks(heading, "each"),
+        full: asks(heading, "full"),
+        states: asks(heading, "states"),
+        sentences: asks(heading, "sentences"),
+        next,
+    }
+}
+
+/// Returns findings as an object, or as states.
+fn text_of(alloc: Global, findings: &Findings, as_object: bool) -> Result<String, AllocError> {
+    if !as_object {
+        return dot_text(alloc, findings);
+    }
+    match json_text(alloc, findings) {
+        Ok(text) => Ok(text),
+        Err(_) => String::from_str(alloc, "out of memory"),
+    }
+}
+
+/// Adds the report in a form for other programs, for what was found.
+fn push_found(
+    alloc: Global,
+    out: &mut String,
+    heading: &str,
+    found: &Found,
+) -> Result<(), AllocError> {
+    let text = text_of(alloc, &found.findings, asks(heading, "json"))?;
+    let outcome = found.outcome;
+    push_report(alloc, out, &Report { text, outcome })
+}
+
+/// Returns what a heading asks of a report for other programs.
+fn wanted_of(heading: &str) -> Wanted {
+    let is_dot = asks(heading, "dot");
+    Wanted {
+        conflicts: !is_dot,
+        each: asks(heading, "each"),
+        full: asks(heading, "full"),
+        rules: false,
+        states: if is_dot { Some(MOST_STATES) } else { None },
+    }
+}
+
+/// Adds the report in a form for other programs.
+fn push_form(
+    alloc: Global,
+    out: &mut String,
+    heading: &str,
+    source: &Source<'_>,
+) -> Result<(), AllocError> {
+    match findings_on(alloc, source, wanted_of(heading)) {
+        Ok(found) => {
+            let pushed = push_found(alloc, out, heading, &found);
+            drop(found);
+            pushed
+        }
+        Err(FindingsError::TooManyStates(count)) => {
+            let line = format!(in alloc; "{count} states")?;
+            push_line(out, ">", line.as_str())
+        }
+        Err(FindingsError::Memory(e)) => Err(e),
+    }
+}
+
+/// Adds the report that a heading asks for.
+fn push_told(
+    alloc: Global,
+    out: &mut String,
+    heading: &str,
+    source: &Source<'_>,
+    next: Option<LineFile<'_>>,
+) -> Result<(), AllocError> {
+    if asks(heading, "json") || asks(heading, "dot") {
+        return push_form(alloc, out, heading, source);
+    }
+    let told = report_on(alloc, source, asked_of(heading, next))?;
+    push_report(alloc, out, &told)
+}
+
 fn push_answer(
     alloc: Global,
     out: &mut String,
@@ -64,15 +152,11 @@ fn push_answer(
     text: &str,
 ) -> Result<(), AllocError> {
     let (grammar, next) = grammar_and_lines(text);
-    let asked = Asked {
-        each: asks(heading, "each"),
-        full: asks(heading, "full"),
-        states: asks(heading, "states"),
-        sentences: asks(heading, "sentences"),
-        next,
-    };
-    let told = report(alloc, grammar, path_of(heading), asked)?;
-    push_report(alloc, out, &told)
+    let color = asks(heading, "color");
+    let source = Source::new(alloc, grammar, path_of(heading))?.with_color(color);
+    let pushed = push_told(alloc, out, heading, &source, next);
+    drop(source);
+    pushed
 }
 
 fn push_part(alloc: Global, out: &mut String, part: &Part<'_>) -> Result<(), AllocError> {

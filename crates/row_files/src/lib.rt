@@ -10,10 +10,12 @@
 //!   program can write its own in their place.
 #![tactic(auto)]
 
+mod bytes;
 mod errors;
 mod file;
 mod words;
 
+pub use bytes::push_line;
 pub use errors::push_errors;
 pub use file::{Part, kind_of, parts};
 pub use words::{push_quoted, push_span, push_spans};

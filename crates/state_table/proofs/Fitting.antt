@@ -4,7 +4,7 @@ use Rattle.std.specs.Prelude.{AllPairs}
 use Rattle.std.proofs.lemmas.List.{get_or_default, length-map}
 use Rattle.cfg_theory.specs.Grammar.{Grammar, body_of}
 use Rattle.lr_theory.specs.Itemset.{Entry, ItemSet, ItemBefore as EntryBefore, entry_at, HasItem, SameItems, FitsGrammar}
-use Rattle.state_table.specs.Adding.{With, Adds}
+use Rattle.state_table.specs.Adding.{WithItem, Adds}
 use Rattle.state_table.specs.ItemRows.{Item, Ascends, Core, IsCoreOf, set_of, map_of, FitsCore, no_core}
 use Rattle.state_table.specs.Itemsets.{HasWidth}
 use Rattle.state_table.specs.declared.shared_sets.SharedItem.{SharedItem}
@@ -85,7 +85,7 @@ pub adds_from : (a v b : ItemSet) (p d : ℕ) (bits : List Bool) → a ≡ v →
 adds_from a v b p d bits e h = subst (λ (s : ItemSet). Adds s p d bits b) e h
 
 -- one item more
-pub added_fits : (G : Grammar) (old : ItemSet) (c : Core) (p d : ℕ) → IsCoreOf G.tokens c → SameItems (With (HasItem old) p d) (HasItem (map_of c)) → FitsGrammar G old → p < length G.productions → d ≤ length (body_of G p) → FitsGrammar G (map_of c)
+pub added_fits : (G : Grammar) (old : ItemSet) (c : Core) (p d : ℕ) → IsCoreOf G.tokens c → SameItems (WithItem (HasItem old) p d) (HasItem (map_of c)) → FitsGrammar G old → p < length G.productions → d ≤ length (body_of G p) → FitsGrammar G (map_of c)
 added_fits G old c p d good same fits production dot = fits_by G c good
     (λ q e h. elim ((same q e).1 h) [ inl x ↦ fits.productions q e x | inr x ↦ subst (λ r. r < length G.productions) (sym x.0) production ])
     (λ q e h. elim ((same q e).1 h) [ inl x ↦ fits.dots q e x | inr x ↦ subst₂ (λ r s. s ≤ length (body_of G r)) (sym x.0) (sym x.1) dot ])

@@ -13,7 +13,7 @@ use Rattle.lr_theory.specs.Itemset.{Items, Lookaheads, ItemSet, HasItem, HasLook
 use Rattle.state_table.specs.declared.cores.CoreItem.{CoreItem}
 use Rattle.state_table.specs.declared.shared_sets.SharedItem.{SharedItem}
 use Rattle.state_table.specs.declared.shared_sets.SharedSets.{SharedSets}
-use Rattle.state_table.specs.Adding.{Adds, One, OneLooks}
+use Rattle.state_table.specs.Adding.{Adds, SingleItem, OneLooks}
 use Rattle.state_table.specs.Itemsets.{IsNewTo}
 use Rattle.state_table.specs.ItemRows.{Item, IsAt, ItemBefore, Ascends, Core, IsCoreOf, map_of}
 use Rattle.state_table.specs.Meeting.{rows_in, row}
@@ -321,7 +321,7 @@ extends_as I J L M a b same same_looks h = record {
   );
 }
 
-pub extends_one : (p d : ℕ) (bits : List Bool) (a b : ItemSet) → Adds a p d bits b → Extends (One p d) (OneLooks p d bits) a b
+pub extends_one : (p d : ℕ) (bits : List Bool) (a b : ItemSet) → Adds a p d bits b → Extends (SingleItem p d) (OneLooks p d bits) a b
 extends_one p d bits a b h = record { items = h.items; looks = h.looks }
 
 module _ {S : Type 0} (number : S → ℕ) (tokens : ℕ) where
@@ -337,7 +337,7 @@ module _ {S : Type 0} (number : S → ℕ) (tokens : ℕ) where
   pub grows_from : (I : Items) (L : Lookaheads) (a b c : SharedSets S) → shared_core number b ≡ shared_core number a → GrowsBy number tokens I L b c → GrowsBy number tokens I L a c
   grows_from I L a b c e h = record { extends = subst (λ (x : Core). Extends I L (map_of x) (shared_map number c)) e h.extends; core = h.core; within = h.within }
 
-  pub grows_one : (p d : ℕ) (bits : List Bool) (a b : SharedSets S) → length bits ≡ tokens → TakesIn number p d bits a b → GrowsBy number tokens (One p d) (OneLooks p d bits) a b
+  pub grows_one : (p d : ℕ) (bits : List Bool) (a b : SharedSets S) → length bits ≡ tokens → TakesIn number p d bits a b → GrowsBy number tokens (SingleItem p d) (OneLooks p d bits) a b
   grows_one p d bits a b wide h = record { extends = extends_one p d bits (shared_map number a) (shared_map number b) h.adds; core = subst (λ n. IsCoreOf n (shared_core number b)) wide h.core; within = h.within }
 
 -- what two reads at one index give

@@ -4,8 +4,8 @@ use Rattle.vob.specs.Sets.{is_set}
 use Rattle.lr_theory.specs.Itemset.{Items, Lookaheads, ItemSet, HasItem, HasLook, SameItems, SameLooks}
 
 -- the items of I, and (p, d)
-abbrev pub With : Items → ℕ → ℕ → Items
-With I p d q e = I q e ⊎ ((q ≡ p) × (e ≡ d))
+abbrev pub WithItem : Items → ℕ → ℕ → Items
+WithItem I p d q e = I q e ⊎ ((q ≡ p) × (e ≡ d))
 
 -- the lookaheads of L, and those of the set at (p, d)
 abbrev pub WithLooks : Lookaheads → ℕ → ℕ → List Bool → Lookaheads
@@ -13,12 +13,12 @@ WithLooks L p d bits q e t = L q e t ⊎ ((q ≡ p) × (e ≡ d) × IsTrue (is_s
 
 -- the map has the item with these lookaheads beside what it had
 pub record Adds (old : ItemSet) (p d : ℕ) (bits : List Bool) (new : ItemSet) : Type 0 where
-  pub items : SameItems (With (HasItem old) p d) (HasItem new)
+  pub items : SameItems (WithItem (HasItem old) p d) (HasItem new)
   pub looks : SameLooks (WithLooks (HasLook old) p d bits) (HasLook new)
 
 -- the item (p, d) alone, and its lookaheads
-abbrev pub One : ℕ → ℕ → Items
-One p d q e = (q ≡ p) × (e ≡ d)
+abbrev pub SingleItem : ℕ → ℕ → Items
+SingleItem p d q e = (q ≡ p) × (e ≡ d)
 
 abbrev pub OneLooks : ℕ → ℕ → List Bool → Lookaheads
 OneLooks p d bits q e t = (q ≡ p) × (e ≡ d) × IsTrue (is_set bits t)

@@ -117,7 +117,7 @@ impl<S: IndexStorage> Conflicts<S> {
 }
 
 /// Returns the name of a token; `$` for the end token.
-pub(crate) fn shown<S: IndexStorage>(grm: &NumberedGrammar<S>, tidx: TIdx<S>) -> &str
+pub(crate) fn shown_name<S: IndexStorage>(grm: &NumberedGrammar<S>, tidx: TIdx<S>) -> &str
     requires { S.number tidx.0 < grm.now.grammar.tokens }
     ensures { result.now ≡ shown_token grm.now (S.number tidx.0) }
 {
@@ -169,7 +169,7 @@ fn push_shift<S: IndexStorage>(
     let (tidx, pidx, stidx) = entry;
     push_state(alloc, text, stidx)?;
     text.push_str("Shift(\"")?;
-    text.push_str(shown(grm, tidx))?;
+    text.push_str(shown_name(grm, tidx))?;
     text.push_str("\") / ")?;
     push_reduce(alloc, text, grm, pidx)?;
     text.push_str("\n")?;

@@ -19,7 +19,7 @@ ghost use Rattle.state_table.specs.Tables.{IsTableRefusal};
 use crate::cores::CoreItem;
 use crate::rows::row_number;
 use crate::shared_sets::{SharedItem, SharedSets};
-use crate::state_rows::{Reduction, StateParts, contesting};
+use crate::state_rows::{Reduction, RowSource, StateParts, contesting};
 use crate::stategraph::StateGraph;
 use crate::statetable::{StateTableError, StateTableErrorKind, StateTableNewError};
 use crate::stidx::StIdx;
@@ -187,7 +187,7 @@ fn add_row<S: IndexStorage>(
     ensures quiet { OnOk result ((p : ℕ) → IsContested grm.now.grammar (parts_in grm.now.grammar sg.now (S.number stidx.0)) p → ⊥) }
     ensures refused { IfErr result (λ e. IsTableRefusal grm.now sg.now (table_refusal_of S.number e)) }
 {
-    let shared = sg.closed_state(stidx).shared();
+    let shared = sg.closed_state(stidx).shared_sets();
     let sets = shared.sets.as_slice();
     let edges = sg.edges(stidx);
     grm.start_prod();
@@ -199,7 +199,13 @@ fn add_row<S: IndexStorage>(
         })),
         None => {
             let gotos = goto_row(alloc, edges, parts.shifts.len())?;
-            rows.add_state(alloc, grm, stidx, parts, sets, gotos)?;
+            let source = RowSource {
+                grm,
+                stidx,
+                parts,
+                sets,
+            };
+            rows.add_state(alloc, &source, gotos)?;
             Ok(())
         }
     }

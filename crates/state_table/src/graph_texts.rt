@@ -10,7 +10,7 @@ ghost use Rattle.state_table.specs.GraphTexts.{token_text, symbol_text, spaced, 
 ghost use Rattle.state_table.specs.GraphViews.{edges_seen};
 ghost use Rattle.state_table.specs.Graphs.{IsGraphOf};
 
-use crate::conflicts::shown;
+use crate::conflicts::shown_name;
 use crate::itemset::Itemset;
 use crate::stategraph::StateGraph;
 use crate::stidx::StIdx;
@@ -30,7 +30,7 @@ fn push_token<S: IndexStorage>(
     ensures { OnOk result (string_bytes text.new ≡ string_bytes text.old ++ token_text grm.now (S.number tidx.0)) }
 {
     text.push_str("'")?;
-    text.push_str(shown(grm, tidx))?;
+    text.push_str(shown_name(grm, tidx))?;
     text.push_str("'")?;
     Ok(())
 }
@@ -387,30 +387,38 @@ fn shown_set<S: IndexStorage>(
     graph.closed_state(stidx)
 }
 
+/// A graph that is shown as text.
+#[derive(Drop)]
+struct ShownGraph<'a, S: IndexStorage> {
+    grm: &'a NumberedGrammar<S>,
+    graph: &'a StateGraph<S>,
+    /// The spaces in front of a state's further lines.
+    gap: &'a str,
+    /// Whether states are shown by their cores.
+    core_states: bool,
+}
+
 /// Puts the lines of a state.
 fn push_state<S: IndexStorage>(
     alloc: Global,
     text: &mut String,
-    grm: &NumberedGrammar<S>,
-    graph: &StateGraph<S>,
-    gap: &str,
+    shown: &ShownGraph<'_, S>,
     stidx: StIdx<S>,
-    core_states: bool,
 ) -> Result<(), AllocError>
-    requires state { S.number stidx.0 < length graph.now.cores }
-    requires graph { IsGraphOf grm.now.grammar graph.now }
-    requires gap { gap.now ≡ replicate (front_width (length graph.now.cores)) 32 }
-    ensures { OnOk result (string_bytes text.new ≡ string_bytes text.old ++ state_text grm.now graph.now (sets_of core_states graph.now) (S.number stidx.0)) }
+    requires state { S.number stidx.0 < length shown.now.graph.now.cores }
+    requires graph { IsGraphOf shown.now.grm.now.grammar shown.now.graph.now }
+    requires gap { shown.now.gap.now ≡ replicate (front_width (length shown.now.graph.now.cores)) 32 }
+    ensures { OnOk result (string_bytes text.new ≡ string_bytes text.old ++ state_text shown.now.grm.now shown.now.graph.now (sets_of shown.now.core_states shown.now.graph.now) (S.number stidx.0)) }
 {
-    let _start = grm.start_prod();
-    let states = graph.all_states_len();
+    let _start = shown.grm.start_prod();
+    let states = shown.graph.all_states_len();
     let count = states.0.to_usize();
     let number = stidx.0.to_usize();
-    let set = shown_set(graph, stidx, core_states);
-    let edges = graph.edges(stidx);
-    let lines = lines_of(alloc, grm, set, edges, count)?;
-    let front = front_of(alloc, gap.len(), number)?;
-    push_lines(text, front.as_str(), gap, lines.as_slice())?;
+    let set = shown_set(shown.graph, stidx, shown.core_states);
+    let edges = shown.graph.edges(stidx);
+    let lines = lines_of(alloc, shown.grm, set, edges, count)?;
+    let front = front_of(alloc, shown.gap.len(), number)?;
+    push_lines(text, front.as_str(), shown.gap, lines.as_slice())?;
     Ok(())
 }
 
@@ -418,20 +426,17 @@ fn push_state<S: IndexStorage>(
 fn push_states<S: IndexStorage>(
     alloc: Global,
     text: &mut String,
-    grm: &NumberedGrammar<S>,
-    graph: &StateGraph<S>,
-    gap: &str,
-    core_states: bool,
+    shown: &ShownGraph<'_, S>,
 ) -> Result<(), AllocError>
-    requires graph { IsGraphOf grm.now.grammar graph.now }
-    requires gap { gap.now ≡ replicate (front_width (length graph.now.cores)) 32 }
-    ensures { OnOk result (string_bytes text.new ≡ string_bytes text.old ++ graph_text grm.now graph.now (sets_of core_states graph.now)) }
+    requires graph { IsGraphOf shown.now.grm.now.grammar shown.now.graph.now }
+    requires gap { shown.now.gap.now ≡ replicate (front_width (length shown.now.graph.now.cores)) 32 }
+    ensures { OnOk result (string_bytes text.new ≡ string_bytes text.old ++ graph_text shown.now.grm.now shown.now.graph.now (sets_of shown.now.core_states shown.now.graph.now)) }
 {
-    let last = graph.all_states_len();
+    let last = shown.graph.all_states_len();
     let count = last.0.to_usize();
     'states: for number in 0..count {
-        let stidx = graph.state_at(number);
-        push_state(alloc, text, grm, graph, gap, stidx, core_states)?;
+        let stidx = shown.graph.state_at(number);
+        push_state(alloc, text, shown, stidx)?;
     }
     Ok(())
 }
@@ -452,7 +457,13 @@ impl<S: IndexStorage> StateGraph<S> {
         let count = last.0.to_usize();
         let gap = gap_of(alloc, count)?;
         let mut text = String::new(alloc);
-        push_states(alloc, &mut text, grm, self, gap.as_str(), core_states)?;
+        let shown = ShownGraph {
+            grm,
+            graph: self,
+            gap: gap.as_str(),
+            core_states,
+        };
+        push_states(alloc, &mut text, &shown)?;
         Ok(text)
     }
 

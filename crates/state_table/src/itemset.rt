@@ -4,7 +4,7 @@ ghost use Rattle.std.specs.Prelude.{◌≡◌, ◌<◌, ◌≤◌, ◌↔◌, �
 ghost use Rattle.std.specs.Iterator.{YieldsFirstBy, item_count};
 ghost use Rattle.cfg_theory.specs.Grammar.{Grammar, body_of};
 ghost use Rattle.lr_theory.specs.Itemset.{Entry, entry_at, HasItem, HasLook, SameItems, SameLooks, FitsGrammar};
-ghost use Rattle.state_table.specs.Adding.{With, WithLooks};
+ghost use Rattle.state_table.specs.Adding.{WithItem, WithLooks};
 ghost use Rattle.state_table.specs.Itemsets.{HasWidth, IsNewTo};
 ghost use Rattle.state_table.specs.ItemWalks.{entry_seen};
 ghost use Rattle.state_table.specs.Sharing.{shared_map, IsShared};
@@ -59,7 +59,7 @@ impl<S: IndexStorage> Itemset<S> {
     /// are there.
     pub fn add(&mut self, pidx: PIdx<S>, dot: SIdx<S>, ctx: &Vob) -> Result<bool, AllocError>
         requires { HasWidth (length ctx.now.bits) self.old }
-        ensures items { OnOk result (SameItems (With (HasItem self.old) (S.number pidx.0) (S.number dot.0)) (HasItem self.new)) }
+        ensures items { OnOk result (SameItems (WithItem (HasItem self.old) (S.number pidx.0) (S.number dot.0)) (HasItem self.new)) }
         ensures looks { OnOk result (SameLooks (WithLooks (HasLook self.old) (S.number pidx.0) (S.number dot.0) ctx.now.bits) (HasLook self.new)) }
         ensures width { OnOk result (HasWidth (length ctx.now.bits) self.new) }
         ensures fits { OnOk result ((G : Grammar) → FitsGrammar G self.old → S.number pidx.0 < length G.productions → S.number dot.0 ≤ length (body_of G (S.number pidx.0)) → length ctx.now.bits ≡ G.tokens → FitsGrammar G self.new) }
@@ -107,7 +107,7 @@ impl<S: IndexStorage> Itemset<S> {
     }
 
     /// Returns the items with the sets that they share, for crates that build states.
-    pub fn shared(&self) -> &SharedSets<S>
+    pub fn shared_sets(&self) -> &SharedSets<S>
         ensures value { shared_map S.number result.now ≡ self.now }
         ensures kept { IsShared S.number result.now }
     {

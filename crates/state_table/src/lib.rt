@@ -36,18 +36,18 @@
 //! `cores`, `shared_sets` and `set_index` are for crates that build states.
 #![tactic(auto)]
 
+pub mod capacities;
 pub mod cells;
 pub mod conflicts;
 pub mod cores;
+mod dense_rows;
 mod graph_rows;
 mod graph_texts;
 pub mod itemset;
 pub mod laws;
-pub mod rooms;
 pub mod rows;
 pub mod set_index;
 pub mod shared_sets;
-mod spreads;
 mod state_rows;
 pub mod stategraph;
 pub mod statetable;

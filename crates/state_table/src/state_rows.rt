@@ -13,8 +13,8 @@ ghost use Rattle.state_table.specs.Meeting.{rows_in};
 ghost use Rattle.state_table.specs.Cursors.{IsCursor};
 ghost use Rattle.state_table.specs.Rows.{Rises, at_of};
 
+use crate::capacities::bits_set;
 use crate::cells::{Action, cell_on, list_shift, put_cell};
-use crate::rooms::bits_set;
 use crate::stidx::StIdx;
 use cfg_base::index::IndexStorage;
 use cfg_base::symbol::{PIdx, TIdx};
@@ -55,6 +55,16 @@ impl<S: IndexStorage> StateParts<S> {
             accepts: false,
         }
     }
+}
+
+/// What the row of a state is made of.
+#[derive(Drop)]
+pub(crate) struct RowSource<'a, S: IndexStorage> {
+    pub grm: &'a NumberedGrammar<S>,
+    pub stidx: StIdx<S>,
+    pub parts: &'a StateParts<S>,
+    /// The lookaheads that reductions name by index.
+    pub sets: &'a [Vob],
 }
 
 /// Returns whether a token is in a set.
@@ -149,27 +159,25 @@ fn accepts_on<S: IndexStorage>(grm: &NumberedGrammar<S>, has_complete: bool, tid
 
 /// Puts the cell of a token and its listed conflicts behind those of the tokens before, whatever the cell is.
 fn settle_token<S: IndexStorage>(
-    grm: &NumberedGrammar<S>,
-    stidx: StIdx<S>,
-    parts: &StateParts<S>,
-    sets: &[Vob],
+    source: &RowSource<'_, S>,
     tidx: TIdx<S>,
     edge: Option<StIdx<S>>,
     row: &mut Vec<(u32, Action<S>)>,
     pairs: &mut Vec<ReduceReduce<S>>,
     shifts: &mut Vec<ShiftReduce<S>>,
 ) -> Result<(), AllocError>
-    requires token { S.number tidx.0 < grm.now.grammar.tokens }
-    requires fits { FitsParts grm.now.grammar (parts_of S.number (rows_in sets.now) parts.now) }
-    requires edge { state_of S.number edge ≡ at_of (targets_of S.number parts.now.shifts.items) (S.number tidx.0) }
-    ensures row { OnOk result (cells_of S.number row.new.items ≡ cells_of S.number row.old.items ++ filled (S.number tidx.0) (cells_by grm.now.grammar (precedences_of grm.now) (parts_of S.number (rows_in sets.now) parts.now) (S.number tidx.0))) }
-    ensures pairs { OnOk result (pairs_of S.number pairs.new.items ≡ pairs_of S.number pairs.old.items ++ pairs_on (S.number stidx.0) (parts_of S.number (rows_in sets.now) parts.now) (S.number tidx.0)) }
-    ensures shifts { OnOk result (shifts_of S.number shifts.new.items ≡ shifts_of S.number shifts.old.items ++ shifts_on (precedences_of grm.now) (S.number stidx.0) (parts_of S.number (rows_in sets.now) parts.now) (S.number tidx.0)) }
+    requires token { S.number tidx.0 < source.now.grm.now.grammar.tokens }
+    requires fits { FitsParts source.now.grm.now.grammar (parts_of S.number (rows_in source.now.sets.now) source.now.parts.now) }
+    requires edge { state_of S.number edge ≡ at_of (targets_of S.number source.now.parts.now.shifts.items) (S.number tidx.0) }
+    ensures row { OnOk result (cells_of S.number row.new.items ≡ cells_of S.number row.old.items ++ filled (S.number tidx.0) (cells_by source.now.grm.now.grammar (precedences_of source.now.grm.now) (parts_of S.number (rows_in source.now.sets.now) source.now.parts.now) (S.number tidx.0))) }
+    ensures pairs { OnOk result (pairs_of S.number pairs.new.items ≡ pairs_of S.number pairs.old.items ++ pairs_on (S.number source.now.stidx.0) (parts_of S.number (rows_in source.now.sets.now) source.now.parts.now) (S.number tidx.0)) }
+    ensures shifts { OnOk result (shifts_of S.number shifts.new.items ≡ shifts_of S.number shifts.old.items ++ shifts_on (precedences_of source.now.grm.now) (S.number source.now.stidx.0) (parts_of S.number (rows_in source.now.sets.now) source.now.parts.now) (S.number tidx.0)) }
 {
-    let first = list_reductions(parts.reductions.as_slice(), sets, tidx, stidx, pairs)?;
-    list_shift(grm, tidx, first, edge, stidx, shifts)?;
-    let accepts = accepts_on(grm, parts.accepts, tidx);
-    let cell = cell_on(grm, tidx, accepts, first, edge);
+    let reductions = source.parts.reductions.as_slice();
+    let first = list_reductions(reductions, source.sets, tidx, source.stidx, pairs)?;
+    list_shift(source.grm, tidx, first, edge, source.stidx, shifts)?;
+    let accepts = accepts_on(source.grm, source.parts.accepts, tidx);
+    let cell = cell_on(source.grm, tidx, accepts, first, edge);
     put_cell(row, tidx, cell)?;
     Ok(())
 }
@@ -227,30 +235,27 @@ fn plain_cell<S: IndexStorage>(
 
 /// Puts the cell of a token and its listed conflicts behind those of the tokens before.
 fn put_token<S: IndexStorage>(
-    grm: &NumberedGrammar<S>,
-    stidx: StIdx<S>,
-    parts: &StateParts<S>,
-    sets: &[Vob],
+    source: &RowSource<'_, S>,
     tidx: TIdx<S>,
     edge: Option<StIdx<S>>,
     row: &mut Vec<(u32, Action<S>)>,
     pairs: &mut Vec<ReduceReduce<S>>,
     shifts: &mut Vec<ShiftReduce<S>>,
 ) -> Result<(), AllocError>
-    requires token { S.number tidx.0 < grm.now.grammar.tokens }
-    requires fits { FitsParts grm.now.grammar (parts_of S.number (rows_in sets.now) parts.now) }
-    requires edge { state_of S.number edge ≡ at_of (targets_of S.number parts.now.shifts.items) (S.number tidx.0) }
-    ensures row { OnOk result (cells_of S.number row.new.items ≡ cells_of S.number row.old.items ++ filled (S.number tidx.0) (cells_by grm.now.grammar (precedences_of grm.now) (parts_of S.number (rows_in sets.now) parts.now) (S.number tidx.0))) }
-    ensures pairs { OnOk result (pairs_of S.number pairs.new.items ≡ pairs_of S.number pairs.old.items ++ pairs_on (S.number stidx.0) (parts_of S.number (rows_in sets.now) parts.now) (S.number tidx.0)) }
-    ensures shifts { OnOk result (shifts_of S.number shifts.new.items ≡ shifts_of S.number shifts.old.items ++ shifts_on (precedences_of grm.now) (S.number stidx.0) (parts_of S.number (rows_in sets.now) parts.now) (S.number tidx.0)) }
+    requires token { S.number tidx.0 < source.now.grm.now.grammar.tokens }
+    requires fits { FitsParts source.now.grm.now.grammar (parts_of S.number (rows_in source.now.sets.now) source.now.parts.now) }
+    requires edge { state_of S.number edge ≡ at_of (targets_of S.number source.now.parts.now.shifts.items) (S.number tidx.0) }
+    ensures row { OnOk result (cells_of S.number row.new.items ≡ cells_of S.number row.old.items ++ filled (S.number tidx.0) (cells_by source.now.grm.now.grammar (precedences_of source.now.grm.now) (parts_of S.number (rows_in source.now.sets.now) source.now.parts.now) (S.number tidx.0))) }
+    ensures pairs { OnOk result (pairs_of S.number pairs.new.items ≡ pairs_of S.number pairs.old.items ++ pairs_on (S.number source.now.stidx.0) (parts_of S.number (rows_in source.now.sets.now) source.now.parts.now) (S.number tidx.0)) }
+    ensures shifts { OnOk result (shifts_of S.number shifts.new.items ≡ shifts_of S.number shifts.old.items ++ shifts_on (precedences_of source.now.grm.now) (S.number source.now.stidx.0) (parts_of S.number (rows_in source.now.sets.now) source.now.parts.now) (S.number tidx.0)) }
 {
     let number = tidx.0.to_usize();
-    match plain_cell(parts, sets, number, edge) {
+    match plain_cell(source.parts, source.sets, number, edge) {
         Some(cell) => {
             put_cell(row, tidx, cell)?;
             Ok(())
         }
-        None => settle_token(grm, stidx, parts, sets, tidx, edge, row, pairs, shifts),
+        None => settle_token(source, tidx, edge, row, pairs, shifts),
     }
 }
 
@@ -344,28 +349,25 @@ fn filled_tokens<S: IndexStorage>(
 /// Puts the cells of the marked tokens and their listed conflicts behind those of the states before. The cells of the
 /// others are errors.
 fn put_tokens<S: IndexStorage>(
-    grm: &NumberedGrammar<S>,
-    stidx: StIdx<S>,
-    parts: &StateParts<S>,
-    sets: &[Vob],
+    source: &RowSource<'_, S>,
     marks: &Vob,
     row: &mut Vec<(u32, Action<S>)>,
     pairs: &mut Vec<ReduceReduce<S>>,
     shifts: &mut Vec<ShiftReduce<S>>,
 ) -> Result<(), AllocError>
-    requires fits { FitsParts grm.now.grammar (parts_of S.number (rows_in sets.now) parts.now) }
-    requires width { length marks.now.bits ≡ grm.now.grammar.tokens }
-    requires blank { (t : ℕ) → t < grm.now.grammar.tokens → is_set marks.now.bits t ≡ false → IsBlank grm.now.grammar (parts_of S.number (rows_in sets.now) parts.now) t }
+    requires fits { FitsParts source.now.grm.now.grammar (parts_of S.number (rows_in source.now.sets.now) source.now.parts.now) }
+    requires width { length marks.now.bits ≡ source.now.grm.now.grammar.tokens }
+    requires blank { (t : ℕ) → t < source.now.grm.now.grammar.tokens → is_set marks.now.bits t ≡ false → IsBlank source.now.grm.now.grammar (parts_of S.number (rows_in source.now.sets.now) source.now.parts.now) t }
     requires none { row.old.items ≡ [] }
-    ensures row { OnOk result (cells_of S.number row.new.items ≡ filled_row (cells_by grm.now.grammar (precedences_of grm.now) (parts_of S.number (rows_in sets.now) parts.now)) grm.now.grammar.tokens) }
-    ensures pairs { OnOk result (pairs_of S.number pairs.new.items ≡ pairs_of S.number pairs.old.items ++ pairs_in (S.number stidx.0) (parts_of S.number (rows_in sets.now) parts.now) grm.now.grammar.tokens) }
-    ensures shifts { OnOk result (shifts_of S.number shifts.new.items ≡ shifts_of S.number shifts.old.items ++ shifts_in (precedences_of grm.now) (S.number stidx.0) (parts_of S.number (rows_in sets.now) parts.now) grm.now.grammar.tokens) }
+    ensures row { OnOk result (cells_of S.number row.new.items ≡ filled_row (cells_by source.now.grm.now.grammar (precedences_of source.now.grm.now) (parts_of S.number (rows_in source.now.sets.now) source.now.parts.now)) source.now.grm.now.grammar.tokens) }
+    ensures pairs { OnOk result (pairs_of S.number pairs.new.items ≡ pairs_of S.number pairs.old.items ++ pairs_in (S.number source.now.stidx.0) (parts_of S.number (rows_in source.now.sets.now) source.now.parts.now) source.now.grm.now.grammar.tokens) }
+    ensures shifts { OnOk result (shifts_of S.number shifts.new.items ≡ shifts_of S.number shifts.old.items ++ shifts_in (precedences_of source.now.grm.now) (S.number source.now.stidx.0) (parts_of S.number (rows_in source.now.sets.now) source.now.parts.now) source.now.grm.now.grammar.tokens) }
 {
     let mut next = 0;
     'tokens: for number in marks.iter_set_bits(..) {
-        let edge = take_edge(parts.shifts.as_slice(), &mut next, number);
-        let tidx = grm.token_at(number);
-        put_token(grm, stidx, parts, sets, tidx, edge, row, pairs, shifts)?;
+        let edge = take_edge(source.parts.shifts.as_slice(), &mut next, number);
+        let tidx = source.grm.token_at(number);
+        put_token(source, tidx, edge, row, pairs, shifts)?;
     }
     Ok(())
 }
@@ -374,21 +376,18 @@ fn put_tokens<S: IndexStorage>(
 /// states before.
 fn settled_row<S: IndexStorage>(
     alloc: Global,
-    grm: &NumberedGrammar<S>,
-    stidx: StIdx<S>,
-    parts: &StateParts<S>,
-    sets: &[Vob],
+    source: &RowSource<'_, S>,
     pairs: &mut Vec<ReduceReduce<S>>,
     shifts: &mut Vec<ShiftReduce<S>>,
 ) -> Result<Vec<(u32, Action<S>)>, AllocError>
-    requires { FitsParts grm.now.grammar (parts_of S.number (rows_in sets.now) parts.now) }
-    ensures row { IfOk result (λ r. cells_of S.number r.items ≡ filled_row (cells_by grm.now.grammar (precedences_of grm.now) (parts_of S.number (rows_in sets.now) parts.now)) grm.now.grammar.tokens) }
-    ensures pairs { OnOk result (pairs_of S.number pairs.new.items ≡ pairs_of S.number pairs.old.items ++ pairs_in (S.number stidx.0) (parts_of S.number (rows_in sets.now) parts.now) grm.now.grammar.tokens) }
-    ensures shifts { OnOk result (shifts_of S.number shifts.new.items ≡ shifts_of S.number shifts.old.items ++ shifts_in (precedences_of grm.now) (S.number stidx.0) (parts_of S.number (rows_in sets.now) parts.now) grm.now.grammar.tokens) }
+    requires { FitsParts source.now.grm.now.grammar (parts_of S.number (rows_in source.now.sets.now) source.now.parts.now) }
+    ensures row { IfOk result (λ r. cells_of S.number r.items ≡ filled_row (cells_by source.now.grm.now.grammar (precedences_of source.now.grm.now) (parts_of S.number (rows_in source.now.sets.now) source.now.parts.now)) source.now.grm.now.grammar.tokens) }
+    ensures pairs { OnOk result (pairs_of S.number pairs.new.items ≡ pairs_of S.number pairs.old.items ++ pairs_in (S.number source.now.stidx.0) (parts_of S.number (rows_in source.now.sets.now) source.now.parts.now) source.now.grm.now.grammar.tokens) }
+    ensures shifts { OnOk result (shifts_of S.number shifts.new.items ≡ shifts_of S.number shifts.old.items ++ shifts_in (precedences_of source.now.grm.now) (S.number source.now.stidx.0) (parts_of S.number (rows_in source.now.sets.now) source.now.parts.now) source.now.grm.now.grammar.tokens) }
 {
-    let marks = filled_tokens(alloc, grm, parts, sets)?;
+    let marks = filled_tokens(alloc, source.grm, source.parts, source.sets)?;
     let mut row = Vec::with_capacity(alloc, bits_set(&marks))?;
-    put_tokens(grm, stidx, parts, sets, &marks, &mut row, pairs, shifts)?;
+    put_tokens(source, &marks, &mut row, pairs, shifts)?;
     Ok(row)
 }
 
@@ -487,31 +486,29 @@ fn lone_row<S: IndexStorage>(
 /// states before.
 fn reducing_row<S: IndexStorage>(
     alloc: Global,
-    grm: &NumberedGrammar<S>,
-    stidx: StIdx<S>,
-    parts: &StateParts<S>,
-    sets: &[Vob],
+    source: &RowSource<'_, S>,
     pairs: &mut Vec<ReduceReduce<S>>,
     shifts: &mut Vec<ShiftReduce<S>>,
 ) -> Result<Vec<(u32, Action<S>)>, AllocError>
-    requires one { length parts.now.reductions.items ≡ 1 }
-    requires quiet { parts.now.accepts ≡ false }
-    requires fits { FitsParts grm.now.grammar (parts_of S.number (rows_in sets.now) parts.now) }
-    ensures row { IfOk result (λ r. cells_of S.number r.items ≡ filled_row (cells_by grm.now.grammar (precedences_of grm.now) (parts_of S.number (rows_in sets.now) parts.now)) grm.now.grammar.tokens) }
-    ensures pairs { OnOk result (pairs_of S.number pairs.new.items ≡ pairs_of S.number pairs.old.items ++ pairs_in (S.number stidx.0) (parts_of S.number (rows_in sets.now) parts.now) grm.now.grammar.tokens) }
-    ensures shifts { OnOk result (shifts_of S.number shifts.new.items ≡ shifts_of S.number shifts.old.items ++ shifts_in (precedences_of grm.now) (S.number stidx.0) (parts_of S.number (rows_in sets.now) parts.now) grm.now.grammar.tokens) }
+    requires one { length source.now.parts.now.reductions.items ≡ 1 }
+    requires quiet { source.now.parts.now.accepts ≡ false }
+    requires fits { FitsParts source.now.grm.now.grammar (parts_of S.number (rows_in source.now.sets.now) source.now.parts.now) }
+    ensures row { IfOk result (λ r. cells_of S.number r.items ≡ filled_row (cells_by source.now.grm.now.grammar (precedences_of source.now.grm.now) (parts_of S.number (rows_in source.now.sets.now) source.now.parts.now)) source.now.grm.now.grammar.tokens) }
+    ensures pairs { OnOk result (pairs_of S.number pairs.new.items ≡ pairs_of S.number pairs.old.items ++ pairs_in (S.number source.now.stidx.0) (parts_of S.number (rows_in source.now.sets.now) source.now.parts.now) source.now.grm.now.grammar.tokens) }
+    ensures shifts { OnOk result (shifts_of S.number shifts.new.items ≡ shifts_of S.number shifts.old.items ++ shifts_in (precedences_of source.now.grm.now) (S.number source.now.stidx.0) (parts_of S.number (rows_in source.now.sets.now) source.now.parts.now) source.now.grm.now.grammar.tokens) }
 {
-    let reduction = parts.reductions[0];
-    let edges = parts.shifts.as_slice();
+    let sets = source.sets;
+    let reduction = source.parts.reductions[0];
+    let edges = source.parts.shifts.as_slice();
     if reduction.set >= sets.len() {
-        return settled_row(alloc, grm, stidx, parts, sets, pairs, shifts);
+        return settled_row(alloc, source, pairs, shifts);
     }
     let tokens = &sets[reduction.set];
-    if tokens.len() != grm.tokens_len().0.to_usize() {
-        return settled_row(alloc, grm, stidx, parts, sets, pairs, shifts);
+    if tokens.len() != source.grm.tokens_len().0.to_usize() {
+        return settled_row(alloc, source, pairs, shifts);
     }
     if crosses(edges, tokens) {
-        return settled_row(alloc, grm, stidx, parts, sets, pairs, shifts);
+        return settled_row(alloc, source, pairs, shifts);
     }
     let row = lone_row(alloc, edges, tokens, reduction.pidx)?;
     Ok(row)
@@ -520,35 +517,32 @@ fn reducing_row<S: IndexStorage>(
 /// Returns the row of a state; its conflicts are listed behind those of the states before.
 pub(crate) fn state_row<S: IndexStorage>(
     alloc: Global,
-    grm: &NumberedGrammar<S>,
-    stidx: StIdx<S>,
-    parts: &StateParts<S>,
-    sets: &[Vob],
+    source: &RowSource<'_, S>,
     pairs: &mut Vec<ReduceReduce<S>>,
     shifts: &mut Vec<ShiftReduce<S>>,
 ) -> Result<Vec<(u32, Action<S>)>, AllocError>
-    requires { FitsParts grm.now.grammar (parts_of S.number (rows_in sets.now) parts.now) }
-    ensures row { IfOk result (λ r. cells_of S.number r.items ≡ filled_row (cells_by grm.now.grammar (precedences_of grm.now) (parts_of S.number (rows_in sets.now) parts.now)) grm.now.grammar.tokens) }
-    ensures pairs { OnOk result (pairs_of S.number pairs.new.items ≡ pairs_of S.number pairs.old.items ++ pairs_in (S.number stidx.0) (parts_of S.number (rows_in sets.now) parts.now) grm.now.grammar.tokens) }
-    ensures shifts { OnOk result (shifts_of S.number shifts.new.items ≡ shifts_of S.number shifts.old.items ++ shifts_in (precedences_of grm.now) (S.number stidx.0) (parts_of S.number (rows_in sets.now) parts.now) grm.now.grammar.tokens) }
+    requires { FitsParts source.now.grm.now.grammar (parts_of S.number (rows_in source.now.sets.now) source.now.parts.now) }
+    ensures row { IfOk result (λ r. cells_of S.number r.items ≡ filled_row (cells_by source.now.grm.now.grammar (precedences_of source.now.grm.now) (parts_of S.number (rows_in source.now.sets.now) source.now.parts.now)) source.now.grm.now.grammar.tokens) }
+    ensures pairs { OnOk result (pairs_of S.number pairs.new.items ≡ pairs_of S.number pairs.old.items ++ pairs_in (S.number source.now.stidx.0) (parts_of S.number (rows_in source.now.sets.now) source.now.parts.now) source.now.grm.now.grammar.tokens) }
+    ensures shifts { OnOk result (shifts_of S.number shifts.new.items ≡ shifts_of S.number shifts.old.items ++ shifts_in (precedences_of source.now.grm.now) (S.number source.now.stidx.0) (parts_of S.number (rows_in source.now.sets.now) source.now.parts.now) source.now.grm.now.grammar.tokens) }
 {
-    let accepts = parts.accepts;
+    let accepts = source.parts.accepts;
     if accepts {
-        return settled_row(alloc, grm, stidx, parts, sets, pairs, shifts);
+        return settled_row(alloc, source, pairs, shifts);
     }
-    let reductions = parts.reductions.len();
+    let reductions = source.parts.reductions.len();
     if reductions == 0 {
         let row = shift_row(
             alloc,
-            parts.shifts.as_slice(),
-            grm.tokens_len().0.to_usize(),
+            source.parts.shifts.as_slice(),
+            source.grm.tokens_len().0.to_usize(),
         )?;
         return Ok(row);
     }
     if reductions == 1 {
-        return reducing_row(alloc, grm, stidx, parts, sets, pairs, shifts);
+        return reducing_row(alloc, source, pairs, shifts);
     }
-    settled_row(alloc, grm, stidx, parts, sets, pairs, shifts)
+    settled_row(alloc, source, pairs, shifts)
 }
 
 /// Returns the production that contests accept, if the state accepts and reduces on the end token.

@@ -20,9 +20,9 @@ ghost use Rattle.state_table.specs.declared.statetable.StateTableNewError.TheVar
 use crate::cells::{Action, cell_or_error, reduced_by, reduces_by};
 pub use crate::conflicts::Conflicts;
 use crate::conflicts::of_lists;
+use crate::dense_rows::{spread_at, spread_rows};
 use crate::graph_rows::{has_room, rows_of_graph};
 use crate::rows::look_up;
-use crate::spreads::{spread_at, spread_rows};
 use crate::state_rows::{ReduceReduce, ShiftReduce};
 use crate::stategraph::StateGraph;
 use crate::stidx::StIdx;
@@ -342,7 +342,7 @@ fn reduces_only<S: IndexStorage>(row: &[(u32, Action<S>)]) -> bool
 }
 
 /// Returns the conflicts of the lists, if one of them has an entry.
-fn listed<S: IndexStorage>(
+fn list_conflicts<S: IndexStorage>(
     pairs: Vec<ReduceReduce<S>>,
     shifts: Vec<ShiftReduce<S>>,
 ) -> Option<Conflicts<S>>
@@ -390,7 +390,7 @@ pub(crate) fn of_rows<S: IndexStorage>(
         tokens: grm.tokens_len().0,
         rules: grm.rules_len().0,
         prods: grm.prods_len().0,
-        conflicts: listed(pairs, shifts),
+        conflicts: list_conflicts(pairs, shifts),
         full_actions: Vec::new(alloc),
         full_gotos: Vec::new(alloc),
     }

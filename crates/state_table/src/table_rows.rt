@@ -9,12 +9,10 @@ ghost use Rattle.state_table.specs.TableRows.{AreRowsOf, IsTableBy, rows_of};
 
 use crate::cells::Action;
 use crate::conflicts::{Conflicts, of_lists};
-use crate::state_rows::{ReduceReduce, ShiftReduce, StateParts, state_row};
+use crate::state_rows::{ReduceReduce, RowSource, ShiftReduce, state_row};
 use crate::stidx::StIdx;
 use cfg_base::index::IndexStorage;
-use cfg_numbered::yacc::NumberedGrammar;
 use std::alloc::{AllocError, Global};
-use vob::Vob;
 
 /// The rows of the states so far, and the conflicts that are listed of them.
 #[derive(Drop)]
@@ -45,25 +43,14 @@ impl<S: IndexStorage> TableRows<S> {
     pub(crate) fn add_state(
         &mut self,
         alloc: Global,
-        grm: &NumberedGrammar<S>,
-        stidx: StIdx<S>,
-        parts: &StateParts<S>,
-        sets: &[Vob],
+        source: &RowSource<'_, S>,
         gotos: Vec<(u32, StIdx<S>)>,
     ) -> Result<(), AllocError>
-        requires { FitsParts grm.now.grammar (parts_of S.number (rows_in sets.now) parts.now) }
-        ensures { OnOk result ((all : ℕ → PartsValue) (targets : ℕ → List (ℕ × ℕ)) → all (S.number stidx.0) ≡ parts_of S.number (rows_in sets.now) parts.now → targets (S.number stidx.0) ≡ targets_of S.number gotos.items →
-            AreRowsOf grm.now.grammar (precedences_of grm.now) all targets (S.number stidx.0) (rows_of S.number self.old) → AreRowsOf grm.now.grammar (precedences_of grm.now) all targets (S.number stidx.0 + 1) (rows_of S.number self.new)) }
+        requires { FitsParts source.now.grm.now.grammar (parts_of S.number (rows_in source.now.sets.now) source.now.parts.now) }
+        ensures { OnOk result ((all : ℕ → PartsValue) (targets : ℕ → List (ℕ × ℕ)) → all (S.number source.now.stidx.0) ≡ parts_of S.number (rows_in source.now.sets.now) source.now.parts.now → targets (S.number source.now.stidx.0) ≡ targets_of S.number gotos.items →
+            AreRowsOf source.now.grm.now.grammar (precedences_of source.now.grm.now) all targets (S.number source.now.stidx.0) (rows_of S.number self.old) → AreRowsOf source.now.grm.now.grammar (precedences_of source.now.grm.now) all targets (S.number source.now.stidx.0 + 1) (rows_of S.number self.new)) }
     {
-        let row = state_row(
-            alloc,
-            grm,
-            stidx,
-            parts,
-            sets,
-            &mut self.pairs,
-            &mut self.shifts,
-        )?;
+        let row = state_row(alloc, source, &mut self.pairs, &mut self.shifts)?;
         self.actions.push(row)?;
         self.gotos.push(gotos)?;
         Ok(())

@@ -3,3 +3,4 @@ pub mod OutBut
 pub mod NoErrors
 pub mod ErrorsTold
 pub mod Begun
+pub mod GoingOn

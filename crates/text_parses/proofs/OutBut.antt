@@ -8,11 +8,11 @@ use Rattle.std.specs.Io.KnownBytes.{Appends}
 use Rattle.byte_streams.specs.Sink.{IsOutBut}
 
 -- nothing is out yet
-all_waits : (a : Option (List ℕ)) (text : List ℕ) → IsOutBut a a text text
+pub all_waits : (a : Option (List ℕ)) (text : List ℕ) → IsOutBut a a text text
 all_waits a text = record { part = []; written = Appends-nil a; is_front = refl }
 
 -- more is to be written
-more_waits : (a b : Option (List ℕ)) (text rest more : List ℕ) → IsOutBut a b text rest → IsOutBut a b (text ++ more) (rest ++ more)
+pub more_waits : (a b : Option (List ℕ)) (text rest more : List ℕ) → IsOutBut a b text rest → IsOutBut a b (text ++ more) (rest ++ more)
 more_waits a b text rest more o = record { part = o.part; written = o.written; is_front = ap (λ l. l ++ more) o.is_front ∙ append_assoc o.part rest more }
 
 -- a part of what waits goes out
@@ -22,6 +22,19 @@ less_waits a b c text rest left o p = record {
   written = Appends-trans a b c o.part p.part o.written p.written;
   is_front = o.is_front ∙ ap (λ l. o.part ++ l) p.is_front ∙ sym (append_assoc o.part p.part left);
 }
+
+-- the next part is added to what waits, of which a part goes out
+pub next_waits : (a b c : Option (List ℕ)) (text waits next more left : List ℕ) → IsOutBut a b text waits → more ≡ waits ++ next → IsOutBut b c more left → IsOutBut a c (text ++ next) left
+next_waits a b c text waits next more left o is p =
+    let Q : List ℕ → Type 0 = λ r. IsOutBut a b (text ++ next) r in
+    less_waits a b c (text ++ next) more left (subst Q (sym is) (more_waits a b text waits next o)) p
+
+-- the last part is added
+pub last_waits : (a b : Option (List ℕ)) (text waits next more all : List ℕ) → IsOutBut a b text waits → more ≡ waits ++ next → text ++ next ≡ all → IsOutBut a b all more
+last_waits a b text waits next more all o is whole =
+    let Q : List ℕ → Type 0 = λ r. IsOutBut a b (text ++ next) r in
+    let P : List ℕ → Type 0 = λ t. IsOutBut a b t more in
+    subst P whole (subst Q (sym is) (more_waits a b text waits next o))
 
 -- all that waits goes out
 pub none_waits : (a b c : Option (List ℕ)) (text rest : List ℕ) → IsOutBut a b text rest → Appends b c rest → Appends a c text

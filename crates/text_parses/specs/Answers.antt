@@ -1,109 +1,87 @@
--- What is found of a text's lexemes, and what is written of it.
-use Rattle.std.specs.Prelude.{◌≡◌, ◌≢◌, ℕ, ◌+◌, Bool, true, false, List, [], ◌∷◌, ◌++◌, codes, Option, Some, Result}
+-- What is written of a text.
+use Rattle.std.specs.Prelude.{◌≡◌, ◌≢◌, ℕ, ◌+◌, Bool, true, false, List, [], ◌++◌, Option, None, Some, Result}
 use Rattle.std.specs.Io.KnownBytes.{Appends}
-use Rattle.cfg_base.specs.SpanModel.{SpanModel}
 use Rattle.cfg_numbered.specs.Value.{GrammarValue}
 use Rattle.cfg_theory.specs.Tree.{Tree}
-use Rattle.lr_theory.specs.Repair.{Edit}
 use Rattle.parse_trees.specs.FlatLines.{CanShowTree}
-use Rattle.parse_trees.specs.FlatTrees.{FlatValue, IsFlat}
-use Rattle.parse_trees.specs.Lex.{Lex, span_by}
+use Rattle.parse_trees.specs.FlatTrees.{FlatValue, IsFlat, preorder}
+use Rattle.parse_trees.specs.Lex.{span_by}
 use Rattle.parse_trees.specs.Lexemes.{IsFirstLexError}
 use Rattle.parse_trees.specs.Shapes.{shape, tree_text}
 use Rattle.lrpar.specs.Checked.{ParserValue}
-use Rattle.lrpar.specs.FlatParses.{HasFlat}
-use Rattle.lrpar.specs.Lexers.{lex_of}
-use Rattle.lrpar.specs.declared.default_lexeme.DefaultLexeme.{DefaultLexeme}
 use Rattle.lrpar.specs.declared.parse_error.ParseError.{ParseError}
 use Rattle.lrlex.specs.Lexing.{Lexes}
 use Rattle.lrlex.specs.declared.lex_error.LRLexError.{LRLexError}
 use Rattle.maximal_munch.specs.RuleValues.{RuleSetValue}
 use Rattle.lrlex.specs.declared.bound.Meaning.{Meaning}
-use Rattle.parser_kit.specs.KitParses.{IsKitParse}
-use Rattle.repair_search.specs.FewEdits.{AreFew}
-use Rattle.text_messages.specs.Places.{SourceValue, heading, BeginsWith}
-use Rattle.text_messages.specs.declared.source.Severity.TheVariants as severities
+use Rattle.report_forms.specs.declared.parse_values.TreeNode.{TreeNode}
+use Rattle.report_forms.specs.TreeDots.{tree_graph}
+use Rattle.text_parses.specs.LineItems.{line_items}
+use Rattle.text_parses.specs.NextTokens.{TellsNext}
+use Rattle.text_parses.specs.NodeValues.{ShowsNodes}
+use Rattle.text_parses.specs.ParseObjects.{WritesObject, is_tree}
 use Rattle.text_parses.specs.declared.parsing.Parsed.{Parsed}
-use Rattle.text_parses.specs.declared.parsing.Parsed.TheVariants as found
 use Rattle.text_parses.specs.declared.form.Form.{Form}
 use Rattle.text_parses.specs.declared.form.Form.TheVariants as forms
+use Rattle.text_parses.specs.Quoted.{sexp_from}
+use Rattle.text_parses.specs.Parses.{TextLexeme, lexeme_lex, HasParse, IsParsed, placed, TellsError, TellsErrors, title_of, Asked}
 
--- numbers are stored as themselves
-abbrev pub itself : ℕ → ℕ
-itself n = n
-
-abbrev pub TextLexeme : Type 0
-TextLexeme = DefaultLexeme ℕ
-
-abbrev pub lexeme_lex : TextLexeme → Lex
-lexeme_lex = lex_of itself
-
--- what a repair makes up
-abbrev pub inserted : ℕ → ℕ → ℕ → TextLexeme
-inserted token start len = record { tok_id = token; span = record { start = start; end = start + len }; faulty = true }
-
--- what is offered at an error: at most eight sequences of at most so many edits
-abbrev pub Offers : ℕ → ℕ → ℕ → TextLexeme → List (List Edit) → Type 0
-Offers edits state index lexeme offered = AreFew edits offered
-
--- the parse of a list's lexemes, with such repairs at its errors, has this tree or none, and these errors
-abbrev pub HasParse : ParserValue → List (Result TextLexeme LRLexError) → ℕ → Option (FlatValue TextLexeme) → List (ParseError TextLexeme ℕ) → Type 0
-HasParse d items edits tree errors = IsKitParse itself lexeme_lex inserted d (Offers edits) items (HasFlat (span_by lexeme_lex) tree) errors
-
--- the tree, where the parse has no error; the list's first error, of the lexer; or those of the parser
-abbrev pub IsParsed : ParserValue → List (Result TextLexeme LRLexError) → ℕ → Parsed → Type 0
-IsParsed d items edits (found.Tree t) = HasParse d items edits (Some t) []
-IsParsed d items edits (found.Unlexed e) = IsFirstLexError items e
-IsParsed d items edits (found.Unparsed errors) = (tree : Option (FlatValue TextLexeme)) × HasParse d items edits tree errors.items × (errors.items ≢ [])
-
--- a text with its path
-abbrev pub source_of : List ℕ → List ℕ → SourceValue
-source_of path text = record { text = text; shown = text; places = []; path = path; color = false }
-
--- a text begins with the place of an error
-pub record TellsAt (source : SourceValue) (span : SpanModel) (told : List ℕ) : Type 0 where
-  pub message : List ℕ
-  pub begins : BeginsWith (heading source severities.Error span message) told
-
--- a message was written that begins with the place in the text
-pub record TellsError (source : SourceValue) (span : SpanModel) (known known' : Option (List ℕ)) : Type 0 where
-  pub told : List ℕ
-  pub begins : TellsAt source span told
-  pub written : Appends known known' told
-
--- one was written for each error, in their order
-abbrev pub TellsErrors : SourceValue → List (ParseError TextLexeme ℕ) → Option (List ℕ) → Option (List ℕ) → Type 0
-TellsErrors source [] known known' = known' ≡ known
-TellsErrors source (e ∷ es) known known' = (between : Option (List ℕ)) × TellsError source e.lexeme.span known between × TellsErrors source es between known'
-
--- what is above a tree: the path, where it is to be named
-abbrev pub title_of : Bool → List ℕ → List ℕ
-title_of false path = []
-title_of true path = path ++ codes ":\n"
-
--- a text as it is asked for: how its tree is written, whether its path is above, how many edits a repair has, its path and itself
-pub record Asked : Type 0 where
-  pub form : Form
-  pub named : Bool
-  pub edits : ℕ
-  pub path : List ℕ
-  pub text : List ℕ
-
--- the tree was written in this form: as lines, where its lexemes have texts, or not at all
+-- the tree was written in this form: as lines or as an expression, where its lexemes have texts, as a graph, or not at all
 abbrev pub WritesTree : Form → GrammarValue → Asked → FlatValue TextLexeme → Option (List ℕ) → Option (List ℕ) → Type 0
 WritesTree forms.Tree g a v known known' =
-    (t : Tree TextLexeme) → IsFlat (span_by lexeme_lex) t v.pieces → CanShowTree g lexeme_lex a.text t → Appends known known' (title_of a.named a.path ++ tree_text g lexeme_lex a.text 0 (shape g.grammar t))
-WritesTree forms.Sexp g a v known known' = Unit {0}
+    (t : Tree TextLexeme) → IsFlat (span_by lexeme_lex) t v.pieces → CanShowTree g lexeme_lex a.text t → Appends known known' (title_of a.line a.named a.path ++ tree_text g lexeme_lex a.text 0 (shape g.grammar t))
+WritesTree forms.Sexp g a v known known' =
+    (t : Tree TextLexeme) → IsFlat (span_by lexeme_lex) t v.pieces → CanShowTree g lexeme_lex a.text t → Appends known known' (title_of a.line a.named a.path ++ sexp_from g a.text v.pieces None (preorder 0 0 t))
+WritesTree forms.Dot g a v known known' = (nodes : List TreeNode) × ShowsNodes g a.text v nodes × Appends known known' (tree_graph a.path nodes)
+WritesTree forms.Json g a v known known' = Appends known known' []
 WritesTree forms.Quiet g a v known known' = Appends known known' []
 
 -- the lexemes have a tree, which is written; or the first error of the lexer is told at its place, or each one of the parser, in their order
 pub data Answers (d : ParserValue) (items : List (Result TextLexeme LRLexError)) (a : Asked) (known known' : Option (List ℕ)) : Bool → Type 0 where
   parsed : (v : FlatValue TextLexeme) → HasParse d items a.edits (Some v) [] → WritesTree a.form d.grammar a v known known' → Answers d items a known known' true
-  unlexed : (e : LRLexError) → IsFirstLexError items e → TellsError (source_of a.path a.text) e.span known known' → Answers d items a known known' false
-  unparsed : (tree : Option (FlatValue TextLexeme)) (errors : List (ParseError TextLexeme ℕ)) → HasParse d items a.edits tree errors → errors ≢ [] → TellsErrors (source_of a.path a.text) errors known known' → Answers d items a known known' false
+  unlexed : (e : LRLexError) → IsFirstLexError items e → TellsError a.source (placed a.start e.span) known known' → Answers d items a known known' false
+  unparsed : (tree : Option (FlatValue TextLexeme)) (errors : List (ParseError TextLexeme ℕ)) → HasParse d items a.edits tree errors → errors ≢ [] → TellsErrors a.source a.start errors known known' → Answers d items a known known' false
 
--- the same of the text's lexemes by these rules
+-- what is found of the lexemes is written as an object
+pub record AnswersObject (d : ParserValue) (items : List (Result TextLexeme LRLexError)) (a : Asked) (known known' : Option (List ℕ)) (well : Bool) : Type 0 where
+  pub parsed : Parsed
+  pub is : IsParsed d items a.edits parsed
+  pub writes : WritesObject d.grammar a parsed known known'
+  pub well_is : well ≡ is_tree parsed
+
+-- the answer in the form that is asked for
+abbrev pub AnswersIn : Form → ParserValue → List (Result TextLexeme LRLexError) → Asked → Option (List ℕ) → Option (List ℕ) → Bool → Type 0
+AnswersIn forms.Tree d items a known known' well = Answers d items a known known' well
+AnswersIn forms.Sexp d items a known known' well = Answers d items a known known' well
+AnswersIn forms.Dot d items a known known' well = Answers d items a known known' well
+AnswersIn forms.Json d items a known known' well = AnswersObject d items a known known' well
+AnswersIn forms.Quiet d items a known known' well = Answers d items a known known' well
+
+-- whether the tokens that may come are told behind the rest; an object has them
+abbrev pub is_noted : Form → Bool → Bool
+is_noted forms.Tree next = next
+is_noted forms.Sexp next = next
+is_noted forms.Dot next = next
+is_noted forms.Json next = false
+is_noted forms.Quiet next = next
+
+-- they are told, or nothing is
+abbrev pub TellsNextIf : Bool → ParserValue → List (Result TextLexeme LRLexError) → Asked → Option (List ℕ) → Option (List ℕ) → Type 0
+TellsNextIf true d items a known known' = TellsNext d items a.source known known'
+TellsNextIf false d items a known known' = known' ≡ known
+
+-- the answer to these lexemes, and then the tokens that may come
+pub record AnswersItems (d : ParserValue) (items : List (Result TextLexeme LRLexError)) (a : Asked) (known known' : Option (List ℕ)) (well : Bool) : Type 0 where
+  pub between : Option (List ℕ)
+  pub answers : AnswersIn a.form d items a known between well
+  pub next : TellsNextIf (is_noted a.form a.next) d items a between known'
+
+-- the answer to the text's lexemes by these rules
 pub record AnswersText (d : ParserValue) (rules : RuleSetValue) (meanings : List (Meaning ℕ)) (a : Asked) (known known' : Option (List ℕ)) (well : Bool) : Type 0 where
   pub items : List (Result TextLexeme LRLexError)
   pub lexes : Lexes rules meanings a.text items
-  pub answers : Answers d items a known known' well
+  pub answers : AnswersItems d items a known known' well
+
+-- the answer to the words of a line
+pub record AnswersLine (d : ParserValue) (a : Asked) (known known' : Option (List ℕ)) (well : Bool) : Type 0 where
+  pub answers : AnswersItems d (line_items d.grammar a.text) a known known' well

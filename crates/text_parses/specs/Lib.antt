@@ -1,4 +1,9 @@
+pub mod AnswerFaults
 pub mod Answers
 pub mod AskedTexts
+pub mod LineItems
+pub mod NextTokens
+pub mod NodeValues
+pub mod ParseObjects
+pub mod Parses
 pub mod Quoted
-pub mod AnswerFaults

@@ -1,11 +1,12 @@
 -- Texts in quotes, and the nodes of a tree as an expression.
-use Rattle.std.specs.Prelude.{ℕ, zero, suc, ◌-◌, replicate, ◌==◌, if◌then◌else◌, List, [], ◌∷◌, ◌++◌, slice_range, Option, None, Some}
+use Rattle.std.specs.Prelude.{ℕ, zero, suc, ◌-◌, replicate, ◌==◌, if◌then◌else◌, nat_lt, slice_get, List, [], ◌∷◌, ◌++◌, slice_range, Option, None, Some}
 use Rattle.std.specs.List.{flat_map}
 use Rattle.cfg_theory.specs.Grammar.{head_of}
 use Rattle.cfg_numbered.specs.Value.{GrammarValue}
 use Rattle.parse_trees.specs.FlatTrees.{Piece, nonterm, term}
+use Rattle.parse_trees.specs.declared.flat.Visit.{Visit}
 use Rattle.parse_trees.specs.Shapes.{rule_text, token_text}
-use Rattle.text_parses.specs.Answers.{TextLexeme, lexeme_lex}
+use Rattle.text_parses.specs.Parses.{TextLexeme, lexeme_lex}
 
 -- what is behind the backslash for a quote, a backslash and an LF
 abbrev pub letter_of : ℕ → Option ℕ
@@ -42,6 +43,16 @@ abbrev pub space_at : ℕ → List ℕ
 space_at zero = []
 space_at (suc depth) = 32 ∷ []
 
--- a node behind those that are open: the ones from its depth on are closed
-abbrev pub node_head : GrammarValue → List ℕ → ℕ → ℕ → Option (Piece TextLexeme) → List ℕ
-node_head g input open_count depth piece = (replicate (open_count - depth) 41 ++ space_at depth) ++ piece_head g input piece
+-- behind a node of this depth, if there is one, all that are open from a depth on are closed
+abbrev pub closed_from : Option ℕ → ℕ → List ℕ
+closed_from None depth = []
+closed_from (Some last) depth = if nat_lt last depth then [] else (41 ∷ replicate (last - depth) 41)
+
+-- a node's beginning behind the node before, of this depth
+abbrev pub node_head : GrammarValue → List ℕ → Option ℕ → ℕ → Option (Piece TextLexeme) → List ℕ
+node_head g input last depth piece = (closed_from last depth ++ space_at depth) ++ piece_head g input piece
+
+-- visited nodes behind one of this depth, and the end of the line
+abbrev pub sexp_from : GrammarValue → List ℕ → List (Piece TextLexeme) → Option ℕ → List Visit → List ℕ
+sexp_from g input pieces last [] = closed_from last 0 ++ 10 ∷ []
+sexp_from g input pieces last (v ∷ vs) = node_head g input last v.depth (slice_get pieces v.index) ++ sexp_from g input pieces (Some v.depth) vs

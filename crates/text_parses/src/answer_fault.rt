@@ -15,6 +15,8 @@ pub enum AnswerFault {
     Lexemes,
     /// The request for memory that was refused.
     Memory(AllocError),
+    /// Memory was refused to what writes an object.
+    Unwritten,
 }
 
 impl From<AllocError> for AnswerFault {

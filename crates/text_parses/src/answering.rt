@@ -1,24 +1,38 @@
 //! The answer to a text: its tree, or its errors.
 
-ghost use Rattle.std.specs.Prelude.{◌≡◌, IfOk, OnOk};
+ghost use Rattle.std.specs.Prelude.{◌≡◌, None, Some, IfOk, OnOk};
 ghost use Rattle.lrlex.specs.Lexing.{bound_meanings, bound_rules};
-ghost use Rattle.text_parses.specs.Answers.{Answers, AnswersText, IsParsed, WritesTree, title_of};
-ghost use Rattle.text_parses.specs.AskedTexts.{asked_of};
+ghost use Rattle.text_parses.specs.Answers.{Answers, AnswersIn, AnswersItems, AnswersLine, AnswersObject, AnswersText, TellsNextIf, WritesTree, is_noted};
+ghost use Rattle.text_parses.specs.Parses.{IsParsed, title_of};
+ghost use Rattle.text_parses.specs.AskedTexts.{asked_in, asked_of, asked_of_line};
 
 use crate::answer_fault::AnswerFault;
 use crate::errors::{write_errors, write_lex_error};
-use crate::form::{Form, Input};
+use crate::form::{FileLine, Form, Input, Shown};
 use crate::names::Grammar;
+use crate::next::write_next;
+use crate::objects::write_object;
 use crate::parsing::{Parsed, WordLexer, WordTree, parse_lexed};
-use crate::trees::{write_lines, write_sexp};
+use crate::trees::{write_dot, write_lines, write_sexp};
+use crate::words::lex_line;
 use byte_streams::Sink;
 use lrlex::BoundRules;
 use parser_kit::ParserKit;
 use std::alloc::{AllocError, Global};
+use text_messages::Source;
 
-/// Returns what is above a tree: the path, if it is to be named.
-fn title_of(alloc: Global, input: Input<'_>) -> Result<Vec<u8>, AllocError>
-    ensures { IfOk result (λ v. v.items ≡ title_of input.entry.named input.entry.path.now) }
+/// Returns what is above the tree of a line.
+fn line_title(alloc: Global, input: Input<'_>, line: usize) -> Result<Vec<u8>, AllocError>
+    ensures { IfOk result (λ v. v.items ≡ title_of (Some line) input.entry.named input.entry.path.now) }
+{
+    let path = input.path;
+    let title = format!(in alloc; "{path}:{line}:\n")?;
+    Ok(title.into_bytes())
+}
+
+/// Returns what is above the tree of a text: the path, if it is to be named.
+fn path_title(alloc: Global, input: Input<'_>) -> Result<Vec<u8>, AllocError>
+    ensures { IfOk result (λ v. v.items ≡ title_of None input.entry.named input.entry.path.now) }
 {
     let mut text = Vec::new(alloc);
     if input.named {
@@ -28,20 +42,32 @@ fn title_of(alloc: Global, input: Input<'_>) -> Result<Vec<u8>, AllocError>
     Ok(text)
 }
 
+/// Returns what is above a tree.
+fn title_of(alloc: Global, shown: Shown<'_>) -> Result<Vec<u8>, AllocError>
+    ensures { IfOk result (λ v. v.items ≡ title_of shown.entry.line shown.entry.input.named shown.entry.input.path.now) }
+{
+    match shown.line {
+        Some(line) => line_title(alloc, shown.input, line),
+        None => path_title(alloc, shown.input),
+    }
+}
+
 /// Writes a tree in the form that is asked for, below the path if it is to be named.
 fn write_tree<W: Sink>(
     alloc: Global,
     grm: &Grammar,
-    input: Input<'_>,
+    shown: Shown<'_>,
     tree: &WordTree,
     out: &mut W,
 ) -> Result<(), AnswerFault>
-    ensures { OnOk result (WritesTree input.entry.form grm.now (asked_of input.entry) tree.now (W.known out.old) (W.known out.new)) }
+    ensures { OnOk result (WritesTree shown.entry.input.form grm.now (asked_in shown.entry) tree.now (W.known out.old) (W.known out.new)) }
 {
-    let mut text = title_of(alloc, input)?;
-    match input.form {
-        Form::Tree => write_lines(alloc, grm, input.text, tree, &mut text, out),
-        Form::Sexp => write_sexp(alloc, grm, input.text, tree, &mut text, out),
+    let mut text = title_of(alloc, shown)?;
+    match shown.input.form {
+        Form::Tree => write_lines(alloc, grm, shown.input.text, tree, &mut text, out),
+        Form::Sexp => write_sexp(alloc, grm, shown.input.text, tree, &mut text, out),
+        Form::Dot => write_dot(alloc, grm, shown, tree, out),
+        Form::Json => Ok(()),
         Form::Quiet => Ok(()),
     }
 }
@@ -50,44 +76,121 @@ fn write_tree<W: Sink>(
 fn write_parsed<W: Sink>(
     alloc: Global,
     kit: &ParserKit<u32>,
-    input: Input<'_>,
+    shown: Shown<'_>,
     lexer: &WordLexer<'_>,
     parsed: &Parsed,
     out: &mut W,
 ) -> Result<bool, AnswerFault>
-    requires { IsParsed kit.now.parser lexer.now.items input.edits parsed.now }
-    ensures { IfOk result (Answers kit.now.parser lexer.now.items (asked_of input.entry) (W.known out.old) (W.known out.new)) }
+    requires { IsParsed kit.now.parser lexer.now.items shown.input.edits parsed.now }
+    ensures { IfOk result (Answers kit.now.parser lexer.now.items (asked_in shown.entry) (W.known out.old) (W.known out.new)) }
 {
     match parsed {
         Parsed::Tree(tree) => {
-            write_tree(alloc, kit.grm(), input, tree, out)?;
+            write_tree(alloc, kit.grm(), shown, tree, out)?;
             Ok(true)
         }
         Parsed::Unlexed(error) => {
-            write_lex_error(alloc, input, *error, out)?;
+            write_lex_error(alloc, shown, *error, out)?;
             Ok(false)
         }
         Parsed::Unparsed(errors) => {
-            write_errors(alloc, kit, input, lexer, errors.as_slice(), out)?;
+            write_errors(alloc, kit, shown, lexer, errors.as_slice(), out)?;
             Ok(false)
         }
     }
+}
+
+/// Writes what is found of a text's lexemes as an object, and returns whether that is a tree.
+fn write_as_object<W: Sink>(
+    alloc: Global,
+    kit: &ParserKit<u32>,
+    shown: Shown<'_>,
+    lexer: &WordLexer<'_>,
+    parsed: &Parsed,
+    out: &mut W,
+) -> Result<bool, AnswerFault>
+    requires { IsParsed kit.now.parser lexer.now.items shown.input.edits parsed.now }
+    ensures { IfOk result (AnswersObject kit.now.parser lexer.now.items (asked_in shown.entry) (W.known out.old) (W.known out.new)) }
+{
+    write_object(alloc, kit, shown, lexer, parsed, out)?;
+    Ok(parsed.is_tree())
+}
+
+/// Writes what is found of a text's lexemes in the form that is asked for, and returns whether that is a tree.
+fn write_found<W: Sink>(
+    alloc: Global,
+    kit: &ParserKit<u32>,
+    shown: Shown<'_>,
+    lexer: &WordLexer<'_>,
+    parsed: &Parsed,
+    out: &mut W,
+) -> Result<bool, AnswerFault>
+    requires { IsParsed kit.now.parser lexer.now.items shown.input.edits parsed.now }
+    ensures { IfOk result (AnswersIn shown.entry.input.form kit.now.parser lexer.now.items (asked_in shown.entry) (W.known out.old) (W.known out.new)) }
+{
+    match shown.input.form {
+        Form::Json => write_as_object(alloc, kit, shown, lexer, parsed, out),
+        Form::Tree | Form::Sexp | Form::Dot | Form::Quiet => {
+            write_parsed(alloc, kit, shown, lexer, parsed, out)
+        }
+    }
+}
+
+/// Returns whether the tokens that may come are written behind the rest.
+fn is_noted(shown: Shown<'_>) -> bool
+    ensures { result ≡ is_noted shown.entry.input.form shown.entry.input.next }
+{
+    match shown.input.form {
+        Form::Json => false,
+        Form::Tree | Form::Sexp | Form::Dot | Form::Quiet => shown.input.next,
+    }
+}
+
+/// Writes which tokens may come at the first error of a text, else at its end, if they are asked for.
+fn write_next_if<W: Sink>(
+    alloc: Global,
+    kit: &ParserKit<u32>,
+    shown: Shown<'_>,
+    lexer: &WordLexer<'_>,
+    out: &mut W,
+) -> Result<(), AnswerFault>
+    ensures { OnOk result (TellsNextIf (is_noted shown.entry.input.form shown.entry.input.next) kit.now.parser lexer.now.items (asked_in shown.entry) (W.known out.old) (W.known out.new)) }
+{
+    if is_noted(shown) {
+        return write_next(alloc, kit, shown, lexer, out);
+    }
+    Ok(())
 }
 
 /// Parses the lexemes of a text, writes its tree or its errors, and returns whether it has a tree.
 fn answer_lexed<W: Sink>(
     alloc: Global,
     kit: &ParserKit<u32>,
-    input: Input<'_>,
+    shown: Shown<'_>,
     lexer: &WordLexer<'_>,
     out: &mut W,
 ) -> Result<bool, AnswerFault>
-    ensures { IfOk result (Answers kit.now.parser lexer.now.items (asked_of input.entry) (W.known out.old) (W.known out.new)) }
+    ensures { IfOk result (AnswersIn shown.entry.input.form kit.now.parser lexer.now.items (asked_in shown.entry) (W.known out.old) (W.known out.new)) }
 {
-    let parsed = parse_lexed(alloc, kit, lexer, input.edits)?;
-    let wrote = write_parsed(alloc, kit, input, lexer, &parsed, out);
+    let parsed = parse_lexed(alloc, kit, lexer, shown.input.edits)?;
+    let wrote = write_found(alloc, kit, shown, lexer, &parsed, out);
     drop(parsed);
     wrote
+}
+
+/// Writes the tree or the errors of a text, and then which tokens may come if they are asked for. Returns whether it has a tree.
+fn answer_items<W: Sink>(
+    alloc: Global,
+    kit: &ParserKit<u32>,
+    shown: Shown<'_>,
+    lexer: &WordLexer<'_>,
+    out: &mut W,
+) -> Result<bool, AnswerFault>
+    ensures { IfOk result (AnswersItems kit.now.parser lexer.now.items (asked_in shown.entry) (W.known out.old) (W.known out.new)) }
+{
+    let well = answer_lexed(alloc, kit, shown, lexer, out)?;
+    write_next_if(alloc, kit, shown, lexer, out)?;
+    Ok(well)
 }
 
 /// Lexes and parses a text, writes its tree or its errors, and returns whether it has a tree.
@@ -101,7 +204,38 @@ pub fn answer_text<W: Sink>(
     ensures { IfOk result (AnswersText kit.now.parser (bound_rules bound.now) (bound_meanings bound.now) (asked_of input.entry) (W.known out.old) (W.known out.new)) }
 {
     let lexer = bound.lex(alloc, input.text)?;
-    let answered = answer_lexed(alloc, kit, input, &lexer, out);
+    let source = Source::new(alloc, input.text, input.path)?;
+    let shown = Shown {
+        input,
+        source: &source,
+        start: 0,
+        line: None,
+    };
+    let answered = answer_items(alloc, kit, shown, &lexer, out);
+    drop(source);
+    drop(lexer);
+    answered
+}
+
+/// Parses a line of token names as `answer_text` does a text. Words are the nonempty parts between spaces (U+0020 alone); one that
+/// is no token's name is an error of the lexer. Messages show the file; its lines are numbered above trees.
+pub fn answer_line<W: Sink>(
+    alloc: Global,
+    kit: &ParserKit<u32>,
+    line: FileLine<'_>,
+    input: Input<'_>,
+    out: &mut W,
+) -> Result<bool, AnswerFault>
+    ensures { IfOk result (AnswersLine kit.now.parser (asked_of_line input.entry line.entry) (W.known out.old) (W.known out.new)) }
+{
+    let lexer = lex_line(alloc, kit.grm(), input.text)?;
+    let shown = Shown {
+        input,
+        source: line.source,
+        start: line.start,
+        line: Some(line.number),
+    };
+    let answered = answer_items(alloc, kit, shown, &lexer, out);
     drop(lexer);
     answered
 }

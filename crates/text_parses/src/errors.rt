@@ -3,11 +3,11 @@
 ghost use Rattle.std.specs.Prelude.{◌≡◌, ◌++◌, IfOk, OnOk, string_bytes};
 ghost use Rattle.text_messages.specs.Places.{BeginsWith, SourceValue, heading};
 ghost use Rattle.text_messages.specs.declared.source.Severity.TheVariants as severities;
-ghost use Rattle.text_parses.specs.Answers.{TellsAt, TellsError, TellsErrors, source_of};
+ghost use Rattle.text_parses.specs.Parses.{TellsAt, TellsError, TellsErrors, behind, placed};
 
 use crate::answer_fault::AnswerFault;
 use crate::expected::Reader;
-use crate::form::Input;
+use crate::form::Shown;
 use crate::listing::push_repairs;
 use crate::names::Grammar;
 use crate::parsing::{WordError, WordLexer};
@@ -19,12 +19,30 @@ use std::alloc::{AllocError, Global};
 use text_messages::{Severity, Source};
 
 /// Returns what a lexing error says.
-fn lex_message(error: LRLexError) -> &'static str {
+pub(crate) fn lex_message(shown: Shown<'_>, error: LRLexError) -> &'static str {
     match error.kind {
         LexErrorKind::NoMatch => "no rule of the lexer matches here",
-        LexErrorKind::UnknownName =>
-            "a rule of the lexer matches here whose name is no token of the grammar",
+        LexErrorKind::UnknownName => match shown.line {
+            Some(_) => "no token has this name",
+            None => "a rule of the lexer matches here whose name is no token of the grammar",
+        },
     }
+}
+
+/// Returns an offset behind another one.
+fn behind(start: usize, at: usize) -> usize
+    ensures { result ≡ behind start at }
+{
+    start.saturating_add(at)
+}
+
+/// Returns a span of a text as one of what shows it, in which the text begins at an offset.
+pub(crate) fn span_in_source(start: usize, span: Span) -> Span
+    ensures { result ≡ placed start span }
+{
+    let first = behind(start, span.start());
+    let last = behind(start, span.end());
+    Span::new(first, first.max(last))
 }
 
 /// Returns a message about a place of a text.
@@ -44,16 +62,14 @@ fn message_at(
 /// Writes the error of the lexer.
 pub(crate) fn write_lex_error<W: Sink>(
     alloc: Global,
-    input: Input<'_>,
+    shown: Shown<'_>,
     error: LRLexError,
     out: &mut W,
 ) -> Result<(), AnswerFault>
-    ensures { OnOk result (TellsError (source_of input.entry.path.now input.entry.text.now) error.span (W.known out.old) (W.known out.new)) }
+    ensures { OnOk result (TellsError shown.entry.source.now (placed shown.entry.start error.span) (W.known out.old) (W.known out.new)) }
 {
-    let source = Source::new(alloc, input.text, input.path)?;
-    let text = message_at(alloc, &source, error.span, lex_message(error));
-    drop(source);
-    let text = text?;
+    let span = span_in_source(shown.start, error.span);
+    let text = message_at(alloc, shown.source, span, lex_message(shown, error))?;
     write_all(out, text.as_bytes())?;
     Ok(())
 }
@@ -62,12 +78,12 @@ pub(crate) fn write_lex_error<W: Sink>(
 fn listing_of(
     alloc: Global,
     grm: &Grammar,
-    input: Input<'_>,
+    shown: Shown<'_>,
     error: &WordError,
 ) -> Result<String, AllocError> {
     let mut text = String::new(alloc);
-    if input.listed {
-        push_repairs(alloc, &mut text, grm, input.text, error)?;
+    if shown.input.listed {
+        push_repairs(alloc, &mut text, grm, shown.input.text, error)?;
     }
     Ok(text)
 }
@@ -76,15 +92,15 @@ fn listing_of(
 fn error_text(
     alloc: Global,
     reader: &mut Reader<'_>,
-    source: &Source<'_>,
-    input: Input<'_>,
+    shown: Shown<'_>,
     error: &WordError,
 ) -> Result<String, AllocError>
-    ensures { IfOk result (λ t. TellsAt source.now error.now.lexeme.span (string_bytes t)) }
+    ensures { IfOk result (λ t. TellsAt shown.entry.source.now (placed shown.entry.start error.now.lexeme.span) (string_bytes t)) }
 {
     let message = reader.message(alloc, error)?;
-    let mut text = message_at(alloc, source, error.lexeme.span, message.as_str())?;
-    let listing = listing_of(alloc, reader.grm(), input, error)?;
+    let span = span_in_source(shown.start, error.lexeme.span);
+    let mut text = message_at(alloc, shown.source, span, message.as_str())?;
+    let listing = listing_of(alloc, reader.grm(), shown, error)?;
     text.push_str(listing.as_str())?;
     Ok(text)
 }
@@ -93,14 +109,13 @@ fn error_text(
 fn write_error<W: Sink>(
     alloc: Global,
     reader: &mut Reader<'_>,
-    source: &Source<'_>,
-    input: Input<'_>,
+    shown: Shown<'_>,
     error: &WordError,
     out: &mut W,
 ) -> Result<(), AnswerFault>
-    ensures { OnOk result (TellsError source.now error.now.lexeme.span (W.known out.old) (W.known out.new)) }
+    ensures { OnOk result (TellsError shown.entry.source.now (placed shown.entry.start error.now.lexeme.span) (W.known out.old) (W.known out.new)) }
 {
-    let text = error_text(alloc, reader, source, input, error)?;
+    let text = error_text(alloc, reader, shown, error)?;
     write_all(out, text.as_bytes())?;
     Ok(())
 }
@@ -109,15 +124,14 @@ fn write_error<W: Sink>(
 fn write_each<W: Sink>(
     alloc: Global,
     reader: &mut Reader<'_>,
-    source: &Source<'_>,
-    input: Input<'_>,
+    shown: Shown<'_>,
     errors: &[WordError],
     out: &mut W,
 ) -> Result<(), AnswerFault>
-    ensures { OnOk result (TellsErrors source.now errors.now (W.known out.old) (W.known out.new)) }
+    ensures { OnOk result (TellsErrors shown.entry.source.now shown.entry.start errors.now (W.known out.old) (W.known out.new)) }
 {
     'errors: for index in 0..errors.len() {
-        write_error(alloc, reader, source, input, &errors[index], out)?;
+        write_error(alloc, reader, shown, &errors[index], out)?;
     }
     Ok(())
 }
@@ -126,17 +140,15 @@ fn write_each<W: Sink>(
 pub(crate) fn write_errors<W: Sink>(
     alloc: Global,
     kit: &ParserKit<u32>,
-    input: Input<'_>,
+    shown: Shown<'_>,
     lexer: &WordLexer<'_>,
     errors: &[WordError],
     out: &mut W,
 ) -> Result<(), AnswerFault>
-    ensures { OnOk result (TellsErrors (source_of input.entry.path.now input.entry.text.now) errors.now (W.known out.old) (W.known out.new)) }
+    ensures { OnOk result (TellsErrors shown.entry.source.now shown.entry.start errors.now (W.known out.old) (W.known out.new)) }
 {
     let mut reader = Reader::new(alloc, kit, lexer)?;
-    let source = Source::new(alloc, input.text, input.path)?;
-    let wrote = write_each(alloc, &mut reader, &source, input, errors, out);
-    drop(source);
+    let wrote = write_each(alloc, &mut reader, shown, errors, out);
     drop(reader);
     wrote
 }

@@ -79,7 +79,7 @@ impl<'a> Reader<'a> {
     }
 
     /// Lends the grammar.
-    pub(crate) fn grm(&self) -> &Grammar {
+    pub(crate) fn grm(&self) -> &'a Grammar {
         self.kit.grm()
     }
 
@@ -129,7 +129,7 @@ impl<'a> Reader<'a> {
     }
 
     /// Returns the tokens that may come at an error, and goes behind its first repair.
-    fn expected(&mut self, alloc: Global, error: &WordError) -> Result<Vob, AllocError> {
+    pub(crate) fn expected(&mut self, alloc: Global, error: &WordError) -> Result<Vob, AllocError> {
         self.read_before(error.lexeme.span.start())?;
         let bits = self.prefix.next_tokens(alloc)?;
         if let Some(first) = error.repairs.first() {
@@ -144,18 +144,28 @@ impl<'a> Reader<'a> {
         alloc: Global,
         error: &WordError,
     ) -> Result<String, AllocError> {
-        let mut text = String::from_str(alloc, "unexpected ")?;
-        push_token(&mut text, self.kit.grm(), TIdx(error.lexeme.tok_id))?;
         let bits = self.expected(alloc, error)?;
-        push_expected(alloc, &mut text, self.kit, &bits)?;
-        Ok(text)
+        message_of(alloc, self.kit.grm(), error, &bits)
     }
 }
 
+/// Returns what is wrong at an error, where the tokens may come whose bits are set.
+pub(crate) fn message_of(
+    alloc: Global,
+    grm: &Grammar,
+    error: &WordError,
+    bits: &Vob,
+) -> Result<String, AllocError> {
+    let mut text = String::from_str(alloc, "unexpected ")?;
+    push_token(&mut text, grm, TIdx(error.lexeme.tok_id))?;
+    push_expected(alloc, &mut text, grm, bits)?;
+    Ok(text)
+}
+
 /// Returns how many tokens have set bits.
-fn count_of(kit: &ParserKit<u32>, bits: &Vob) -> usize {
+fn count_of(grm: &Grammar, bits: &Vob) -> usize {
     let mut count: usize = 0;
-    'tokens: for token in 0..kit.grm().tokens_len().0.to_usize() {
+    'tokens: for token in 0..grm.tokens_len().0.to_usize() {
         if bits.get(token) == Some(true) {
             count = count.saturating_add(1);
         }
@@ -164,12 +174,12 @@ fn count_of(kit: &ParserKit<u32>, bits: &Vob) -> usize {
 }
 
 /// Adds the first tokens whose bits are set.
-fn push_first(text: &mut String, kit: &ParserKit<u32>, bits: &Vob) -> Result<(), AllocError> {
+fn push_first(text: &mut String, grm: &Grammar, bits: &Vob) -> Result<(), AllocError> {
     let mut count: usize = 0;
-    'tokens: for token in 0..kit.grm().tokens_len().0.to_usize() {
+    'tokens: for token in 0..grm.tokens_len().0.to_usize() {
         if bits.get(token) == Some(true) && count < MOST_NAMED {
             text.push_str(if count > 0 { ", " } else { " " })?;
-            push_token(text, kit.grm(), kit.grm().token_at(token))?;
+            push_token(text, grm, grm.token_at(token))?;
             count = count.saturating_add(1);
         }
     }
@@ -180,10 +190,10 @@ fn push_first(text: &mut String, kit: &ParserKit<u32>, bits: &Vob) -> Result<(),
 fn push_expected(
     alloc: Global,
     text: &mut String,
-    kit: &ParserKit<u32>,
+    grm: &Grammar,
     bits: &Vob,
 ) -> Result<(), AllocError> {
-    let count = count_of(kit, bits);
+    let count = count_of(grm, bits);
     if count == 0 {
         return Ok(());
     }
@@ -192,7 +202,7 @@ fn push_expected(
     } else {
         ", expected one of:"
     })?;
-    push_first(text, kit, bits)?;
+    push_first(text, grm, bits)?;
     let more = count.saturating_sub(MOST_NAMED);
     if more > 0 {
         let words = format!(in alloc; " and {more} more")?;

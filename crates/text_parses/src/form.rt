@@ -1,5 +1,7 @@
 //! What is asked of a text.
 
+use text_messages::Source;
+
 /// How a tree is written.
 #[derive(Clone, Copy, Debug, PartialEq, Eq)]
 pub enum Form {
@@ -7,6 +9,10 @@ pub enum Form {
     Tree,
     /// One expression, on a line.
     Sexp,
+    /// As a graph.
+    Dot,
+    /// Within a JSON object, with all that is said of the text.
+    Json,
     /// Not at all.
     Quiet,
 }
@@ -26,4 +32,28 @@ pub struct Input<'a> {
     pub edits: usize,
     /// Whether the repairs of each error are listed below it.
     pub listed: bool,
+    /// Whether the tokens are told that may come at the first error, else at the end.
+    pub next: bool,
+}
+
+/// Where a line is.
+#[derive(Clone, Copy)]
+pub struct FileLine<'a> {
+    /// The file.
+    pub source: &'a Source<'a>,
+    /// The offset at which the line begins.
+    pub start: usize,
+    /// The line's number, from 1.
+    pub number: usize,
+}
+
+/// What is asked of a text, and where messages show it.
+#[derive(Clone, Copy)]
+pub(crate) struct Shown<'a> {
+    pub(crate) input: Input<'a>,
+    pub(crate) source: &'a Source<'a>,
+    /// The offset at which the text begins in the source.
+    pub(crate) start: usize,
+    /// The number of the line that is the text.
+    pub(crate) line: Option<usize>,
 }

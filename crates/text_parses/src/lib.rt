@@ -15,14 +15,14 @@
 //!     text: &str,
 //!     out: &mut W,
 //! ) -> Result<bool, AnswerFault> {
-//!     let input = Input { path: "text", text, form: Form::Tree, named: false, edits: 3, listed: false };
+//!     let input = Input { path: "text", text, form: Form::Tree, named: false, edits: 3, listed: false, next: false };
 //!     answer_text(alloc, kit, bound, input, out)
 //! }
 //! ```
 //!
 //! A text's lexemes are its parts by the longest match (`lrlex`). Where they have no error, their tree is written in the form that
-//! is asked for; else a message for each error, in their order. A parse goes on behind an error by the first repair that
-//! `repair_search` finds there. `specs/Answers` says what is written.
+//! is asked for; else a message for each error, in their order. `Form::Json` has an object for either. A parse goes on behind an error by the first repair that
+//! `repair_search` finds there. `answer_line` takes the words of a line in place of a lexer's parts. `specs/Answers` says what is written.
 #![tactic(auto)]
 
 mod answer_fault;
@@ -33,12 +33,16 @@ mod form;
 mod lines;
 mod listing;
 mod names;
+mod next;
+mod nodes;
+mod objects;
 mod parsing;
 mod repeated;
 mod sexps;
 mod trees;
+mod words;
 
 pub use answer_fault::AnswerFault;
-pub use answering::answer_text;
-pub use form::{Form, Input};
+pub use answering::{answer_line, answer_text};
+pub use form::{FileLine, Form, Input};
 pub use names::{Grammar, token_name};

@@ -5,7 +5,7 @@ ghost use Rattle.cfg_theory.specs.Grammar.{head_of};
 ghost use Rattle.parse_trees.specs.FlatLines.{CanShowPiece, piece_line, visit_line};
 ghost use Rattle.parse_trees.specs.FlatTrees.{piece_of, pieces_of};
 ghost use Rattle.parse_trees.specs.Shapes.{HasText, lexeme_line, rule_line};
-ghost use Rattle.text_parses.specs.Answers.{itself, lexeme_lex};
+ghost use Rattle.text_parses.specs.Parses.{itself, lexeme_lex};
 
 use crate::names::{Grammar, rule_name, token_name};
 use crate::repeated::push_repeated;

@@ -4,8 +4,11 @@ ghost use Rattle.std.specs.Prelude.{◌≡◌, ◌<◌, length};
 ghost use Rattle.cfg_theory.specs.Grammar.{end_token, head_of};
 ghost use Rattle.parse_trees.specs.Shapes.{rule_text, token_text};
 
+use cfg_base::index::IndexStorage;
 use cfg_base::symbol::{PIdx, TIdx};
 use cfg_numbered::yacc::NumberedGrammar;
+use std::alloc::{AllocError, Global};
+use vob::Vob;
 
 /// A grammar with its names.
 pub type Grammar = NumberedGrammar<u32>;
@@ -25,6 +28,16 @@ pub fn token_name(grm: &Grammar, tidx: TIdx<u32>) -> &str
     }
 }
 
+/// Returns the name of a token, the end token's as `$`.
+pub(crate) fn shown_token(grm: &Grammar, tidx: TIdx<u32>) -> &str
+    ensures { tidx.0 < end_token grm.now.grammar → result.now ≡ token_text grm.now tidx.0 }
+{
+    if tidx == grm.eof_token_idx() {
+        return "$";
+    }
+    token_name(grm, tidx)
+}
+
 /// Returns the name of the rule of a production; nothing for one that the grammar lacks.
 pub fn rule_name(grm: &Grammar, pidx: PIdx<u32>) -> &str
     ensures { pidx.0 < length grm.now.grammar.productions → result.now ≡ rule_text grm.now (head_of grm.now.grammar pidx.0) }
@@ -39,4 +52,19 @@ pub fn rule_name(grm: &Grammar, pidx: PIdx<u32>) -> &str
         return "";
     }
     grm.rule_name_str(ridx)
+}
+
+/// Returns the names of the tokens whose bits are set.
+pub(crate) fn names_of<'a>(
+    alloc: Global,
+    grm: &'a Grammar,
+    bits: &Vob,
+) -> Result<Vec<&'a str>, AllocError> {
+    let mut names = Vec::new(alloc);
+    'tokens: for token in 0..grm.tokens_len().0.to_usize() {
+        if bits.get(token) == Some(true) {
+            names.push(shown_token(grm, grm.token_at(token)))?;
+        }
+    }
+    Ok(names)
 }

@@ -3,7 +3,8 @@
 ghost use Rattle.std.specs.Prelude.{◌≡◌, IfErr, IfOk};
 ghost use Rattle.parse_trees.specs.Refusals.{IsParseRefusal};
 ghost use Rattle.repair_search.specs.FewEdits.{most_edits};
-ghost use Rattle.text_parses.specs.Answers.{IsParsed, lexeme_lex};
+ghost use Rattle.text_parses.specs.ParseObjects.{is_tree};
+ghost use Rattle.text_parses.specs.Parses.{IsParsed, lexeme_lex};
 
 use cfg_base::symbol::TIdx;
 use lrlex::{DefaultLexeme, DefaultLexerTypes, LRLexError, LRNonStreamingLexer};
@@ -33,6 +34,15 @@ pub enum Parsed {
     Unlexed(LRLexError),
     /// The errors of the parse, at least one. Past the last lexeme an error's lexeme is of the end token.
     Unparsed(Vec<WordError>),
+}
+
+impl Parsed {
+    /// Returns whether a tree was found.
+    pub(crate) fn is_tree(&self) -> bool
+        ensures { result ≡ is_tree self.now }
+    {
+        matches!(self, Parsed::Tree(_))
+    }
 }
 
 /// Parses the lexemes of a text with these repairs.

@@ -5,8 +5,8 @@ ghost use Rattle.std.specs.List.{flat_map};
 ghost use Rattle.parse_trees.specs.FlatLines.{CanShowPiece};
 ghost use Rattle.parse_trees.specs.FlatTrees.{piece_of};
 ghost use Rattle.parse_trees.specs.Shapes.{HasText};
-ghost use Rattle.text_parses.specs.Answers.{itself, lexeme_lex};
-ghost use Rattle.text_parses.specs.Quoted.{escaped, letter_of, lexeme_head, node_head, piece_head, quoted, rule_head, space_at};
+ghost use Rattle.text_parses.specs.Parses.{itself, lexeme_lex};
+ghost use Rattle.text_parses.specs.Quoted.{closed_from, escaped, letter_of, lexeme_head, node_head, piece_head, quoted, rule_head, space_at};
 
 use crate::lines::WordNode;
 use crate::names::{Grammar, rule_name, token_name};
@@ -119,28 +119,45 @@ fn push_node_head(
     }
 }
 
-/// Closes the nodes that are open from a depth on, and adds the beginning of a node there. The root has no space before it.
+/// Closes the nodes that are open from a depth on, behind a node of this depth, if there is one.
+fn push_closing(last: Option<usize>, depth: usize, text: &mut Vec<u8>) -> Result<(), AllocError>
+    ensures { OnOk result (text.new.items ≡ text.old.items ++ closed_from last depth) }
+{
+    match last {
+        Some(last) => {
+            if last < depth {
+                return Ok(());
+            }
+            text.push(b')')?;
+            push_repeated(b')', last - depth, text)
+        }
+        None => Ok(()),
+    }
+}
+
+/// Closes the nodes that are open from a depth on, and adds the beginning of a node there, behind one of this depth, if there is
+/// one. The root has no space before it.
 pub fn push_head(
     grm: &Grammar,
     input: &str,
     node: WordNode,
     depth: usize,
-    open_count: usize,
+    last: Option<usize>,
     text: &mut Vec<u8>,
 ) -> Result<(), AllocError>
     ensures { CanShowPiece grm.now lexeme_lex input.now (Some (piece_of itself node)) →
-        OnOk result (text.new.items ≡ text.old.items ++ node_head grm.now input.now open_count depth (Some (piece_of itself node))) }
+        OnOk result (text.new.items ≡ text.old.items ++ node_head grm.now input.now last depth (Some (piece_of itself node))) }
 {
-    push_repeated(b')', open_count.saturating_sub(depth), text)?;
+    push_closing(last, depth, text)?;
     push_space(depth, text)?;
     push_node_head(grm, input, node, text)
 }
 
-/// Closes as many nodes, and ends the line.
-pub fn push_end(count: usize, text: &mut Vec<u8>) -> Result<(), AllocError>
-    ensures { OnOk result (text.new.items ≡ text.old.items ++ (replicate count 41 ++ 10 ∷ [])) }
+/// Closes all nodes behind one of this depth, and ends the line.
+pub fn push_end(last: Option<usize>, text: &mut Vec<u8>) -> Result<(), AllocError>
+    ensures { OnOk result (text.new.items ≡ text.old.items ++ (closed_from last 0 ++ 10 ∷ [])) }
 {
-    push_repeated(b')', count, text)?;
+    push_closing(last, 0, text)?;
     text.push(b'\n')?;
     Ok(())
 }

@@ -23,7 +23,7 @@ pub trait Block: PrimInt + Word {
     ghost width_law: { Self.BITS ≡ bit_len Self.width };
 
     /// Makes a block whose bits all are `value`.
-    final fn filled(value: bool) -> Self
+    final fn of_bit(value: bool) -> Self
         ensures { Self.bits result ≡ replicate Self.BITS value }
     {
         Self::all(value)
@@ -51,10 +51,10 @@ pub trait Block: PrimInt + Word {
     }
 
     /// Turns each bit.
-    final fn flipped(self) -> Self
+    final fn complement(self) -> Self
         ensures { Self.bits result ≡ map not (Self.bits self) }
     {
-        self.turned()
+        self.turn_bits()
     }
 
     /// Moves each bit up to the index that is greater by `by`.

@@ -114,7 +114,7 @@ fn count_indices<T: Word>(blocks: &[T], value: bool, from: usize, to: usize) -> 
 pub(crate) fn matching<T: Word>(block: T, value: bool) -> T
     ensures { T.bits result ≡ (if value then T.bits block else map not (T.bits block)) }
 {
-    if value { block } else { block.turned() }
+    if value { block } else { block.turn_bits() }
 }
 
 /// Counts the bits of a block from an index up that don't have the value, before the first that has it.

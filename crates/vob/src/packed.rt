@@ -17,7 +17,11 @@ pub(crate) fn blocks_for<T: Word>(len: usize) -> usize
 }
 
 /// Copies the blocks of `len` items. Those of no item take no memory.
-pub(crate) fn copied<T: Word>(alloc: Global, blocks: &[T], len: usize) -> Result<Vec<T>, AllocError>
+pub(crate) fn copy_blocks<T: Word>(
+    alloc: Global,
+    blocks: &[T],
+    len: usize,
+) -> Result<Vec<T>, AllocError>
     requires { Packs T.BITS len (flat_map T.bits blocks.now) }
     ensures items { IfOk result (λ v. v.items ≡ blocks.now) }
     ensures empty { len ≡ 0 → IsOk result }

@@ -90,7 +90,7 @@ impl Vob<usize> {
         ensures blocks { IfOk result (λ r. flat_map ⟦<usize as Block>⟧.bits r.vec.items ≡ self.now.bits ++ replicate (blocks_for 64 (length self.now.bits) * 64 - length self.now.bits) false) }
         ensures empty { length self.now.bits ≡ 0 → IsOk result }
     {
-        let vec = packed::copied(*self.blocks.allocator(), self.blocks.as_slice(), self.len)?;
+        let vec = packed::copy_blocks(*self.blocks.allocator(), self.blocks.as_slice(), self.len)?;
         Ok(VobRecord { len: self.len, vec })
     }
 

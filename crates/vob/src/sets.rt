@@ -132,7 +132,7 @@ fn flip_blocks<T: Word>(blocks: &mut Vec<T>)
     ensures capacity { vec_capacity blocks.new ≡ vec_capacity blocks.old }
 {
     'each: for k in 0..blocks.len() {
-        blocks[k] = blocks[k].turned();
+        blocks[k] = blocks[k].turn_bits();
     }
 }
 

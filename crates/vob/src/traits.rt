@@ -23,7 +23,11 @@ impl<T: Word> Clone for Vob<T> {
     ghost is_infallible = { λ v. length v.bits ≡ 0 };
 
     fn clone(&self) -> Result<Self, AllocError> {
-        let blocks = packed::copied(*self.blocks.allocator(), self.blocks.as_slice(), self.len)?;
+        let blocks = packed::copy_blocks(
+            *self.blocks.allocator(),
+            self.blocks.as_slice(),
+            self.len,
+        )?;
         Ok(Vob {
             len: self.len,
             blocks,

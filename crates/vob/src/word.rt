@@ -88,7 +88,7 @@ pub trait Word: Copy {
         ensures { bits result ≡ replicate BITS value }
     {
         let none = Self::lowest(false);
-        if value { none.turned() } else { none }
+        if value { none.turn_bits() } else { none }
     }
 
     /// Sets each bit that is set in both words.
@@ -113,7 +113,7 @@ pub trait Word: Copy {
     }
 
     /// Turns each bit.
-    final fn turned(self) -> Self
+    final fn turn_bits(self) -> Self
         ensures { bits result ≡ map not (bits self) }
     {
         self.number_fits();

@@ -12,7 +12,7 @@ use crate::marks::{Mark, marks_for, text_of};
 use crate::names::{Names, names_of};
 use crate::notes::Note;
 use crate::roles::{Parts, parts_of};
-use crate::tokens::{Token, tokens_of};
+use crate::tokens::tokens_of;
 use std::alloc::Global;
 
 /// A Bison file in the profile's syntax.
@@ -41,36 +41,25 @@ impl Imported {
 }
 
 /// Leaves out the levels that the profile can't say, and returns the notes.
-fn notes_with(
+fn notes_with<'a>(
     alloc: Global,
-    source: &str,
-    tokens: &[Token],
-    found: &Parts,
-    names: &mut Names<'_>,
+    source: &'a str,
+    found: &mut Parts,
+    names: &mut Names<'a>,
 ) -> Result<Vec<Note>, ImportError> {
-    let levels = meeting_levels(alloc, names, tokens, &found.parts)?;
-    names.unsettle(levels, tokens, &found.parts)?;
-    notes_of(alloc, source, tokens, found, names)
-}
-
-/// Returns the notes for tokens of which it is known what they are for.
-fn notes_for_parts(
-    alloc: Global,
-    source: &str,
-    tokens: &[Token],
-    found: &Parts,
-) -> Result<Vec<Note>, ImportError> {
-    let mut names = names_of(alloc, source, tokens, &found.parts)?;
-    let made = notes_with(alloc, source, tokens, found, &mut names);
-    drop(names);
-    made
+    let levels = meeting_levels(alloc, names, found.list.as_slice())?;
+    names.unsettle(levels, found.list.as_slice());
+    notes_of(alloc, source, found, names, levels)
 }
 
 /// Returns the notes for a source.
 fn notes_for(alloc: Global, source: &str) -> Result<Vec<Note>, ImportError> {
     let tokens = tokens_of(alloc, source.as_bytes())?;
-    let found = parts_of(alloc, source, &tokens)?;
-    notes_for_parts(alloc, source, &tokens, &found)
+    let mut found = parts_of(alloc, source, &tokens)?;
+    let mut names = names_of(alloc, source, found.list.as_slice())?;
+    let made = notes_with(alloc, source, &mut found, &mut names);
+    drop(names);
+    made
 }
 
 /// Returns an error whose place lies in a source of so many bytes.
@@ -83,36 +72,6 @@ fn within(error: ImportError, len: usize) -> ImportError
     }
 }
 
-/// Returns a result that isn't too long.
-fn within_size(marks: Vec<Mark>, len: usize) -> Result<Vec<Mark>, ImportError>
-    ensures same { IfOk result (λ v. v ≡ marks) }
-    ensures short { OnOk result (vec_len marks ≤ 16 * len + 4096) }
-{
-    if marks.len() > len.saturating_mul(16).saturating_add(4096) {
-        return Err(ImportError::Refused(Fault::TooLong, len));
-    }
-    Ok(marks)
-}
-
-/// Applies notes to a source.
-fn apply(alloc: Global, source: &str, notes: Vec<Note>) -> Result<Imported, ImportError>
-    ensures text { IfOk result (λ m. string_bytes m.text ≡ bytes_of m.marks.items) }
-    ensures made { IfOk result (λ m. m.marks.items ≡ changed source.now 0 m.notes.items) }
-    ensures fits { IfOk result (λ m. Fits source.now 0 m.notes.items) }
-    ensures len { IfOk result (λ m. m.source_len ≡ length source.now) }
-    ensures short { IfOk result (λ m. vec_len m.marks ≤ 16 * length source.now + 4096) }
-{
-    let made = marks_for(alloc, source.as_bytes(), &notes)?;
-    let marks = within_size(made, source.len())?;
-    let text = text_of(alloc, &marks)?;
-    Ok(Imported {
-        text,
-        marks,
-        notes,
-        source_len: source.len(),
-    })
-}
-
 /// Makes the notes for a source, and applies them.
 fn import_text(alloc: Global, source: &str) -> Result<Imported, ImportError>
     ensures text { IfOk result (λ m. string_bytes m.text ≡ bytes_of m.marks.items) }
@@ -121,8 +80,19 @@ fn import_text(alloc: Global, source: &str) -> Result<Imported, ImportError>
     ensures len { IfOk result (λ m. m.source_len ≡ length source.now) }
     ensures short { IfOk result (λ m. vec_len m.marks ≤ 16 * length source.now + 4096) }
 {
+    let source_len = source.len();
     let notes = notes_for(alloc, source)?;
-    apply(alloc, source, notes)
+    let marks = marks_for(alloc, source.as_bytes(), &notes)?;
+    if marks.len() > source_len.saturating_mul(16).saturating_add(4096) {
+        return Err(ImportError::Refused(Fault::TooLong, source_len));
+    }
+    let text = text_of(alloc, &marks)?;
+    Ok(Imported {
+        text,
+        marks,
+        notes,
+        source_len,
+    })
 }
 
 /// Imports a file in the syntax of Bison or of POSIX yacc.

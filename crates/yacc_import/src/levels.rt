@@ -13,11 +13,6 @@ use std::alloc::Global;
 /// Passes over the productions, after which nothing is known.
 const MOST_PASSES: usize = 256;
 
-/// Returns the bit of the level behind a level. Levels past the sixty-third have one for all.
-pub(crate) fn next_level(level: u64) -> u64 {
-    level.checked_mul(2).unwrap_or(level)
-}
-
 /// What is known of a symbol: sets of levels, a bit for each.
 #[derive(Clone, Copy)]
 struct Symbol {
@@ -57,32 +52,32 @@ fn before(symbol: Symbol, behind: Symbol) -> Symbol {
     }
 }
 
-/// A production: its rule, the range of its symbols, and the level of its precedence.
+/// A production: its rule, the range of its symbols, and the level of its `%prec`.
 #[derive(Clone, Copy)]
 struct Production {
     rule: usize,
     start: usize,
     end: usize,
-    level: u64,
+    prec: Option<u64>,
 }
 
 #[derive(Drop)]
-struct Levels<'a> {
+struct Levels<'a, 'b> {
+    names: &'b Names<'a>,
     numbers: IndexMap<&'a str, usize>,
     symbols: Vec<Symbol>,
     /// The symbols of all productions.
     bodies: Vec<usize>,
     productions: Vec<Production>,
-    /// The rule whose alternatives are read.
-    rule: usize,
-    start: usize,
-    prec: Option<u64>,
+    /// The production that is read, if one is open.
+    last: Production,
     is_open: bool,
 }
 
-impl<'a> Levels<'a> {
-    /// Returns the number of a key.
-    fn number(&mut self, key: &'a str) -> Result<usize, ImportError> {
+impl<'a> Levels<'a, '_> {
+    /// Returns the number of a token's key.
+    fn number(&mut self, token: Token) -> Result<usize, ImportError> {
+        let key = self.names.key(token);
         if let Some(number) = self.numbers.get(&key) {
             return Ok(*number);
         }
@@ -94,10 +89,7 @@ impl<'a> Levels<'a> {
 
     /// Returns what is known of a symbol.
     fn symbol(&self, number: usize) -> Symbol {
-        match self.symbols.get(number) {
-            Some(symbol) => *symbol,
-            None => NOTHING,
-        }
+        self.symbols.get(number).copied().unwrap_or(NOTHING)
     }
 
     /// Adds to what is known of a symbol, and returns whether that is new.
@@ -116,109 +108,46 @@ impl<'a> Levels<'a> {
             || symbol.is_empty != before.is_empty
     }
 
-    /// Takes the tokens of the levels.
-    fn take_levels(
-        &mut self,
-        names: &Names<'a>,
-        tokens: &[Token],
-        parts: &[Part],
-    ) -> Result<(), ImportError> {
-        let mut level = None;
-        let mut next: u64 = 1;
-        for (token, part) in tokens.iter().zip(parts) {
-            match part.role {
-                Role::Precedence => {
-                    level = Some(next);
-                    next = next_level(next);
-                }
-                Role::Level | Role::MovedLevel => {
-                    if let Some(level) = level {
-                        let number = self.number(names.key(*token))?;
-                        let more = Symbol {
-                            first: level,
-                            ..NOTHING
-                        };
-                        self.add(number, more);
-                    }
-                }
-                Role::Leave(_) => {}
-                _ => level = None,
-            }
-        }
-        Ok(())
-    }
-
-    /// Takes the names of the rules.
-    fn take_heads(
-        &mut self,
-        names: &Names<'a>,
-        tokens: &[Token],
-        parts: &[Part],
-    ) -> Result<(), ImportError> {
-        for (token, part) in tokens.iter().zip(parts) {
-            if part.role == Role::Head {
-                let number = self.number(names.key(*token))?;
-                if let Some(symbol) = self.symbols.get_mut(number) {
-                    symbol.is_token = false;
-                }
-            }
-        }
-        Ok(())
-    }
-
     /// Ends an alternative, if one is open.
     fn end(&mut self) -> Result<(), ImportError> {
         if !self.is_open {
             return Ok(());
         }
-        let (rule, start, end) = (self.rule, self.start, self.bodies.len());
-        let level = match self.prec {
-            Some(level) => level,
-            None => self.last_level(start),
-        };
-        self.productions.push(Production {
-            rule,
-            start,
-            end,
-            level,
-        })?;
-        self.start = end;
-        self.prec = None;
+        let end = self.bodies.len();
+        self.productions.push(Production { end, ..self.last })?;
+        self.last.start = end;
+        self.last.prec = None;
         Ok(())
     }
 
-    /// Returns the level of the last token of the symbols from `start` on.
-    fn last_level(&self, start: usize) -> u64 {
-        let mut level = 0;
-        for number in self.bodies.get(start..).unwrap_or(&[]) {
-            let symbol = self.symbol(*number);
-            if symbol.is_token {
-                level = symbol.first;
-            }
+    /// Begins a rule.
+    fn begin(&mut self, head: Token) -> Result<(), ImportError> {
+        self.end()?;
+        self.is_open = false;
+        let rule = self.number(head)?;
+        self.last.rule = rule;
+        if let Some(symbol) = self.symbols.get_mut(rule) {
+            symbol.is_token = false;
         }
-        level
+        Ok(())
     }
 
-    /// Takes a part of the rules.
-    fn take_part(
-        &mut self,
-        names: &Names<'a>,
-        token: Token,
-        role: Role,
-    ) -> Result<(), ImportError> {
-        match (role, token.kind) {
-            (Role::Head, _) => {
-                self.end()?;
-                self.rule = self.number(names.key(token))?;
-                self.is_open = false;
+    /// Takes a part of the file.
+    fn take(&mut self, part: Part) -> Result<(), ImportError> {
+        match (part.role, part.token.kind) {
+            (Role::Level | Role::MovedLevel, _) => {
+                let number = self.number(part.token)?;
+                let first = part.bit;
+                self.add(number, Symbol { first, ..NOTHING });
             }
+            (Role::Head, _) => self.begin(part.token)?,
             (Role::Symbol, _) => {
-                let number = self.number(names.key(token))?;
+                let number = self.number(part.token)?;
                 self.bodies.push(number)?;
             }
             (Role::Prec | Role::MovedPrec, Kind::Name | Kind::Text | Kind::Character) => {
-                let number = self.number(names.key(token))?;
-                self.prec = Some(self.symbol(number).first);
+                let number = self.number(part.token)?;
+                self.last.prec = Some(self.symbol(number).first);
             }
             (Role::Keep, Kind::Colon) => self.is_open = true,
             (Role::Keep, Kind::Bar) => self.end()?,
@@ -276,12 +205,23 @@ impl<'a> Levels<'a> {
         false
     }
 
+    /// Returns the level of a production: that of its `%prec`, or else of its last token.
+    fn level(&self, production: Production) -> u64 {
+        let mut level = 0;
+        let range = production.start..production.end;
+        for number in self.bodies.get(range).unwrap_or(&[]) {
+            let symbol = self.symbol(*number);
+            if symbol.is_token {
+                level = symbol.first;
+            }
+        }
+        production.prec.unwrap_or(level)
+    }
+
     /// Returns the levels of tokens that may be shifted where a production is complete.
     fn beside(&self, production: Production) -> u64 {
-        if production.start >= production.end {
-            return u64::MAX;
-        }
-        match self.bodies.get(production.end.saturating_sub(1)) {
+        let range = production.start..production.end;
+        match self.bodies.get(range).unwrap_or(&[]).last() {
             Some(number) => self.symbol(*number).near,
             None => u64::MAX,
         }
@@ -293,50 +233,43 @@ impl<'a> Levels<'a> {
         let mut levels = 0;
         for production in self.productions.as_slice() {
             let follow = self.symbol(production.rule).follow;
-            levels |= follow & production.level & self.beside(*production);
+            levels |= follow & self.level(*production) & self.beside(*production);
         }
         levels
     }
 
-    fn take_all(
-        &mut self,
-        names: &Names<'a>,
-        tokens: &[Token],
-        parts: &[Part],
-    ) -> Result<u64, ImportError> {
-        self.take_levels(names, tokens, parts)?;
-        self.take_heads(names, tokens, parts)?;
-        for (token, part) in tokens.iter().zip(parts) {
-            self.take_part(names, *token, part.role)?;
+    fn take_all(&mut self, parts: &[Part]) -> Result<u64, ImportError> {
+        for part in parts {
+            self.take(*part)?;
         }
         self.end()?;
-        if self.close() {
-            Ok(self.meeting())
-        } else {
-            Ok(u64::MAX)
-        }
+        let is_known = self.close();
+        Ok(if is_known { self.meeting() } else { u64::MAX })
     }
 }
 
 /// Returns the `%precedence` levels of which a production and a token may meet, a bit for each in the order of the file, with
 /// one for all past the sixty-third.
-pub(crate) fn meeting_levels<'a>(
+pub(crate) fn meeting_levels(
     alloc: Global,
-    names: &Names<'a>,
-    tokens: &[Token],
+    names: &Names<'_>,
     parts: &[Part],
 ) -> Result<u64, ImportError> {
     let mut levels = Levels {
+        names,
         numbers: IndexMap::new(alloc),
         symbols: Vec::new(alloc),
         bodies: Vec::new(alloc),
         productions: Vec::new(alloc),
-        rule: 0,
-        start: 0,
-        prec: None,
+        last: Production {
+            rule: 0,
+            start: 0,
+            end: 0,
+            prec: None,
+        },
         is_open: false,
     };
-    let meeting = levels.take_all(names, tokens, parts);
+    let meeting = levels.take_all(parts);
     drop(levels);
     meeting
 }

@@ -75,14 +75,13 @@ impl Notes {
         }
     }
 
-    /// Leaves out the bytes of a range.
-    pub(crate) fn leave_out(
+    /// Adds a note; without a text the range is left out.
+    pub(crate) fn push(
         &mut self,
         kind: NoteKind,
-        start: usize,
-        end: usize,
+        (start, end): (usize, usize),
+        text: Option<String>,
     ) -> Result<(), ImportError> {
-        let text = None;
         self.list.push(Note {
             start,
             end,
@@ -96,24 +95,17 @@ impl Notes {
     pub(crate) fn put(
         &mut self,
         kind: NoteKind,
-        (start, end): (usize, usize),
+        range: (usize, usize),
         mut text: String,
     ) -> Result<(), ImportError> {
-        for _ in text.len()..end.saturating_sub(start) {
+        for _ in text.len()..range.1.saturating_sub(range.0) {
             text.push(' ')?;
         }
         let Some(room) = self.room.checked_sub(text.len()) else {
-            return Err(ImportError::Refused(Fault::TooLong, start));
+            return Err(ImportError::Refused(Fault::TooLong, range.0));
         };
         self.room = room;
-        let text = Some(text);
-        self.list.push(Note {
-            start,
-            end,
-            kind,
-            text,
-        })?;
-        Ok(())
+        self.push(kind, range, Some(text))
     }
 }
 
@@ -126,17 +118,6 @@ pub(crate) fn cut(text: &str, start: usize, end: usize) -> &str {
         Some((_, part)) => part,
         None => "",
     }
-}
-
-/// Returns the byte offset of the first line feed from `start` on, or `end`.
-pub(crate) fn line_end(bytes: &[u8], start: usize, end: usize) -> usize {
-    let range = bytes.get(start..end).unwrap_or(&[]);
-    for (i, b) in range.iter().enumerate() {
-        if *b == b'\n' {
-            return start.saturating_add(i);
-        }
-    }
-    end
 }
 
 /// A text of bytes that are put behind one another.

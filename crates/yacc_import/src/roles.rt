@@ -1,9 +1,10 @@
 //! What each token of a file is for.
 
+use crate::ends::line_end;
 use crate::errors::{Fault, ImportError};
-use crate::notes::{NoteKind, cut, line_end};
+use crate::notes::{NoteKind, cut};
 use crate::tokens::{Kind, Token};
-use crate::words::{Word, word_of};
+use crate::words::says_nothing;
 use std::alloc::Global;
 
 /// What a token is for, and so what becomes of it.
@@ -13,6 +14,12 @@ pub(crate) enum Role {
     Keep,
     /// It is left out.
     Leave(NoteKind),
+    /// The first `%%`.
+    Section,
+    /// The word of a declaration among the rules, which is moved.
+    Late,
+    /// The word of a precedence level among the rules.
+    LateLevel,
     /// A directive that the profile calls otherwise.
     Rename(&'static str),
     /// `%precedence`.
@@ -45,32 +52,47 @@ pub(crate) enum Role {
     Midrule(usize),
 }
 
-/// What a token is for, and what is put behind it.
+/// A token, what it is for, and what is put behind it.
 #[derive(Clone, Copy)]
 pub(crate) struct Part {
+    pub token: Token,
     pub role: Role,
+    /// The bit of the `%precedence` level that it belongs to, or 0.
+    pub bit: u64,
     /// The index of the token of a `%prec` that is put behind this token.
     pub prec: Option<usize>,
     /// Whether a `;` is put behind it.
     pub semicolon: bool,
     /// Whether the tokens of its level on later lines are put behind it.
     pub level: bool,
+    /// The index of the word of a level among the rules that is put behind it.
+    pub late: Option<usize>,
+}
+
+impl Part {
+    /// Returns whether it is a token of a precedence level.
+    pub(crate) fn is_in_level(&self) -> bool {
+        matches!(self.role, Role::Level | Role::MovedLevel)
+    }
 }
 
 /// The parts of a file.
 #[derive(Drop)]
 pub(crate) struct Parts {
-    pub parts: Vec<Part>,
-    /// The index of the first `%%`.
-    pub section: Option<usize>,
+    pub list: Vec<Part>,
     /// The index of the last token of the rules.
     pub last: Option<usize>,
-    /// How many actions stand in the middle of an alternative.
+    /// How many actions are in the middle of an alternative.
     pub midrules: usize,
     /// The index of the last token of a precedence level before the rules.
     pub last_level: Option<usize>,
-    /// The indices of the words of precedence levels among the rules.
-    pub late: Vec<usize>,
+}
+
+impl Parts {
+    /// Returns the token at an index.
+    pub(crate) fn token(&self, at: usize) -> Option<Token> {
+        self.list.get(at).map(|part| part.token)
+    }
 }
 
 /// What the next token may belong to.
@@ -111,8 +133,11 @@ struct Roles<'a> {
     semicolon: Option<usize>,
     /// The index of the last token that stays on the line of a precedence level.
     anchor: Option<usize>,
-    /// Whether the last token stands on the line of a precedence level.
+    /// Whether the last token is on the line of a precedence level.
     is_level_line: bool,
+    /// The bit of the `%precedence` level that is open, or 0, and that of the next one.
+    bit: u64,
+    next_bit: u64,
 }
 
 fn refuse<T>(fault: Fault, at: usize) -> Result<T, ImportError> {
@@ -123,7 +148,7 @@ impl Roles<'_> {
     /// Ends an alternative.
     fn end_alternative(&mut self) {
         let moved = self.moved;
-        if let Some(part) = self.found.parts.last_mut() {
+        if let Some(part) = self.found.list.last_mut() {
             part.prec = moved;
         }
         self.moved = None;
@@ -135,7 +160,7 @@ impl Roles<'_> {
     fn close(&mut self) {
         if self.is_open {
             self.end_alternative();
-            if let Some(part) = self.found.parts.last_mut() {
+            if let Some(part) = self.found.list.last_mut() {
                 part.semicolon = true;
             }
         }
@@ -145,7 +170,7 @@ impl Roles<'_> {
 
     /// Changes what the token at an index is for.
     fn change(&mut self, at: usize, role: Role) {
-        if let Some(part) = self.found.parts.get_mut(at) {
+        if let Some(part) = self.found.list.get_mut(at) {
             part.role = role;
         }
     }
@@ -273,7 +298,7 @@ impl Roles<'_> {
                     return Ok(Role::Level);
                 }
                 if let Some(anchor) = self.anchor
-                    && let Some(part) = self.found.parts.get_mut(anchor)
+                    && let Some(part) = self.found.list.get_mut(anchor)
                 {
                     part.level = true;
                 }
@@ -311,8 +336,7 @@ impl Roles<'_> {
                 self.context = Context::LeftOut;
                 Ok(Role::Keep)
             }
-            Context::Expect => Ok(Role::Leave(NoteKind::Directive)),
-            Context::LeftOut => Ok(Role::Leave(NoteKind::Directive)),
+            Context::Expect | Context::LeftOut => Ok(Role::Leave(NoteKind::Directive)),
             _ => refuse(Fault::DeclarationWanted, token.start),
         }
     }
@@ -322,31 +346,26 @@ impl Roles<'_> {
         self.close();
         self.name = None;
         self.context = context;
+        self.bit = 0;
     }
 
-    /// Begins a precedence level among the rules.
-    fn begin_late_level(
-        &mut self,
-        at: usize,
-        token: Token,
-        role: Role,
-    ) -> Result<Role, ImportError> {
-        if role == Role::Precedence {
-            return refuse(Fault::LateLevel, token.start);
+    /// Begins a declaration that is kept, on a line without a precedence level, or moved if it is among the rules.
+    fn stay(&mut self, token: Token, context: Context, role: Role) -> Result<Role, ImportError> {
+        self.declare(context);
+        if self.sections > 0 {
+            return Ok(Role::Late);
         }
-        self.anchor = None;
-        self.found.late.push(at)?;
-        Ok(Role::Leave(NoteKind::Moved))
+        if self.is_level_line {
+            return refuse(Fault::CrowdedLine, token.start);
+        }
+        Ok(role)
     }
 
     /// Begins a precedence level.
     fn begin_level(&mut self, at: usize, token: Token, role: Role) -> Result<Role, ImportError> {
-        self.declare(Context::Level);
-        if self.sections > 0 {
-            return self.begin_late_level(at, token, role);
-        }
-        if self.is_level_line {
-            return refuse(Fault::CrowdedLine, token.start);
+        if self.stay(token, Context::Level, role)? == Role::Late {
+            self.anchor = None;
+            return Ok(Role::LateLevel);
         }
         self.found.last_level = Some(at);
         self.anchor = Some(at);
@@ -354,34 +373,30 @@ impl Roles<'_> {
         Ok(role)
     }
 
-    /// Begins a declaration that stays where it is before the rules.
-    fn stay(&mut self, token: Token, context: Context, role: Role) -> Result<Role, ImportError> {
-        self.declare(context);
+    /// Begins a `%precedence` level. Levels past the sixty-third have one bit for all.
+    fn begin_precedence(&mut self, at: usize, token: Token) -> Result<Role, ImportError> {
         if self.sections > 0 {
-            return Ok(Role::Leave(NoteKind::Moved));
+            return refuse(Fault::LateLevel, token.start);
         }
-        if self.is_level_line {
-            return refuse(Fault::CrowdedLine, token.start);
-        }
+        let role = self.begin_level(at, token, Role::Precedence)?;
+        self.bit = self.next_bit;
+        self.next_bit = self.bit.checked_mul(2).unwrap_or(self.bit);
         Ok(role)
     }
 
-    /// Takes a directive of an alternative.
-    fn rule_directive(&mut self, at: usize, context: Context) -> Role {
-        self.context = context;
-        if context == Context::Prec {
-            self.prec = Some(at);
-            return Role::PrecWord;
-        }
-        Role::Leave(NoteKind::RuleDirective)
-    }
-
     /// Takes a directive that has a meaning of its own in an alternative.
-    fn directive_in_rule(&mut self, at: usize, word: Word) -> Option<Role> {
+    fn directive_in_rule(&mut self, at: usize, word: &str) -> Option<Role> {
         match word {
-            Word::Expect(_) | Word::Merge => Some(self.rule_directive(at, Context::Argument)),
-            Word::Prec => Some(self.rule_directive(at, Context::Prec)),
-            Word::Empty => {
+            "%expect" | "%expect-rr" | "%expect_rr" | "%dprec" | "%merge" => {
+                self.context = Context::Argument;
+                Some(Role::Leave(NoteKind::RuleDirective))
+            }
+            "%prec" => {
+                self.context = Context::Prec;
+                self.prec = Some(at);
+                Some(Role::PrecWord)
+            }
+            "%empty" => {
                 self.move_prec();
                 Some(Role::Keep)
             }
@@ -391,7 +406,7 @@ impl Roles<'_> {
 
     /// Takes a directive.
     fn directive(&mut self, at: usize, token: Token) -> Result<Role, ImportError> {
-        let word = word_of(cut(self.text, token.start, token.end));
+        let word = cut(self.text, token.start, token.end);
         if self.is_open
             && let Some(role) = self.directive_in_rule(at, word)
         {
@@ -401,19 +416,20 @@ impl Roles<'_> {
     }
 
     /// Takes a directive that begins a declaration.
-    fn declaration(&mut self, at: usize, token: Token, word: Word) -> Result<Role, ImportError> {
+    fn declaration(&mut self, at: usize, token: Token, word: &str) -> Result<Role, ImportError> {
         match word {
-            Word::Token => self.stay(token, Context::Tokens, Role::Keep),
-            Word::Term => self.stay(token, Context::Tokens, Role::Rename("%token")),
-            Word::Left => self.begin_level(at, token, Role::Keep),
-            Word::Binary => self.begin_level(at, token, Role::Rename("%nonassoc")),
-            Word::Precedence => self.begin_level(at, token, Role::Precedence),
-            Word::Start => self.stay(token, Context::Start, Role::Keep),
-            Word::Expect(name) => self.stay(token, Context::Expect, Role::Rename(name)),
-            Word::Nterm => Ok(self.leave_out(Context::Nonterminals)),
-            Word::Other => Ok(self.leave_out(Context::LeftOut)),
-            Word::NoDefaultPrec => refuse(Fault::NoDefaultPrec, token.start),
-            Word::Foreign => refuse(Fault::ForeignForm, token.start),
+            "%token" => self.stay(token, Context::Tokens, Role::Keep),
+            "%term" => self.stay(token, Context::Tokens, Role::Rename("%token")),
+            "%left" | "%right" | "%nonassoc" => self.begin_level(at, token, Role::Keep),
+            "%binary" => self.begin_level(at, token, Role::Rename("%nonassoc")),
+            "%precedence" => self.begin_precedence(at, token),
+            "%start" => self.stay(token, Context::Start, Role::Keep),
+            "%expect" | "%expect-rr" => self.stay(token, Context::Expect, Role::Keep),
+            "%expect_rr" => self.stay(token, Context::Expect, Role::Rename("%expect-rr")),
+            "%nterm" => Ok(self.leave_out(Context::Nonterminals)),
+            "%no-default-prec" | "%no_default_prec" => refuse(Fault::NoDefaultPrec, token.start),
+            "%ifdef" | "%endif" | "%ident" => refuse(Fault::ForeignForm, token.start),
+            _ if says_nothing(word) => Ok(self.leave_out(Context::LeftOut)),
             _ => refuse(Fault::UnknownDirective, token.start),
         }
     }
@@ -425,16 +441,14 @@ impl Roles<'_> {
     }
 
     /// Takes a `%%`.
-    fn section(&mut self, at: usize, token: Token) -> Result<Role, ImportError> {
+    fn section(&mut self, token: Token) -> Result<Role, ImportError> {
         self.context = Context::Nothing;
         self.sections = self.sections.saturating_add(1);
         if self.sections == 1 {
             if self.is_level_line {
                 return refuse(Fault::CrowdedLine, token.start);
             }
-            self.found.section = Some(at);
-            self.found.last = Some(at);
-            return Ok(Role::Keep);
+            return Ok(Role::Section);
         }
         self.close();
         Ok(Role::Leave(NoteKind::Epilogue))
@@ -476,7 +490,7 @@ impl Roles<'_> {
             Kind::Mark => Role::Leave(NoteKind::Mark),
             Kind::Prologue => Role::Leave(NoteKind::Prologue),
             Kind::Epilogue => Role::Leave(NoteKind::Epilogue),
-            Kind::Section => self.section(at, token)?,
+            Kind::Section => self.section(token)?,
             Kind::Directive => self.directive(at, token)?,
             Kind::Head => self.head(token)?,
             _ => self.other(at, token)?,
@@ -484,11 +498,14 @@ impl Roles<'_> {
         if self.sections == 1 {
             self.found.last = Some(at);
         }
-        self.found.parts.push(Part {
+        self.found.list.push(Part {
+            token,
             role,
+            bit: self.bit,
             prec: None,
             semicolon: false,
             level: false,
+            late: None,
         })?;
         Ok(())
     }
@@ -517,12 +534,10 @@ pub(crate) fn parts_of(alloc: Global, text: &str, tokens: &[Token]) -> Result<Pa
     let mut roles = Roles {
         text,
         found: Parts {
-            parts: Vec::new(alloc),
-            section: None,
+            list: Vec::new(alloc),
             last: None,
             midrules: 0,
             last_level: None,
-            late: Vec::new(alloc),
         },
         context: Context::Nothing,
         sections: 0,
@@ -535,6 +550,8 @@ pub(crate) fn parts_of(alloc: Global, text: &str, tokens: &[Token]) -> Result<Pa
         semicolon: None,
         anchor: None,
         is_level_line: false,
+        bit: 0,
+        next_bit: 1,
     };
     roles.take_all(tokens)?;
     Ok(roles.found)

@@ -1,8 +1,8 @@
 //! The tokens of a Bison file.
 
 use crate::ends::{
-    byte_at, code_end, comment_end, is_name_start, line_end, name_end, quote_end, reference_end,
-    tag_end,
+    byte_at, code_end, comment_end, is_name_start, line_end, name_end, number_end, quote_end,
+    reference_end, tag_end,
 };
 use crate::errors::{Fault, ImportError};
 use std::alloc::Global;
@@ -59,10 +59,15 @@ struct Reading {
     sections: u8,
 }
 
-/// Returns the answer, or the fault at `at`.
-fn or_fault(end: Option<usize>, fault: Fault, at: usize) -> Result<usize, ImportError> {
+/// Returns a kind with its end, or the fault at `at` where it isn't closed.
+fn kind_to(
+    kind: Kind,
+    end: Option<usize>,
+    fault: Fault,
+    at: usize,
+) -> Result<(Kind, usize), ImportError> {
     match end {
-        Some(end) => Ok(end),
+        Some(end) => Ok((kind, end)),
         None => Err(ImportError::Refused(fault, at)),
     }
 }
@@ -80,14 +85,13 @@ fn percent_at(bytes: &[u8], at: usize) -> Result<(Kind, usize), ImportError> {
     let next = at.saturating_add(1);
     match byte_at(bytes, next) {
         b'%' => Ok((Kind::Section, next.saturating_add(1))),
-        b'{' => {
-            let end = or_fault(code_end(bytes, at, true), Fault::OpenPrologue, at)?;
-            Ok((Kind::Prologue, end))
-        }
-        b'?' => {
-            let end = or_fault(code_end(bytes, at, false), Fault::OpenCode, at)?;
-            Ok((Kind::Code, end))
-        }
+        b'{' => kind_to(
+            Kind::Prologue,
+            code_end(bytes, at, true),
+            Fault::OpenPrologue,
+            at,
+        ),
+        b'?' => kind_to(Kind::Code, code_end(bytes, at, false), Fault::OpenCode, at),
         b if is_name_start(b) => Ok((Kind::Directive, name_end(bytes, next))),
         _ => Err(ImportError::Refused(Fault::UnknownDirective, at)),
     }
@@ -95,15 +99,15 @@ fn percent_at(bytes: &[u8], at: usize) -> Result<(Kind, usize), ImportError> {
 
 /// Returns the kind and the end of a comment, which stays if it is ASCII.
 fn comment_at(bytes: &[u8], at: usize) -> Result<(Kind, usize), ImportError> {
-    let next = byte_at(bytes, at.saturating_add(1));
-    if next != b'/' && next != b'*' {
+    if !has_at(bytes, at, b"//") && !has_at(bytes, at, b"/*") {
         return Err(ImportError::Refused(Fault::UnknownByte, at));
     }
-    let end = or_fault(comment_end(bytes, at), Fault::OpenComment, at)?;
-    match bytes.get(at..end) {
-        Some(part) if part.is_ascii() => Ok((Kind::Gap, end)),
-        _ => Ok((Kind::Mark, end)),
-    }
+    let end = comment_end(bytes, at);
+    let kind = match bytes.get(at..end.unwrap_or(at)) {
+        Some(part) if part.is_ascii() => Kind::Gap,
+        _ => Kind::Mark,
+    };
+    kind_to(kind, end, Fault::OpenComment, at)
 }
 
 /// Returns the kind and the end of what begins with a letter, `_` or `.`.
@@ -111,29 +115,11 @@ fn word_at(bytes: &[u8], at: usize) -> Result<(Kind, usize), ImportError> {
     if !has_at(bytes, at, b"_(\"") {
         return Ok((Kind::Name, name_end(bytes, at)));
     }
-    let quote = at.saturating_add(2);
-    let end = or_fault(quote_end(bytes, quote, b'"'), Fault::OpenQuote, at)?;
-    if byte_at(bytes, end) != b')' {
-        return Err(ImportError::Refused(Fault::OpenQuote, at));
-    }
-    Ok((Kind::Text, end.saturating_add(1)))
-}
-
-/// Returns the kind and the end of what is closed by a sign of its own.
-fn closed_at(bytes: &[u8], at: usize, byte: u8) -> Result<(Kind, usize), ImportError> {
-    let (kind, end, fault) = match byte {
-        b'{' => (Kind::Code, code_end(bytes, at, false), Fault::OpenCode),
-        b'<' => (Kind::Tag, tag_end(bytes, at), Fault::OpenQuote),
-        b'[' => (Kind::Reference, reference_end(bytes, at), Fault::OpenQuote),
-        b'"' => (Kind::Text, quote_end(bytes, at, byte), Fault::OpenQuote),
-        _ => (
-            Kind::Character,
-            quote_end(bytes, at, b'\''),
-            Fault::OpenQuote,
-        ),
+    let end = match quote_end(bytes, at.saturating_add(2)) {
+        Some(end) if byte_at(bytes, end) == b')' => end.checked_add(1),
+        _ => None,
     };
-    let end = or_fault(end, fault, at)?;
-    Ok((kind, end))
+    kind_to(Kind::Text, end, Fault::OpenQuote, at)
 }
 
 /// Returns the kind and the end of a mark of one byte.
@@ -144,7 +130,9 @@ fn mark_at(bytes: &[u8], at: usize, byte: u8) -> Result<(Kind, usize), ImportErr
         b'|' => Ok((Kind::Bar, next)),
         b';' => Ok((Kind::Semicolon, next)),
         b',' | b'=' | 11 | 12 => Ok((Kind::Mark, next)),
-        b'#' if has_at(bytes, at, b"#line ") => Ok((Kind::Mark, line_end(bytes, at))),
+        b'#' if has_at(bytes, at, b"#line ") => {
+            Ok((Kind::Mark, line_end(bytes, at, bytes.len())))
+        }
         0xef if at == 0 && has_at(bytes, 0, b"\xef\xbb\xbf") => Ok((Kind::Mark, 3)),
         b'(' | b')' | b'$' | b'@' => Err(ImportError::Refused(Fault::ForeignForm, at)),
         _ => Err(ImportError::Refused(Fault::UnknownByte, at)),
@@ -157,22 +145,20 @@ fn token_at(bytes: &[u8], at: usize, byte: u8) -> Result<(Kind, usize), ImportEr
         b' ' | b'\t' | b'\r' | b'\n' => Ok((Kind::Gap, at.saturating_add(1))),
         b'%' => percent_at(bytes, at),
         b'/' => comment_at(bytes, at),
-        b'{' | b'<' | b'[' | b'"' | b'\'' => closed_at(bytes, at, byte),
+        b'{' => kind_to(Kind::Code, code_end(bytes, at, false), Fault::OpenCode, at),
+        b'<' => kind_to(Kind::Tag, tag_end(bytes, at), Fault::OpenQuote, at),
+        b'[' => kind_to(
+            Kind::Reference,
+            reference_end(bytes, at),
+            Fault::OpenQuote,
+            at,
+        ),
+        b'"' => kind_to(Kind::Text, quote_end(bytes, at), Fault::OpenQuote, at),
+        b'\'' => kind_to(Kind::Character, quote_end(bytes, at), Fault::OpenQuote, at),
         b if b.is_ascii_digit() => Ok((Kind::Number, number_end(bytes, at))),
         b if is_name_start(b) => word_at(bytes, at),
         b => mark_at(bytes, at, b),
     }
-}
-
-/// Returns the end of a number, also one that begins with `0x`.
-fn number_end(bytes: &[u8], start: usize) -> usize {
-    let rest = bytes.get(start..).unwrap_or(&[]);
-    for (i, b) in rest.iter().enumerate() {
-        if !b.is_ascii_alphanumeric() {
-            return start.saturating_add(i);
-        }
-    }
-    bytes.len()
 }
 
 impl Reading {

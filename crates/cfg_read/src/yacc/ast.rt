@@ -67,7 +67,7 @@ impl Production {
         let body = Body {
             symbols,
             is_empty: false,
-            precedence: boxed(alloc, precedence)?,
+            precedence: box_word(alloc, precedence)?,
             action,
             span: prod_span,
         };
@@ -129,7 +129,7 @@ impl Production {
 }
 
 /// Puts a word in a box, if there is one.
-pub(super) fn boxed(alloc: Global, word: Option<Word>) -> Result<Option<Box<Word>>, AllocError>
+pub(super) fn box_word(alloc: Global, word: Option<Word>) -> Result<Option<Box<Word>>, AllocError>
     ensures { IfOk result (λ boxed. option_map boxed_word boxed ≡ option_map word_of word) }
 {
     match word {

@@ -15,7 +15,7 @@ ghost use Rattle.cfg_read.specs.SyntaxModels.{syntax_of};
 ghost use Rattle.cfg_read.specs.Validity.{FailureText, failure_at, header_failure};
 ghost use Rattle.cfg_read.specs.ErrorModels.{kind_of, failures_in};
 ghost use Rattle.cfg_read.specs.Kinds.{Meaning, means, meaning_of, IsKindError};
-ghost use Rattle.cfg_read.specs.Files.{source, ReadsFile, FailsSection, FailsRest, FailsFile, FileOutcome, said_meaning, told_kind, TellsKind, FailsMeaning, FailsKind, LacksKind, KindOutcome, IsFailure, ShowsSection, ShowsFault};
+ghost use Rattle.cfg_read.specs.Files.{source, ReadsFile, FailsSection, FailsRest, FailsFile, FileOutcome, said_meaning, told_kind, TellsKind, FailsMeaning, FailsKind, FailsValue, LacksKind, KindOutcome, IsFailure, ShowsSection, ShowsFault};
 
 use crate::yacc::YaccKind;
 use crate::yacc::kind::KindError;
@@ -161,7 +161,7 @@ fn value_of<'a>(
 }
 
 /// Makes the failure of a text that names no kind.
-fn no_kind(alloc: Global) -> YaccGrammarFailure
+pub(crate) fn no_kind(alloc: Global) -> YaccGrammarFailure
     ensures { IsFailure (FailsKind None) result }
 {
     let kind = YaccGrammarErrorKind::InvalidYaccKind;
@@ -184,26 +184,29 @@ fn kind_of_value(alloc: Global, value: &HeaderValue<Span>) -> YaccGrammarResult<
 
 /// Returns the kind of a key's value, if the key is there.
 #[tactic(auto, using(crate::proofs::TextKinds::some_fails))]
-fn told_kind(alloc: Global, value: Option<&HeaderValue<Span>>) -> YaccGrammarResult<YaccKind>
-    ensures ok { IfOk result (λ k. said_meaning (option_map entry_text (option_copied value.entry)) ≡ Some (means k)) }
-    ensures err { IfErr result (λ e. IsFailure (FailsKind (said_meaning (option_map entry_text (option_copied value.entry)))) e) }
+fn named_kind(
+    alloc: Global,
+    value: Option<&HeaderValue<Span>>,
+) -> YaccGrammarResult<Option<YaccKind>>
+    ensures ok { IfOk result (λ k. said_meaning (option_map entry_text (option_copied value.entry)) ≡ option_map means k) }
+    ensures err { IfErr result (λ e. IsFailure (FailsValue (said_meaning (option_map entry_text (option_copied value.entry)))) e) }
 {
     match value {
         Some(value) => match kind_of_value(alloc, value) {
-            Ok(kind) => Ok(kind),
+            Ok(kind) => Ok(Some(kind)),
             Err(e) => Err(e),
         },
-        None => Err(no_kind(alloc)),
+        None => Ok(None),
     }
 }
 
-/// Returns the kind that a header names by `yacckind`.
-pub(crate) fn kind_in(alloc: Global, header: &Header<Span>) -> YaccGrammarResult<YaccKind>
-    ensures ok { (pairs : List PairText) → Holds header.now pairs → IfOk result (λ k. told_kind pairs ≡ Some (means k)) }
-    ensures err { (pairs : List PairText) → Holds header.now pairs → IfErr result (λ e. IsFailure (FailsKind (told_kind pairs)) e) }
+/// Returns the kind that a header names by `yacckind`, if the key is there.
+pub(crate) fn kind_in(alloc: Global, header: &Header<Span>) -> YaccGrammarResult<Option<YaccKind>>
+    ensures ok { (pairs : List PairText) → Holds header.now pairs → IfOk result (λ k. told_kind pairs ≡ option_map means k) }
+    ensures err { (pairs : List PairText) → Holds header.now pairs → IfErr result (λ e. IsFailure (FailsValue (told_kind pairs)) e) }
 {
     match value_of(alloc, header, "yacckind") {
-        Ok(value) => match told_kind(alloc, value) {
+        Ok(value) => match named_kind(alloc, value) {
             Ok(kind) => Ok(kind),
             Err(e) => Err(e),
         },

@@ -57,7 +57,7 @@ fn is_word(text: &String, word: &str) -> bool
 }
 
 /// Returns the namespace of a path, where it isn't this one.
-fn misplaced<'a, T>(path: &'a Namespaced<T>, namespace: &str) -> Option<Misfit<'a, T>>
+fn find_misfit<'a, T>(path: &'a Namespaced<T>, namespace: &str) -> Option<Misfit<'a, T>>
     ensures { (m : Meaning T) → or_misfit result m ≡ within (path_text path.now).namespace namespace.now m }
 {
     let Some(word) = &path.namespace else {
@@ -116,7 +116,7 @@ fn unknown_variant<'a, T>(path: &'a Namespaced<T>) -> Misfit<'a, T>
 fn kind_alone<'a, T>(path: &'a Namespaced<T>) -> Result<YaccKind, Misfit<'a, T>>
     ensures { found_meaning result ≡ alone_meaning (path_text path.now) }
 {
-    if let Some(misfit) = misplaced(path, "YaccKind") {
+    if let Some(misfit) = find_misfit(path, "YaccKind") {
         return Err(misfit);
     }
     match kind_named(&path.member.0) {
@@ -129,7 +129,7 @@ fn kind_alone<'a, T>(path: &'a Namespaced<T>) -> Result<YaccKind, Misfit<'a, T>>
 fn kind_of_argument<'a, T>(path: &'a Namespaced<T>) -> Result<YaccKind, Misfit<'a, T>>
     ensures { found_meaning result ≡ argument_meaning (path_text path.now) }
 {
-    if let Some(misfit) = misplaced(path, "YaccOriginalActionKind") {
+    if let Some(misfit) = find_misfit(path, "YaccOriginalActionKind") {
         return Err(misfit);
     }
     match action_named(&path.member.0) {
@@ -145,7 +145,7 @@ fn kind_with<'a, T>(
 ) -> Result<YaccKind, Misfit<'a, T>>
     ensures { found_meaning result ≡ applied_meaning (path_text path.now) (path_text argument.now) }
 {
-    if let Some(misfit) = misplaced(path, "YaccKind") {
+    if let Some(misfit) = find_misfit(path, "YaccKind") {
         return Err(misfit);
     }
     if is_word(&path.member.0, "Original") {

@@ -130,7 +130,7 @@ impl Name {
     }
 
     /// Returns a name of the same text, with such a mark.
-    pub(crate) fn marked(&self, is_optional: bool) -> Result<Name, AllocError>
+    pub(crate) fn copy_marked(&self, is_optional: bool) -> Result<Name, AllocError>
         ensures text { IfOk result (λ n. name_text n ≡ name_text self.now) }
         ensures mark { IfOk result (λ n. name_optional n ≡ is_optional) }
     {
@@ -149,7 +149,7 @@ impl Name {
         ensures text { IfOk result (λ n. name_text n ≡ name_text self.now) }
         ensures mark { IfOk result (λ n. name_optional n ≡ false) }
     {
-        self.marked(false)
+        self.copy_marked(false)
     }
 }
 
@@ -160,7 +160,7 @@ impl Clone for Name {
     ghost is_clone = { λ n copy. (name_text copy ≡ name_text n) × (name_optional copy ≡ name_optional n) };
 
     fn clone(&self) -> Result<Name, AllocError> {
-        self.marked(self.is_optional)
+        self.copy_marked(self.is_optional)
     }
 }
 

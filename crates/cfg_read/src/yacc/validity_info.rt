@@ -20,7 +20,7 @@ use crate::yacc::ast::parts::{Lines, first_lines};
 use crate::yacc::ast::settle::{Uses, all_settled};
 use crate::yacc::ast::{GrammarAST, Rule, build};
 use crate::yacc::file::{
-    YaccGrammarFailure, YaccGrammarResult, kind_in, one_file, read_rest, read_section,
+    YaccGrammarFailure, YaccGrammarResult, kind_in, no_kind, one_file, read_rest, read_section,
 };
 use crate::yacc::name::NameSet;
 use crate::yacc::parser::syntax::Syntax;
@@ -201,7 +201,7 @@ fn take_all(
 }
 
 /// Makes the tree of a text that reads, and lists its failures.
-fn judged(alloc: Global, x: Syntax) -> Result<(GrammarAST, Vec<YaccGrammarError>), AllocError>
+fn judge_syntax(alloc: Global, x: Syntax) -> Result<(GrammarAST, Vec<YaccGrammarError>), AllocError>
     ensures errors { IfOk result (λ r. failures_in r.1.items ≡ failures (syntax_of x)) }
     ensures ast { IfOk result (λ r. r.0 ≡ ast_of (is_valid (failures_in r.1.items)) (syntax_of x)) }
 {
@@ -225,7 +225,7 @@ impl ASTWithValidityInfo {
         requires { HeadingsAreWords (syntax_of x) }
         ensures { IfOk result (λ c. c ≡ read_as yacc_kind (syntax_of x)) }
     {
-        let (ast, errors) = judged(alloc, x)?;
+        let (ast, errors) = judge_syntax(alloc, x)?;
         Ok(ASTWithValidityInfo {
             yacc_kind,
             ast,
@@ -315,7 +315,8 @@ impl ASTWithValidityInfo {
             Err(e) => return Err(e),
         };
         let kind = match kind_in(alloc, &header) {
-            Ok(kind) => kind,
+            Ok(Some(kind)) => kind,
+            Ok(None) => return Err(no_kind(alloc)),
             Err(e) => return Err(e),
         };
         match ASTWithValidityInfo::behind_section(alloc, kind, text, start) {

@@ -12,7 +12,7 @@ use cfg_base::span::{Location, Span};
 use std::alloc::{AllocError, Global};
 
 /// Copies a word, with its span as a location.
-fn located(alloc: Global, word: &(String, Span)) -> Result<(String, Location), AllocError>
+fn locate_word(alloc: Global, word: &(String, Span)) -> Result<(String, Location), AllocError>
     ensures { IfOk result (λ w. word_text w ≡ map_word InText (word_text word.now)) }
 {
     let text = String::from_str(alloc, word.0.as_str())?;
@@ -27,7 +27,7 @@ fn namespace(
     ensures { IfOk result (λ w. option_map word_text w ≡ option_map (map_word InText) (option_map word_text word.now)) }
 {
     match word {
-        Some(word) => Ok(Some(located(alloc, word)?)),
+        Some(word) => Ok(Some(locate_word(alloc, word)?)),
         None => Ok(None),
     }
 }
@@ -41,7 +41,7 @@ impl Namespaced<Location> {
         ensures { IfOk result (λ p. path_text p ≡ map_path InText (path_text path.now)) }
     {
         let namespace = namespace(alloc, &path.namespace)?;
-        let member = located(alloc, &path.member)?;
+        let member = locate_word(alloc, &path.member)?;
         Ok(Namespaced { namespace, member })
     }
 }

@@ -83,7 +83,7 @@ impl<'a> Scanner<'a> {
     }
 
     /// Copies a word, with its span.
-    fn located(&self, alloc: Global, start: usize, end: usize) -> Result<(String, Span), Fault>
+    fn word_at(&self, alloc: Global, start: usize, end: usize) -> Result<(String, Span), Fault>
         requires order { start ≤ end }
         requires start { IsCharBoundary self.now.text.now start }
         requires end { IsCharBoundary self.now.text.now end }
@@ -103,13 +103,13 @@ impl<'a> Scanner<'a> {
     {
         match self.path_shape(offset) {
             PathShape::Alone(end) => {
-                let member = self.located(alloc, offset, end)?;
+                let member = self.word_at(alloc, offset, end)?;
                 let namespace = None;
                 Ok((Namespaced { namespace, member }, end))
             }
             PathShape::Within(middle, end) => {
-                let outer = self.located(alloc, offset, middle)?;
-                let member = self.located(alloc, middle + 2, end)?;
+                let outer = self.word_at(alloc, offset, middle)?;
+                let member = self.word_at(alloc, middle + 2, end)?;
                 let namespace = Some(outer);
                 Ok((Namespaced { namespace, member }, end))
             }

@@ -14,9 +14,9 @@ ghost use Rattle.cfg_sentences.specs.CostTable.{bound, cost_of, cost_in};
 ghost use Rattle.cfg_sentences.specs.TokenLists.{lists_of};
 ghost use Rattle.cfg_sentences.specs.CheapestTable.{ListsAreRefused, lists_in, lists_before, AllHaveLists, AreLists, IsJoined, spare_in};
 
+use super::dirty_productions::Once;
 use super::least::LeastCosts;
 use super::needed::wanted_rules;
-use super::once::Once;
 use super::token_costs::BOUND;
 use super::token_lists::{TokenLists, insert_all, join_all, put_before};
 use super::{SentenceError, SentenceGenerator};

@@ -26,6 +26,17 @@ struct Due {
     number: usize,
 }
 
+/// How far the search for an order is.
+#[derive(Drop)]
+struct Search {
+    /// For each production, how many of the rules that it names have no cost.
+    lacking: Vec<usize>,
+    /// The costs of the rules that have theirs.
+    costs: Vec<Option<u32>>,
+    /// The productions that wait to be taken.
+    due: BinaryHeap<Reverse<Due>>,
+}
+
 /// Raises the counts of these productions by one.
 fn count_named(named: &[usize], lacking: &mut Vec<usize>)
     ensures { length lacking.new.items ≡ length lacking.old.items }
@@ -138,17 +149,15 @@ fn settle<S: IndexStorage>(
     tokens: &TokenCosts<S>,
     naming: &Naming,
     next: Due,
-    lacking: &mut Vec<usize>,
-    costs: &mut Vec<Option<u32>>,
-    due: &mut BinaryHeap<Reverse<Due>>,
+    search: &mut Search,
     order: &mut WorkList,
 ) -> Result<(), AllocError>
     requires naming { length naming.now ≡ tokens.now.grammar.rules }
-    requires rules { length costs.old.items ≡ tokens.now.grammar.rules }
-    requires capped { AreCapped costs.old.items }
+    requires rules { length search.old.costs.items ≡ tokens.now.grammar.rules }
+    requires capped { AreCapped search.old.costs.items }
     requires order { order.old.rules ≡ length tokens.now.grammar.productions }
-    ensures rules { OnOk result (length costs.new.items ≡ tokens.now.grammar.rules) }
-    ensures capped { OnOk result (AreCapped costs.new.items) }
+    ensures rules { OnOk result (length search.new.costs.items ≡ tokens.now.grammar.rules) }
+    ensures capped { OnOk result (AreCapped search.new.costs.items) }
     ensures order { OnOk result (order.new.rules ≡ order.old.rules) }
 {
     if tokens.prods_len().0.to_usize() <= next.number {
@@ -159,11 +168,18 @@ fn settle<S: IndexStorage>(
         .prod_to_rule(tokens.prod_at(next.number))
         .0
         .to_usize();
-    if !put_cost(rule, next.cost, costs) {
+    if !put_cost(rule, next.cost, &mut search.costs) {
         return Ok(());
     }
     order.put(next.number)?;
-    hand_on(tokens, naming.of(rule), lacking, costs.as_slice(), due)
+    let costs = search.costs.as_slice();
+    hand_on(
+        tokens,
+        naming.of(rule),
+        &mut search.lacking,
+        costs,
+        &mut search.due,
+    )
 }
 
 /// Takes productions that wait, the cheapest first, until none is left.
@@ -177,24 +193,19 @@ fn settle_all<S: IndexStorage>(
     requires order { order.old.rules ≡ length tokens.now.grammar.productions }
     ensures order { OnOk result (order.new.rules ≡ order.old.rules) }
 {
-    let mut lacking = count_open(alloc, tokens.prods_len().0.to_usize(), naming)?;
-    let mut costs = no_costs(alloc, tokens.rules_len().0.to_usize())?;
-    let mut due = BinaryHeap::new(alloc);
-    start(tokens, &lacking, costs.as_slice(), &mut due)?;
+    let mut search = Search {
+        lacking: count_open(alloc, tokens.prods_len().0.to_usize(), naming)?,
+        costs: no_costs(alloc, tokens.rules_len().0.to_usize())?,
+        due: BinaryHeap::new(alloc),
+    };
+    let costs = search.costs.as_slice();
+    start(tokens, &search.lacking, costs, &mut search.due)?;
     // Each production waits once, so that none is left long before the last turn.
     'turns: for _ in 0..usize::MAX {
-        let Some(Reverse(next)) = due.pop() else {
+        let Some(Reverse(next)) = search.due.pop() else {
             return Ok(());
         };
-        settle(
-            tokens,
-            naming,
-            next,
-            &mut lacking,
-            &mut costs,
-            &mut due,
-            order,
-        )?;
+        settle(tokens, naming, next, &mut search, order)?;
     }
     Ok(())
 }

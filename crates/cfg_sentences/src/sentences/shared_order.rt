@@ -56,7 +56,7 @@ fn turn_left<S: IndexStorage>(
     Ok(told_by(token, other))
 }
 
-fn turned(told: Option<bool>) -> Option<bool>
+fn opposite(told: Option<bool>) -> Option<bool>
     ensures { result ≡ option_map not told }
 {
     match told {
@@ -89,7 +89,7 @@ fn turn<S: IndexStorage>(
         return turn_left(shared, left, right, lefts, rights);
     }
     let told = turn_left(shared, right, left, rights, lefts)?;
-    Ok(turned(told))
+    Ok(opposite(told))
 }
 
 /// Returns whether a list forks before another one, or the other one leads it; none where one begins the other.

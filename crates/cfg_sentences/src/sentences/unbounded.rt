@@ -118,7 +118,7 @@ impl<'t, 'u, 'a, S: IndexStorage> ProdTable for Narrowing<'t, 'u, 'a, S> {
 }
 
 /// Returns the rules that lead on to one of the set with a gain.
-fn narrowed<S: IndexStorage>(
+fn rules_before<S: IndexStorage>(
     alloc: Global,
     costly: &KeptCosts<S>,
     naming: &Naming,
@@ -158,7 +158,7 @@ pub(super) fn unbounded_rules<S: IndexStorage>(
     let mut kept = Vob::from_elem(alloc, true, rules)?;
     'rounds: loop {
         settle(alloc, costly, naming, &mut kept)?;
-        let new = narrowed(alloc, costly, naming, order, &kept)?;
+        let new = rules_before(alloc, costly, naming, order, &kept)?;
         if !kept.and(&new) {
             return Ok(kept);
         }

@@ -105,7 +105,7 @@ fn of_tree<S: IndexStorage>(
     requires fits { too_many S.MAX (grammar_of implicit ast.old) ≡ None }
     ensures { IfOk result (λ g. g ≡ value_by implicit ast.old) }
 {
-    let kept = info::kept(ast, implicit)?;
+    let kept = info::info_of_text(ast, implicit)?;
     let start = start_prod(ast);
     let levels = info::levels(alloc, ast)?;
     let prods = productions::all(alloc, ast, &levels, implicit)?;
@@ -167,7 +167,7 @@ pub(crate) fn of_lent_tree<S: IndexStorage>(
 }
 
 /// The answer for an invalid text.
-pub(crate) fn refused<S: IndexStorage>(
+pub(crate) fn refusal_of<S: IndexStorage>(
     alloc: Global,
     errors: &[YaccGrammarError],
 ) -> Result<YaccGrammar<S>, YaccGrammarMakeError>

@@ -4,7 +4,8 @@ ghost use Rattle.std.specs.Prelude.{◌≡◌, ◌<◌, ◌+◌, ℕ, [], Some, 
 ghost use Rattle.cfg_numbered.specs.Symbols.{sym_of};
 ghost use Rattle.lr_theory.specs.Itemset.{HasItem, ItemSet};
 ghost use Rattle.state_table.specs.Graphs.{IsGraphValue};
-ghost use Rattle.lrpar.specs.Fitting.{Tells, Carries, ArePast, AreAllPast, AreFlags, closed_at};
+ghost use Rattle.lrpar.specs.Fitting.{Carries, ArePast, AreAllPast, AreFlags, closed_at};
+ghost use Rattle.cfg_theory.specs.Decides.{Decides};
 
 use crate::numbers::index_below;
 use crate::parserdata::edges::edge_at;
@@ -119,7 +120,7 @@ fn has_item_by<S: IndexStorage>(
     pidx: PIdx<S>,
     dot: SIdx<S>,
 ) -> bool
-    ensures { Tells (HasItem items.now (S.number pidx.0) (S.number dot.0)) result }
+    ensures { Decides (HasItem items.now (S.number pidx.0) (S.number dot.0)) result }
 {
     let number = pidx.0.to_usize();
     if number < places.len() {
@@ -138,7 +139,7 @@ fn carries<S: IndexStorage>(
     symbol: Symbol<S>,
     past: &[PastItem<S>],
 ) -> bool
-    ensures { (to : ItemSet) → ArePast S.number to past.now → Tells (Carries grm.now.grammar from.now (sym_of S.number symbol) to) result }
+    ensures { (to : ItemSet) → ArePast S.number to past.now → Decides (Carries grm.now.grammar from.now (sym_of S.number symbol) to) result }
 {
     'items: for index in 0..past.len() {
         let PastItem { pidx, before } = past_at(past, index);

@@ -9,7 +9,8 @@ ghost use Rattle.state_table.specs.Graphs.{AreInOrder, target_in};
 ghost use Rattle.state_table.specs.GraphViews.{edges_seen};
 ghost use Rattle.state_table.specs.TableValues.{action_at, goto_at};
 ghost use Rattle.lrpar.specs.Reducing.{rule_number, token_number};
-ghost use Rattle.lrpar.specs.Fitting.{Tells, LeastNot, OfGrammar, IsFor, ReducesWell, GoesFrom, HasGotos, AreEdges, least_of};
+ghost use Rattle.lrpar.specs.Fitting.{LeastNot, OfGrammar, JustifiesAction, ReducesWell, GoesFrom, HasGotos, AreEdges, least_of};
+ghost use Rattle.cfg_theory.specs.Decides.{Decides};
 
 use crate::numbers::index_below;
 use crate::parserdata::edges::{edge_at, first_not_before, target_at};
@@ -23,7 +24,7 @@ use state_table::{Action, Itemset, StIdx};
 
 /// Returns whether two states are one, or there is none on both sides.
 fn same_states<S: IndexStorage>(a: Option<StIdx<S>>, b: Option<StIdx<S>>) -> bool
-    ensures { Tells (state_of S.number a ≡ state_of S.number b) result }
+    ensures { Decides (state_of S.number a ≡ state_of S.number b) result }
 {
     match (a, b) {
         (Some(a), Some(b)) => a.0.to_usize() == b.0.to_usize(),
@@ -40,7 +41,7 @@ fn shift_fits<S: IndexStorage>(
     tidx: TIdx<S>,
     target: StIdx<S>,
 ) -> bool
-    ensures { Tells (IsFor grm.now.grammar items.now (state_of S.number edge) (S.number tidx.0) (action_of S.number (actions.Shift target))) result }
+    ensures { Decides (JustifiesAction grm.now.grammar items.now (state_of S.number edge) (S.number tidx.0) (action_of S.number (actions.Shift target))) result }
 {
     if !same_states(edge, Some(target)) {
         return false;
@@ -57,7 +58,7 @@ fn reduce_fits<S: IndexStorage>(
     pidx: PIdx<S>,
 ) -> bool
     requires { OfGrammar grm.now.grammar items.now }
-    ensures { Tells (IsFor grm.now.grammar items.now (state_of S.number edge) (S.number tidx.0) (action_of S.number (actions.Reduce pidx))) result }
+    ensures { Decides (JustifiesAction grm.now.grammar items.now (state_of S.number edge) (S.number tidx.0) (action_of S.number (actions.Reduce pidx))) result }
 {
     if pidx.0.to_usize() == grm.start_prod().0.to_usize() {
         return false;
@@ -73,7 +74,7 @@ fn accept_fits<S: IndexStorage>(
     tidx: TIdx<S>,
 ) -> bool
     requires { OfGrammar grm.now.grammar items.now }
-    ensures { Tells (IsFor grm.now.grammar items.now (state_of S.number edge) (S.number tidx.0) (action_of S.number actions.Accept)) result }
+    ensures { Decides (JustifiesAction grm.now.grammar items.now (state_of S.number edge) (S.number tidx.0) (action_of S.number actions.Accept)) result }
 {
     if tidx.0.to_usize() != grm.eof_token_idx().0.to_usize() {
         return false;
@@ -90,7 +91,7 @@ fn action_fits<S: IndexStorage>(
     action: Action<S>,
 ) -> bool
     requires { OfGrammar grm.now.grammar items.now }
-    ensures { Tells (IsFor grm.now.grammar items.now (state_of S.number edge) (S.number tidx.0) (action_of S.number action)) result }
+    ensures { Decides (JustifiesAction grm.now.grammar items.now (state_of S.number edge) (S.number tidx.0) (action_of S.number action)) result }
 {
     match action {
         Action::Shift(target) => shift_fits(grm, items, edge, tidx, target),
@@ -102,7 +103,7 @@ fn action_fits<S: IndexStorage>(
 
 /// Returns whether an action reduces by the production of which that was seen to fit.
 fn is_seen<S: IndexStorage>(seen: Option<PIdx<S>>, action: Action<S>) -> bool
-    ensures { result ≡ true → (G : Grammar) (i : ItemSet) (edge : Option ℕ) (t : ℕ) → ReducesWell S.number G i seen → IsFor G i edge t (action_of S.number action) }
+    ensures { result ≡ true → (G : Grammar) (i : ItemSet) (edge : Option ℕ) (t : ℕ) → ReducesWell S.number G i seen → JustifiesAction G i edge t (action_of S.number action) }
 {
     match (seen, action) {
         (Some(seen), Action::Reduce(pidx)) => seen.0.to_usize() == pidx.0.to_usize(),
@@ -112,7 +113,7 @@ fn is_seen<S: IndexStorage>(seen: Option<PIdx<S>>, action: Action<S>) -> bool
 
 /// Returns the production of a reduction that fits, or else the one before.
 fn seen_after<S: IndexStorage>(seen: Option<PIdx<S>>, action: Action<S>) -> Option<PIdx<S>>
-    ensures { (G : Grammar) (i : ItemSet) (edge : Option ℕ) (t : ℕ) → ReducesWell S.number G i seen → IsFor G i edge t (action_of S.number action) → ReducesWell S.number G i result }
+    ensures { (G : Grammar) (i : ItemSet) (edge : Option ℕ) (t : ℕ) → ReducesWell S.number G i seen → JustifiesAction G i edge t (action_of S.number action) → ReducesWell S.number G i result }
 {
     match action {
         Action::Reduce(pidx) => Some(pidx),
@@ -126,7 +127,7 @@ pub(crate) fn least_action<S: IndexStorage>(
     edges: &[(Symbol<S>, StIdx<S>)],
 ) -> Option<TIdx<S>>
     requires order { AreInOrder (edges_seen S.number edges.now) }
-    ensures { LeastNot (λ t. t < state.now.stable.now.tokens → IsFor state.now.grm.now.grammar state.now.items.now (target_in (edges_seen S.number edges.now) (token t)) t (action_at state.now.stable.now (S.number state.now.stidx.0) t)) (token_number S.number result) }
+    ensures { LeastNot (λ t. t < state.now.stable.now.tokens → JustifiesAction state.now.grm.now.grammar state.now.items.now (target_in (edges_seen S.number edges.now) (token t)) t (action_at state.now.stable.now (S.number state.now.stidx.0) t)) (token_number S.number result) }
 {
     let tokens = state.stable.tokens_len().0;
     let row = state.stable.state_cells(state.stidx);

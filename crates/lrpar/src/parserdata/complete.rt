@@ -8,7 +8,8 @@ ghost use Rattle.state_table.specs.CellViews.{action_of};
 ghost use Rattle.state_table.specs.TableValues.{action_at};
 ghost use Rattle.state_table.specs.Tables.{automaton_of};
 ghost use Rattle.cfg_numbered.specs.Symbols.{sym_of};
-ghost use Rattle.lrpar.specs.Fitting.{Tells, OfGrammar};
+ghost use Rattle.lrpar.specs.Fitting.{OfGrammar};
+ghost use Rattle.cfg_theory.specs.Decides.{Decides};
 ghost use Rattle.lrpar.specs.Completing.{ItemStands};
 
 use crate::machine::Machine;
@@ -21,7 +22,7 @@ use vob::Vob;
 
 /// Returns whether an action shifts.
 fn is_shift<S: IndexStorage>(action: Action<S>) -> bool
-    ensures { Tells ((q : ℕ) × (action_of S.number action ≡ shift q)) result }
+    ensures { Decides ((q : ℕ) × (action_of S.number action ≡ shift q)) result }
 {
     match action {
         Action::Shift(_) => true,
@@ -31,7 +32,7 @@ fn is_shift<S: IndexStorage>(action: Action<S>) -> bool
 
 /// Returns whether an action reduces by a production.
 fn is_reduce<S: IndexStorage>(action: Action<S>, pidx: PIdx<S>) -> bool
-    ensures { Tells (action_of S.number action ≡ reduce (S.number pidx.0)) result }
+    ensures { Decides (action_of S.number action ≡ reduce (S.number pidx.0)) result }
 {
     match action {
         Action::Reduce(found) => found.0.to_usize() == pidx.0.to_usize(),
@@ -41,7 +42,7 @@ fn is_reduce<S: IndexStorage>(action: Action<S>, pidx: PIdx<S>) -> bool
 
 /// Returns whether an action accepts.
 fn is_accept<S: IndexStorage>(action: Action<S>) -> bool
-    ensures { Tells (action_of S.number action ≡ accept) result }
+    ensures { Decides (action_of S.number action ≡ accept) result }
 {
     match action {
         Action::Accept => true,
@@ -75,7 +76,7 @@ fn next_is_shifted<S: IndexStorage>(
 ) -> bool
     requires production { S.number pidx.0 < length machine.now.grm.now.grammar.productions }
     requires state { S.number state.0 < machine.now.stable.now.states }
-    ensures { Tells ((t : ℕ) → IsNext machine.now.grm.now.grammar (S.number pidx.0) (S.number dot.0) (token t) → (q : ℕ) × (action_at machine.now.stable.now (S.number state.0) t ≡ shift q)) result }
+    ensures { Decides ((t : ℕ) → IsNext machine.now.grm.now.grammar (S.number pidx.0) (S.number dot.0) (token t) → (q : ℕ) × (action_at machine.now.stable.now (S.number state.0) t ≡ shift q)) result }
 {
     match next_of(machine.grm, pidx, dot) {
         None => true,
@@ -92,7 +93,7 @@ fn reduces_on<S: IndexStorage>(
     looks: &Vob,
 ) -> bool
     requires { S.number state.0 < machine.now.stable.now.states }
-    ensures { Tells ((t : ℕ) → slice_get looks.now.bits t ≡ Some true → action_at machine.now.stable.now (S.number state.0) t ≡ reduce (S.number pidx.0)) result }
+    ensures { Decides ((t : ℕ) → slice_get looks.now.bits t ≡ Some true → action_at machine.now.stable.now (S.number state.0) t ≡ reduce (S.number pidx.0)) result }
 {
     let tokens = machine.stable.tokens_len().0;
     'tokens: for index in looks.iter_set_bits(..) {
@@ -117,7 +118,7 @@ fn item_stands<S: IndexStorage>(
 ) -> bool
     requires production { S.number pidx.0 < length machine.now.grm.now.grammar.productions }
     requires state { S.number state.0 < machine.now.stable.now.states }
-    ensures { Tells (ItemStands machine.now.grm.now.grammar machine.now.stable.now items.now (S.number state.0) (S.number pidx.0) (S.number dot.0)) result }
+    ensures { Decides (ItemStands machine.now.grm.now.grammar machine.now.stable.now items.now (S.number state.0) (S.number pidx.0) (S.number dot.0)) result }
 {
     if !next_is_shifted(machine, state, pidx, dot) {
         return false;
@@ -142,7 +143,7 @@ fn state_stands<S: IndexStorage>(
 ) -> bool
     requires items { OfGrammar machine.now.grm.now.grammar items.now }
     requires state { S.number state.0 < machine.now.stable.now.states }
-    ensures { Tells ((p d : ℕ) → HasItem items.now p d → ItemStands machine.now.grm.now.grammar machine.now.stable.now items.now (S.number state.0) p d) result }
+    ensures { Decides ((p d : ℕ) → HasItem items.now p d → ItemStands machine.now.grm.now.grammar machine.now.stable.now items.now (S.number state.0) p d) result }
 {
     'items: for index in 0..items.len() {
         let (pidx, dot) = items.item_at(index);
@@ -155,7 +156,7 @@ fn state_stands<S: IndexStorage>(
 
 /// Returns whether those of each item of all states do.
 pub(crate) fn is_complete<S: IndexStorage>(machine: &Machine<'_, S>) -> bool
-    ensures { Tells (Complete machine.now.grm.now.grammar (automaton_of machine.now.sgraph.now machine.now.stable.now)) result }
+    ensures { Decides (Complete machine.now.grm.now.grammar (automaton_of machine.now.sgraph.now machine.now.stable.now)) result }
 {
     let states = machine.sgraph.all_states_len().0;
     'states: for number in 0..states.to_usize() {

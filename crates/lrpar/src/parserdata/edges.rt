@@ -7,7 +7,8 @@ ghost use Rattle.state_table.specs.CellViews.{state_of};
 ghost use Rattle.state_table.specs.Graphs.{AreInOrder, target_in, SymBefore};
 ghost use Rattle.state_table.specs.GraphViews.{edge_seen, edges_seen};
 ghost use Rattle.lrpar.specs.Reducing.{rule_number, token_number};
-ghost use Rattle.lrpar.specs.Fitting.{Tells, LeastNot, Passed, StopsBefore, BadRule, BadToken, NoneBad, TellsBad};
+ghost use Rattle.lrpar.specs.Fitting.{LeastNot, Passed, StopsBefore, BadRule, BadToken, NoneBad, TellsBad};
+ghost use Rattle.cfg_theory.specs.Decides.{Decides};
 
 use crate::parserdata::items::same_symbols;
 use cfg_base::index::IndexStorage;
@@ -16,7 +17,7 @@ use state_table::StIdx;
 
 /// Returns whether a symbol comes before another one.
 fn is_before<S: IndexStorage>(a: Symbol<S>, b: Symbol<S>) -> bool
-    ensures { Tells (SymBefore (sym_of S.number a) (sym_of S.number b)) result }
+    ensures { Decides (SymBefore (sym_of S.number a) (sym_of S.number b)) result }
 {
     match (a, b) {
         (Symbol::Rule(a), Symbol::Rule(b)) => a.0.to_usize() < b.0.to_usize(),

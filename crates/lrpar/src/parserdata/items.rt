@@ -8,7 +8,8 @@ ghost use Rattle.state_table.specs.Graphs.{GraphValue};
 ghost use Rattle.state_table.specs.Tables.{automaton_of};
 ghost use Rattle.state_table.specs.TableValues.{TableValue};
 ghost use Rattle.lrpar.specs.Safety.{ItemFits};
-ghost use Rattle.lrpar.specs.Fitting.{Tells, OfGrammar};
+ghost use Rattle.lrpar.specs.Fitting.{OfGrammar};
+ghost use Rattle.cfg_theory.specs.Decides.{Decides};
 
 use cfg_base::index::IndexStorage;
 use cfg_base::symbol::{PIdx, SIdx, Symbol};
@@ -17,7 +18,7 @@ use state_table::{Itemset, StIdx};
 
 /// Returns whether a set has an item.
 pub(crate) fn has_item<S: IndexStorage>(items: &Itemset<S>, pidx: PIdx<S>, dot: SIdx<S>) -> bool
-    ensures { Tells (HasItem items.now (S.number pidx.0) (S.number dot.0)) result }
+    ensures { Decides (HasItem items.now (S.number pidx.0) (S.number dot.0)) result }
 {
     match items.get(pidx, dot) {
         Some(_) => true,
@@ -27,7 +28,7 @@ pub(crate) fn has_item<S: IndexStorage>(items: &Itemset<S>, pidx: PIdx<S>, dot: 
 
 /// Returns whether two symbols are one.
 pub(crate) fn same_symbols<S: IndexStorage>(a: Symbol<S>, b: Symbol<S>) -> bool
-    ensures { Tells (sym_of S.number a ≡ sym_of S.number b) result }
+    ensures { Decides (sym_of S.number a ≡ sym_of S.number b) result }
 {
     match (a, b) {
         (Symbol::Rule(a), Symbol::Rule(b)) => a.0.to_usize() == b.0.to_usize(),
@@ -43,7 +44,7 @@ pub(crate) fn is_next<S: IndexStorage>(
     dot: SIdx<S>,
     symbol: Symbol<S>,
 ) -> bool
-    ensures { Tells (IsNext grm.now.grammar (S.number pidx.0) (S.number dot.0) (sym_of S.number symbol)) result }
+    ensures { Decides (IsNext grm.now.grammar (S.number pidx.0) (S.number dot.0) (sym_of S.number symbol)) result }
 {
     if !grm.has_prod(pidx) {
         return false;
@@ -63,7 +64,7 @@ pub(crate) fn has_end<S: IndexStorage>(
     pidx: PIdx<S>,
 ) -> bool
     requires { OfGrammar grm.now.grammar items.now }
-    ensures { Tells (HasItem items.now (S.number pidx.0) (length (body_of grm.now.grammar (S.number pidx.0)))) result }
+    ensures { Decides (HasItem items.now (S.number pidx.0) (length (body_of grm.now.grammar (S.number pidx.0)))) result }
 {
     if !grm.has_prod(pidx) {
         return false;
@@ -79,7 +80,7 @@ fn item_fits<S: IndexStorage>(
     pidx: PIdx<S>,
     dot: SIdx<S>,
 ) -> bool
-    ensures { (g : GraphValue) (v : TableValue) → g.start ≡ S.number start.0 → Tells (ItemFits grm.now.grammar (automaton_of g v) (S.number state.0) (S.number pidx.0) (S.number dot.0)) result }
+    ensures { (g : GraphValue) (v : TableValue) → g.start ≡ S.number start.0 → Decides (ItemFits grm.now.grammar (automaton_of g v) (S.number state.0) (S.number pidx.0) (S.number dot.0)) result }
 {
     if !grm.has_prod(pidx) {
         return false;
@@ -104,7 +105,7 @@ pub(crate) fn items_fit<S: IndexStorage>(
     start: StIdx<S>,
     state: StIdx<S>,
 ) -> bool
-    ensures { (g : GraphValue) (v : TableValue) → g.start ≡ S.number start.0 → Tells ((p d : ℕ) → HasItem items.now p d → ItemFits grm.now.grammar (automaton_of g v) (S.number state.0) p d) result }
+    ensures { (g : GraphValue) (v : TableValue) → g.start ≡ S.number start.0 → Decides ((p d : ℕ) → HasItem items.now p d → ItemFits grm.now.grammar (automaton_of g v) (S.number state.0) p d) result }
 {
     'items: for index in 0..items.len() {
         let (pidx, dot) = items.item_at(index);

@@ -5,7 +5,8 @@ ghost use Rattle.state_table.specs.Graphs.{IsGraphValue};
 ghost use Rattle.state_table.specs.Tables.{CountsAgree, HasFullRows, automaton_of};
 ghost use Rattle.lrpar.specs.Reducing.{rule_number, token_number};
 ghost use Rattle.lrpar.specs.Safety.{TokenFits, RuleFits};
-ghost use Rattle.lrpar.specs.Fitting.{Tells, LeastNot, OfGrammar, AreFlags, TellsCell, TellsMisfit, closed_at};
+ghost use Rattle.lrpar.specs.Fitting.{LeastNot, OfGrammar, AreFlags, TellsCell, TellsMisfit, closed_at};
+ghost use Rattle.cfg_theory.specs.Decides.{Decides};
 
 use crate::numbers::index_below;
 use crate::parserdata::carrying::{flags_of, is_flagged};
@@ -26,7 +27,7 @@ fn counts_agree<S: IndexStorage>(
     sgraph: &StateGraph<S>,
     stable: &StateTable<S>,
 ) -> bool
-    ensures { Tells (CountsAgree grm.now.grammar sgraph.now stable.now) result }
+    ensures { Decides (CountsAgree grm.now.grammar sgraph.now stable.now) result }
 {
     if stable.states_len().0.to_usize() != sgraph.all_states_len().0.to_usize() {
         return false;

@@ -20,7 +20,7 @@ impl<S: IndexStorage> NumberedGrammar<S> {
         ensures end { MatchOption result (S.number tidx.0 ≡ end_token self.now.grammar) (λ _. S.number tidx.0 < end_token self.now.grammar) }
     {
         match self.token_info(tidx) {
-            Some((name, token)) => Some(shown(name, token)),
+            Some((name, token)) => Some(name_to_show(name, token)),
             None => None,
         }
     }
@@ -104,7 +104,7 @@ impl<S: IndexStorage> NumberedGrammar<S> {
     }
 }
 
-fn shown<'a>(name: &'a str, token: &'a TokenInfo) -> &'a str
+fn name_to_show<'a>(name: &'a str, token: &'a TokenInfo) -> &'a str
     ensures { shown_text (token_beside name.now token.now) ≡ Some result.now }
 {
     match &token.epp {

@@ -285,7 +285,7 @@ impl GrammarAST {
 
     /// Returns the names that the start rule leads to, each once: its own, and those in alternatives of the rules
     /// among them.
-    fn reached(&self, alloc: Global) -> Result<IndexSet<&str>, AllocError>
+    fn reached_rules(&self, alloc: Global) -> Result<IndexSet<&str>, AllocError>
         ensures { IfOk result (λ s. (name : List ℕ) → IsTrue (has_name s name) ↔ IsReached self.now name) }
     {
         let mut names = self.start_names(alloc)?;
@@ -299,7 +299,7 @@ impl GrammarAST {
     }
 
     /// Returns the tokens in alternatives of these rules.
-    fn used<'a>(
+    fn used_tokens<'a>(
         &'a self,
         alloc: Global,
         reached: &IndexSet<&'a str>,
@@ -397,8 +397,8 @@ impl GrammarAST {
         ensures { IfOk result (λ ws. AreUnused self.now (warnings_in ws.items)) }
     {
         let mut warnings = Vec::new(alloc);
-        let reached = self.reached(alloc)?;
-        let used = match self.used(alloc, &reached) {
+        let reached = self.reached_rules(alloc)?;
+        let used = match self.used_tokens(alloc, &reached) {
             Ok(used) => used,
             Err(e) => {
                 drop(reached);

@@ -289,7 +289,7 @@ impl<'a> Scanner<'a> {
     }
 
     /// Copies the text between the quotes of a string, without the `\` of its escapes.
-    fn unescaped(&self, alloc: Global, start: usize, end: usize) -> Result<String, AllocError>
+    fn unescape(&self, alloc: Global, start: usize, end: usize) -> Result<String, AllocError>
         requires { FitsPart self.now.text.now start end }
         ensures { IfOk result (λ s. string_bytes s ≡ filter is_plain (slice_range self.now.text.now start end)) }
     {
@@ -317,7 +317,7 @@ impl<'a> Scanner<'a> {
     {
         match self.string_at(offset) {
             StringKind::Closed(end) => {
-                let text = self.unescaped(alloc, offset + 1, end)?;
+                let text = self.unescape(alloc, offset + 1, end)?;
                 let span = Span::new(offset, end + 1);
                 Ok((Word { text, span }, end + 1))
             }

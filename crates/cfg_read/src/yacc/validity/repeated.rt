@@ -82,7 +82,7 @@ fn add_span(
 }
 
 /// Lists the spans of each name, in the order of the first ones.
-fn grouped(alloc: Global, words: &[(&str, Span)]) -> Result<Vec<Vec<Span>>, AllocError>
+fn group_spans(alloc: Global, words: &[(&str, Span)]) -> Result<Vec<Vec<Span>>, AllocError>
     ensures { IfOk result (λ groups. span_lists groups.items ≡ groups_of (words_at words.now)) }
 {
     let mut names = IndexSet::new(alloc);
@@ -144,7 +144,7 @@ fn push_repeated_among(
     if all_differ(words, names) {
         return Ok(());
     }
-    let groups = grouped(alloc, words)?;
+    let groups = group_spans(alloc, words)?;
     push_groups(errors, what, groups)?;
     Ok(())
 }

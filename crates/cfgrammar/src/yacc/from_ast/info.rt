@@ -215,7 +215,7 @@ fn number_of(number: Option<(usize, Span)>) -> Option<usize>
 }
 
 /// What is kept of the whole text.
-pub(crate) fn kept<S: IndexStorage>(
+pub(crate) fn info_of_text<S: IndexStorage>(
     ast: &GrammarAST,
     implicit: bool,
 ) -> Result<KeptInfo<S>, AllocError>

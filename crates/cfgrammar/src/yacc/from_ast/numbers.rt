@@ -45,16 +45,6 @@ fn rule_of<S: IndexStorage>(ast: &GrammarAST, name: &Name) -> RIdx<S>
     RIdx(index_of(index + 1))
 }
 
-/// The token of a name in a production.
-fn token_of<S: IndexStorage>(ast: &GrammarAST, name: &Name) -> TIdx<S>
-    requires known { Contains (names_of_tokens ast.now) (name_text name.now) }
-    requires fits { length ast.now.tokens ≤ S.MAX }
-    ensures { S.number result.0 ≡ tree.token_number ast.now (name_text name.now) }
-{
-    let index = ast.token_number(name).unwrap();
-    TIdx(index_of(index))
-}
-
 /// The rule `~`.
 pub(crate) fn tilde<S: IndexStorage>(ast: &GrammarAST) -> RIdx<S>
     requires { length (tree.rules_of true ast.now) ≤ S.MAX }
@@ -79,7 +69,10 @@ fn to_symbol<S: IndexStorage>(ast: &GrammarAST, symbol: &ast::Symbol) -> Symbol<
 {
     match symbol {
         ast::Symbol::Rule(name, _span) => Symbol::Rule(rule_of(ast, name)),
-        ast::Symbol::Token(name, _span) => Symbol::Token(token_of(ast, name)),
+        ast::Symbol::Token(name, _span) => {
+            let index = ast.token_number(name).unwrap();
+            Symbol::Token(TIdx(index_of(index)))
+        }
     }
 }
 

@@ -29,7 +29,7 @@ fn refused_kept<S: IndexStorage>(
 ) -> Result<YaccGrammar<S>, YaccGrammarMakeError>
     ensures { Refuses info.errors result }
 {
-    let refused = from_ast::refused(alloc, info.errors());
+    let refused = from_ast::refusal_of(alloc, info.errors());
     drop(info);
     refused
 }
@@ -95,7 +95,7 @@ impl<S: IndexStorage> YaccGrammar<S> {
         if info.is_valid() {
             from_ast::of_lent_tree(alloc, info.yacc_kind(), info.ast())
         } else {
-            from_ast::refused(alloc, info.errors())
+            from_ast::refusal_of(alloc, info.errors())
         }
     }
 

@@ -17,8 +17,8 @@ steps-preserved g c =
     let start = reverse (syms_of number c.args.form.items) in
     let form = reverse (syms_of number c.steps.form.items) in
     let is_rule : has_rule_first form ≡ true = sym (rw c.as_slice.ensures.value at c.if-not-begins_with_rule.ensures) in
-    forms_more c.args.grm.now.grammar (λ p. number p.0) (λ f. syms_of number f.items) start c.args.steps.now c.steps.forms.items c.push.new.self.items c.in_ok-reversed.field-0 form (reverse (syms_of number c.put_first.new.form.items)) c.steps.k c.index-steps-k.result
-    c.steps-test.true c.index-steps-k.is is_rule (rw c.as_slice-in-steps.ensures.value at c.in_ok-reversed.ensures) c.in_ok-push.ensures.items c.in_ok-put_first.ensures c.steps.invariant
+    forms_more c.args.grm.now.grammar (λ p. number p.0) (λ f. syms_of number f.items) start c.args.steps.now c.steps.forms.items c.push.new.self.items c.in_ok-reverse_form.field-0 form (reverse (syms_of number c.put_first.new.form.items)) c.steps.k c.index-steps-k.result
+    c.steps-test.true c.index-steps-k.is is_rule (rw c.as_slice-in-steps.ensures.value at c.in_ok-reverse_form.ensures) c.in_ok-push.ensures.items c.in_ok-put_first.ensures c.steps.invariant
 
 pub returns-then-not-begins_with_rule : goal.returns-then-not-begins_with_rule
 returns-then-not-begins_with_rule g c =

@@ -4,5 +4,5 @@ use Rattle.lrkit_check.proofs.bison.report_on_import.Goals as goal
 
 pub returns : goal.returns
 returns c =
-    let text : c.in_ok-source.source.text ≡ string_bytes c.args.imported.now.text = ap (λ s. s.text) c.in_ok-source.ensures ∙ c.as_str.ensures.value in
-    subst (λ t. IfOk c.report_on-told.result (λ r. IsOutcome t r.outcome)) text c.report_on-told.ensures
+    let text : c.with_color-source.result.text ≡ string_bytes c.args.import.now.imported.text = ap (λ s. s.text) c.with_color-source.ensures ∙ ap (λ s. s.text) c.in_ok-source.ensures in
+    subst (λ t. IfOk c.report_in-told.result (λ r. IsOutcome t r.outcome)) text c.report_in-told.ensures.outcome

@@ -50,13 +50,13 @@ returns-in-Accepted-clause-parse g c =
     let p = accepts_with number lex G x v holds make answers lexemes errors c.errors.stack (drop c.errors.at lexemes) u e.0 c.run_from.new.stacks.values e.1 in
     is_parse G (automaton_of x v) (token_by lex) make answers lexemes c.args.machine.now.table.well_formed safe (HoldsValue (holds c.run_from.new.stacks.values) true) (no_end_of (token_by lex) (end_token G) lexemes c.requires.lexemes.inside) errors p
 
-pub mend-mended-requires-clause-index : goal.mend-mended-requires-clause-index
-mend-mended-requires-clause-index g c =
+pub repair_at-mended-requires-clause-index : goal.repair_at-mended-requires-clause-index
+repair_at-mended-requires-clause-index g c =
     let u = c.errors.invariant.on in
     (rw c.in-Failed.is at (c.in-Ok.ensures.ended u.input u.goes.config u.goes.stand u.goes.rest_is)).0
 
-pub mend-mended-requires-clause-stand : goal.mend-mended-requires-clause-stand
-mend-mended-requires-clause-stand g c =
+pub repair_at-mended-requires-clause-stand : goal.repair_at-mended-requires-clause-stand
+repair_at-mended-requires-clause-stand g c =
     let u = c.errors.invariant.on in
     let e = rw c.in-Failed.is at (c.in-Ok.ensures.ended u.input u.goes.config u.goes.stand u.goes.rest_is) in
     (u.input, e.1.1.config, e.1.1.stand, e.1.1.rest_is)
@@ -91,15 +91,15 @@ errors-preserved g c =
       within = after.0;
       stacks = after.1;
       starts = after.2;
-      kept = g.V.ValueStack.keeps_on c.args.values c.run_from.new.stacks.values c.mend-mended.new.stacks.values (g.V.ValueStack.keeps_on c.args.values c.errors.stack.values c.run_from.new.stacks.values c.errors.invariant.kept c.in-Ok.ensures.keeps) c.in-Ok-mended.ensures.keeps;
+      kept = g.V.ValueStack.keeps_on c.args.values c.run_from.new.stacks.values c.repair_at-mended.new.stacks.values (g.V.ValueStack.keeps_on c.args.values c.errors.stack.values c.run_from.new.stacks.values c.errors.invariant.kept c.in-Ok.ensures.keeps) c.in-Ok-mended.ensures.keeps;
       on =
           let x = c.args.machine.now.sgraph.now in
           let u = c.errors.invariant.on in
           let e = rw c.in-Failed.is at (c.in-Ok.ensures.ended u.input u.goes.config u.goes.stand u.goes.rest_is) in
           let m = c.in-Ok-mended.ensures.mended u.input e.1.1.config e.1.1.stand e.1.1.rest_is in
           let mended = rw c.in-Some.is at m.resumes in
-          let on = goes_on_with number lex G x v holds make answers lexemes errors c.errors.stack (drop c.errors.at lexemes) u e.1.0 c.run_from.new.stacks (drop c.in-Failed.index lexemes) e.1.1 m.offered (error_of number found) m.told c.mend-mended.new.stacks (drop c.in-Some.index lexemes) mended in
-          subst (λ es. Underway number lex G x v holds make answers lexemes es c.mend-mended.new.stacks (drop c.in-Some.index lexemes)) (sym (more_errors number c.errors.errors.items c.push.new.self.items found c.in_ok-push-in-Failed.ensures.items)) on;
+          let on = goes_on_with number lex G x v holds make answers lexemes errors c.errors.stack (drop c.errors.at lexemes) u e.1.0 c.run_from.new.stacks (drop c.in-Failed.index lexemes) e.1.1 m.offered (error_of number found) m.told c.repair_at-mended.new.stacks (drop c.in-Some.index lexemes) mended in
+          subst (λ es. Underway number lex G x v holds make answers lexemes es c.repair_at-mended.new.stacks (drop c.in-Some.index lexemes)) (sym (more_errors number c.errors.errors.items c.push.new.self.items found c.in_ok-push-in-Failed.ensures.items)) on;
     }
 
 pub returns-in-None-clause-parse : goal.returns-in-None-clause-parse
@@ -119,12 +119,12 @@ returns-in-None-clause-parse g c =
     let u = c.errors.invariant.on in
     let e = rw c.in-Failed.is at (c.in-Ok.ensures.ended u.input u.goes.config u.goes.stand u.goes.rest_is) in
     let m = c.in-Ok-mended.ensures.mended u.input e.1.1.config e.1.1.stand e.1.1.rest_is in
-    let p = gives_up_with number lex G x v holds make answers lexemes errors c.errors.stack (drop c.errors.at lexemes) u e.1.0 c.run_from.new.stacks (drop c.in-Failed.index lexemes) e.1.1 m.offered (error_of number found) m.told c.mend-mended.new.stacks.values (rw c.in-None.is at m.resumes) in
-    let told = subst (IsParsed G (automaton_of x v) (token_by lex) make answers (HoldsValue (holds c.mend-mended.new.stacks.values) false) lexemes) (sym (more_errors number c.errors.errors.items c.push.new.self.items found c.in_ok-push-in-Failed.ensures.items)) p in
-    is_parse G (automaton_of x v) (token_by lex) make answers lexemes c.args.machine.now.table.well_formed safe (HoldsValue (holds c.mend-mended.new.stacks.values) false) (no_end_of (token_by lex) (end_token G) lexemes c.requires.lexemes.inside) (errors_of number c.push.new.self.items) told
+    let p = gives_up_with number lex G x v holds make answers lexemes errors c.errors.stack (drop c.errors.at lexemes) u e.1.0 c.run_from.new.stacks (drop c.in-Failed.index lexemes) e.1.1 m.offered (error_of number found) m.told c.repair_at-mended.new.stacks.values (rw c.in-None.is at m.resumes) in
+    let told = subst (IsParsed G (automaton_of x v) (token_by lex) make answers (HoldsValue (holds c.repair_at-mended.new.stacks.values) false) lexemes) (sym (more_errors number c.errors.errors.items c.push.new.self.items found c.in_ok-push-in-Failed.ensures.items)) p in
+    is_parse G (automaton_of x v) (token_by lex) make answers lexemes c.args.machine.now.table.well_formed safe (HoldsValue (holds c.repair_at-mended.new.stacks.values) false) (no_end_of (token_by lex) (end_token G) lexemes c.requires.lexemes.inside) (errors_of number c.push.new.self.items) told
 
 pub returns-in-Accepted-clause-keeps : goal.returns-in-Accepted-clause-keeps
 returns-in-Accepted-clause-keeps g c = g.V.ValueStack.keeps_on c.args.values c.errors.stack.values c.run_from.new.stacks.values c.errors.invariant.kept c.in-Ok.ensures.keeps
 
 pub returns-in-None-clause-keeps : goal.returns-in-None-clause-keeps
-returns-in-None-clause-keeps g c = g.V.ValueStack.keeps_on c.args.values c.run_from.new.stacks.values c.mend-mended.new.stacks.values (g.V.ValueStack.keeps_on c.args.values c.errors.stack.values c.run_from.new.stacks.values c.errors.invariant.kept c.in-Ok.ensures.keeps) c.in-Ok-mended.ensures.keeps
+returns-in-None-clause-keeps g c = g.V.ValueStack.keeps_on c.args.values c.run_from.new.stacks.values c.repair_at-mended.new.stacks.values (g.V.ValueStack.keeps_on c.args.values c.errors.stack.values c.run_from.new.stacks.values c.errors.invariant.kept c.in-Ok.ensures.keeps) c.in-Ok-mended.ensures.keeps

@@ -2,7 +2,7 @@ use Rattle.std.proofs.Common.{◌≡◌, ◌<◌, ℕ, length, get_or, sym, subs
 use Rattle.std.proofs.lemmas.List.{length-map}
 use Rattle.cfg_numbered.specs.Symbols.{sym_of}
 use Rattle.lr_theory.specs.Itemset.{Goto, GotoLook}
-use Rattle.state_table.specs.Adding.{One, OneLooks}
+use Rattle.state_table.specs.Adding.{SingleItem, OneLooks}
 use Rattle.state_table.specs.ItemRows.{Item, IsCoreOf}
 use Rattle.state_table.specs.Sharing.{shared_core, GrowsBy}
 use Rattle.state_table.specs.CoreViews.{item_of}
@@ -57,7 +57,7 @@ items-preserved g c =
     let p = number x.item.pidx.0 in
     let found = subst (λ (n : ℕ). c.index-looks.result.now ≡ get_or s.sets.items n c.index-looks.result.now) c.get.ensures c.index-looks.ensures in
     let h = reads_item number G.tokens s c.items.k x c.index-looks.result.now c.requires.fits.good c.requires.within lt c.index-entry.ensures found in
-    let m = subst (λ d. GrowsBy number (length bits) (Goto G (One p d) X) (GotoLook G (OneLooks p d bits) X) c.items.moved c.move_one.new.moved) c.to_usize-dot.ensures.value c.in_ok-move_one.ensures in
+    let m = subst (λ d. GrowsBy number (length bits) (Goto G (SingleItem p d) X) (GotoLook G (OneLooks p d bits) X) c.items.moved c.move_one.new.moved) c.to_usize-dot.ensures.value c.in_ok-move_one.ensures in
     moved_next number G (shared_core number s) X c.items.k p (number x.item.dot.0) bits c.empty-moved.result c.items.moved c.move_one.new.moved h.at h.bits h.width c.items.invariant m
 
 pub returns-clause-is : goal.returns-clause-is

@@ -12,7 +12,7 @@ pub rules-init : goal.rules-init
 rules-init g c =
     let number = g.S.IndexStorage.number in
     let sets = map (set_of_moved number c.args.rows.now) c.args.sets.now.items in
-    let bits = c.opened.result.now.bits in
+    let bits = c.open_flags.result.now.bits in
     let e : c.into_iter-number-iterator.result ≡ walk true bits Unbounded Unbounded = cc in (
       tt,
       tt,
@@ -20,7 +20,7 @@ rules-init g c =
         0,
         record {
           within = omega arith;
-          left = subst (λ (l : List Bool). c.into_iter-number-iterator.result ≡ marked_from l 0) c.opened.ensures (all_marked bits c.into_iter-number-iterator.result e);
+          left = subst (λ (l : List Bool). c.into_iter-number-iterator.result ≡ marked_from l 0) c.open_flags.ensures (all_marked bits c.into_iter-number-iterator.result e);
           gains = open_begin c.args.grm.now.grammar c.args.rows.now.opening sets c.requires.sets.good;
           marks = keeps_same c.args.marks.now.bits sets;
         },

@@ -1,7 +1,7 @@
 use Rattle.std.proofs.Common.{map, set, refl, sym, ◌∙◌, subst, arith}
 use Rattle.std.proofs.lemmas.List.{length-map, map-set}
 use Rattle.cfg_numbered.specs.Symbols.{sym_of}
-use Rattle.state_table.specs.Adding.{One, OneLooks}
+use Rattle.state_table.specs.Adding.{SingleItem, OneLooks}
 use Rattle.lrtable.specs.Gaining.{Gains}
 use Rattle.lrtable.specs.MovedItems.{HaveNone, row_from, set_of_moved}
 use Rattle.lrtable.proofs.Exact.{dot_within}
@@ -74,8 +74,8 @@ returns-in_ok-insert_moved-in-Some-clause-gains g c =
     let dot = c.to_usize-dot.ensures.value in
     let range = c.start_prod.ensures.well_formed.symbols p c.to_usize-dot.result X n in
     let put = c.in_ok-insert_moved-in-Some.ensures in
-    let fresh = subst (λ d. HaveNone G (One p d) sets) (sym dot) c.requires.fresh in
-    subst (λ d. Gains G (One p d) (OneLooks p d (row_from c.args.rows.now c.args.source)) sets (map seen (set c.args.sets.now.items c.rank_of-number.result c.insert_moved.new.items))) dot
+    let fresh = subst (λ d. HaveNone G (SingleItem p d) sets) (sym dot) c.requires.fresh in
+    subst (λ d. Gains G (SingleItem p d) (OneLooks p d (row_from c.args.rows.now c.args.source)) sets (map seen (set c.args.sets.now.items c.rank_of-number.result c.insert_moved.new.items))) dot
     (one_moved number c.args.rows.now G c.args.sets.now.items c.rank_of-number.result c.index_mut-set.result.now p c.to_usize-dot.result X range n c.rank_of-number.ensures (sym (length-map c.args.sets.now.items (set_of_moved number c.args.rows.now)) ∙ c.requires.sets.count) c.requires.sets.good c.index_mut-set.ensures.value
     c.insert_moved.new.items _ put.0 refl c.dot_behind.ensures c.requires.width fresh put.1 put.2)
 
@@ -85,4 +85,4 @@ returns-in-None-clause-gains g c =
     let G = c.args.grm.now.grammar in
     let sets = map (set_of_moved number c.args.rows.now) c.args.sets.now.items in
     let p = number c.args.item.now.pidx.0 in
-    subst (λ d. Gains G (One p d) (OneLooks p d (row_from c.args.rows.now c.args.source)) sets sets) c.to_usize-dot.ensures.value (no_move G p c.to_usize-dot.result _ sets c.requires.sets.good c.in-None.ensures)
+    subst (λ d. Gains G (SingleItem p d) (OneLooks p d (row_from c.args.rows.now c.args.source)) sets sets) c.to_usize-dot.ensures.value (no_move G p c.to_usize-dot.result _ sets c.requires.sets.good c.in-None.ensures)

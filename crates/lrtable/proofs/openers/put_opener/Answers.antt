@@ -6,15 +6,15 @@ use Rattle.lrtable.specs.Fronts.{front_with}
 use Rattle.lrtable.proofs.openers.put_opener.Goals as goal
 
 pub put_rest-requires : goal.put_rest-requires
-put_rest-requires g c = λ e m. c.requires.width e m ∙ sym c.in_ok-rest-in-Some.ensures.width
+put_rest-requires g c = λ e m. c.requires.width e m ∙ sym c.fill_rest.ensures.width
 
 pub returns-in_ok-rest-in-Some : goal.returns-in_ok-rest-in-Some
 returns-in_ok-rest-in-Some g c =
     let number = g.S.IndexStorage.number in
     let G = c.args.grm.now.grammar in
     let q = number c.args.pidx.0 in
-    let f : IsFrontOf G q (front_with c.to_usize.result c.in_ok-rest-in-Some.rest) = record { rule = subst (λ k. IsNext G q 0 (rule k)) (sym c.to_usize.ensures.value) c.in-Some.ensures; rest = c.in_ok-rest-in-Some.ensures } in
-    on_ok_weaker c.put_rest.result (λ h. PutsFront.one (front_with c.to_usize.result c.in_ok-rest-in-Some.rest) f h) c.put_rest.ensures
+    let f : IsFrontOf G q (front_with c.to_usize-in-Some.result c.fill_rest.new.rest) = record { rule = subst (λ k. IsNext G q 0 (rule k)) (sym c.to_usize-in-Some.ensures.value) c.in-Some.ensures; rest = c.fill_rest.ensures } in
+    on_ok_weaker c.put_rest.result (λ h. PutsFront.one (front_with c.to_usize-in-Some.result c.fill_rest.new.rest) f h) c.put_rest.ensures
 
 pub returns-in-None : goal.returns-in-None
 returns-in-None g c = PutsFront.none c.in-None.ensures

@@ -11,13 +11,13 @@ use Rattle.lrtable.specs.StateViews.{value_of, edge_of_pair, edges_of}
 use Rattle.state_table.specs.CoreViews.{core_of_set}
 use Rattle.lrtable.specs.Opening.{RuleSets}
 use Rattle.lrtable.specs.Stepping.{IsClosureOf, IsSized}
-use Rattle.lrtable.specs.TakenAgain.{core_noted}
+use Rattle.lrtable.specs.Revisits.{core_noted}
 use Rattle.lrtable.proofs.Builders.{builder_taken}
 use Rattle.lrtable.proofs.Copies.{first_copies}
 use Rattle.state_table.proofs.CoreSteps.{map_at}
 use Rattle.lrtable.proofs.Quiet.{quiet_off}
 use Rattle.lrtable.proofs.Stepping.{reached_fits, reached_kernel, off_states, next_taken, none_handled, step_reached, step_less}
-use Rattle.lrtable.proofs.TakenAgain.{again_leads, again_whole, again_ascends, again_core}
+use Rattle.lrtable.proofs.Revisits.{again_leads, again_whole, again_ascends, again_core}
 use Rattle.lrtable.proofs.pager.step_again.Goals as goal
 
 pub close-requires-clause-fits : goal.close-requires-clause-fits

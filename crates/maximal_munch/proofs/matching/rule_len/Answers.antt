@@ -17,5 +17,5 @@ pub returns-then-is_active-clause-same : goal.returns-then-is_active-clause-same
 returns-then-is_active-clause-same c =
     patterns_stay matcher_pattern c.args.matchers.now.items c.args.index c.index_mut.result.now (omega arith) c.index_mut.ensures.value c.match_len.new.matcher c.match_len.ensures.same
 
-pub returns-else-is_active-clause-cut : goal.returns-else-is_active-clause-cut
-returns-else-is_active-clause-cut c = IsCharBoundary-start _ c.utf8.rest
+pub returns-else-index-len-clause-cut : goal.returns-else-index-len-clause-cut
+returns-else-index-len-clause-cut c = IsCharBoundary-start _ c.utf8.rest

@@ -5,7 +5,10 @@ use Rattle.maximal_munch.proofs.MunchSteps.{stop_stuck, stop_end, go_on}
 use Rattle.maximal_munch.proofs.munching.push_parts.Goals as goal
 
 pub best_match-best-requires : goal.best_match-best-requires
-best_match-best-requires c = c.text.invariant.1 ∙ c.requires.patterns
+best_match-best-requires c = record {
+  patterns = c.text.invariant.1 ∙ c.requires.patterns;
+  some = omega (arith, eqb-false (length c.text.rest.now) 0 (sym c.is_empty.ensures ∙ c.text-test.true));
+}
 
 pub returns-then-best-eq0 : goal.returns-then-best-eq0
 returns-then-best-eq0 c =

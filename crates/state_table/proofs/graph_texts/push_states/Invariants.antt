@@ -5,4 +5,4 @@ use Rattle.state_table.specs.GraphTexts.{state_text, sets_of}
 use Rattle.state_table.proofs.graph_texts.push_states.Given as goal
 
 abbrev pub invariant-states : goal.invariant-states
-invariant-states g l = string_bytes l.text ≡ string_bytes l.initial.text ++ flat_map (state_text l.grm l.graph (sets_of l.core_states l.graph)) (range_with_len 0 l.number)
+invariant-states g l = string_bytes l.text ≡ string_bytes l.initial.text ++ flat_map (state_text l.shown.grm.now l.shown.graph.now (sets_of l.shown.core_states l.shown.graph.now)) (range_with_len 0 l.number)

@@ -26,7 +26,7 @@ tokens-init g c =
           row = ap (λ l. cells_of number l) c.requires.none;
           pairs = sym (append-nil (pairs_of number c.args.pairs.now.items));
           shifts = sym (append-nil (shifts_of number c.args.shifts.now.items));
-          cursor = at_start (targets_of number c.args.parts.now.shifts.items);
+          cursor = at_start (targets_of number c.args.source.now.parts.now.shifts.items);
         },
       ),
     )
@@ -40,7 +40,7 @@ take_edge-edge-requires-clause-next g c =
     let below = m.below in
     let width = c.requires.width in
     subst (λ l. IsCursor (targets_of number l) c.tokens.next c.in-Some.number) (sym c.as_slice.ensures.value)
-    (cursor_skip (targets_of number c.args.parts.now.shifts.items) c.tokens.next v.0 c.in-Some.number c.requires.fits.rises m.low (λ k a b. (c.requires.blank k (omega (arith, b, below, width)) (m.none k a b)).edge) v.1.cursor)
+    (cursor_skip (targets_of number c.args.source.now.parts.now.shifts.items) c.tokens.next v.0 c.in-Some.number c.requires.fits.rises m.low (λ k a b. (c.requires.blank k (omega (arith, b, below, width)) (m.none k a b)).edge) v.1.cursor)
 
 pub token_at-tidx-requires : goal.token_at-tidx-requires
 token_at-tidx-requires g c =
@@ -64,11 +64,11 @@ put_token-requires-clause-token g c =
 pub tokens-preserved : goal.tokens-preserved
 tokens-preserved g c =
     let number = g.S.IndexStorage.number in
-    let G = c.args.grm.now.grammar in
+    let G = c.args.source.now.grm.now.grammar in
     let bits = c.args.marks.now.bits in
-    let parts = parts_of number (rows_in c.args.sets.now) c.args.parts.now in
-    let precedences = precedences_of c.args.grm.now in
-    let s = number c.args.stidx.0 in
+    let parts = parts_of number (rows_in c.args.source.now.sets.now) c.args.source.now.parts.now in
+    let precedences = precedences_of c.args.source.now.grm.now in
+    let s = number c.args.source.now.stidx.0 in
     let n = c.tokens.invariant.2.0 in
     let v = c.tokens.invariant.2.1 in
     let t = c.in-Some.number in
@@ -99,11 +99,11 @@ tokens-preserved g c =
 pub returns-clause-row : goal.returns-clause-row
 returns-clause-row g c =
     let number = g.S.IndexStorage.number in
-    let G = c.args.grm.now.grammar in
+    let G = c.args.source.now.grm.now.grammar in
     let bits = c.args.marks.now.bits in
-    let parts = parts_of number (rows_in c.args.sets.now) c.args.parts.now in
-    let precedences = precedences_of c.args.grm.now in
-    let s = number c.args.stidx.0 in
+    let parts = parts_of number (rows_in c.args.source.now.sets.now) c.args.source.now.parts.now in
+    let precedences = precedences_of c.args.source.now.grm.now in
+    let s = number c.args.source.now.stidx.0 in
     let n = c.tokens.invariant.2.0 in
     let v = c.tokens.invariant.2.1 in
     let width = c.requires.width in
@@ -114,11 +114,11 @@ returns-clause-row g c =
 pub returns-clause-pairs : goal.returns-clause-pairs
 returns-clause-pairs g c =
     let number = g.S.IndexStorage.number in
-    let G = c.args.grm.now.grammar in
+    let G = c.args.source.now.grm.now.grammar in
     let bits = c.args.marks.now.bits in
-    let parts = parts_of number (rows_in c.args.sets.now) c.args.parts.now in
-    let precedences = precedences_of c.args.grm.now in
-    let s = number c.args.stidx.0 in
+    let parts = parts_of number (rows_in c.args.source.now.sets.now) c.args.source.now.parts.now in
+    let precedences = precedences_of c.args.source.now.grm.now in
+    let s = number c.args.source.now.stidx.0 in
     let n = c.tokens.invariant.2.0 in
     let v = c.tokens.invariant.2.1 in
     let width = c.requires.width in
@@ -129,11 +129,11 @@ returns-clause-pairs g c =
 pub returns-clause-shifts : goal.returns-clause-shifts
 returns-clause-shifts g c =
     let number = g.S.IndexStorage.number in
-    let G = c.args.grm.now.grammar in
+    let G = c.args.source.now.grm.now.grammar in
     let bits = c.args.marks.now.bits in
-    let parts = parts_of number (rows_in c.args.sets.now) c.args.parts.now in
-    let precedences = precedences_of c.args.grm.now in
-    let s = number c.args.stidx.0 in
+    let parts = parts_of number (rows_in c.args.source.now.sets.now) c.args.source.now.parts.now in
+    let precedences = precedences_of c.args.source.now.grm.now in
+    let s = number c.args.source.now.stidx.0 in
     let n = c.tokens.invariant.2.0 in
     let v = c.tokens.invariant.2.1 in
     let width = c.requires.width in

@@ -17,18 +17,18 @@ lone_row-requires-clause-width g c =
 pub returns-clause-row : goal.returns-clause-row
 returns-clause-row g c =
     let number = g.S.IndexStorage.number in
-    let G = c.args.grm.now.grammar in
-    let precedences = precedences_of c.args.grm.now in
-    let rows = rows_in c.args.sets.now in
-    let x = parts_of number rows c.args.parts.now in
+    let G = c.args.source.now.grm.now.grammar in
+    let precedences = precedences_of c.args.source.now.grm.now in
+    let rows = rows_in c.args.source.now.sets.now in
+    let x = parts_of number rows c.args.source.now.parts.now in
     let r = c.index-reduction.result.now in
     let p = number r.pidx.0 in
     let bits = c.index-sets-reduction.result.bits in
     let t = c.if-reduction-sets.false in
-    let within : r.set < length c.args.sets.now = omega (arith, t) in
-    let looks : get_or rows r.set [] ≡ bits = row_in c.args.sets.now r.set c.index-sets-reduction.result within c.index-sets-reduction.is in
+    let within : r.set < length c.args.source.now.sets.now = omega (arith, t) in
+    let looks : get_or rows r.set [] ≡ bits = row_in c.args.source.now.sets.now r.set c.index-sets-reduction.result within c.index-sets-reduction.is in
     let one : x.reductions ≡ record { production = p; looks = bits } ∷ [] =
-    ap (λ l. reductions_of number rows l) (single c.args.parts.now.reductions.items r c.requires.one c.index-reduction.ensures) ∙ ap (lone p) looks in
+    ap (λ l. reductions_of number rows l) (single c.args.source.now.parts.now.reductions.items r c.requires.one c.index-reduction.ensures) ∙ ap (lone p) looks in
     let slice = c.as_slice-edges.ensures.value in
     let apart : AreApart bits x.shifts = subst (λ l. AreApart bits (targets_of number l)) slice (c.crosses.ensures c.if-crosses.false) in
     let a = c.len.ensures in
@@ -42,39 +42,39 @@ returns-clause-row g c =
 pub returns-clause-pairs : goal.returns-clause-pairs
 returns-clause-pairs g c =
     let number = g.S.IndexStorage.number in
-    let G = c.args.grm.now.grammar in
-    let precedences = precedences_of c.args.grm.now in
-    let rows = rows_in c.args.sets.now in
-    let x = parts_of number rows c.args.parts.now in
+    let G = c.args.source.now.grm.now.grammar in
+    let precedences = precedences_of c.args.source.now.grm.now in
+    let rows = rows_in c.args.source.now.sets.now in
+    let x = parts_of number rows c.args.source.now.parts.now in
     let r = c.index-reduction.result.now in
     let p = number r.pidx.0 in
     let bits = c.index-sets-reduction.result.bits in
     let t = c.if-reduction-sets.false in
-    let within : r.set < length c.args.sets.now = omega (arith, t) in
-    let looks : get_or rows r.set [] ≡ bits = row_in c.args.sets.now r.set c.index-sets-reduction.result within c.index-sets-reduction.is in
+    let within : r.set < length c.args.source.now.sets.now = omega (arith, t) in
+    let looks : get_or rows r.set [] ≡ bits = row_in c.args.source.now.sets.now r.set c.index-sets-reduction.result within c.index-sets-reduction.is in
     let one : x.reductions ≡ record { production = p; looks = bits } ∷ [] =
-    ap (λ l. reductions_of number rows l) (single c.args.parts.now.reductions.items r c.requires.one c.index-reduction.ensures) ∙ ap (lone p) looks in
+    ap (λ l. reductions_of number rows l) (single c.args.source.now.parts.now.reductions.items r c.requires.one c.index-reduction.ensures) ∙ ap (lone p) looks in
     let slice = c.as_slice-edges.ensures.value in
     let apart : AreApart bits x.shifts = subst (λ l. AreApart bits (targets_of number l)) slice (c.crosses.ensures c.if-crosses.false) in
     let old = pairs_of number c.args.pairs.now.items in
-    sym (ap (λ (l : List ReduceReduce). old ++ l) (lone_no_pairs G precedences x p bits one apart (number c.args.stidx.0) G.tokens) ∙ append-nil old)
+    sym (ap (λ (l : List ReduceReduce). old ++ l) (lone_no_pairs G precedences x p bits one apart (number c.args.source.now.stidx.0) G.tokens) ∙ append-nil old)
 
 pub returns-clause-shifts : goal.returns-clause-shifts
 returns-clause-shifts g c =
     let number = g.S.IndexStorage.number in
-    let G = c.args.grm.now.grammar in
-    let precedences = precedences_of c.args.grm.now in
-    let rows = rows_in c.args.sets.now in
-    let x = parts_of number rows c.args.parts.now in
+    let G = c.args.source.now.grm.now.grammar in
+    let precedences = precedences_of c.args.source.now.grm.now in
+    let rows = rows_in c.args.source.now.sets.now in
+    let x = parts_of number rows c.args.source.now.parts.now in
     let r = c.index-reduction.result.now in
     let p = number r.pidx.0 in
     let bits = c.index-sets-reduction.result.bits in
     let t = c.if-reduction-sets.false in
-    let within : r.set < length c.args.sets.now = omega (arith, t) in
-    let looks : get_or rows r.set [] ≡ bits = row_in c.args.sets.now r.set c.index-sets-reduction.result within c.index-sets-reduction.is in
+    let within : r.set < length c.args.source.now.sets.now = omega (arith, t) in
+    let looks : get_or rows r.set [] ≡ bits = row_in c.args.source.now.sets.now r.set c.index-sets-reduction.result within c.index-sets-reduction.is in
     let one : x.reductions ≡ record { production = p; looks = bits } ∷ [] =
-    ap (λ l. reductions_of number rows l) (single c.args.parts.now.reductions.items r c.requires.one c.index-reduction.ensures) ∙ ap (lone p) looks in
+    ap (λ l. reductions_of number rows l) (single c.args.source.now.parts.now.reductions.items r c.requires.one c.index-reduction.ensures) ∙ ap (lone p) looks in
     let slice = c.as_slice-edges.ensures.value in
     let apart : AreApart bits x.shifts = subst (λ l. AreApart bits (targets_of number l)) slice (c.crosses.ensures c.if-crosses.false) in
     let old = shifts_of number c.args.shifts.now.items in
-    sym (ap (λ (l : List ShiftReduce). old ++ l) (lone_no_shifts G precedences x p bits one apart (number c.args.stidx.0) G.tokens) ∙ append-nil old)
+    sym (ap (λ (l : List ShiftReduce). old ++ l) (lone_no_shifts G precedences x p bits one apart (number c.args.source.now.stidx.0) G.tokens) ∙ append-nil old)

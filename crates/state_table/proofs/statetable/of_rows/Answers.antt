@@ -37,8 +37,8 @@ pub returns-clause-table : goal.returns-clause-table
 returns-clause-table g c = λ parts gotos are.
     let number = g.S.IndexStorage.number in
     let r = c.args.rows in
-    let T = sparse_of number c.args.states.0 c.tokens_len.result.0 c.rules_len.result.0 c.prods_len.result.0 c.args.start r.actions.items r.gotos.items c.listed.result in
-    table_by c.args.grm.now.grammar (precedences_of c.args.grm.now) parts gotos (number c.args.states.0) (rows_of number r) are T refl refl c.tokens_len.ensures c.rules_len.ensures c.listed.ensures
+    let T = sparse_of number c.args.states.0 c.tokens_len.result.0 c.rules_len.result.0 c.prods_len.result.0 c.args.start r.actions.items r.gotos.items c.list_conflicts.result in
+    table_by c.args.grm.now.grammar (precedences_of c.args.grm.now) parts gotos (number c.args.states.0) (rows_of number r) are T refl refl c.tokens_len.ensures c.rules_len.ensures c.list_conflicts.ensures
 
 pub returns-clause-rows : goal.returns-clause-rows
 returns-clause-rows g c =
@@ -46,5 +46,5 @@ returns-clause-rows g c =
     let r = c.args.rows in
     let h : Vec (ℕ × TableAction g.row.S.Denot) Global → List (ℕ × Action) = λ row. cells_of number row.items in
     let k : Vec (ℕ × StIdx g.row.S.Denot) Global → List (ℕ × ℕ) = λ row. targets_of number row.items in
-    let T = sparse_of number c.args.states.0 c.tokens_len.result.0 c.rules_len.result.0 c.prods_len.result.0 c.args.start r.actions.items r.gotos.items c.listed.result in
+    let T = sparse_of number c.args.states.0 c.tokens_len.result.0 c.rules_len.result.0 c.prods_len.result.0 c.args.start r.actions.items r.gotos.items c.list_conflicts.result in
     full_rows T (length-map r.actions.items h ∙ c.requires.actions) (length-map r.gotos.items k ∙ c.requires.gotos)

@@ -5,7 +5,7 @@ use Rattle.parse_trees.specs.FlatLines.{CanVisit, visit_line}
 use Rattle.parse_trees.specs.Lex.{span_by}
 use Rattle.parse_trees.proofs.FlatLines.{tree_lines, tree_visits, whole_at}
 use Rattle.text_parses.proofs.OutBut.{none_waits}
-use Rattle.text_parses.specs.Answers.{lexeme_lex}
+use Rattle.text_parses.specs.Parses.{lexeme_lex}
 use Rattle.text_parses.proofs.trees.write_lines.Goals as goal
 
 pub returns : goal.returns

@@ -2,7 +2,7 @@ use Rattle.std.proofs.lemmas.Option.{slice_get-get_or}
 use Rattle.text_parses.proofs.OutBut.{all_added, none_yet, one_more_text}
 use Rattle.parse_trees.specs.FlatLines.{visit_line}
 use Rattle.parse_trees.specs.FlatTrees.{pieces_of}
-use Rattle.text_parses.specs.Answers.{itself, lexeme_lex}
+use Rattle.text_parses.specs.Parses.{itself, lexeme_lex}
 use Rattle.text_parses.proofs.trees.write_visits.Goals as goal
 
 pub visits-init : goal.visits-init

@@ -4,7 +4,7 @@ use Rattle.std.specs.List.{flat_map}
 use Rattle.byte_streams.specs.Sink.{IsOutBut}
 use Rattle.parse_trees.specs.FlatLines.{CanVisit, visit_line}
 use Rattle.parse_trees.specs.FlatTrees.{pieces_of}
-use Rattle.text_parses.specs.Answers.{itself, lexeme_lex}
+use Rattle.text_parses.specs.Parses.{itself, lexeme_lex}
 use Rattle.text_parses.proofs.trees.write_visits.Given as goal
 
 abbrev pub invariant-visits : goal.invariant-visits

@@ -15,12 +15,12 @@ each-preserved g c =
     let init = c.args.blocks.now.items in
     let k = c.each.k in
     let x = c.index.result.now in
-    let y = c.turned.result in
+    let y = c.turn_bits.result in
     let v = c.each.invariant in
     let h : k < length xs = omega (arith, v.size, c.args.blocks.now.ok.0) in
     record {
       size = length-set xs k y ∙ v.size;
       capacity = v.capacity;
       rest = setwise.rest_more bits w each xs init k y v.rest;
-      done = setwise.flipped_more bits w each xs init k x y v.size h v.rest v.done c.index.ensures c.turned.ensures;
+      done = setwise.flipped_more bits w each xs init k x y v.size h v.rest v.done c.index.ensures c.turn_bits.ensures;
     }

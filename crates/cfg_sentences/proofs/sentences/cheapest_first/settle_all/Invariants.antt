@@ -4,7 +4,7 @@ use Rattle.cfg_sentences.proofs.sentences.cheapest_first.settle_all.Given as goa
 
 abbrev pub invariant-turns : goal.invariant-turns
 invariant-turns g l = record {
-  rules : length l.costs.items ≡ l.tokens.grammar.rules;
-  capped : AreCapped l.costs.items;
+  rules : length l.search.costs.items ≡ l.tokens.grammar.rules;
+  capped : AreCapped l.search.costs.items;
   order : l.order.rules ≡ l.initial.order.rules;
 }

@@ -5,8 +5,8 @@ use Rattle.cfgrammar.proofs.FromAstValues.{value_is, start_fits}
 use Rattle.cfgrammar.proofs.FromAstWell.{made_well, apart_by, count_tokens}
 use Rattle.cfgrammar.proofs.yacc.from_ast.of_tree.Goals as goal
 
-pub kept-requires : goal.kept-requires
-kept-requires g c = (made_well g.S.IndexStorage.MAX c.args.implicit c.args.ast.now c.requires.sound c.requires.free c.requires.fits).fits.rules
+pub info_of_text-requires : goal.info_of_text-requires
+info_of_text-requires g c = (made_well g.S.IndexStorage.MAX c.args.implicit c.args.ast.now c.requires.sound c.requires.free c.requires.fits).fits.rules
 
 pub start_prod-start-requires : goal.start_prod-start-requires
 start_prod-start-requires g c = start_fits g.S.IndexStorage.MAX c.args.implicit c.args.ast.now c.requires.sound c.requires.free c.requires.fits

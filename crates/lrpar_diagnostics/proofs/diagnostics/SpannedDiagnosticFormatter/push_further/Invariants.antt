@@ -6,7 +6,7 @@ use Rattle.lrpar_diagnostics.proofs.diagnostics.SpannedDiagnosticFormatter.push_
 
 abbrev pub invariant-lines : goal.invariant-lines
 invariant-lines l =
-    let line = underlined_line l.self.text l.prefix l.span l.mark in
+    let line = underlined_line l.self.text l.underline.prefix.now l.underline.span l.underline.mark in
     AtEnd line l.self.text l.last (string_bytes l.initial.text ++ behind_ends line l.self.text l.first l.last) l.end (string_bytes l.text)
 
 abbrev pub decreases-lines : goal.decreases-lines

@@ -7,7 +7,7 @@ pub returns-then-value : goal.returns-then-value
 returns-then-value g c =
     let k = g.Self.Word.BITS in
     let none = g.met.Self.Word.number_law c.lowest-none.result ∙ ap (digits k) c.lowest-none.ensures ∙ digit.digits-zero k in
-    c.turned.ensures ∙ ap (map not) none ∙ digit.map_not-replicate k ∙ ap (replicate k) (sym c.if-value.true)
+    c.turn_bits.ensures ∙ ap (map not) none ∙ digit.map_not-replicate k ∙ ap (replicate k) (sym c.if-value.true)
 
 pub returns-else-value : goal.returns-else-value
 returns-else-value g c =

@@ -1,0 +1,91 @@
+-- Which message gets which answer. Each message takes the server from a phase to a phase, and gets at most one answer.
+use Rattle.std.specs.Prelude.{◌≡◌, ℕ, ℤ, negsuc, List, Option, None, Some, codes}
+use Rattle.language_server.specs.declared.messages.Id.{Id}
+use Rattle.language_server.specs.declared.messages.ErrorCode.{ErrorCode}
+use Rattle.language_server.specs.declared.messages.ErrorCode.TheVariants.{InvalidRequest, MethodNotFound, ParseError, ServerNotInitialized}
+use Rattle.language_server.specs.declared.messages.Message.{Message}
+use Rattle.language_server.specs.declared.messages.Message.TheVariants.{Malformed, Notification, Reply, Request}
+use Rattle.language_server.specs.declared.messages.Method.{Method}
+use Rattle.language_server.specs.declared.messages.Method.TheVariants as methods
+use Rattle.language_server.specs.declared.messages.Notice.{Notice}
+use Rattle.language_server.specs.declared.messages.Notice.TheVariants as notices
+use Rattle.language_server.specs.declared.answers.Answer.{Answer}
+use Rattle.language_server.specs.declared.answers.Answer.TheVariants.{Done, Error, Initialized}
+use Rattle.language_server.specs.declared.answers.Response.{Response}
+use Rattle.language_server.specs.declared.server.Phase.{Phase}
+use Rattle.language_server.specs.declared.server.Phase.TheVariants.{Fresh, Ready, Stopped}
+
+-- the protocol's numbers
+abbrev pub code_number : ErrorCode → ℤ
+code_number ParseError = negsuc 32699
+code_number InvalidRequest = negsuc 32599
+code_number MethodNotFound = negsuc 32600
+code_number ServerNotInitialized = negsuc 32001
+
+abbrev pub code_text : ErrorCode → List ℕ
+code_text ParseError = codes "no JSON"
+code_text InvalidRequest = codes "no valid request"
+code_text MethodNotFound = codes "unknown method"
+code_text ServerNotInitialized = codes "not initialized"
+
+-- the error that a request gets in a phase, if it gets one
+abbrev pub error_of : Phase → Method → Option ErrorCode
+error_of Fresh methods.Initialize = None
+error_of Fresh methods.Shutdown = Some ServerNotInitialized
+error_of Fresh methods.Unknown = Some ServerNotInitialized
+error_of Ready methods.Initialize = Some InvalidRequest
+error_of Ready methods.Shutdown = None
+error_of Ready methods.Unknown = Some MethodNotFound
+error_of Stopped method = Some InvalidRequest
+
+-- the error of an answer, if it is one
+abbrev pub error_in : Answer → Option ErrorCode
+error_in (Error code) = Some code
+error_in (Initialized encoding) = None
+error_in Done = None
+
+-- this answer and no other: to this id, with this error or with none
+pub record Answers (id : Id) (error : Option ErrorCode) (given : Option Response) : Type 0 where
+  pub response : Response
+  pub is_given : given ≡ Some response
+  pub same_id : response.id ≡ id
+  pub same_error : error_in response.answer ≡ error
+
+-- a request is answered once, with its id; what is no message gets its error; all else gets no answer
+abbrev pub IsAnswered : Phase → Message → Option Response → Type 0
+IsAnswered phase (Request id method params) given = Answers id (error_of phase method) given
+IsAnswered phase (Notification notice params) given = given ≡ None
+IsAnswered phase Reply given = given ≡ None
+IsAnswered phase (Malformed id code) given = Answers id (Some code) given
+
+abbrev pub phase_behind : Phase → Method → Phase
+phase_behind Fresh methods.Initialize = Ready
+phase_behind Ready methods.Shutdown = Stopped
+phase_behind phase method = phase
+
+-- the phase that a message leads to: what is no message changes nothing
+abbrev pub phase_after : Phase → Message → Phase
+phase_after phase (Request id method params) = phase_behind phase method
+phase_after phase (Notification notice params) = phase
+phase_after phase Reply = phase
+phase_after phase (Malformed id code) = phase
+
+-- the status that the server ends with: well only behind `shutdown`
+abbrev pub status_in : Phase → ℕ
+status_in Fresh = 1
+status_in Ready = 1
+status_in Stopped = 0
+
+abbrev pub status_on : Phase → Notice → Option ℕ
+status_on phase notices.Exit = Some (status_in phase)
+status_on phase notices.Opened = None
+status_on phase notices.Changed = None
+status_on phase notices.Closed = None
+status_on phase notices.Other = None
+
+-- the status that the server ends with at a message: only `exit` ends it
+abbrev pub status_after : Phase → Message → Option ℕ
+status_after phase (Request id method params) = None
+status_after phase (Notification notice params) = status_on phase notice
+status_after phase Reply = None
+status_after phase (Malformed id code) = None

@@ -1,0 +1,53 @@
+//! The documents that the client has open, and their changes.
+
+use crate::messages::Change;
+use crate::places::{Encoding, line_starts, offset_at};
+use std::alloc::{AllocError, Global};
+
+/// Returns a text with the bytes between two offsets replaced; the text itself where an offset is within a character.
+fn with_part(
+    alloc: Global,
+    text: String,
+    first: usize,
+    past: usize,
+    part: &str,
+) -> Result<String, AllocError> {
+    let whole = text.as_str();
+    let (Some(ahead), Some(behind)) = (whole.get(..first), whole.get(past..)) else {
+        return Ok(text);
+    };
+    let mut changed = String::from_str(alloc, ahead)?;
+    changed.push_str(part)?;
+    changed.push_str(behind)?;
+    Ok(changed)
+}
+
+/// Returns a text with a change.
+fn with_change(
+    alloc: Global,
+    text: String,
+    change: Change,
+    encoding: Encoding,
+) -> Result<String, AllocError> {
+    let Some((start, end)) = change.range else {
+        return Ok(change.text);
+    };
+    let starts = line_starts(alloc, text.as_str())?;
+    let first = offset_at(text.as_str(), starts.as_slice(), start, encoding);
+    let past = offset_at(text.as_str(), starts.as_slice(), end, encoding).max(first);
+    with_part(alloc, text, first, past, change.text.as_str())
+}
+
+/// Returns a text with changes, one after the other.
+pub fn with_changes(
+    alloc: Global,
+    text: String,
+    changes: Vec<Change>,
+    encoding: Encoding,
+) -> Result<String, AllocError> {
+    let mut text = text;
+    'changes: for change in changes {
+        text = with_change(alloc, text, change, encoding)?;
+    }
+    Ok(text)
+}

@@ -1,0 +1,39 @@
+//! A server of the Language Server Protocol for grammar files, as a state and what it does with a message.
+//!
+//! ```rust
+//! use language_server::{ServeFault, Server, read_message};
+//! use std::alloc::Global;
+//!
+//! /// Whether a server that has just begun answers what these bytes say.
+//! fn is_answered(alloc: Global, bytes: &[u8]) -> Result<bool, ServeFault> {
+//!     let mut server = Server::new(alloc);
+//!     let message = read_message(alloc, bytes)?;
+//!     let taken = server.take(alloc, message)?;
+//!     Ok(taken.response.is_some())
+//! }
+//! ```
+//!
+//! For `{"jsonrpc":"2.0","id":1,"method":"shutdown"}` it is `true`: the answer is an error, since `initialize` hasn't come. By the
+//! contract of `Server::take` each request is answered once, with its id, and nothing else is answered but by its error
+//! (`specs/Protocol`).
+#![tactic(auto)]
+
+mod answers;
+mod diagnostics;
+mod documents;
+mod fault;
+mod frames;
+mod messages;
+mod places;
+mod reading;
+mod server;
+mod texts;
+
+pub use answers::{Answer, Diagnostic, Location, Published, Range, Related, Response};
+pub use fault::ServeFault;
+pub use frames::{Frame, Frames, MOST_BYTES};
+pub use messages::{Change, ErrorCode, Id, Message, Method, Notice, Params};
+pub use places::{Encoding, Position};
+pub use reading::read_message;
+pub use server::{Phase, Server, Taken};
+pub use texts::{published_text, response_text};

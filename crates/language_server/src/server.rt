@@ -1,0 +1,314 @@
+//! The server: a state, and what it does with a message.
+
+ghost use Rattle.std.specs.Prelude.{◌≡◌, IfOk, OnOk, None, Some};
+ghost use Rattle.language_server.specs.Protocol.{Answers, IsAnswered, error_of, error_in, phase_after, phase_behind, status_after, status_in, status_on};
+ghost use Rattle.language_server.specs.declared.answers.Response.{Response};
+
+use crate::answers::{Answer, Published, Response};
+use crate::diagnostics::{View, push_diagnostics, push_too_long};
+use crate::documents::with_changes;
+use crate::fault::ServeFault;
+use crate::messages::{Change, ErrorCode, Id, Message, Method, Notice, Params};
+use crate::places::Encoding;
+use byte_streams::MOST_BYTES;
+use std::alloc::{AllocError, Global};
+use std::collections::BTreeMap;
+
+/// How far the session has come.
+#[derive(Clone, Copy, Debug, PartialEq, Eq)]
+pub enum Phase {
+    /// `initialize` hasn't come.
+    Fresh,
+    /// Requests are answered.
+    Ready,
+    /// `shutdown` has come.
+    Stopped,
+}
+
+/// The state between two messages.
+#[derive(Drop)]
+pub struct Server {
+    /// How far the session has come.
+    pub phase: Phase,
+    /// In what columns count.
+    pub encoding: Encoding,
+    /// Whether the client shows places beside a diagnostic.
+    pub has_related: bool,
+    /// The texts of the open documents by their names.
+    pub documents: BTreeMap<String, String>,
+}
+
+/// What is done with a message.
+#[derive(Debug, Drop)]
+pub struct Taken {
+    /// The answer to it, if it gets one.
+    pub response: Option<Response>,
+    /// The diagnostics that it brings about, if it does.
+    pub published: Option<Published>,
+    /// The status that the server ends with, if it ends.
+    pub status: Option<u8>,
+}
+
+/// Returns what is done with a message that gets this answer alone.
+fn with_response(response: Option<Response>) -> Taken
+    ensures response { result.response ≡ response }
+    ensures status { result.status ≡ None }
+{
+    Taken {
+        response,
+        published: None,
+        status: None,
+    }
+}
+
+/// Returns what is done with a message that brings diagnostics about.
+fn with_published(published: Option<Published>) -> Taken
+    ensures response { result.response ≡ None }
+    ensures status { result.status ≡ None }
+{
+    Taken {
+        response: None,
+        published,
+        status: None,
+    }
+}
+
+/// Returns what is done with a message that ends the server.
+fn with_status(status: u8) -> Taken
+    ensures response { result.response ≡ None }
+    ensures status { result.status ≡ Some status }
+{
+    Taken {
+        response: None,
+        published: None,
+        status: Some(status),
+    }
+}
+
+impl Phase {
+    /// Returns the status that the server ends with.
+    pub fn status(self) -> u8
+        ensures { result ≡ status_in self }
+    {
+        match self {
+            Phase::Fresh => 1,
+            Phase::Ready => 1,
+            Phase::Stopped => 0,
+        }
+    }
+}
+
+impl Server {
+    /// Makes the server of a session that hasn't begun.
+    pub fn new(alloc: Global) -> Server
+        ensures { result.phase ≡ Phase.Fresh }
+    {
+        Server {
+            phase: Phase::Fresh,
+            encoding: Encoding::Utf16,
+            has_related: false,
+            documents: BTreeMap::new(alloc),
+        }
+    }
+
+    /// Begins the session with what the client can do.
+    fn initialize(&mut self, params: &Params) -> Answer
+        ensures answer { error_in result ≡ None }
+        ensures phase { self.new.phase ≡ Phase.Ready }
+    {
+        self.phase = Phase::Ready;
+        self.has_related = params.has_related;
+        if params.has_utf8 {
+            self.encoding = Encoding::Utf8;
+        }
+        Answer::Initialized(self.encoding)
+    }
+
+    /// Answers a request before the session has begun.
+    fn answer_fresh(&mut self, method: Method, params: &Params) -> Answer
+        requires { self.old.phase ≡ Phase.Fresh }
+        ensures answer { error_in result ≡ error_of Phase.Fresh method }
+        ensures phase { self.new.phase ≡ phase_behind Phase.Fresh method }
+    {
+        match method {
+            Method::Initialize => self.initialize(params),
+            Method::Shutdown => Answer::Error(ErrorCode::ServerNotInitialized),
+            Method::Unknown => Answer::Error(ErrorCode::ServerNotInitialized),
+        }
+    }
+
+    /// Answers a request within the session.
+    fn answer_ready(&mut self, method: Method) -> Answer
+        requires { self.old.phase ≡ Phase.Ready }
+        ensures answer { error_in result ≡ error_of Phase.Ready method }
+        ensures phase { self.new.phase ≡ phase_behind Phase.Ready method }
+    {
+        match method {
+            Method::Initialize => Answer::Error(ErrorCode::InvalidRequest),
+            Method::Shutdown => {
+                self.phase = Phase::Stopped;
+                Answer::Done
+            }
+            Method::Unknown => Answer::Error(ErrorCode::MethodNotFound),
+        }
+    }
+
+    /// Answers a request.
+    fn answer(&mut self, method: Method, params: &Params) -> Answer
+        ensures answer { error_in result ≡ error_of self.old.phase method }
+        ensures phase { self.new.phase ≡ phase_behind self.old.phase method }
+    {
+        match self.phase {
+            Phase::Fresh => self.answer_fresh(method, params),
+            Phase::Ready => self.answer_ready(method),
+            Phase::Stopped => Answer::Error(ErrorCode::InvalidRequest),
+        }
+    }
+
+    /// Answers a request, with its id.
+    fn respond(&mut self, id: Id, method: Method, params: &Params) -> Taken
+        ensures response { Answers id (error_of self.old.phase method) result.response }
+        ensures phase { self.new.phase ≡ phase_behind self.old.phase method }
+        ensures status { result.status ≡ None }
+    {
+        let answer = self.answer(method, params);
+        with_response(Some(Response { id, answer }))
+    }
+
+    /// Fills in the diagnostics of a document.
+    fn fill(&self, alloc: Global, published: &mut Published, text: &str) -> Result<(), ServeFault> {
+        if text.len() > MOST_BYTES {
+            push_too_long(alloc, &mut published.diagnostics)?;
+            return Ok(());
+        }
+        let view = View {
+            uri: published.uri.as_str(),
+            text,
+            encoding: self.encoding,
+            has_related: self.has_related,
+        };
+        push_diagnostics(alloc, &view, &mut published.diagnostics)
+    }
+
+    /// Stores a document's text, and publishes its diagnostics.
+    fn store(
+        &mut self,
+        alloc: Global,
+        uri: String,
+        version: Option<i64>,
+        text: String,
+    ) -> Result<Taken, ServeFault>
+        ensures response { IfOk result (λ t. t.response ≡ None) }
+        ensures status { IfOk result (λ t. t.status ≡ None) }
+        ensures phase { OnOk result (self.new.phase ≡ self.old.phase) }
+    {
+        let diagnostics = Vec::new(alloc);
+        let name = String::from_str(alloc, uri.as_str())?;
+        let mut published = Published {
+            uri: name,
+            version,
+            diagnostics,
+        };
+        if let Err(e) = self.fill(alloc, &mut published, text.as_str()) {
+            drop(published);
+            return Err(e);
+        }
+        if self.documents.insert(uri, text).is_err() {
+            drop(published);
+            return Err(ServeFault::Unwritten);
+        }
+        Ok(with_published(Some(published)))
+    }
+
+    /// Changes a document, and publishes its diagnostics.
+    fn change(
+        &mut self,
+        alloc: Global,
+        uri: String,
+        version: Option<i64>,
+        changes: Vec<Change>,
+    ) -> Result<Taken, ServeFault>
+        ensures response { IfOk result (λ t. t.response ≡ None) }
+        ensures status { IfOk result (λ t. t.status ≡ None) }
+        ensures phase { OnOk result (self.new.phase ≡ self.old.phase) }
+    {
+        let Some(text) = self.documents.remove(uri.as_str()) else {
+            return Ok(with_published(None));
+        };
+        let text = with_changes(alloc, text, changes, self.encoding)?;
+        self.store(alloc, uri, version, text)
+    }
+
+    /// Forgets a document, and takes back its diagnostics.
+    fn close(&mut self, alloc: Global, uri: String) -> Taken
+        ensures response { result.response ≡ None }
+        ensures status { result.status ≡ None }
+        ensures phase { self.new.phase ≡ self.old.phase }
+    {
+        match self.documents.remove(uri.as_str()) {
+            Some(_) => with_published(Some(Published {
+                uri,
+                version: None,
+                diagnostics: Vec::new(alloc),
+            })),
+            None => with_published(None),
+        }
+    }
+
+    /// Follows a notification about a document, which is ignored where requests aren't answered.
+    fn follow(&mut self, alloc: Global, notice: Notice, params: Params) -> Result<Taken, ServeFault>
+        ensures response { IfOk result (λ t. t.response ≡ None) }
+        ensures status { IfOk result (λ t. t.status ≡ None) }
+        ensures phase { OnOk result (self.new.phase ≡ self.old.phase) }
+    {
+        if self.phase != Phase::Ready {
+            return Ok(with_published(None));
+        }
+        let Params {
+            uri,
+            version,
+            text,
+            changes,
+            has_utf8: _,
+            has_related: _,
+        } = params;
+        match (notice, uri, text) {
+            (Notice::Opened, Some(uri), Some(text)) => self.store(alloc, uri, version, text),
+            (Notice::Changed, Some(uri), _) => self.change(alloc, uri, version, changes),
+            (Notice::Closed, Some(uri), _) => Ok(self.close(alloc, uri)),
+            _ => Ok(with_published(None)),
+        }
+    }
+
+    /// Follows a notification.
+    fn notice(&mut self, alloc: Global, notice: Notice, params: Params) -> Result<Taken, ServeFault>
+        ensures response { IfOk result (λ t. t.response ≡ None) }
+        ensures status { IfOk result (λ t. t.status ≡ status_on self.old.phase notice) }
+        ensures phase { OnOk result (self.new.phase ≡ self.old.phase) }
+    {
+        match notice {
+            Notice::Exit => Ok(with_status(self.phase.status())),
+            Notice::Opened => self.follow(alloc, notice, params),
+            Notice::Changed => self.follow(alloc, notice, params),
+            Notice::Closed => self.follow(alloc, notice, params),
+            Notice::Other => Ok(with_published(None)),
+        }
+    }
+
+    /// Does what a message asks for.
+    pub fn take(&mut self, alloc: Global, message: Message) -> Result<Taken, ServeFault>
+        ensures response { IfOk result (λ t. IsAnswered self.old.phase message t.response) }
+        ensures status { IfOk result (λ t. t.status ≡ status_after self.old.phase message) }
+        ensures phase { OnOk result (self.new.phase ≡ phase_after self.old.phase message) }
+    {
+        match message {
+            Message::Request(id, method, params) => Ok(self.respond(id, method, &params)),
+            Message::Notification(notice, params) => self.notice(alloc, notice, params),
+            Message::Reply => Ok(with_response(None)),
+            Message::Malformed(id, code) => {
+                let answer = Answer::Error(code);
+                Ok(with_response(Some(Response { id, answer })))
+            }
+        }
+    }
+}

@@ -1,0 +1,5 @@
+pub mod Fronts
+pub mod Handles
+mod NoErrors
+mod Numbers
+pub mod Values

@@ -1,0 +1,9 @@
+pub mod Answers
+pub mod Expecting
+pub mod Handles
+pub mod Lexed
+pub mod Making
+pub mod Names
+pub mod Nodes
+pub mod Parses
+pub mod Reports

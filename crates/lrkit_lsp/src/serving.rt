@@ -1,0 +1,133 @@
+//! From bytes to bytes.
+
+use byte_streams::{Recorded, Sink, Source, write_all};
+use language_server::{
+    ErrorCode, Frame, Frames, Id, Message, ServeFault, Server, Taken, published_text, read_message,
+    response_text,
+};
+use std::alloc::{AllocError, Global};
+use std::io;
+
+/// Why the program ends before it is told to.
+#[derive(Clone, Copy, Debug)]
+pub enum ProgramFault {
+    /// A read or a write failed.
+    Stream,
+    /// Memory was refused.
+    Serve(ServeFault),
+}
+
+impl From<ServeFault> for ProgramFault {
+    fn from(e: ServeFault) -> ProgramFault {
+        ProgramFault::Serve(e)
+    }
+}
+
+impl From<AllocError> for ProgramFault {
+    fn from(e: AllocError) -> ProgramFault {
+        ProgramFault::Serve(ServeFault::Memory(e))
+    }
+}
+
+/// Returns the message of a frame.
+fn message_in(alloc: Global, frame: Frame) -> Result<Message, ServeFault> {
+    match frame {
+        Frame::Whole(bytes) => read_message(alloc, bytes.as_slice()),
+        Frame::TooLong => Ok(Message::Malformed(Id::Null, ErrorCode::InvalidRequest)),
+        Frame::Uncounted => Ok(Message::Malformed(Id::Null, ErrorCode::ParseError)),
+    }
+}
+
+/// Writes a text.
+fn send<W: Sink>(out: &mut W, text: &str) -> Result<(), ProgramFault> {
+    match write_all(out, text.as_bytes()) {
+        Ok(()) => Ok(()),
+        Err(_) => Err(ProgramFault::Stream),
+    }
+}
+
+/// Writes what a message brings about.
+fn send_taken<W: Sink>(alloc: Global, out: &mut W, taken: &Taken) -> Result<(), ProgramFault> {
+    if let Some(response) = &taken.response {
+        let text = response_text(alloc, response)?;
+        send(out, text.as_str())?;
+    }
+    if let Some(published) = &taken.published {
+        let text = published_text(alloc, published)?;
+        send(out, text.as_str())?;
+    }
+    Ok(())
+}
+
+/// Does what a frame asks for, and returns the status if the server ends.
+fn take_frame<W: Sink>(
+    alloc: Global,
+    out: &mut W,
+    server: &mut Server,
+    frame: Frame,
+) -> Result<Option<u8>, ProgramFault> {
+    let message = message_in(alloc, frame)?;
+    let taken = server.take(alloc, message)?;
+    let sent = send_taken(alloc, out, &taken);
+    let status = taken.status;
+    drop(taken);
+    match sent {
+        Ok(()) => Ok(status),
+        Err(e) => Err(e),
+    }
+}
+
+/// Takes bytes, and returns the status if the server ends.
+fn take_bytes<W: Sink>(
+    alloc: Global,
+    out: &mut W,
+    server: &mut Server,
+    frames: &mut Frames,
+    bytes: &[u8],
+) -> Result<Option<u8>, ProgramFault> {
+    'bytes: for byte in bytes {
+        if let Some(frame) = frames.take(*byte)? {
+            let status = take_frame(alloc, out, server, frame)?;
+            if status.is_some() {
+                return Ok(status);
+            }
+        }
+    }
+    Ok(None)
+}
+
+/// Serves until `exit` or the input's end.
+fn serve_with<S: Source, W: Sink>(
+    alloc: Global,
+    source: &mut S,
+    out: &mut W,
+    server: &mut Server,
+    frames: &mut Frames,
+) -> Result<u8, ProgramFault> {
+    let mut chunk = [0u8; 8192];
+    for _ in 0..u64::MAX {
+        let count = match source.read(&mut chunk) {
+            Ok(0) => return Ok(server.phase.status()),
+            Ok(count) => count,
+            Err(_) => return Err(ProgramFault::Stream),
+        };
+        let status = take_bytes(alloc, out, server, frames, &chunk[..count])?;
+        if let Some(status) = status {
+            return Ok(status);
+        }
+    }
+    Ok(server.phase.status())
+}
+
+/// Serves a client on standard input and output, and returns the status.
+pub fn serve<R: io::Input + Print + AllocGlobal>(rt: &R) -> Result<u8, ProgramFault> {
+    let alloc = rt.alloc();
+    let mut source = Recorded::new(rt.reader());
+    let mut out = Recorded::new(io::writer(rt));
+    let mut server = Server::new(alloc);
+    let mut frames = Frames::new(alloc);
+    let ended = serve_with(alloc, &mut source, &mut out, &mut server, &mut frames);
+    drop(frames);
+    drop(server);
+    ended
+}

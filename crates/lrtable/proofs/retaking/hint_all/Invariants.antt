@@ -1,5 +1,0 @@
-use Rattle.std.proofs.Common.{◌≡◌, length}
-use Rattle.lrtable.proofs.retaking.hint_all.Given as goal
-
-abbrev pub invariant-items : goal.invariant-items
-invariant-items g l = length l.hints.items ≡ length l.initial.hints.items

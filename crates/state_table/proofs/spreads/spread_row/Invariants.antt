@@ -1,5 +1,0 @@
-use Rattle.state_table.proofs.SpreadSteps.{SpreadTo}
-use Rattle.state_table.proofs.spreads.spread_row.Given as goal
-
-abbrev pub invariant-entries : goal.invariant-entries
-invariant-entries g l = SpreadTo l.fn.count l.row l.i l.spread.items

@@ -1,0 +1,1 @@
+autocmd BufNewFile,BufRead *.y set filetype=lrkit

@@ -1,4 +1,5 @@
-/* Parses a text's lexemes once by a parser that is made before: `bench GRAMMAR LEXER TEXT`. The last line is the count of lexemes. */
+/* Parses a text's lexemes, and the text, once each by a parser that is made before: `bench GRAMMAR LEXER TEXT`. The last line is the
+ * count of lexemes. */
 #include "lrkit.h"
 
 #include <stdio.h>
@@ -32,7 +33,8 @@ int main(int count, char **words) {
     lrkit_node *nodes = malloc(16 * (input.len + 1) * sizeof *nodes);
     lrkit_answer lexed = lrkit_lex(&parser, input.at, input.len, lexemes, input.len + 1, &place);
     lrkit_answer parsed = lrkit_parse(&parser, lexemes, lexed.count, nodes, 16 * (input.len + 1), &place);
-    if (lexed.status || parsed.status) return 1;
+    lrkit_answer whole = lrkit_parse_text(&parser, input.at, input.len, nodes, 16 * (input.len + 1), &place);
+    if (lexed.status || parsed.status || whole.status || whole.count != parsed.count) return 1;
     printf("%zu lexemes, %zu nodes\n", lexed.count, parsed.count);
     lrkit_parser_free(&parser);
     return 0;

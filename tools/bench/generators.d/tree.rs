@@ -8,6 +8,8 @@ pub enum Json<'t> {
     Nothing,
 }
 
+/// A token, which by_pest has none of.
+#[allow(dead_code)]
 #[derive(Clone, Copy, Debug)]
 pub enum Token {
     Open,

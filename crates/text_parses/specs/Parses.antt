@@ -43,6 +43,10 @@ Offers edits state index lexeme offered = AreFew edits offered
 abbrev pub HasParse : ParserValue → List (Result TextLexeme LRLexError) → ℕ → Option (FlatValue TextLexeme) → List (ParseError TextLexeme ℕ) → Type 0
 HasParse d items edits tree errors = IsKitParse itself lexeme_lex inserted d (Offers edits) items (HasFlat (span_by lexeme_lex) tree) errors
 
+-- the parse has some tree, and no error
+abbrev pub HasTree : ParserValue → List (Result TextLexeme LRLexError) → ℕ → Type 0
+HasTree d items edits = (t : FlatValue TextLexeme) × HasParse d items edits (Some t) []
+
 -- the tree, where the parse has no error; the list's first error, of the lexer; or those of the parser
 abbrev pub IsParsed : ParserValue → List (Result TextLexeme LRLexError) → ℕ → Parsed → Type 0
 IsParsed d items edits (found.Tree t) = HasParse d items edits (Some t) []

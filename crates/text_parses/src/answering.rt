@@ -5,6 +5,7 @@ ghost use Rattle.lrlex.specs.Lexing.{bound_meanings, bound_rules};
 ghost use Rattle.text_parses.specs.Answers.{Answers, AnswersIn, AnswersItems, AnswersLine, AnswersObject, AnswersText, TellsNextIf, WritesTree, is_noted};
 ghost use Rattle.text_parses.specs.Parses.{IsParsed, title_of};
 ghost use Rattle.text_parses.specs.AskedTexts.{asked_in, asked_of, asked_of_line};
+ghost use Rattle.text_parses.specs.declared.form.Form.TheVariants.{Quiet};
 
 use crate::answer_fault::AnswerFault;
 use crate::errors::{write_errors, write_lex_error};
@@ -12,7 +13,7 @@ use crate::form::{FileLine, Form, Input, Shown};
 use crate::names::Grammar;
 use crate::next::write_next;
 use crate::objects::write_object;
-use crate::parsing::{Parsed, WordLexer, WordTree, parse_lexed};
+use crate::parsing::{Parsed, WordLexer, WordTree, has_tree, parse_lexed};
 use crate::trees::{write_dot, write_lines, write_sexp};
 use crate::words::lex_line;
 use byte_streams::Sink;
@@ -163,7 +164,7 @@ fn write_next_if<W: Sink>(
 }
 
 /// Parses the lexemes of a text, writes its tree or its errors, and returns whether it has a tree.
-fn answer_lexed<W: Sink>(
+fn answer_parsed<W: Sink>(
     alloc: Global,
     kit: &ParserKit<u32>,
     shown: Shown<'_>,
@@ -176,6 +177,41 @@ fn answer_lexed<W: Sink>(
     let wrote = write_found(alloc, kit, shown, lexer, &parsed, out);
     drop(parsed);
     wrote
+}
+
+/// Answers the lexemes of a text whose tree isn't written: where they have one, none is made.
+fn answer_quietly<W: Sink>(
+    alloc: Global,
+    kit: &ParserKit<u32>,
+    shown: Shown<'_>,
+    lexer: &WordLexer<'_>,
+    out: &mut W,
+) -> Result<bool, AnswerFault>
+    requires { shown.input.form ≡ Quiet }
+    ensures { IfOk result (AnswersIn shown.entry.input.form kit.now.parser lexer.now.items (asked_in shown.entry) (W.known out.old) (W.known out.new)) }
+{
+    if has_tree(alloc, kit, lexer, shown.input.edits)? {
+        return Ok(true);
+    }
+    answer_parsed(alloc, kit, shown, lexer, out)
+}
+
+/// Parses the lexemes of a text, writes its tree or its errors, and returns whether it has a tree.
+fn answer_lexed<W: Sink>(
+    alloc: Global,
+    kit: &ParserKit<u32>,
+    shown: Shown<'_>,
+    lexer: &WordLexer<'_>,
+    out: &mut W,
+) -> Result<bool, AnswerFault>
+    ensures { IfOk result (AnswersIn shown.entry.input.form kit.now.parser lexer.now.items (asked_in shown.entry) (W.known out.old) (W.known out.new)) }
+{
+    match shown.input.form {
+        Form::Quiet => answer_quietly(alloc, kit, shown, lexer, out),
+        Form::Tree | Form::Sexp | Form::Dot | Form::Json => {
+            answer_parsed(alloc, kit, shown, lexer, out)
+        }
+    }
 }
 
 /// Writes the tree or the errors of a text, and then which tokens may come if they are asked for. Returns whether it has a tree.

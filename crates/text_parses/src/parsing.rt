@@ -1,14 +1,14 @@
 //! The parse of a text's lexemes.
 
-ghost use Rattle.std.specs.Prelude.{◌≡◌, IfErr, IfOk};
+ghost use Rattle.std.specs.Prelude.{◌≡◌, IfErr, IfOk, IsTrue};
 ghost use Rattle.parse_trees.specs.Refusals.{IsParseRefusal};
 ghost use Rattle.repair_search.specs.FewEdits.{most_edits};
 ghost use Rattle.text_parses.specs.ParseObjects.{is_tree};
-ghost use Rattle.text_parses.specs.Parses.{IsParsed, lexeme_lex};
+ghost use Rattle.text_parses.specs.Parses.{HasTree, IsParsed, lexeme_lex};
 
 use cfg_base::symbol::TIdx;
 use lrlex::{DefaultLexeme, DefaultLexerTypes, LRLexError, LRNonStreamingLexer};
-use lrpar::{FlatTree, Lexer, ParseError, ParseRefusal};
+use lrpar::{FlatTree, Lexer, ParseError, ParseRefusal, RTParserBuilder};
 use parser_kit::ParserKit;
 use repair_search::{Limits, Repairs, find_repairs};
 use std::alloc::{AllocError, Global};
@@ -73,6 +73,44 @@ fn parse_with(
         Ok(Err(error)) => Ok(Parsed::Unlexed(error)),
         Err(refusal) => Err(refusal),
     }
+}
+
+/// Returns whether the parse of a text's lexemes with these repairs has no error. It makes no tree.
+fn has_no_error(
+    alloc: Global,
+    kit: &ParserKit<u32>,
+    lexer: &WordLexer<'_>,
+    repairs: &Repairs<u32>,
+) -> Result<bool, ParseRefusal>
+    ensures parsed { IfOk result (λ well. IsTrue well → HasTree kit.now.parser lexer.now.items (most_edits repairs.now)) }
+    ensures refused { IfErr result (IsParseRefusal kit.now.parser.grammar.grammar lexeme_lex lexer.now.items) }
+{
+    kit.kit().stays_tabled();
+    let parser = RTParserBuilder::<DefaultLexerTypes<u32>, _>::new(kit.parser_data()).recoverer(
+        repairs,
+    );
+    match parser.parse_noaction(alloc, lexer) {
+        Ok(errors) => Ok(errors.is_empty()),
+        Err(refusal) => Err(refusal),
+    }
+}
+
+/// Returns whether the lexemes of a text have a tree, by a parse that makes none and takes little memory.
+///
+/// # Errors
+///
+/// As `parse_lexed`.
+pub(crate) fn has_tree(
+    alloc: Global,
+    kit: &ParserKit<u32>,
+    lexer: &WordLexer<'_>,
+    edits: usize,
+) -> Result<bool, ParseRefusal>
+    ensures parsed { IfOk result (λ well. IsTrue well → HasTree kit.now.parser lexer.now.items edits) }
+    ensures refused { IfErr result (IsParseRefusal kit.now.parser.grammar.grammar lexeme_lex lexer.now.items) }
+{
+    let repairs = Repairs::none(alloc, edits);
+    has_no_error(alloc, kit, lexer, &repairs)
 }
 
 /// Returns the tokens of the lexemes.

@@ -15,7 +15,7 @@
 //! ```
 //!
 //! For the grammar of `%start E %% E: E '+' 'n' | 'n';` it returns `E: E . + n`. A number that the grammar doesn't have is no
-//! fault: its name is empty, and a production has no symbols then. The texts are tested, by the rows of `report_rows`.
+//! fault: such a rule has an empty name, such a token that of the end token, and such a production no symbols.
 #![tactic(auto)]
 
 mod names;

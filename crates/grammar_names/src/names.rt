@@ -1,5 +1,11 @@
 //! Names of symbols, productions and items.
 
+ghost use Rattle.std.specs.Prelude.{◌≡◌, ◌+◌, ◌++◌, codes, drop, length, OnOk};
+ghost use Rattle.std.specs.String.{string_bytes};
+ghost use Rattle.cfg_theory.specs.Grammar.{body_of};
+ghost use Rattle.cfg_numbered.specs.Symbols.{sym_of, syms_of};
+ghost use Rattle.grammar_names.specs.Names.{form_text, head_text, item_text, prod_text, rule_text, spaced, symbol_text, symbols_text, token_text};
+
 use cfg_base::index::IndexStorage;
 use cfg_base::symbol::{PIdx, RIdx, SIdx, Symbol, TIdx};
 use cfg_numbered::yacc::NumberedGrammar;
@@ -9,7 +15,9 @@ use std::alloc::AllocError;
 pub type Grammar = NumberedGrammar<u32>;
 
 /// Returns the name of a token; `$` for the end token.
-pub fn token_name(grm: &Grammar, tidx: TIdx<u32>) -> &str {
+pub fn token_name(grm: &Grammar, tidx: TIdx<u32>) -> &str
+    ensures { result.now ≡ token_text grm.now tidx.0 }
+{
     if !grm.has_token(tidx) {
         return "$";
     }
@@ -17,7 +25,9 @@ pub fn token_name(grm: &Grammar, tidx: TIdx<u32>) -> &str {
 }
 
 /// Returns the name of a rule; none of one that the grammar doesn't have.
-fn rule_name(grm: &Grammar, ridx: RIdx<u32>) -> &str {
+fn rule_name(grm: &Grammar, ridx: RIdx<u32>) -> &str
+    ensures { result.now ≡ rule_text grm.now ridx.0 }
+{
     if !grm.has_rule(ridx) {
         return "";
     }
@@ -25,47 +35,55 @@ fn rule_name(grm: &Grammar, ridx: RIdx<u32>) -> &str {
 }
 
 /// Returns the name of a symbol.
-pub fn symbol_name(grm: &Grammar, symbol: Symbol<u32>) -> &str {
+pub fn symbol_name(grm: &Grammar, symbol: Symbol<u32>) -> &str
+    ensures { result.now ≡ symbol_text grm.now (sym_of (λ n. n) symbol) }
+{
     match symbol {
         Symbol::Rule(ridx) => rule_name(grm, ridx),
         Symbol::Token(tidx) => token_name(grm, tidx),
     }
 }
 
-/// Returns the rule of a production, and its symbols.
-fn rule_and_body(grm: &Grammar, pidx: PIdx<u32>) -> (&str, &[Symbol<u32>]) {
-    if !grm.has_prod(pidx) {
-        return ("", &[]);
-    }
-    (rule_name(grm, grm.prod_to_rule(pidx)), grm.prod(pidx))
-}
-
 /// Returns the symbols of a production.
-pub fn prod_body(grm: &Grammar, pidx: PIdx<u32>) -> &[Symbol<u32>] {
-    let (_, body) = rule_and_body(grm, pidx);
-    body
+pub fn prod_body(grm: &Grammar, pidx: PIdx<u32>) -> &[Symbol<u32>]
+    ensures { syms_of (λ n. n) result.now ≡ body_of grm.now.grammar pidx.0 }
+{
+    if !grm.has_prod(pidx) {
+        return &[];
+    }
+    grm.prod(pidx)
 }
 
 /// Returns how many symbols a production has.
-pub fn body_len(grm: &Grammar, pidx: PIdx<u32>) -> usize {
+pub fn body_len(grm: &Grammar, pidx: PIdx<u32>) -> usize
+    ensures { result ≡ length (body_of grm.now.grammar pidx.0) }
+{
     prod_body(grm, pidx).len()
 }
 
 /// Returns the symbols behind the rule after the dot.
-pub fn symbols_behind(grm: &Grammar, item: (PIdx<u32>, SIdx<u32>)) -> &[Symbol<u32>] {
+#[tactic(auto, using(crate::proofs::Bodies::map_drop))]
+pub fn symbols_behind(grm: &Grammar, item: (PIdx<u32>, SIdx<u32>)) -> &[Symbol<u32>]
+    ensures { syms_of (λ n. n) result.now ≡ drop (item.1.0 + 1) (body_of grm.now.grammar item.0.0) }
+{
     let (pidx, dot) = item;
-    let from = dot.0.to_usize().saturating_add(1);
-    prod_body(grm, pidx).get(from..).unwrap_or(&[])
+    let body = prod_body(grm, pidx);
+    let (_, behind) = body.split_at(dot.0.to_usize().saturating_add(1).min(body.len()));
+    behind
 }
 
 /// Adds a word.
-pub fn push_word(text: &mut String, word: &str) -> Result<(), AllocError> {
+pub fn push_word(text: &mut String, word: &str) -> Result<(), AllocError>
+    ensures { OnOk result (string_bytes text.new ≡ string_bytes text.old ++ spaced word.now) }
+{
     text.push(' ')?;
     text.push_str(word)
 }
 
 /// Adds a token.
-pub fn push_token(text: &mut String, grm: &Grammar, tidx: TIdx<u32>) -> Result<(), AllocError> {
+pub fn push_token(text: &mut String, grm: &Grammar, tidx: TIdx<u32>) -> Result<(), AllocError>
+    ensures { OnOk result (string_bytes text.new ≡ string_bytes text.old ++ spaced (token_text grm.now tidx.0)) }
+{
     push_word(text, token_name(grm, tidx))
 }
 
@@ -74,9 +92,11 @@ pub fn push_symbols(
     text: &mut String,
     grm: &Grammar,
     symbols: &[Symbol<u32>],
-) -> Result<(), AllocError> {
-    'symbols: for index in 0..symbols.len() {
-        push_word(text, symbol_name(grm, symbols[index]))?;
+) -> Result<(), AllocError>
+    ensures { OnOk result (string_bytes text.new ≡ string_bytes text.old ++ symbols_text grm.now (syms_of (λ n. n) symbols.now)) }
+{
+    'symbols: for symbol in symbols {
+        push_word(text, symbol_name(grm, *symbol))?;
     }
     Ok(())
 }
@@ -86,19 +106,31 @@ pub fn push_body(
     text: &mut String,
     grm: &Grammar,
     symbols: &[Symbol<u32>],
-) -> Result<(), AllocError> {
+) -> Result<(), AllocError>
+    ensures { OnOk result (string_bytes text.new ≡ string_bytes text.old ++ form_text grm.now (syms_of (λ n. n) symbols.now)) }
+{
     if symbols.is_empty() {
         return push_word(text, "%empty");
     }
     push_symbols(text, grm, symbols)
 }
 
+/// Adds the front of a production: `RULE:`.
+fn push_head(text: &mut String, grm: &Grammar, pidx: PIdx<u32>) -> Result<(), AllocError>
+    ensures { OnOk result (string_bytes text.new ≡ string_bytes text.old ++ head_text grm.now pidx.0) }
+{
+    if grm.has_prod(pidx) {
+        text.push_str(rule_name(grm, grm.prod_to_rule(pidx)))?;
+    }
+    text.push(':')
+}
+
 /// Adds a production: `RULE: X Y`.
-pub fn push_prod(text: &mut String, grm: &Grammar, pidx: PIdx<u32>) -> Result<(), AllocError> {
-    let (rule, body) = rule_and_body(grm, pidx);
-    text.push_str(rule)?;
-    text.push(':')?;
-    push_body(text, grm, body)
+pub fn push_prod(text: &mut String, grm: &Grammar, pidx: PIdx<u32>) -> Result<(), AllocError>
+    ensures { OnOk result (string_bytes text.new ≡ string_bytes text.old ++ prod_text grm.now pidx.0) }
+{
+    push_head(text, grm, pidx)?;
+    push_body(text, grm, prod_body(grm, pidx))
 }
 
 /// Adds a production with a dot: `RULE: X . Y`.
@@ -107,10 +139,11 @@ pub fn push_item(
     grm: &Grammar,
     pidx: PIdx<u32>,
     dot: SIdx<u32>,
-) -> Result<(), AllocError> {
-    let (rule, body) = rule_and_body(grm, pidx);
-    text.push_str(rule)?;
-    text.push(':')?;
+) -> Result<(), AllocError>
+    ensures { OnOk result (string_bytes text.new ≡ string_bytes text.old ++ item_text grm.now pidx.0 dot.0) }
+{
+    push_head(text, grm, pidx)?;
+    let body = prod_body(grm, pidx);
     let (before, after) = body.split_at(dot.0.to_usize().min(body.len()));
     push_symbols(text, grm, before)?;
     push_word(text, ".")?;
@@ -118,7 +151,9 @@ pub fn push_item(
 }
 
 /// Adds a line.
-pub fn push_line(text: &mut String, line: &str) -> Result<(), AllocError> {
+pub fn push_line(text: &mut String, line: &str) -> Result<(), AllocError>
+    ensures { OnOk result (string_bytes text.new ≡ string_bytes text.old ++ (line.now ++ codes "\n")) }
+{
     text.push_str(line)?;
     text.push('\n')
 }

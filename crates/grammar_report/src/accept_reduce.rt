@@ -57,7 +57,7 @@ fn push_cause(
     match &example {
         Some(example) => {
             words.push_str(", since")?;
-            push_derivation(words, grm, example.second.spine.as_slice())?;
+            push_derivation(alloc, words, grm, example.second.spine.as_slice())?;
             push_end_example(alloc, shown, grm, example, pidx)
         }
         None => push_no_example(shown),

@@ -1,5 +1,9 @@
 //! Productions that go round.
 
+ghost use Rattle.std.specs.Prelude.{◌<◌, length, IsTrue, IfOk, IfSome};
+ghost use Rattle.cfg_numbered.specs.Symbols.{numbers_of};
+ghost use Rattle.refused_tables.specs.Cycles.{Continues, IsRound};
+
 use crate::paths::string_to;
 use crate::runs::Run;
 use cfg_base::symbol::{PIdx, RIdx, Symbol, TIdx};
@@ -73,8 +77,46 @@ fn first_round(list: &[PIdx<u32>], period: usize) -> usize {
     first
 }
 
+/// Returns whether a production may be reduced right behind another one.
+fn continues(grm: &NumberedGrammar<u32>, before: PIdx<u32>, pidx: PIdx<u32>) -> bool
+    ensures within { IsTrue result → pidx.0 < length grm.now.grammar.productions }
+    ensures continues { IsTrue result → Continues grm.now.grammar before.0 pidx.0 }
+{
+    if !grm.has_prod(before) || !grm.has_prod(pidx) {
+        return false;
+    }
+    match grm.prod(pidx).last() {
+        Some(Symbol::Rule(ridx)) => ridx.0 == grm.prod_to_rule(before).0,
+        Some(Symbol::Token(_)) => false,
+        None => true,
+    }
+}
+
+/// Returns whether each of these productions may be reduced right behind the one before, and the first behind the last.
+fn is_round(grm: &NumberedGrammar<u32>, productions: &[PIdx<u32>]) -> bool
+    ensures { IsTrue result → IsRound grm.now.grammar (numbers_of (λ n. n) productions.now) }
+{
+    let Some(last) = productions.last() else {
+        return false;
+    };
+    let mut before = *last;
+    'productions: for index in 0..productions.len() {
+        if !continues(grm, before, productions[index]) {
+            return false;
+        }
+        before = productions[index];
+    }
+    true
+}
+
 /// Returns a round of a list, if its second half is made of rounds.
-fn round_of(alloc: Global, list: &[PIdx<u32>]) -> Result<Option<Vec<PIdx<u32>>>, AllocError> {
+fn round_of(
+    alloc: Global,
+    grm: &NumberedGrammar<u32>,
+    list: &[PIdx<u32>],
+) -> Result<Option<Vec<PIdx<u32>>>, AllocError>
+    ensures { IfOk result (λ r. IfSome r (λ ps. IsRound grm.now.grammar (numbers_of (λ n. n) ps.items))) }
+{
     let Some(period) = period_of(list) else {
         return Ok(None);
     };
@@ -84,6 +126,9 @@ fn round_of(alloc: Global, list: &[PIdx<u32>]) -> Result<Option<Vec<PIdx<u32>>>,
         if let Some(pidx) = list.get(index) {
             round.push(*pidx)?;
         }
+    }
+    if !is_round(grm, round.as_slice()) {
+        return Ok(None);
     }
     Ok(Some(round))
 }
@@ -95,11 +140,13 @@ fn round_behind(
     parts: &(StateGraph<u32>, StateTable<u32>),
     before: &[Symbol<u32>],
     token: TIdx<u32>,
-) -> Result<Option<Vec<PIdx<u32>>>, AllocError> {
+) -> Result<Option<Vec<PIdx<u32>>>, AllocError>
+    ensures { IfOk result (λ r. IfSome r (λ ps. IsRound grm.now.grammar (numbers_of (λ n. n) ps.items))) }
+{
     let mut run = Run::new(alloc, grm, &parts.1)?;
     run.follow(&parts.0, before)?;
     let list = run.reductions_before(alloc, token, MOST)?;
-    round_of(alloc, list.as_slice())
+    round_of(alloc, grm, list.as_slice())
 }
 
 /// Finds the productions that go round in the tables of a grammar.
@@ -108,7 +155,9 @@ fn cycle_in(
     grm: &NumberedGrammar<u32>,
     parts: &(StateGraph<u32>, StateTable<u32>),
     beginning: Beginning,
-) -> Result<Option<ReductionCycle>, AllocError> {
+) -> Result<Option<ReductionCycle>, AllocError>
+    ensures { IfOk result (λ r. IfSome r (λ c. IsRound grm.now.grammar (numbers_of (λ n. n) c.productions.items))) }
+{
     let mut before = string_to(alloc, &parts.0, beginning.state)?;
     if let Some(ridx) = beginning.rule {
         before.push(Symbol::Rule(ridx))?;
@@ -123,15 +172,18 @@ fn cycle_in(
 }
 
 /// Finds the productions that a grammar's own table reduces without end from a beginning, and a shortest string that
-/// leads to its state. Returns `None` where the grammar has no table, or where at most 1,000 reductions are made there
-/// or these don't go round. Fails where memory is refused.
+/// leads to its state. Each of them can follow the one before, and the first the last: it has no symbols, or has the
+/// rule of that production last. Returns `None` where the grammar has no table, or where at most 1,000 reductions are
+/// made there or these don't go round. Fails where memory is refused.
 ///
-/// What it returns is not proved; reports show it for a reader to check.
+/// That the table makes these reductions, and behind this string, is not proved; reports show both for a reader to check.
 pub fn find_cycle(
     alloc: Global,
     grm: &NumberedGrammar<u32>,
     beginning: Beginning,
-) -> Result<Option<ReductionCycle>, AllocError> {
+) -> Result<Option<ReductionCycle>, AllocError>
+    ensures { IfOk result (λ r. IfSome r (λ c. IsRound grm.now.grammar (numbers_of (λ n. n) c.productions.items))) }
+{
     let parts = match from_yacc(alloc, grm, Minimiser::Pager) {
         Ok(parts) => parts,
         Err(FromYaccError::Memory(e)) => return Err(e),

@@ -1,1 +1,3 @@
+mod AddedTexts
+mod BeforeDots
 mod Told

@@ -1,2 +1,4 @@
+pub mod ExampleTexts
 pub mod Nearer
 pub mod Outcomes
+pub mod Places

@@ -7,6 +7,7 @@ use Rattle.parser_kit.specs.Kit.{IsKitOf, KitValue}
 use Rattle.parser_kit.specs.KitErrors.{IsKitRefusal, IsMemory, IsToldRefusal}
 use Rattle.parser_kit.specs.TextKinds.{IsKindOfText}
 use Rattle.parser_kit.specs.declared.kit_error.KitError.{KitError}
+use Rattle.grammar_report.specs.declared.counts.Counts.{Counts}
 use Rattle.grammar_report.specs.declared.outcome.Outcome.{Outcome}
 use Rattle.grammar_report.specs.declared.outcome.Outcome.TheVariants.{Barren, Expected, Invalid, Unexpected}
 
@@ -74,3 +75,21 @@ status_of Expected = 0
 status_of Unexpected = 1
 status_of Barren = 2
 status_of Invalid = 2
+
+-- how many shifts against reductions are listed, and how many pairs of reductions
+abbrev pub listed_counts : Option Conflicts → ℕ × ℕ
+listed_counts None = (0, 0)
+listed_counts (Some c) = (length c.shift_reduce, length c.reduce_reduce)
+
+-- what a text has, its states, and its conflicts
+abbrev pub counts_of : KitValue → Counts
+counts_of k = record {
+  rules = length k.kept.ast.rules;
+  tokens = length k.kept.ast.tokens;
+  productions = length k.kept.ast.productions;
+  states = length k.parser.graph.cores;
+  shift_reduce = (listed_counts k.parser.table.conflicts).0;
+  reduce_reduce = (listed_counts k.parser.table.conflicts).1;
+  expected_shift_reduce = expect_of k;
+  expected_reduce_reduce = expect_rr_of k;
+}

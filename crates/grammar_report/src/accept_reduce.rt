@@ -1,6 +1,6 @@
 //! Why no parser is made of a grammar with a production that may be reduced where a text has ended.
 
-use crate::examples::{push_end_example, push_no_example};
+use crate::examples::push_example;
 use crate::production_places::production_span;
 use cfg_base::symbol::PIdx;
 use cfg_numbered::yacc::NumberedGrammar;
@@ -58,14 +58,14 @@ fn push_cause(
         Some(example) => {
             words.push_str(", since")?;
             push_derivation(alloc, words, grm, example.second.spine.as_slice())?;
-            push_end_example(alloc, shown, grm, example, pidx)
+            push_example(alloc, shown, grm, example, pidx, None)
         }
-        None => push_no_example(shown),
+        None => shown.push_str("  No example was found.\n"),
     }
 }
 
-/// Adds what is wrong with the production in the grammar of what is kept of a text.
-fn push_ending_in(
+/// Adds that a production may be reduced where a text has ended, how the start rule derives itself, and an example.
+pub(crate) fn push_ending(
     alloc: Global,
     messages: &mut Vec<Message>,
     kept: &ASTWithValidityInfo,
@@ -82,17 +82,4 @@ fn push_ending_in(
     let mut message = Message::new(Severity::Error, span, words);
     message.example = Some(shown);
     message.push_to(messages)
-}
-
-/// Adds that a production may be reduced where a text has ended, how the start rule derives itself, and an example.
-pub(crate) fn push_ending(
-    alloc: Global,
-    messages: &mut Vec<Message>,
-    text: &str,
-    pidx: PIdx<u32>,
-) -> Result<(), AllocError> {
-    let kept = kept_of(alloc, text)?;
-    let pushed = push_ending_in(alloc, messages, &kept, pidx);
-    drop(kept);
-    pushed
 }

@@ -2,10 +2,8 @@
 
 use crate::asked::Asked;
 use crate::beginnings::nearest;
-use crate::examples::{push_example, push_no_example};
-use crate::listed::{
-    Listed, conflict_blocks, example_of, push_state, push_states_len, push_tokens,
-};
+use crate::examples::push_example;
+use crate::listed::{Listed, conflict_blocks, example_of, push_states, push_tokens};
 use crate::production_places::{production_span, shift_span};
 use conflict_examples::{ConflictExample, ExampleFinder};
 use grammar_names::{push_prod, push_token};
@@ -35,11 +33,7 @@ fn message_of(
         None => "shift/reduce conflict",
     };
     let mut text = String::from_str(alloc, kind)?;
-    if view.each {
-        push_state(alloc, &mut text, first)?;
-    } else {
-        push_states_len(alloc, &mut text, listed)?;
-    }
+    push_states(alloc, &mut text, listed, view.each)?;
     text.push_str(": reduce ")?;
     push_prod(&mut text, view.kit.grm(), first.pidx)?;
     match first.other {
@@ -54,22 +48,6 @@ fn message_of(
     Ok(text)
 }
 
-/// Adds where the token of an example is shifted.
-fn push_shift_place(
-    alloc: Global,
-    text: &mut String,
-    view: &View<'_>,
-    example: &ConflictExample<u32>,
-) -> Result<(), AllocError> {
-    let Some(span) = shift_span(view.kit, example) else {
-        return Ok(());
-    };
-    let mut message = String::from_str(alloc, "shift")?;
-    push_token(&mut message, view.kit.grm(), example.token)?;
-    view.source
-        .push_message(alloc, text, Severity::Note, span, message.as_str())
-}
-
 /// Adds the place of the other action: of the second production of a pair, or of the token that is shifted.
 fn push_other_place(
     alloc: Global,
@@ -78,16 +56,20 @@ fn push_other_place(
     first: &Listed,
     example: &ConflictExample<u32>,
 ) -> Result<(), AllocError> {
-    let Some(other) = first.other else {
-        return push_shift_place(alloc, text, view, example);
+    let (span, what) = match first.other {
+        Some(other) => (production_span(view.kit.ast(), other), "or reduce "),
+        None => (shift_span(view.kit, example), "shift"),
     };
-    let Some(span) = production_span(view.kit.ast(), other) else {
+    if span.is_none() {
         return Ok(());
-    };
-    let mut message = String::from_str(alloc, "or reduce ")?;
-    push_prod(&mut message, view.kit.grm(), other)?;
+    }
+    let mut message = String::from_str(alloc, what)?;
+    match first.other {
+        Some(other) => push_prod(&mut message, view.kit.grm(), other)?,
+        None => push_token(&mut message, view.kit.grm(), example.token)?,
+    }
     view.source
-        .push_message(alloc, text, Severity::Note, span, message.as_str())
+        .push_message_if(alloc, text, Severity::Note, span, message.as_str())
 }
 
 /// Adds the other action and an example, from the nearest rule on or from the start.
@@ -125,7 +107,7 @@ fn push_block(
     let example = example_of(alloc, finder, listed)?;
     match &example {
         Some(example) => push_shown(alloc, text, view, first, example)?,
-        None => push_no_example(text)?,
+        None => text.push_str("  No example was found.\n")?,
     }
     text.push('\n')
 }

@@ -1,7 +1,7 @@
 //! Counts of a grammar, and whether its conflicts are expected.
 
 ghost use Rattle.std.specs.Prelude.{◌≡◌, Some, IfOk};
-ghost use Rattle.grammar_report.specs.Outcomes.{TellsExpected, TellsOutcome, expect_of, expect_rr_of};
+ghost use Rattle.grammar_report.specs.Outcomes.{TellsExpected, TellsOutcome, counts_of, expect_of, expect_rr_of, listed_counts};
 
 use crate::outcome::Outcome;
 use crate::sentences::has_sentences;
@@ -76,7 +76,9 @@ fn compare(kit: &ParserKit<u32>, conflicts: &Conflicts<u32>) -> Outcome
 }
 
 /// Returns how many shifts against reductions are listed, and how many pairs of reductions.
-fn listed_counts(kit: &ParserKit<u32>) -> (usize, usize) {
+fn listed_counts(kit: &ParserKit<u32>) -> (usize, usize)
+    ensures { result ≡ listed_counts kit.now.parser.table.conflicts }
+{
     match kit.conflicts() {
         Some(conflicts) => (conflicts.sr_len(), conflicts.rr_len()),
         None => (0, 0),
@@ -84,7 +86,9 @@ fn listed_counts(kit: &ParserKit<u32>) -> (usize, usize) {
 }
 
 /// Returns the counts of a kit's text, graph and conflicts.
-pub fn counts_of(kit: &ParserKit<u32>) -> Counts {
+pub fn counts_of(kit: &ParserKit<u32>) -> Counts
+    ensures { result ≡ counts_of kit.now }
+{
     let (shift_reduce, reduce_reduce) = listed_counts(kit);
     let (expected_shift_reduce, expected_reduce_reduce) = expected(kit);
     Counts {
@@ -99,23 +103,6 @@ pub fn counts_of(kit: &ParserKit<u32>) -> Counts {
     }
 }
 
-/// Adds how many conflicts are listed, and how many are expected, if any are listed.
-fn push_conflict_counts(
-    alloc: Global,
-    text: &mut String,
-    counts: Counts,
-) -> Result<(), AllocError> {
-    let (sr, rr) = (counts.shift_reduce, counts.reduce_reduce);
-    if sr == 0 && rr == 0 {
-        return Ok(());
-    }
-    let (expect, expect_rr) = (counts.expected_shift_reduce, counts.expected_reduce_reduce);
-    let line = format!(in alloc;
-        "conflicts: {sr} shift/reduce, {rr} reduce/reduce, expected {expect} and {expect_rr}\n"
-    )?;
-    text.push_str(line.as_str())
-}
-
 /// Adds how many rules, tokens and productions the text has, how many states there are, and the conflicts, if any are listed.
 pub(crate) fn push_counts(
     alloc: Global,
@@ -123,11 +110,17 @@ pub(crate) fn push_counts(
     counts: Counts,
 ) -> Result<(), AllocError> {
     let (rules, tokens, prods) = (counts.rules, counts.tokens, counts.productions);
-    let states = counts.states;
-    let line = format!(in alloc;
+    let (states, sr, rr) = (counts.states, counts.shift_reduce, counts.reduce_reduce);
+    let (expect, expect_rr) = (counts.expected_shift_reduce, counts.expected_reduce_reduce);
+    let mut line = format!(in alloc;
         "rules: {rules}, tokens: {tokens}, productions: {prods}, states: {states}\n"
     )?;
+    if sr > 0 || rr > 0 {
+        let conflicts = format!(in alloc;
+            "conflicts: {sr} shift/reduce, {rr} reduce/reduce, expected {expect} and {expect_rr}\n"
+        )?;
+        line.push_str(conflicts.as_str())?;
+    }
     text.push_str(line.as_str())?;
-    push_conflict_counts(alloc, text, counts)?;
     text.push('\n')
 }

@@ -1,5 +1,9 @@
 //! Examples of conflicts as a person reads them.
 
+ghost use Rattle.std.specs.Prelude.{◌≡◌, ◌++◌, [], codes, OnOk};
+ghost use Rattle.std.specs.String.{string_bytes};
+ghost use Rattle.grammar_report.specs.ExampleTexts.{AddsAction, AddsExample, AddsString, reduction_text, shift_text, spine_text};
+
 use cfg_base::index::IndexStorage;
 use cfg_base::symbol::{PIdx, SIdx, Symbol};
 use conflict_examples::{ActionExample, ConflictExample};
@@ -60,7 +64,9 @@ fn push_string(
     text: &mut String,
     grm: &Grammar,
     example: &ConflictExample<u32>,
-) -> Result<(), AllocError> {
+) -> Result<(), AllocError>
+    ensures { OnOk result (AddsString grm.now example.now (string_bytes text.old) (string_bytes text.new)) }
+{
     text.push_str("  Example:")?;
     push_symbols(text, grm, example.symbols.as_slice())?;
     push_word(text, ".")?;
@@ -79,7 +85,9 @@ fn push_spine(
     text: &mut String,
     grm: &Grammar,
     spine: &[(PIdx<u32>, SIdx<u32>)],
-) -> Result<(), AllocError> {
+) -> Result<(), AllocError>
+    ensures { OnOk result (string_bytes text.new ≡ string_bytes text.old ++ spine_text grm.now (codes "    ") spine.now) }
+{
     let mut front = String::from_str(alloc, "    ")?;
     'items: for index in 0..spine.len() {
         let (pidx, dot) = spine[index];
@@ -163,20 +171,31 @@ fn push_action(
     text: &mut String,
     grm: &Grammar,
     action: &ActionExample<u32>,
-) -> Result<(), AllocError> {
+) -> Result<(), AllocError>
+    ensures { OnOk result (AddsAction grm.now ([]) action.now (string_bytes text.old) (string_bytes text.new)) }
+{
+    let mut forms = String::new(alloc);
+    push_forms(alloc, &mut forms, grm, action)?;
     text.push('\n')?;
     push_spine(alloc, text, grm, action.spine.as_slice())?;
-    push_forms(alloc, text, grm, action)
+    text.push_str(forms.as_str())
 }
 
+/// Adds the first action of a conflict with a reduction: the shift of a token, or the accepting of a text that has ended.
 fn push_shift(
     alloc: Global,
     text: &mut String,
     grm: &Grammar,
     example: &ConflictExample<u32>,
-) -> Result<(), AllocError> {
-    text.push_str("  shift")?;
-    push_token(text, grm, example.token)?;
+) -> Result<(), AllocError>
+    ensures { OnOk result (AddsAction grm.now (shift_text grm.now example.now.token.0) example.now.first (string_bytes text.old) (string_bytes text.new)) }
+{
+    if example.token.0 == grm.eof_token_idx().0 {
+        text.push_str("  accept")?;
+    } else {
+        text.push_str("  shift")?;
+        push_token(text, grm, example.token)?;
+    }
     push_action(alloc, text, grm, &example.first)
 }
 
@@ -186,13 +205,15 @@ fn push_reduction(
     grm: &Grammar,
     pidx: PIdx<u32>,
     action: &ActionExample<u32>,
-) -> Result<(), AllocError> {
+) -> Result<(), AllocError>
+    ensures { OnOk result (AddsAction grm.now (reduction_text grm.now pidx.0) action.now (string_bytes text.old) (string_bytes text.new)) }
+{
     text.push_str("  reduce ")?;
     push_prod(text, grm, pidx)?;
     push_action(alloc, text, grm, action)
 }
 
-/// Adds the example of a shift against a reduction, or of a pair of reductions.
+/// Adds the example of a shift or the end of a text against a reduction, or of a pair of reductions.
 pub fn push_example(
     alloc: Global,
     text: &mut String,
@@ -200,35 +221,13 @@ pub fn push_example(
     example: &ConflictExample<u32>,
     pidx: PIdx<u32>,
     other: Option<PIdx<u32>>,
-) -> Result<(), AllocError> {
+) -> Result<(), AllocError>
+    ensures { OnOk result (AddsExample grm.now example.now pidx other (string_bytes text.old) (string_bytes text.new)) }
+{
     push_string(alloc, text, grm, example)?;
     match other {
-        Some(other) => {
-            push_reduction(alloc, text, grm, pidx, &example.first)?;
-            push_reduction(alloc, text, grm, other, &example.second)
-        }
-        None => {
-            push_shift(alloc, text, grm, example)?;
-            push_reduction(alloc, text, grm, pidx, &example.second)
-        }
+        Some(_) => push_reduction(alloc, text, grm, pidx, &example.first)?,
+        None => push_shift(alloc, text, grm, example)?,
     }
-}
-
-/// Adds the example of a production that may be reduced where a text has ended.
-pub(crate) fn push_end_example(
-    alloc: Global,
-    text: &mut String,
-    grm: &Grammar,
-    example: &ConflictExample<u32>,
-    pidx: PIdx<u32>,
-) -> Result<(), AllocError> {
-    push_string(alloc, text, grm, example)?;
-    text.push_str("  accept")?;
-    push_action(alloc, text, grm, &example.first)?;
-    push_reduction(alloc, text, grm, pidx, &example.second)
-}
-
-/// Adds that there is no example.
-pub(crate) fn push_no_example(text: &mut String) -> Result<(), AllocError> {
-    text.push_str("  No example was found.\n")
+    push_reduction(alloc, text, grm, other.unwrap_or(pidx), &example.second)
 }

@@ -3,9 +3,9 @@
 use crate::accept_reduce::{kept_of, push_ending};
 use crate::long_chains::push_long_chain;
 use cfg_base::span::Span;
-use cfg_read::yacc::YaccGrammarError;
 use cfg_read::yacc::ast::GrammarAST;
 use cfg_read::yacc::ast::warnings::YaccGrammarWarning;
+use cfg_read::yacc::{ASTWithValidityInfo, YaccGrammarError};
 use grammar_hints::{Hint, hint_of, token_warnings};
 use parser_kit::KitError;
 use refused_tables::Beginning;
@@ -46,42 +46,22 @@ fn push_error(
     }
 }
 
-fn push_errors(
+/// Adds why a text gives no parser, by what is kept of it.
+fn push_refusal_of(
     alloc: Global,
     messages: &mut Vec<Message>,
     text: &str,
-    ast: &GrammarAST,
-    errors: &[YaccGrammarError],
-) -> Result<(), AllocError> {
-    'errors: for error in errors {
-        push_error(alloc, messages, text, ast, error)?;
-    }
-    Ok(())
-}
-
-/// Adds all that is wrong with a text.
-fn push_all_errors(
-    alloc: Global,
-    messages: &mut Vec<Message>,
-    text: &str,
-    errors: &[YaccGrammarError],
-) -> Result<(), AllocError> {
-    let kept = kept_of(alloc, text)?;
-    let pushed = push_errors(alloc, messages, text, kept.ast(), errors);
-    drop(kept);
-    pushed
-}
-
-/// Adds why a text gives no parser: errors, and notes on the error before them.
-pub fn push_refusal(
-    alloc: Global,
-    messages: &mut Vec<Message>,
-    text: &str,
+    kept: &ASTWithValidityInfo,
     refusal: &KitError<u32>,
 ) -> Result<(), AllocError> {
     match refusal {
-        KitError::Grammar(errors) => push_all_errors(alloc, messages, text, errors.as_slice()),
-        KitError::AcceptReduce(pidx) => push_ending(alloc, messages, text, *pidx),
+        KitError::Grammar(errors) => {
+            'errors: for error in errors {
+                push_error(alloc, messages, text, kept.ast(), error)?;
+            }
+            Ok(())
+        }
+        KitError::AcceptReduce(pidx) => push_ending(alloc, messages, kept, *pidx),
         KitError::TooManyReductions {
             state,
             rule,
@@ -93,13 +73,26 @@ pub fn push_refusal(
                 rule: *rule,
                 token: *token,
             };
-            push_long_chain(alloc, messages, text, *cap, beginning)
+            push_long_chain(alloc, messages, kept, *cap, beginning)
         }
         other => {
             let words = other.to_string(alloc)?;
             Message::new(Severity::Error, None, words).push_to(messages)
         }
     }
+}
+
+/// Adds why a text gives no parser: errors, and notes on the error before them.
+pub fn push_refusal(
+    alloc: Global,
+    messages: &mut Vec<Message>,
+    text: &str,
+    refusal: &KitError<u32>,
+) -> Result<(), AllocError> {
+    let kept = kept_of(alloc, text)?;
+    let pushed = push_refusal_of(alloc, messages, text, &kept, refusal);
+    drop(kept);
+    pushed
 }
 
 /// Adds a message about the name at a place.
@@ -136,20 +129,6 @@ fn push_warning(
     }
 }
 
-/// Adds what a text declares and doesn't use.
-fn push_unused(
-    alloc: Global,
-    messages: &mut Vec<Message>,
-    text: &str,
-    ast: &GrammarAST,
-) -> Result<(), AllocError> {
-    let warnings = ast.warnings(alloc)?;
-    'warnings: for warning in &warnings {
-        push_warning(alloc, messages, text, warning)?;
-    }
-    Ok(())
-}
-
 /// Adds what of the declared tokens means something else than it seems to.
 fn push_token_warnings(
     alloc: Global,
@@ -171,6 +150,9 @@ pub(crate) fn push_warnings(
     text: &str,
     ast: &GrammarAST,
 ) -> Result<(), AllocError> {
-    push_unused(alloc, messages, text, ast)?;
+    let warnings = ast.warnings(alloc)?;
+    'warnings: for warning in &warnings {
+        push_warning(alloc, messages, text, warning)?;
+    }
     push_token_warnings(alloc, messages, text)
 }

@@ -2,41 +2,36 @@
 
 use crate::faults::push_named;
 use crate::production_places::production_span;
-use crate::settled::{Pair, action_on, ended_items};
+use crate::settled::{Pair, is_ended};
 use cfg_base::index::IndexStorage;
 use cfg_base::symbol::PIdx;
 use cfg_read::yacc::ast::{self, GrammarAST, Production};
-use grammar_names::{Grammar, push_prod};
-use lrtable::{Action, Itemset, StIdx};
+use grammar_names::{push_prod, token_name};
+use lrtable::{Action, StateTable};
 use parser_kit::ParserKit;
 use std::alloc::{AllocError, Global};
 use text_messages::{Message, Severity};
 
-/// Returns the name of the last token of a production.
-fn last_token(production: &Production) -> Option<&str> {
-    let mut last = None;
+/// Returns the name of the last token of a production; no name where it has none.
+fn last_token(production: &Production) -> &str {
+    let mut last = "";
     'symbols: for symbol in production.symbols() {
         if let ast::Symbol::Token(name, _) = symbol {
-            last = Some(name.as_str());
+            last = name.as_str();
         }
     }
     last
 }
 
-/// Returns the name of the token that a production has its precedence of, if it has one.
-fn giver(ast: &GrammarAST, pidx: PIdx<u32>) -> Option<&str> {
-    let production = ast.prods().get(pidx.0.to_usize())?;
+/// Returns the name of the token that a production has its precedence of; no name where it has none.
+fn giver(ast: &GrammarAST, pidx: PIdx<u32>) -> &str {
+    let Some(production) = ast.prods().get(pidx.0.to_usize()) else {
+        return "";
+    };
     match production.precedence() {
-        Some(name) => Some(name.as_str()),
+        Some(name) => name.as_str(),
         None => last_token(production),
     }
-}
-
-/// Returns so many flags, none of which is set.
-fn unset(alloc: Global, count: usize) -> Result<Vec<bool>, AllocError> {
-    let mut flags = Vec::new(alloc);
-    flags.resize(count, false)?;
-    Ok(flags)
 }
 
 /// Sets the flag at an index.
@@ -66,20 +61,10 @@ fn push_idle_precedences(
     kit: &ParserKit<u32>,
     pairs: &[Pair],
 ) -> Result<(), AllocError> {
-    let mut used = unset(alloc, kit.ast().precs().len())?;
+    let mut used = vec![in alloc; false; kit.ast().precs().len()]?;
     'pairs: for pair in pairs {
-        if kit.grm().has_token(pair.tidx) {
-            set_named(
-                &mut used,
-                kit.ast(),
-                kit.grm().token_name(pair.tidx).unwrap_or(""),
-            );
-        }
-        set_named(
-            &mut used,
-            kit.ast(),
-            giver(kit.ast(), pair.pidx).unwrap_or(""),
-        );
+        set_named(&mut used, kit.ast(), token_name(kit.grm(), pair.tidx));
+        set_named(&mut used, kit.ast(), giver(kit.ast(), pair.pidx));
     }
     let what = "Nothing is settled by the precedence of";
     let mut index: usize = 0;
@@ -95,7 +80,7 @@ fn push_idle_precedences(
 /// Returns whether a production has a `%prec` that changes nothing: it names the last token, or no conflict is settled by it.
 fn has_idle_prec(production: &Production, settles: bool) -> bool {
     match production.precedence() {
-        Some(name) => !settles || last_token(production) == Some(name.as_str()),
+        Some(name) => !settles || last_token(production) == name.as_str(),
         None => false,
     }
 }
@@ -107,7 +92,7 @@ fn push_idle_precs(
     ast: &GrammarAST,
     pairs: &[Pair],
 ) -> Result<(), AllocError> {
-    let mut settles = unset(alloc, ast.prods().len())?;
+    let mut settles = vec![in alloc; false; ast.prods().len()]?;
     'pairs: for pair in pairs {
         set(&mut settles, pair.pidx.0.to_usize());
     }
@@ -122,49 +107,29 @@ fn push_idle_precs(
     Ok(())
 }
 
-/// Sets the flags of the productions that a state reduces by.
-fn set_reduced(flags: &mut Vec<bool>, kit: &ParserKit<u32>, stidx: StIdx<u32>) {
-    'tokens: for token in 0..kit.grm().tokens_len().0.to_usize() {
-        if let Action::Reduce(pidx) = action_on(kit.stable(), stidx, kit.grm().token_at(token)) {
-            set(flags, pidx.0.to_usize());
+/// Sets the flags of the productions that are reduced in some state.
+fn set_reduced(flags: &mut Vec<bool>, table: &StateTable<u32>) {
+    'states: for state in 0..table.states_len().0.to_usize() {
+        let cells = table.state_cells(table.state_at(state));
+        'cells: for index in 0..cells.len() {
+            if let (_, Action::Reduce(pidx)) = cells[index] {
+                set(flags, pidx.0.to_usize());
+            }
         }
     }
 }
 
-/// Adds the productions that stand complete in a state.
-fn add_ended(
-    alloc: Global,
-    ended: &mut Vec<PIdx<u32>>,
-    grm: &Grammar,
-    items: &Itemset<u32>,
-) -> Result<(), AllocError> {
-    let indexes = ended_items(alloc, grm, items)?;
-    'indexes: for i in 0..indexes.len() {
-        let index = indexes[i];
-        if index < items.len() {
-            let (pidx, _) = items.item_at(index);
-            ended.push(pidx)?;
-        }
-    }
-    Ok(())
-}
-
-/// Returns the productions that stand complete in some state, in order, and sets the flags of those that are reduced in some.
-fn all_ended(
-    alloc: Global,
-    reduced: &mut Vec<bool>,
-    kit: &ParserKit<u32>,
-) -> Result<Vec<PIdx<u32>>, AllocError> {
+/// Returns the productions that stand complete in some state, in order.
+fn all_ended(alloc: Global, kit: &ParserKit<u32>) -> Result<Vec<PIdx<u32>>, AllocError> {
     let mut ended = Vec::new(alloc);
     'states: for state in 0..kit.sgraph().all_states_len().0.to_usize() {
-        let stidx = kit.sgraph().state_at(state);
-        add_ended(
-            alloc,
-            &mut ended,
-            kit.grm(),
-            kit.sgraph().closed_state(stidx),
-        )?;
-        set_reduced(reduced, kit, stidx);
+        let items = kit.sgraph().closed_state(kit.sgraph().state_at(state));
+        'items: for index in 0..items.len() {
+            let item = items.item_at(index);
+            if is_ended(kit.grm(), item) {
+                ended.push(item.0)?;
+            }
+        }
     }
     ended.sort()?;
     ended.dedup();
@@ -178,8 +143,9 @@ fn push_unreduced(
     kit: &ParserKit<u32>,
 ) -> Result<(), AllocError> {
     let count = kit.ast().prods().len();
-    let mut reduced = unset(alloc, count)?;
-    let ended = all_ended(alloc, &mut reduced, kit)?;
+    let mut reduced = vec![in alloc; false; count]?;
+    set_reduced(&mut reduced, kit.stable());
+    let ended = all_ended(alloc, kit)?;
     'productions: for index in 0..ended.len() {
         let number = ended[index].0.to_usize();
         if number < count && !is_set(reduced.as_slice(), number) {

@@ -20,62 +20,50 @@ pub struct Listed {
     pub state: StIdx<u32>,
 }
 
-/// Returns the listed shifts against reductions, ordered by production, token and state.
-fn listed_shifts(alloc: Global, conflicts: &Conflicts<u32>) -> Result<Vec<Listed>, AllocError> {
-    let mut listed = Vec::new(alloc);
-    'entries: for entry in conflicts.sr_conflicts() {
-        let (token, pidx, state) = *entry;
-        let other = None;
-        listed.push(Listed {
-            pidx,
-            other,
-            token,
-            state,
-        })?;
-    }
-    listed.sort()?;
-    Ok(listed)
+/// Adds a listed conflict.
+fn push_listed(
+    listed: &mut Vec<Listed>,
+    entry: (TIdx<u32>, PIdx<u32>, StIdx<u32>),
+    other: Option<PIdx<u32>>,
+) -> Result<(), AllocError> {
+    let (token, pidx, state) = entry;
+    listed.push(Listed {
+        pidx,
+        other,
+        token,
+        state,
+    })?;
+    Ok(())
 }
 
-/// Returns the listed pairs of reductions, ordered by their productions, token and state.
-fn listed_pairs(alloc: Global, conflicts: &Conflicts<u32>) -> Result<Vec<Listed>, AllocError> {
-    let mut listed = Vec::new(alloc);
-    'entries: for entry in conflicts.rr_conflicts() {
-        let (token, pidx, second, state) = *entry;
-        let other = Some(second);
-        listed.push(Listed {
-            pidx,
-            other,
-            token,
-            state,
-        })?;
+/// Returns the listed pairs of reductions, and then the shifts against reductions, both ordered by their productions, token and
+/// state.
+fn listed_of(alloc: Global, conflicts: &Conflicts<u32>) -> Result<Vec<Listed>, AllocError> {
+    let (mut pairs, mut shifts) = (Vec::new(alloc), Vec::new(alloc));
+    'pairs: for entry in conflicts.rr_conflicts() {
+        let (token, pidx, other, state) = *entry;
+        push_listed(&mut pairs, (token, pidx, state), Some(other))?;
     }
-    listed.sort()?;
-    Ok(listed)
+    'shifts: for entry in conflicts.sr_conflicts() {
+        push_listed(&mut shifts, *entry, None)?;
+    }
+    pairs.sort()?;
+    shifts.sort()?;
+    pairs.extend_from_slice(shifts.as_slice())?;
+    Ok(pairs)
 }
 
-/// Returns how many conflicts at the front are of the productions of the first one.
-fn same_productions_len(listed: &[Listed]) -> usize {
-    let Some(first) = listed.first() else {
-        return 0;
-    };
+/// Returns how many conflicts at the front are in one block: those of the productions of the first one, or that one.
+fn block_len(listed: &[Listed], each: bool) -> usize {
     let mut count: usize = 0;
     'entries: for entry in listed {
-        if entry.pidx != first.pidx || entry.other != first.other {
+        let first = listed[0];
+        if count > 0 && (each || entry.pidx != first.pidx || entry.other != first.other) {
             return count;
         }
         count = count.saturating_add(1);
     }
     count
-}
-
-/// Returns how many conflicts at the front are in one block.
-fn block_len(listed: &[Listed], each: bool) -> usize {
-    if each {
-        1
-    } else {
-        same_productions_len(listed).max(1)
-    }
 }
 
 /// Adds a block for each production or pair of productions, or for each conflict.
@@ -104,22 +92,10 @@ pub fn conflict_blocks(
 ) -> Result<Vec<Vec<Listed>>, AllocError> {
     let mut blocks = Vec::new(alloc);
     if let Some(conflicts) = kit.conflicts() {
-        push_all_blocks(alloc, &mut blocks, conflicts, each)?;
+        let listed = listed_of(alloc, conflicts)?;
+        push_blocks(alloc, &mut blocks, listed.as_slice(), each)?;
     }
     Ok(blocks)
-}
-
-/// Adds the blocks of both lists.
-fn push_all_blocks(
-    alloc: Global,
-    blocks: &mut Vec<Vec<Listed>>,
-    conflicts: &Conflicts<u32>,
-    each: bool,
-) -> Result<(), AllocError> {
-    let pairs = listed_pairs(alloc, conflicts)?;
-    push_blocks(alloc, blocks, pairs.as_slice(), each)?;
-    let shifts = listed_shifts(alloc, conflicts)?;
-    push_blocks(alloc, blocks, shifts.as_slice(), each)
 }
 
 /// Adds the tokens of conflicts that are ordered by token.
@@ -149,28 +125,22 @@ pub fn states_of(alloc: Global, listed: &[Listed]) -> Result<Vec<StIdx<u32>>, Al
     Ok(states)
 }
 
-/// Adds how many states conflicts are in.
-pub(crate) fn push_states_len(
+/// Adds how many states conflicts are in, or which state the one conflict of a block is in.
+pub(crate) fn push_states(
     alloc: Global,
     text: &mut String,
     listed: &[Listed],
+    each: bool,
 ) -> Result<(), AllocError> {
     let states = states_of(alloc, listed)?;
-    let told = match states.len() {
-        1 => String::from_str(alloc, " in 1 state")?,
-        count => format!(in alloc; " in {count} states")?,
+    let told = match states.as_slice() {
+        [StIdx(state)] if each => format!(in alloc; " in state {state}")?,
+        [_] => String::from_str(alloc, " in 1 state")?,
+        more => {
+            let count = more.len();
+            format!(in alloc; " in {count} states")?
+        }
     };
-    text.push_str(told.as_str())
-}
-
-/// Adds which state a conflict is in.
-pub(crate) fn push_state(
-    alloc: Global,
-    text: &mut String,
-    entry: &Listed,
-) -> Result<(), AllocError> {
-    let state = entry.state.0;
-    let told = format!(in alloc; " in state {state}")?;
     text.push_str(told.as_str())
 }
 

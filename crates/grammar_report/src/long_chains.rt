@@ -1,6 +1,6 @@
 //! Why no parser is made of a grammar whose table reduces without end.
 
-use crate::accept_reduce::{grammar_of, kept_of};
+use crate::accept_reduce::grammar_of;
 use crate::production_places::production_span;
 use cfg_read::yacc::ASTWithValidityInfo;
 use refused_tables::{Beginning, push_cycle};
@@ -31,16 +31,13 @@ fn explain(
 pub(crate) fn push_long_chain(
     alloc: Global,
     messages: &mut Vec<Message>,
-    text: &str,
+    kept: &ASTWithValidityInfo,
     cap: u16,
     beginning: Beginning,
 ) -> Result<(), AllocError> {
     let words = format!(in alloc; "more than {cap} reductions follow each other")?;
     let mut message = Message::new(Severity::Error, None, words);
-    let kept = kept_of(alloc, text)?;
-    let explained = explain(alloc, &mut message, &kept, beginning);
-    drop(kept);
-    match explained {
+    match explain(alloc, &mut message, kept, beginning) {
         Ok(()) => message.push_to(messages),
         Err(e) => {
             drop(message);

@@ -120,14 +120,6 @@ fn push_first(
     }
 }
 
-/// Returns the words of a line: a CR before an LF is none of them, and one at the very end of the file is part of the last.
-fn words_of(line: &str, has_feed: bool) -> &str {
-    if has_feed {
-        return line.strip_suffix('\r').unwrap_or(line);
-    }
-    line
-}
-
 /// Adds the first error of the words of a line.
 fn push_line_error(
     alloc: Global,
@@ -147,7 +139,7 @@ fn push_line_error(
     pushed
 }
 
-/// Adds the errors of all lines; behind a last LF no line follows.
+/// Adds the errors of all lines; behind a last LF no line follows, and a CR before an LF is no part of a line.
 fn push_lines(
     alloc: Global,
     text: &mut String,
@@ -156,13 +148,10 @@ fn push_lines(
     lines: &str,
 ) -> Result<(), AllocError> {
     let mut start: usize = 0;
-    'lines: for line in lines.split('\n') {
-        let end = start.saturating_add(line.len());
-        if start < lines.len() {
-            let words = words_of(line, end < lines.len());
-            push_line_error(alloc, text, source, kit, words, start)?;
-        }
-        start = end.saturating_add(1);
+    'lines: for line in lines.split_inclusive('\n') {
+        let words = line.lines().next().unwrap_or("");
+        push_line_error(alloc, text, source, kit, words, start)?;
+        start = start.saturating_add(line.len());
     }
     Ok(())
 }

@@ -17,21 +17,14 @@ use parser_kit::{KitError, ParserKit};
 use std::alloc::{AllocError, Global};
 use text_messages::{Message, Severity, Source};
 
-/// Adds whether each line that is a sentence gets its only tree, or that no line is one.
-fn push_completeness(
-    text: &mut String,
-    kit: &ParserKit<u32>,
-    barren: bool,
-) -> Result<(), AllocError> {
+/// Returns whether each line that is a sentence gets its only tree, or that no line is one.
+fn completeness(kit: &ParserKit<u32>, barren: bool) -> &'static str {
     if barren {
-        return text.push_str("No line is a sentence.\n");
-    }
-    if kit.complete() {
-        text.push_str("Each line that is a sentence gets its tree, which is its only one.\n")
+        "No line is a sentence.\n"
+    } else if kit.complete() {
+        "Each line that is a sentence gets its tree, which is its only one.\n"
     } else {
-        text.push_str(
-            "This grammar is ambiguous or has conflicts: a valid line may have several trees, or be rejected.\n",
-        )
+        "This grammar is ambiguous or has conflicts: a valid line may have several trees, or be rejected.\n"
     }
 }
 
@@ -78,42 +71,24 @@ fn push_collected(
     Ok(has_some)
 }
 
-/// Adds messages that were collected, and an empty line behind them, if there are any.
+/// Adds the warnings, or the rules that derive no list of tokens, and an empty line behind them, if there are any.
 fn push_part(
     alloc: Global,
     text: &mut String,
     source: &Source<'_>,
-    messages: Vec<Message>,
-    collected: Result<(), AllocError>,
+    kit: &ParserKit<u32>,
+    warnings: bool,
 ) -> Result<(), AllocError> {
+    let mut messages = Vec::new(alloc);
+    let collected = if warnings {
+        push_kit_warnings(alloc, &mut messages, source.text(), kit)
+    } else {
+        push_unproductive(alloc, &mut messages, source.text(), kit)
+    };
     if push_collected(alloc, text, source, messages, collected)? {
         return text.push('\n');
     }
     Ok(())
-}
-
-/// Adds the warnings, as a part.
-fn push_warning_part(
-    alloc: Global,
-    text: &mut String,
-    source: &Source<'_>,
-    kit: &ParserKit<u32>,
-) -> Result<(), AllocError> {
-    let mut messages = Vec::new(alloc);
-    let collected = push_kit_warnings(alloc, &mut messages, source.text(), kit);
-    push_part(alloc, text, source, messages, collected)
-}
-
-/// Adds the rules that derive no list of tokens, as a part.
-fn push_unproductive_part(
-    alloc: Global,
-    text: &mut String,
-    source: &Source<'_>,
-    kit: &ParserKit<u32>,
-) -> Result<(), AllocError> {
-    let mut messages = Vec::new(alloc);
-    let collected = push_unproductive(alloc, &mut messages, source.text(), kit);
-    push_part(alloc, text, source, messages, collected)
 }
 
 /// Returns how grave listed conflicts are.
@@ -133,7 +108,7 @@ fn push_findings(
     asked: Asked<'_>,
 ) -> Result<(), AllocError> {
     push_counts(alloc, text, counts_of(kit))?;
-    push_unproductive_part(alloc, text, source, kit)?;
+    push_part(alloc, text, source, kit, false)?;
     push_conflicts(alloc, text, source, kit, conflict_severity(kit), asked)?;
     let pairs = all_pairs(alloc, kit)?;
     push_settled(text, kit.grm(), pairs.as_slice())
@@ -176,9 +151,9 @@ fn text_of_kit(
     asked: Asked<'_>,
 ) -> Result<String, AllocError> {
     let mut text = String::new(alloc);
-    push_warning_part(alloc, &mut text, source, kit)?;
+    push_part(alloc, &mut text, source, kit, true)?;
     push_findings(alloc, &mut text, source, kit, asked)?;
-    push_completeness(&mut text, kit, outcome == Outcome::Barren)?;
+    text.push_str(completeness(kit, outcome == Outcome::Barren))?;
     push_asked(alloc, &mut text, kit, asked, source.in_color())?;
     Ok(text)
 }

@@ -24,13 +24,13 @@ pub(crate) struct Pair {
 }
 
 /// Whether the dot stands behind all symbols of a production.
-fn is_ended(grm: &Grammar, item: (PIdx<u32>, SIdx<u32>)) -> bool {
+pub(crate) fn is_ended(grm: &Grammar, item: (PIdx<u32>, SIdx<u32>)) -> bool {
     let (pidx, dot) = item;
     dot.0.to_usize() == body_len(grm, pidx)
 }
 
 /// The indexes of the items of a state whose dot stands at the end.
-pub(crate) fn ended_items(
+fn ended_items(
     alloc: Global,
     grm: &Grammar,
     items: &Itemset<u32>,
@@ -44,24 +44,13 @@ pub(crate) fn ended_items(
     Ok(ended)
 }
 
-/// The production of an item that has a token among its lookaheads.
-fn looking(items: &Itemset<u32>, index: usize, token: usize) -> Option<PIdx<u32>> {
-    if index >= items.len() {
-        return None;
-    }
-    if items.looks_at(index).get(token) != Some(true) {
-        return None;
-    }
-    let (pidx, _) = items.item_at(index);
-    Some(pidx)
-}
-
 /// The first production of these items that has a token among its lookaheads. Items ascend by production.
 fn first_looking(items: &Itemset<u32>, indexes: &[usize], token: usize) -> Option<PIdx<u32>> {
     'indexes: for i in 0..indexes.len() {
-        let found = looking(items, indexes[i], token);
-        if found.is_some() {
-            return found;
+        let index = indexes[i];
+        if index < items.len() && items.looks_at(index).get(token) == Some(true) {
+            let (pidx, _) = items.item_at(index);
+            return Some(pidx);
         }
     }
     None
@@ -76,26 +65,14 @@ fn have_precedences(grm: &Grammar, tidx: TIdx<u32>, pidx: PIdx<u32>) -> bool {
 }
 
 /// What a state does on a token.
-pub(crate) fn action_on(
-    table: &StateTable<u32>,
-    stidx: StIdx<u32>,
-    tidx: TIdx<u32>,
-) -> Action<u32> {
-    if !table.has_state(stidx) {
-        return Action::Error;
+fn choice_on(table: &StateTable<u32>, stidx: StIdx<u32>, tidx: TIdx<u32>) -> Choice {
+    if !table.has_state(stidx) || tidx.0.to_usize() >= table.tokens_len().0.to_usize() {
+        return Choice::Error;
     }
-    if tidx.0.to_usize() >= table.tokens_len().0.to_usize() {
-        return Action::Error;
-    }
-    table.action(stidx, tidx)
-}
-
-fn choice_of(action: Action<u32>) -> Choice {
-    match action {
+    match table.action(stidx, tidx) {
         Action::Reduce(_) => Choice::Reduce,
         Action::Shift(_) => Choice::Shift,
-        Action::Accept => Choice::Error,
-        Action::Error => Choice::Error,
+        Action::Accept | Action::Error => Choice::Error,
     }
 }
 
@@ -107,16 +84,12 @@ fn pair_on(
     ended: &[usize],
     tidx: TIdx<u32>,
 ) -> Option<Pair> {
-    let Some(pidx) = first_looking(items, ended, tidx.0.to_usize()) else {
-        return None;
-    };
-    if kit.sgraph().edge(stidx, Symbol::Token(tidx)).is_none() {
-        return None;
-    }
+    let pidx = first_looking(items, ended, tidx.0.to_usize())?;
+    kit.sgraph().edge(stidx, Symbol::Token(tidx))?;
     if !have_precedences(kit.grm(), tidx, pidx) {
         return None;
     }
-    let choice = choice_of(action_on(kit.stable(), stidx, tidx));
+    let choice = choice_on(kit.stable(), stidx, tidx);
     Some(Pair { pidx, choice, tidx })
 }
 
@@ -192,15 +165,6 @@ fn push_pair(
     push_token(text, grm, pair.tidx)
 }
 
-fn push_pairs(text: &mut String, grm: &Grammar, pairs: &[Pair]) -> Result<(), AllocError> {
-    let mut before = None;
-    'pairs: for index in 0..pairs.len() {
-        push_pair(text, grm, before, pairs[index])?;
-        before = Some(pairs[index]);
-    }
-    text.push_str("\n\n")
-}
-
 /// Adds what precedences settle: for each production that may be reduced before a token that may be shifted, which of the
 /// two is done on which tokens, or neither. It is the same in each state, since the two precedences alone decide.
 pub(crate) fn push_settled(
@@ -212,5 +176,10 @@ pub(crate) fn push_settled(
         return Ok(());
     }
     text.push_str("Settled by precedence:")?;
-    push_pairs(text, grm, pairs)
+    let mut before = None;
+    'pairs: for index in 0..pairs.len() {
+        push_pair(text, grm, before, pairs[index])?;
+        before = Some(pairs[index]);
+    }
+    text.push_str("\n\n")
 }

@@ -1,4 +1,4 @@
--- The characters that character tokens stand for.
+-- Bytes of names, and the characters that character tokens stand for.
 use Rattle.std.specs.Prelude.{ℕ, ◌+◌, ◌*◌, ◌-◌, Bool, ◌&&◌, ◌||◌, ◌==◌, nat_le, List, [], ◌∷◌, length, Option, None, Some, if◌then◌else◌}
 
 -- [0-9]

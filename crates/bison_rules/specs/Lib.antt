@@ -1,4 +1,4 @@
 pub mod Characters
-pub mod Tokens
+pub mod Pieces
+pub mod Rules
 pub mod Models
-pub mod Scanning

@@ -1,5 +1,6 @@
-//! The rules of a Bison file: heads, alternatives with their symbols and `%prec`. `read_rules` answers them, and its contract says
-//! by plain functions which they are (`specs/Tokens`, token by token; `specs/Scanning`, byte by byte).
+//! The rules of a Bison file: heads, alternatives with their symbols and `%prec`; and its start rules, aliases and precedence
+//! levels. `read_rules` answers them, and its contract says by plain functions which they are (`specs/Pieces`: the tokens of a
+//! text; `specs/Rules`: what they say).
 //!
 //! ```rust
 //! use bison_rules::read_rules;
@@ -19,9 +20,11 @@
 #![tactic(auto)]
 
 mod characters;
+mod pieces;
 mod reading;
-mod scan;
+mod sizes;
+mod tokens;
 
 pub use characters::code_of;
-pub use reading::{Alias, BisonFile, Body, Rule};
-pub use scan::{Place, read_rules};
+pub use pieces::{Piece, Token};
+pub use reading::{Alias, BisonFile, Body, Level, Rule, read_rules};

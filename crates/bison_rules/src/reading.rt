@@ -1,12 +1,13 @@
-//! The rules of a file, token by token.
+//! What the tokens of a file say.
 
-ghost use Rattle.std.specs.Prelude.{◌≡◌, ◌++◌, ◌∷◌, [], Some, OnOk, IfOk, map, option_map};
-ghost use Rattle.std.specs.Str.{bytes_eq};
-ghost use Rattle.bison_rules.specs.Tokens.{action_name, is_string, is_of_rule, declares_tokens, nothing, add_symbol, follow, rule_symbol, add_alias, take_symbol, settle, end_body, end_rule, take_name, take_quoted, add_action, take_action, begin_rule, take_colon, take_bar, take_semicolon, declaration, directive, take_directive, take_section, action_rule, action_rules, at_end, file_at_end};
-ghost use Rattle.bison_rules.specs.Models.{bytes_of, rule_of, reading_of, file_of};
+ghost use Rattle.std.specs.Prelude.{◌≡◌, ◌++◌, ◌∷◌, [], Some, take, false, OnOk, IfOk, map, option_map};
+ghost use Rattle.bison_rules.specs.Rules as spec;
+ghost use Rattle.bison_rules.specs.Models.{bytes_of, token_of, tokens_of, body_of, rule_of, level_of, alias_pair, file_of};
 
+use crate::pieces::Token;
+use crate::sizes::behind;
+use crate::tokens::{is_whole, push_tokens_of};
 use std::alloc::{AllocError, Global};
-use std::mem;
 
 /// An alternative of a rule.
 #[derive(Drop)]
@@ -26,6 +27,15 @@ pub struct Rule {
     pub bodies: Vec<Body>,
 }
 
+/// A precedence level.
+#[derive(Drop)]
+pub struct Level {
+    /// Its directive, with the `%`.
+    pub word: Vec<u8>,
+    /// Its tokens, in order.
+    pub symbols: Vec<Vec<u8>>,
+}
+
 /// A string that stands for a token.
 #[derive(Drop)]
 pub struct Alias {
@@ -35,46 +45,266 @@ pub struct Alias {
     pub token: Vec<u8>,
 }
 
-/// The rules of a file.
+/// What a file says.
 #[derive(Drop)]
 pub struct BisonFile {
     /// The rules, in order, with their symbols as the file has them, and behind them those of actions in the middle.
     pub rules: Vec<Rule>,
     /// The strings that stand for tokens.
     pub aliases: Vec<Alias>,
+    /// The symbols of `%start`.
+    pub starts: Vec<Vec<u8>>,
+    /// The precedence levels, lowest first.
+    pub levels: Vec<Level>,
 }
 
-/// What was read of a file's tokens.
-#[derive(Drop)]
-pub(crate) struct RuleReader {
+/// Returns a copy of bytes.
+fn copy_of(alloc: Global, bytes: &[u8]) -> Result<Vec<u8>, AllocError>
+    ensures { IfOk result (λ v. v.items ≡ bytes.now) }
+{
+    Vec::from_slice(alloc, bytes)
+}
+
+/// Returns a copy of a token.
+fn copy_of_token(alloc: Global, token: &Token) -> Result<Token, AllocError>
+    ensures { IfOk result (λ t. token_of t ≡ token_of token.now) }
+{
+    match token {
+        Token::Word(text) => Ok(Token::Word(copy_of(alloc, text.as_slice())?)),
+        Token::Head(text) => Ok(Token::Head(copy_of(alloc, text.as_slice())?)),
+        Token::Mark(text) => Ok(Token::Mark(copy_of(alloc, text.as_slice())?)),
+        Token::Code => Ok(Token::Code),
+    }
+}
+
+/// Returns whether a colon comes first.
+fn has_colon(tokens: &[Token]) -> bool
+    ensures { result ≡ spec.has_colon (tokens_of tokens.now) }
+{
+    match tokens {
+        [] => false,
+        [token, ..] => token.is(b":"),
+    }
+}
+
+/// Adds a token, as a head where it is a name before a colon; a colon is left out.
+fn push_headed(
     alloc: Global,
-    /// Whether strings are aliases here.
-    declares: bool,
-    /// The token before, in a declaration.
-    token: Option<Vec<u8>>,
-    /// The aliases, in order.
-    aliases: Vec<Alias>,
-    /// The name before, which may begin a rule.
-    name: Option<Vec<u8>>,
-    /// The rules before the last.
-    rules: Vec<Rule>,
-    /// The last rule.
-    rule: Rule,
-    /// Whether more of an alternative may come.
-    is_open: bool,
-    /// What was read of it.
-    body: Body,
-    /// Whether an action is last in it.
-    ends_in_action: bool,
-    /// Whether `%prec` was read, and no token behind it.
-    wants_prec: bool,
-    /// A byte for each action in the middle of a rule.
-    actions: Vec<u8>,
+    out: &mut Vec<Token>,
+    token: &Token,
+    before_colon: bool,
+) -> Result<(), AllocError>
+    ensures { OnOk result (tokens_of out.new.items ≡ tokens_of out.old.items ++ spec.headed (token_of token.now) before_colon) }
+{
+    if let Token::Word(text) = token
+        && before_colon
+    {
+        let text = copy_of(alloc, text.as_slice())?;
+        out.push(Token::Head(text))?;
+        return Ok(());
+    }
+    if token.is(b":") {
+        return Ok(());
+    }
+    out.push(copy_of_token(alloc, token)?)?;
+    Ok(())
+}
+
+/// Adds tokens, with heads.
+fn push_heads(alloc: Global, out: &mut Vec<Token>, tokens: &[Token]) -> Result<(), AllocError>
+    ensures { OnOk result (tokens_of out.new.items ≡ tokens_of out.old.items ++ spec.with_heads (tokens_of tokens.now)) }
+{
+    'tokens: for (i, token) in tokens.iter().enumerate() {
+        push_headed(alloc, out, token, has_colon(behind(tokens, i + 1)))?;
+    }
+    Ok(())
+}
+
+/// Returns whether a mark is `%prec`.
+fn is_prec(mark: &[u8]) -> bool
+    ensures { result ≡ spec.is_prec mark.now }
+{
+    mark == b"%prec".as_slice()
+}
+
+/// Returns whether a symbol or an action comes in the same alternative.
+fn goes_on(tokens: &[Token]) -> bool
+    ensures { result ≡ spec.goes_on false (tokens_of tokens.now) }
+{
+    let mut after_prec = false;
+    'tokens: for token in tokens {
+        match token {
+            Token::Head(_) => return false,
+            Token::Mark(mark) => {
+                if !is_prec(mark.as_slice()) {
+                    return false;
+                }
+                after_prec = true;
+            }
+            _ => {
+                if !after_prec {
+                    return true;
+                }
+                after_prec = false;
+            }
+        }
+    }
+    false
+}
+
+/// Returns whether what comes behind a token is part of an alternative.
+fn in_rule(before: bool, token: &Token) -> bool
+    ensures { result ≡ spec.in_rule before (token_of token.now) }
+{
+    match token {
+        Token::Head(_) => true,
+        Token::Mark(mark) => mark.as_slice() == b"|".as_slice()
+            || (before && is_prec(mark.as_slice())),
+        _ => before,
+    }
+}
+
+/// Returns the name of an action in the middle of a rule.
+pub fn action_name(alloc: Global, number: usize) -> Result<Vec<u8>, AllocError>
+    ensures { IfOk result (λ v. v.items ≡ spec.action_name number) }
+{
+    let name = format!(in alloc; "$@{number}")?;
+    Ok(name.into_bytes())
+}
+
+/// Adds a rule for each action in the middle.
+fn push_action_rules(alloc: Global, out: &mut Vec<Token>, count: usize) -> Result<(), AllocError>
+    ensures { OnOk result (tokens_of out.new.items ≡ tokens_of out.old.items ++ spec.action_rules count) }
+{
+    'actions: for before in 0..count {
+        let number = before + 1;
+        let name = action_name(alloc, number)?;
+        out.push(Token::Head(name))?;
+    }
+    Ok(())
+}
+
+/// Adds tokens, with names for actions in the middle of alternatives, and with the rules of these.
+fn push_actions(alloc: Global, out: &mut Vec<Token>, tokens: &[Token]) -> Result<(), AllocError>
+    ensures { OnOk result (tokens_of out.new.items ≡ tokens_of out.old.items ++ spec.with_actions false 0 (tokens_of tokens.now)) }
+{
+    let mut is_rule = false;
+    let mut count: usize = 0;
+    'tokens: for (i, token) in tokens.iter().enumerate() {
+        if let Token::Code = token {
+            if is_rule && goes_on(behind(tokens, i + 1)) {
+                count += 1;
+                let name = action_name(alloc, count)?;
+                out.push(Token::Word(name))?;
+            }
+            continue;
+        }
+        is_rule = in_rule(is_rule, token);
+        out.push(copy_of_token(alloc, token)?)?;
+    }
+    push_action_rules(alloc, out, count)
+}
+
+/// Returns the symbols up to the next alternative or declaration.
+fn symbols_of(alloc: Global, tokens: &[Token]) -> Result<Vec<Vec<u8>>, AllocError>
+    ensures { IfOk result (λ v. map bytes_of v.items ≡ spec.symbols false (tokens_of tokens.now)) }
+{
+    let mut out = Vec::new(alloc);
+    let mut after_prec = false;
+    'tokens: for token in tokens {
+        match token {
+            Token::Word(text) => {
+                if !after_prec {
+                    out.push(copy_of(alloc, text.as_slice())?)?;
+                }
+                after_prec = false;
+            }
+            Token::Mark(mark) => {
+                if !is_prec(mark.as_slice()) {
+                    return Ok(out);
+                }
+                after_prec = true;
+            }
+            _ => return Ok(out),
+        }
+    }
+    Ok(out)
+}
+
+/// Returns the token of the `%prec` up to the next alternative or declaration.
+fn prec_of(alloc: Global, tokens: &[Token]) -> Result<Option<Vec<u8>>, AllocError>
+    ensures { IfOk result (λ v. option_map bytes_of v ≡ spec.prec false (tokens_of tokens.now)) }
+{
+    let mut after_prec = false;
+    'tokens: for token in tokens {
+        match token {
+            Token::Word(text) => {
+                if after_prec {
+                    return Ok(Some(copy_of(alloc, text.as_slice())?));
+                }
+            }
+            Token::Mark(mark) => {
+                if !is_prec(mark.as_slice()) {
+                    return Ok(None);
+                }
+                after_prec = true;
+            }
+            _ => return Ok(None),
+        }
+    }
+    Ok(None)
+}
+
+/// Returns the alternative that begins with these tokens.
+fn body_at(alloc: Global, tokens: &[Token]) -> Result<Body, AllocError>
+    ensures { IfOk result (λ b. body_of b ≡ spec.body (tokens_of tokens.now)) }
+{
+    let prec = prec_of(alloc, tokens)?;
+    let symbols = symbols_of(alloc, tokens)?;
+    Ok(Body { symbols, prec })
+}
+
+/// Adds the alternatives behind the first of a rule, up to the next rule.
+fn push_bodies(alloc: Global, bodies: &mut Vec<Body>, tokens: &[Token]) -> Result<(), AllocError>
+    ensures { OnOk result (map body_of bodies.new.items ≡ map body_of bodies.old.items ++ spec.more_bodies (tokens_of tokens.now)) }
+{
+    'tokens: for (i, token) in tokens.iter().enumerate() {
+        if let Token::Head(_) = token {
+            return Ok(());
+        }
+        if token.is(b"|") {
+            bodies.push(body_at(alloc, behind(tokens, i + 1))?)?;
+        }
+    }
+    Ok(())
+}
+
+/// Returns the rule of a head.
+fn rule_at(alloc: Global, head: &[u8], tokens: &[Token]) -> Result<Rule, AllocError>
+    ensures { IfOk result (λ r. rule_of r ≡ record { head = head.now; bodies = spec.body (tokens_of tokens.now) ∷ spec.more_bodies (tokens_of tokens.now) }) }
+{
+    let head = copy_of(alloc, head)?;
+    let mut bodies = Vec::new(alloc);
+    bodies.push(body_at(alloc, tokens)?)?;
+    push_bodies(alloc, &mut bodies, tokens)?;
+    Ok(Rule { head, bodies })
+}
+
+/// Adds the rules of tokens.
+fn push_rules(alloc: Global, rules: &mut Vec<Rule>, tokens: &[Token]) -> Result<(), AllocError>
+    ensures { OnOk result (map rule_of rules.new.items ≡ map rule_of rules.old.items ++ spec.rules (tokens_of tokens.now)) }
+{
+    'tokens: for (i, token) in tokens.iter().enumerate() {
+        if let Token::Head(head) = token {
+            rules.push(rule_at(alloc, head.as_slice(), behind(tokens, i + 1))?)?;
+        }
+    }
+    Ok(())
 }
 
 /// Returns whether a symbol is a string.
 fn is_string(symbol: &[u8]) -> bool
-    ensures { result ≡ is_string symbol.now }
+    ensures { result ≡ spec.is_string symbol.now }
 {
     match symbol {
         [] => false,
@@ -82,323 +312,164 @@ fn is_string(symbol: &[u8]) -> bool
     }
 }
 
-/// Returns whether a directive belongs to a rule.
-fn is_of_rule(word: &[u8]) -> bool
-    ensures { result ≡ is_of_rule word.now }
+/// Adds each string with the symbol before it.
+fn push_pairs(
+    alloc: Global,
+    aliases: &mut Vec<Alias>,
+    symbols: &[Vec<u8>],
+) -> Result<(), AllocError>
+    ensures { OnOk result (map alias_pair aliases.new.items ≡ map alias_pair aliases.old.items ++ spec.pairs (map bytes_of symbols.now)) }
 {
-    word == b"empty".as_slice()
-        || word == b"dprec".as_slice()
-        || word == b"merge".as_slice()
-        || word == b"expect".as_slice()
-        || word == b"expect-rr".as_slice()
-        || word == b"expect_rr".as_slice()
+    'symbols: for (i, symbol) in symbols.iter().enumerate() {
+        if let [next, ..] = behind(symbols, i + 1)
+            && is_string(next.as_slice())
+        {
+            let string = copy_of(alloc, next.as_slice())?;
+            let token = copy_of(alloc, symbol.as_slice())?;
+            aliases.push(Alias { string, token })?;
+        }
+    }
+    Ok(())
 }
 
 /// Returns whether the strings behind a directive are aliases.
 fn declares_tokens(word: &[u8]) -> bool
-    ensures { result ≡ declares_tokens word.now }
+    ensures { result ≡ spec.declares_tokens word.now }
 {
-    word == b"token".as_slice() || word == b"term".as_slice() || word == b"nterm".as_slice()
+    word == b"%token".as_slice() || word == b"%term".as_slice() || word == b"%nterm".as_slice()
 }
 
-/// Returns the name of an action in the middle of a rule.
-pub fn action_name(alloc: Global, number: usize) -> Result<Vec<u8>, AllocError>
-    ensures { IfOk result (λ v. v.items ≡ action_name number) }
+/// Adds the aliases of declarations.
+fn push_aliases(alloc: Global, aliases: &mut Vec<Alias>, tokens: &[Token]) -> Result<(), AllocError>
+    ensures { OnOk result (map alias_pair aliases.new.items ≡ map alias_pair aliases.old.items ++ spec.aliases (tokens_of tokens.now)) }
 {
-    let name = format!(in alloc; "$@{number}")?;
-    Ok(name.into_bytes())
-}
-
-/// Returns an empty alternative.
-fn no_body(alloc: Global) -> Body
-    ensures symbols { result.symbols.items ≡ [] }
-    ensures prec { result.prec ≡ None }
-{
-    Body {
-        symbols: Vec::new(alloc),
-        prec: None,
-    }
-}
-
-/// Adds the rule of an action in the middle.
-fn push_action_rule(alloc: Global, rules: &mut Vec<Rule>, number: usize) -> Result<(), AllocError>
-    ensures { OnOk result (map rule_of rules.new.items ≡ map rule_of rules.old.items ++ action_rule number ∷ []) }
-{
-    let head = action_name(alloc, number)?;
-    let mut bodies = Vec::new(alloc);
-    bodies.push(no_body(alloc))?;
-    rules.push(Rule { head, bodies })?;
-    Ok(())
-}
-
-/// Adds the rules of actions in the middle, from the first on.
-fn push_action_rules(alloc: Global, rules: &mut Vec<Rule>, count: usize) -> Result<(), AllocError>
-    ensures { OnOk result (map rule_of rules.new.items ≡ map rule_of rules.old.items ++ action_rules count) }
-{
-    'actions: for before in 0..count {
-        let number = before + 1;
-        push_action_rule(alloc, rules, number)?;
+    'tokens: for (i, token) in tokens.iter().enumerate() {
+        if let Token::Mark(mark) = token
+            && declares_tokens(mark.as_slice())
+        {
+            let symbols = symbols_of(alloc, behind(tokens, i + 1))?;
+            push_pairs(alloc, aliases, symbols.as_slice())?;
+        }
     }
     Ok(())
 }
 
-impl RuleReader {
-    /// Returns a reader that has read nothing.
-    pub(crate) fn new(alloc: Global) -> RuleReader
-        ensures { reading_of result ≡ nothing }
+/// Adds the first of symbols, if there is one.
+fn push_first(
+    alloc: Global,
+    starts: &mut Vec<Vec<u8>>,
+    symbols: &[Vec<u8>],
+) -> Result<(), AllocError>
+    ensures { OnOk result (map bytes_of starts.new.items ≡ map bytes_of starts.old.items ++ take 1 (map bytes_of symbols.now)) }
+{
+    if let [first, ..] = symbols {
+        starts.push(copy_of(alloc, first.as_slice())?)?;
+    }
+    Ok(())
+}
+
+/// Adds the start rules of declarations.
+fn push_starts(alloc: Global, starts: &mut Vec<Vec<u8>>, tokens: &[Token]) -> Result<(), AllocError>
+    ensures { OnOk result (map bytes_of starts.new.items ≡ map bytes_of starts.old.items ++ spec.starts (tokens_of tokens.now)) }
+{
+    'tokens: for (i, token) in tokens.iter().enumerate() {
+        if let Token::Mark(mark) = token
+            && mark.as_slice() == b"%start".as_slice()
+        {
+            let symbols = symbols_of(alloc, behind(tokens, i + 1))?;
+            push_first(alloc, starts, symbols.as_slice())?;
+        }
+    }
+    Ok(())
+}
+
+/// Returns whether a directive declares a precedence level.
+fn is_level(word: &[u8]) -> bool
+    ensures { result ≡ spec.is_level word.now }
+{
+    word == b"%left".as_slice()
+        || word == b"%right".as_slice()
+        || word == b"%nonassoc".as_slice()
+        || word == b"%binary".as_slice()
+        || word == b"%precedence".as_slice()
+}
+
+/// Adds the precedence levels of declarations.
+fn push_levels(alloc: Global, levels: &mut Vec<Level>, tokens: &[Token]) -> Result<(), AllocError>
+    ensures { OnOk result (map level_of levels.new.items ≡ map level_of levels.old.items ++ spec.levels (tokens_of tokens.now)) }
+{
+    'tokens: for (i, token) in tokens.iter().enumerate() {
+        if let Token::Mark(mark) = token
+            && is_level(mark.as_slice())
+        {
+            let word = copy_of(alloc, mark.as_slice())?;
+            let symbols = symbols_of(alloc, behind(tokens, i + 1))?;
+            levels.push(Level { word, symbols })?;
+        }
+    }
+    Ok(())
+}
+
+impl BisonFile {
+    /// Returns a file that says nothing.
+    fn new(alloc: Global) -> BisonFile
+        ensures { file_of result ≡ record { rules = []; aliases = []; starts = []; levels = [] } }
     {
-        RuleReader {
-            alloc,
-            declares: false,
-            token: None,
-            aliases: Vec::new(alloc),
-            name: None,
+        BisonFile {
             rules: Vec::new(alloc),
-            rule: Rule {
-                head: Vec::new(alloc),
-                bodies: Vec::new(alloc),
-            },
-            is_open: false,
-            body: no_body(alloc),
-            ends_in_action: false,
-            wants_prec: false,
-            actions: Vec::new(alloc),
+            aliases: Vec::new(alloc),
+            starts: Vec::new(alloc),
+            levels: Vec::new(alloc),
         }
     }
 
-    /// Adds a symbol to the alternative.
-    fn add_symbol(&mut self, symbol: Vec<u8>) -> Result<(), AllocError>
-        ensures { OnOk result (reading_of self.new ≡ add_symbol symbol.items (reading_of self.old)) }
+    /// Adds what tokens say.
+    fn fill(&mut self, alloc: Global, tokens: &[Token]) -> Result<(), AllocError>
+        requires { file_of self.old ≡ record { rules = []; aliases = []; starts = []; levels = [] } }
+        ensures { OnOk result (file_of self.new ≡ spec.text_of (tokens_of tokens.now)) }
     {
-        self.body.symbols.push(symbol)?;
-        Ok(())
+        push_rules(alloc, &mut self.rules, tokens)?;
+        push_aliases(alloc, &mut self.aliases, tokens)?;
+        push_starts(alloc, &mut self.starts, tokens)?;
+        push_levels(alloc, &mut self.levels, tokens)
     }
+}
 
-    /// Adds the action before, which is in the middle of its alternative.
-    fn follow(&mut self) -> Result<(), AllocError>
-        ensures { OnOk result (reading_of self.new ≡ follow (reading_of self.old)) }
-    {
-        if !self.ends_in_action {
-            return Ok(());
-        }
-        self.actions.push(0)?;
-        self.ends_in_action = false;
-        let name = action_name(self.alloc, self.actions.len())?;
-        self.add_symbol(name)
-    }
-
-    /// Takes a symbol of an alternative, or the token of its `%prec`.
-    fn rule_symbol(&mut self, symbol: Vec<u8>) -> Result<(), AllocError>
-        ensures { OnOk result (reading_of self.new ≡ rule_symbol symbol.items (reading_of self.old)) }
-    {
-        if self.wants_prec {
-            self.wants_prec = false;
-            drop(mem::replace(&mut self.body.prec, Some(symbol)));
-            return Ok(());
-        }
-        self.follow()?;
-        self.add_symbol(symbol)
-    }
-
-    /// Adds an alias for the token before.
-    fn add_alias(&mut self, string: Vec<u8>) -> Result<(), AllocError>
-        ensures { OnOk result (reading_of self.new ≡ add_alias string.items (option_map bytes_of self.old.token) (reading_of self.old)) }
-    {
-        let Some(token) = &self.token else {
-            return Ok(());
-        };
-        let token = Vec::from_slice(self.alloc, token.as_slice())?;
-        self.aliases.push(Alias { string, token })?;
-        Ok(())
-    }
-
-    /// Takes a symbol.
-    fn take_symbol(&mut self, symbol: Vec<u8>) -> Result<(), AllocError>
-        ensures { OnOk result (reading_of self.new ≡ take_symbol symbol.items (reading_of self.old)) }
-    {
-        if self.is_open {
-            return self.rule_symbol(symbol);
-        }
-        if !self.declares {
-            return Ok(());
-        }
-        if is_string(symbol.as_slice()) {
-            return self.add_alias(symbol);
-        }
-        drop(mem::replace(&mut self.token, Some(symbol)));
-        Ok(())
-    }
-
-    /// Takes the name before as a symbol: no colon comes behind it.
-    fn settle(&mut self) -> Result<(), AllocError>
-        ensures { OnOk result (reading_of self.new ≡ settle (reading_of self.old)) }
-    {
-        match mem::replace(&mut self.name, None) {
-            Some(name) => self.take_symbol(name),
-            None => Ok(()),
+/// Returns what tokens say.
+fn file_with(alloc: Global, tokens: &[Token]) -> Result<BisonFile, AllocError>
+    ensures { IfOk result (λ file. file_of file ≡ spec.text_of (tokens_of tokens.now)) }
+{
+    let mut file = BisonFile::new(alloc);
+    match file.fill(alloc, tokens) {
+        Ok(()) => Ok(file),
+        Err(e) => {
+            drop(file);
+            Err(e)
         }
     }
+}
 
-    /// Ends an alternative, if one is open.
-    fn end_body(&mut self) -> Result<(), AllocError>
-        ensures { OnOk result (reading_of self.new ≡ end_body (reading_of self.old)) }
-    {
-        if !self.is_open {
-            return Ok(());
-        }
-        let body = mem::replace(&mut self.body, no_body(self.alloc));
-        self.rule.bodies.push(body)?;
-        self.is_open = false;
-        self.ends_in_action = false;
-        self.wants_prec = false;
-        Ok(())
-    }
+/// Returns what the tokens of a text say.
+fn file_with_actions(alloc: Global, tokens: &[Token]) -> Result<BisonFile, AllocError>
+    ensures { IfOk result (λ file. file_of file ≡ spec.text_of (spec.with_actions false 0 (spec.with_heads (tokens_of tokens.now)))) }
+{
+    let mut headed = Vec::new(alloc);
+    push_heads(alloc, &mut headed, tokens)?;
+    let mut named = Vec::new(alloc);
+    push_actions(alloc, &mut named, headed.as_slice())?;
+    drop(headed);
+    file_with(alloc, named.as_slice())
+}
 
-    /// Takes a name.
-    pub(crate) fn take_name(&mut self, name: Vec<u8>) -> Result<(), AllocError>
-        ensures { OnOk result (reading_of self.new ≡ take_name name.items (reading_of self.old)) }
-    {
-        self.settle()?;
-        drop(mem::replace(&mut self.name, Some(name)));
-        Ok(())
+/// Reads what a file says; none where it has no rules, or ends within one of its tokens.
+pub fn read_rules(alloc: Global, text: &[u8]) -> Result<Option<BisonFile>, AllocError>
+    ensures { IfOk result (λ file. option_map file_of file ≡ spec.file_in text.now) }
+{
+    let mut tokens = Vec::new(alloc);
+    push_tokens_of(alloc, &mut tokens, text)?;
+    if !is_whole(tokens.as_slice()) {
+        return Ok(None);
     }
-
-    /// Takes a string or a character.
-    pub(crate) fn take_quoted(&mut self, symbol: Vec<u8>) -> Result<(), AllocError>
-        ensures { OnOk result (reading_of self.new ≡ take_quoted symbol.items (reading_of self.old)) }
-    {
-        self.settle()?;
-        self.take_symbol(symbol)
-    }
-
-    /// Takes braced code.
-    pub(crate) fn take_action(&mut self) -> Result<(), AllocError>
-        ensures { OnOk result (reading_of self.new ≡ take_action (reading_of self.old)) }
-    {
-        self.settle()?;
-        if !self.is_open {
-            return Ok(());
-        }
-        self.follow()?;
-        self.ends_in_action = true;
-        Ok(())
-    }
-
-    /// Ends the last rule, if there is one.
-    fn end_rule(&mut self, head: Vec<u8>) -> Result<(), AllocError>
-        ensures { OnOk result (reading_of self.new ≡ record (reading_of self.old) { rules = end_rule (reading_of self.old).rules (reading_of self.old).rule; rule = record { head = head.items; bodies = [] } }) }
-    {
-        let next = Rule {
-            head,
-            bodies: Vec::new(self.alloc),
-        };
-        let rule = mem::replace(&mut self.rule, next);
-        if rule.bodies.is_empty() {
-            return Ok(());
-        }
-        self.rules.push(rule)?;
-        Ok(())
-    }
-
-    /// Begins the rule of a name.
-    fn begin_rule(&mut self, head: Vec<u8>) -> Result<(), AllocError>
-        ensures { OnOk result (reading_of self.new ≡ record (begin_rule (Some head.items) (reading_of self.old)) { name = option_map bytes_of self.old.name }) }
-    {
-        self.end_rule(head)?;
-        self.declares = false;
-        self.is_open = true;
-        Ok(())
-    }
-
-    /// Takes a colon, which makes the name before the head of a rule.
-    pub(crate) fn take_colon(&mut self) -> Result<(), AllocError>
-        ensures { OnOk result (reading_of self.new ≡ take_colon (reading_of self.old)) }
-    {
-        self.end_body()?;
-        match mem::replace(&mut self.name, None) {
-            Some(name) => self.begin_rule(name),
-            None => Ok(()),
-        }
-    }
-
-    /// Takes a `|`, which begins an alternative.
-    pub(crate) fn take_bar(&mut self) -> Result<(), AllocError>
-        ensures { OnOk result (reading_of self.new ≡ take_bar (reading_of self.old)) }
-    {
-        self.settle()?;
-        self.end_body()?;
-        self.is_open = true;
-        Ok(())
-    }
-
-    /// Takes a `;`.
-    pub(crate) fn take_semicolon(&mut self) -> Result<(), AllocError>
-        ensures { OnOk result (reading_of self.new ≡ take_semicolon (reading_of self.old)) }
-    {
-        self.settle()?;
-        self.end_body()?;
-        self.declares = false;
-        Ok(())
-    }
-
-    /// Begins a declaration.
-    fn declare(&mut self, word: &[u8]) -> Result<(), AllocError>
-        ensures { OnOk result (reading_of self.new ≡ declaration word.now (reading_of self.old)) }
-    {
-        self.end_body()?;
-        self.declares = declares_tokens(word);
-        drop(mem::replace(&mut self.token, None));
-        Ok(())
-    }
-
-    /// Takes a directive by its word, without the `%`.
-    pub(crate) fn take_directive(&mut self, word: &[u8]) -> Result<(), AllocError>
-        ensures { OnOk result (reading_of self.new ≡ take_directive word.now (reading_of self.old)) }
-    {
-        self.settle()?;
-        if self.is_open && word == b"prec".as_slice() {
-            self.wants_prec = true;
-            return Ok(());
-        }
-        if self.is_open && is_of_rule(word) {
-            return Ok(());
-        }
-        self.declare(word)
-    }
-
-    /// Takes a `%%`.
-    pub(crate) fn take_section(&mut self) -> Result<(), AllocError>
-        ensures { OnOk result (reading_of self.new ≡ take_section (reading_of self.old)) }
-    {
-        self.take_semicolon()
-    }
-
-    /// Ends the last rule, at the end of the file.
-    fn end(&mut self) -> Result<(), AllocError>
-        ensures { OnOk result (reading_of self.new ≡ at_end (reading_of self.old)) }
-    {
-        self.settle()?;
-        self.end_body()?;
-        let nothing = Vec::new(self.alloc);
-        self.end_rule(nothing)?;
-        push_action_rules(self.alloc, &mut self.rules, self.actions.len())
-    }
-
-    /// Returns what was read, at the end of the file.
-    pub(crate) fn finish(mut self) -> Result<BisonFile, AllocError>
-        ensures { IfOk result (λ file. file_of file ≡ file_at_end (reading_of self)) }
-    {
-        match self.end() {
-            Ok(()) => {
-                let rules = mem::replace(&mut self.rules, Vec::new(self.alloc));
-                let aliases = mem::replace(&mut self.aliases, Vec::new(self.alloc));
-                drop(self);
-                Ok(BisonFile { rules, aliases })
-            }
-            Err(e) => {
-                drop(self);
-                Err(e)
-            }
-        }
-    }
+    let file = file_with_actions(alloc, tokens.as_slice())?;
+    Ok(Some(file))
 }

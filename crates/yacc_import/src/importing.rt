@@ -72,8 +72,9 @@ fn within(error: ImportError, len: usize) -> ImportError
     }
 }
 
-/// Makes the notes for a source, and applies them.
-fn import_text(alloc: Global, source: &str) -> Result<Imported, ImportError>
+/// Applies notes to a source. Refused are notes that don't lie one behind the other or lie past the end, a text with or in place of
+/// a line feed (`Fault::Unfit`), and a result that is no text (`Fault::NotUtf8`); `import` is not known to make any such notes.
+pub fn apply_notes(alloc: Global, source: &str, notes: Vec<Note>) -> Result<Imported, ImportError>
     ensures text { IfOk result (λ m. string_bytes m.text ≡ bytes_of m.marks.items) }
     ensures made { IfOk result (λ m. m.marks.items ≡ changed source.now 0 m.notes.items) }
     ensures fits { IfOk result (λ m. Fits source.now 0 m.notes.items) }
@@ -81,7 +82,6 @@ fn import_text(alloc: Global, source: &str) -> Result<Imported, ImportError>
     ensures short { IfOk result (λ m. vec_len m.marks ≤ 16 * length source.now + 4096) }
 {
     let source_len = source.len();
-    let notes = notes_for(alloc, source)?;
     let marks = marks_for(alloc, source.as_bytes(), &notes)?;
     if marks.len() > source_len.saturating_mul(16).saturating_add(4096) {
         return Err(ImportError::Refused(Fault::TooLong, source_len));
@@ -95,10 +95,8 @@ fn import_text(alloc: Global, source: &str) -> Result<Imported, ImportError>
     })
 }
 
-/// Imports a file in the syntax of Bison or of POSIX yacc.
-///
-/// The text has the source's bytes, but for the ranges that the notes name: there it has blanks, with the line feeds, tabs and
-/// carriage returns of the source, or a note's text.
+/// Imports a file in the syntax of Bison or of POSIX yacc. The text has the source's bytes, but for the ranges that notes name:
+/// there it has blanks, with the line feeds, tabs and carriage returns of the source, or a note's text.
 pub fn import(alloc: Global, source: &str) -> Result<Imported, ImportError>
     ensures text { IfOk result (λ m. string_bytes m.text ≡ bytes_of m.marks.items) }
     ensures made { IfOk result (λ m. m.marks.items ≡ changed source.now 0 m.notes.items) }
@@ -110,7 +108,11 @@ pub fn import(alloc: Global, source: &str) -> Result<Imported, ImportError>
     ensures short { IfOk result (λ m. vec_len m.marks ≤ 16 * length source.now + 4096) }
     ensures fault { IfErr result (LiesWithin (length source.now)) }
 {
-    match import_text(alloc, source) {
+    let notes = match notes_for(alloc, source) {
+        Ok(notes) => notes,
+        Err(e) => return Err(within(e, source.len())),
+    };
+    match apply_notes(alloc, source, notes) {
         Ok(imported) => Ok(imported),
         Err(e) => Err(within(e, source.len())),
     }

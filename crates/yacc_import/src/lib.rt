@@ -33,6 +33,6 @@ mod tokens;
 mod words;
 
 pub use errors::{Fault, ImportError};
-pub use importing::{Imported, import};
+pub use importing::{Imported, apply_notes, import};
 pub use marks::Mark;
 pub use notes::{Note, NoteKind};

@@ -17,5 +17,7 @@ place_of_refusal (refusals.Import e) = fault_place e
 place_of_refusal refusals.NoRules = None
 place_of_refusal (refusals.NotRead at) = None
 place_of_refusal refusals.OtherRules = None
+place_of_refusal refusals.OtherStart = None
+place_of_refusal refusals.OtherLevels = None
 place_of_refusal refusals.TooManyNames = None
 place_of_refusal (refusals.Memory e) = None

@@ -83,6 +83,18 @@ pub fn refusal_message(alloc: Global, error: CheckedError) -> Result<Message, Al
             )
         }
         CheckedError::OtherRules => (String::from_str(alloc, "import has other rules")?, None),
+        CheckedError::OtherStart => {
+            (
+                String::from_str(alloc, "import has another start rule")?,
+                None,
+            )
+        }
+        CheckedError::OtherLevels => {
+            (
+                String::from_str(alloc, "import has other precedence levels")?,
+                None,
+            )
+        }
         CheckedError::TooManyNames => (String::from_str(alloc, "too many names")?, None),
         CheckedError::Memory(e) => return Err(e),
     };

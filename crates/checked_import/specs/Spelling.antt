@@ -3,7 +3,7 @@ use Rattle.std.specs.Prelude.{ℕ, ◌-◌, Bool, true, false, not, ◌&&◌, �
 use Rattle.std.specs.Str.{bytes_eq}
 use lib.Chars.{codes}
 use Rattle.bison_rules.specs.Characters.{code_of}
-use Rattle.bison_rules.specs.Tokens.{Symbol}
+use Rattle.bison_rules.specs.Pieces.{Symbol}
 
 -- two lists of one length, each pair of which passes
 abbrev pub all_pairs : {A B : Type 0} → (A → B → Bool) → List A → List B → Bool

@@ -8,11 +8,11 @@ ghost use Rattle.cfg_read.specs.declared.yacc.YaccOriginalActionKind.TheVariants
 ghost use Rattle.cfg_read.specs.Reading.{Reads};
 ghost use Rattle.cfg_read.specs.SyntaxModels as models;
 ghost use Rattle.bison_rules.specs.Models as bison;
-ghost use Rattle.bison_rules.specs.Scanning.{file_in};
+ghost use Rattle.bison_rules.specs.Rules.{file_in};
 ghost use Rattle.checked_import.specs.SameRules as spec;
 ghost use Rattle.checked_import.specs.SameRules.{SaysRules, HasRulesOf};
 
-use crate::matching::same_rules;
+use crate::matching::{same_levels, same_rules, same_starts};
 use bison_rules::{BisonFile, read_rules};
 use cfg_read::yacc::parser::error::ReadError;
 use cfg_read::yacc::parser::read_syntax;
@@ -40,6 +40,12 @@ pub enum CheckedError {
     /// The rules of the import aren't those of the file.
     #[error("import with other rules")]
     OtherRules,
+    /// The import doesn't name the start rules that the file does.
+    #[error("import with another start rule")]
+    OtherStart,
+    /// The precedence levels of the import aren't those of the file.
+    #[error("import with other precedence levels")]
+    OtherLevels,
     /// More than 4,096 strings stand for tokens, or tokens have a precedence.
     #[error("too many names")]
     TooManyNames,
@@ -85,21 +91,38 @@ fn count_levels(read: &Syntax) -> usize {
     count
 }
 
-/// Compares the rules that were read with those of a file.
+/// Compares the start rules and the levels that were read with those of a file.
+fn compare_declared(file: &BisonFile, read: &Syntax) -> Result<(), CheckedError>
+    ensures start { OnOk result (spec.same_starts (bison.file_of file.now) (models.syntax_of read.now) ≡ true) }
+    ensures levels { OnOk result (spec.same_levels (bison.file_of file.now).aliases (bison.file_of file.now).levels (models.syntax_of read.now).levels ≡ true) }
+{
+    if !same_starts(file, read) {
+        return Err(CheckedError::OtherStart);
+    }
+    if same_levels(file, read) {
+        Ok(())
+    } else {
+        Err(CheckedError::OtherLevels)
+    }
+}
+
+/// Compares what was read with what a file says.
 fn compare(file: &BisonFile, read: &Syntax) -> Result<(), CheckedError>
-    ensures { OnOk result (spec.same_rules (bison.file_of file.now) (models.syntax_of read.now) ≡ true) }
+    ensures same { OnOk result (spec.same_rules (bison.file_of file.now) (models.syntax_of read.now) ≡ true) }
+    ensures start { OnOk result (spec.same_starts (bison.file_of file.now) (models.syntax_of read.now) ≡ true) }
+    ensures levels { OnOk result (spec.same_levels (bison.file_of file.now).aliases (bison.file_of file.now).levels (models.syntax_of read.now).levels ≡ true) }
 {
     if file.aliases.len() > MOST_NAMES || count_levels(read) > MOST_NAMES {
         return Err(CheckedError::TooManyNames);
     }
     if same_rules(file, read) {
-        Ok(())
+        compare_declared(file, read)
     } else {
         Err(CheckedError::OtherRules)
     }
 }
 
-/// Checks that a text in the kit's syntax has the rules of a Bison file.
+/// Checks that a text in the kit's syntax has the rules, the start rule and the levels of a Bison file.
 fn compare_with(alloc: Global, file: &BisonFile, text: &str) -> Result<(), CheckedError>
     ensures { OnOk result (SaysRules (bison.file_of file.now) text.now) }
 {
@@ -109,7 +132,7 @@ fn compare_with(alloc: Global, file: &BisonFile, text: &str) -> Result<(), Check
     compared
 }
 
-/// Checks that a text in the kit's syntax has the rules of a Bison file.
+/// Checks that a text in the kit's syntax has the rules, the start rule and the levels of a Bison file.
 pub fn check_rules(alloc: Global, source: &str, text: &str) -> Result<(), CheckedError>
     ensures { OnOk result (HasRulesOf source.now text.now) }
 {
@@ -119,7 +142,8 @@ pub fn check_rules(alloc: Global, source: &str, text: &str) -> Result<(), Checke
     compared
 }
 
-/// Imports a file in the syntax of Bison or of POSIX yacc, as `import` does, and checks that the rules are those of the file.
+/// Imports a file in the syntax of Bison or of POSIX yacc, as `import` does, and checks that the rules, the start rule and the
+/// precedence levels are those of the file. A level of `%precedence` may be left out.
 pub fn import_checked(alloc: Global, source: &str) -> Result<Imported, CheckedError>
     ensures rules { IfOk result (λ m. HasRulesOf source.now (string_bytes m.text)) }
     ensures text { IfOk result (λ m. string_bytes m.text ≡ bytes_of m.marks.items) }

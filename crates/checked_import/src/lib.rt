@@ -1,5 +1,5 @@
-//! Imports of Bison files that are checked: `import_checked` answers a text only if the rules that the kit's syntax reads in it
-//! are those of the file (`specs/SameRules`).
+//! Imports of Bison files that are checked: `import_checked` answers a text only if the rules, the start rule and the
+//! precedence levels that the kit's syntax reads in it are those of the file (`specs/SameRules`).
 //!
 //! ```rust
 //! use checked_import::{CheckedError, import_checked};
@@ -19,4 +19,4 @@ mod matching;
 mod spelling;
 
 pub use checking::{CheckedError, check_rules, import_checked};
-pub use matching::same_rules;
+pub use matching::{same_levels, same_rules, same_starts};

@@ -1,17 +1,18 @@
-//! Whether the rules that were read in a text are those of a Bison file.
+//! Whether the rules, the start rule and the levels that were read in a text are those of a Bison file.
 
 ghost use Rattle.std.specs.Prelude.{◌≡◌, map, option_map};
 ghost use Rattle.std.specs.List.{list_any};
 ghost use Rattle.cfg_read.specs.SyntaxTexts.{WordText};
-ghost use Rattle.cfg_read.specs.SyntaxModels.{symbol_of, symbols_of, alternative_of, rule_of, syntax_of, level_of};
-ghost use Rattle.bison_rules.specs.Tokens.{alias_of};
+ghost use Rattle.cfg_read.specs.SyntaxModels.{symbol_of, symbols_of, alternative_of, rule_of, syntax_of, level_of, words_of};
+ghost use Rattle.bison_rules.specs.Rules.{alias_of};
 ghost use Rattle.bison_rules.specs.Models as bison;
 ghost use Rattle.checked_import.specs.Spelling.{all_pairs};
 ghost use Rattle.checked_import.specs.SameRules as spec;
 
 use crate::spelling::{is_quoted, spells};
-use bison_rules::{Alias, BisonFile, Body, Rule as BisonRule};
-use cfg_read::yacc::parser::syntax::{Alternative, Level, Rule, Symbol, Syntax};
+use bison_rules::{Alias, BisonFile, Body, Level as BisonLevel, Rule as BisonRule};
+use cfg_read::yacc::AssocKind;
+use cfg_read::yacc::parser::syntax::{Alternative, Level, Rule, Symbol, Syntax, Word};
 
 /// Returns the token that a symbol stands for: the one of its first alias, or itself.
 fn token_of<'a>(aliases: &'a [Alias], symbol: &'a [u8]) -> &'a [u8]
@@ -160,5 +161,74 @@ pub fn same_rules(file: &BisonFile, read: &Syntax) -> bool
         read.levels.as_slice(),
         file.rules.as_slice(),
         read.rules.as_slice(),
+    )
+}
+
+/// Returns whether start rules are those that were read.
+fn same_words(starts: &[Vec<u8>], read: &[Word]) -> bool
+    ensures { result ≡ all_pairs spec.same_start (map bison.bytes_of starts.now) (words_of read.now) }
+{
+    if starts.len() != read.len() {
+        return false;
+    }
+    'starts: for i in 0..starts.len() {
+        if !spells(starts[i].as_slice(), read[i].text.as_str().as_bytes()) {
+            return false;
+        }
+    }
+    true
+}
+
+/// Returns whether the start rules that were read are those of a Bison file.
+pub fn same_starts(file: &BisonFile, read: &Syntax) -> bool
+    ensures { result ≡ spec.same_starts (bison.file_of file.now) (syntax_of read.now) }
+{
+    same_words(file.starts.as_slice(), read.starts.as_slice())
+}
+
+/// Returns whether a directive has this associativity.
+fn is_kind(word: &[u8], kind: AssocKind) -> bool
+    ensures { result ≡ spec.is_kind word.now kind }
+{
+    match kind {
+        AssocKind::Left => word == b"%left".as_slice(),
+        AssocKind::Right => word == b"%right".as_slice(),
+        AssocKind::Nonassoc => !(word == b"%left".as_slice() || word == b"%right".as_slice()),
+    }
+}
+
+/// Returns whether a level is the one that was read.
+fn same_level(aliases: &[Alias], level: &BisonLevel, read: &Level) -> bool
+    ensures { result ≡ spec.same_level (map bison.alias_pair aliases.now) (bison.level_of level.now) (level_of read.now) }
+{
+    is_kind(level.word.as_slice(), read.kind)
+        && same_symbols(aliases, level.symbols.as_slice(), read.tokens.as_slice())
+}
+
+/// Returns whether levels are those that were read, but for some of `%precedence`.
+fn same_level_lists(aliases: &[Alias], levels: &[BisonLevel], read: &[Level]) -> bool
+    ensures { result ≡ spec.same_levels (map bison.alias_pair aliases.now) (map bison.level_of levels.now) (map level_of read.now) }
+{
+    let mut rest = read;
+    'levels: for level in levels {
+        if let [first, more @ ..] = rest
+            && same_level(aliases, level, first)
+        {
+            rest = more;
+        } else if level.word.as_slice() != b"%precedence".as_slice() {
+            return false;
+        }
+    }
+    rest.is_empty()
+}
+
+/// Returns whether the levels that were read are those of a Bison file.
+pub fn same_levels(file: &BisonFile, read: &Syntax) -> bool
+    ensures { result ≡ spec.same_levels (bison.file_of file.now).aliases (bison.file_of file.now).levels (syntax_of read.now).levels }
+{
+    same_level_lists(
+        file.aliases.as_slice(),
+        file.levels.as_slice(),
+        read.levels.as_slice(),
     )
 }

@@ -7,7 +7,7 @@ use Rattle.yacc_import.specs.declared.errors.ImportError.TheVariants as imports
 use Rattle.checked_import.specs.declared.checking.CheckedError.{CheckedError}
 use Rattle.checked_import.specs.declared.checking.CheckedError.TheVariants as checks
 use Rattle.lrkit_import.specs.declared.fault.RunFault.{RunFault}
-use Rattle.lrkit_import.specs.declared.fault.RunFault.TheVariants.{Memory, NoRules, NotRead, NotUtf8, OtherRules, Read, Refused, TooLong, TooManyNames, Write}
+use Rattle.lrkit_import.specs.declared.fault.RunFault.TheVariants.{Memory, NoRules, NotRead, NotUtf8, OtherLevels, OtherRules, OtherStart, Read, Refused, TooLong, TooManyNames, Write}
 
 -- the file can't be imported; an input or the output; memory
 abbrev pub status_of : {A : Type 0} → Result A RunFault → ℕ
@@ -16,6 +16,8 @@ status_of (Err (Refused fault at)) = 2
 status_of (Err NoRules) = 2
 status_of (Err (NotRead at)) = 2
 status_of (Err OtherRules) = 2
+status_of (Err OtherStart) = 2
+status_of (Err OtherLevels) = 2
 status_of (Err TooManyNames) = 2
 status_of (Err NotUtf8) = 5
 status_of (Err Read) = 5
@@ -38,5 +40,7 @@ fault_of_check (checks.Import e) = fault_of_import e
 fault_of_check checks.NoRules = NoRules
 fault_of_check (checks.NotRead at) = NotRead at
 fault_of_check checks.OtherRules = OtherRules
+fault_of_check checks.OtherStart = OtherStart
+fault_of_check checks.OtherLevels = OtherLevels
 fault_of_check checks.TooManyNames = TooManyNames
 fault_of_check (checks.Memory e) = Memory e

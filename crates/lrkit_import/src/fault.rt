@@ -7,7 +7,7 @@ use byte_streams::InputFault;
 use checked_import::CheckedError;
 use std::alloc::AllocError;
 use thiserror::Error;
-use yacc_import::{Fault, ImportError};
+use yacc_import::{Fault, ImportError, Imported};
 
 /// Why no text is written, or not all of it.
 #[derive(Debug, Drop, Error)]
@@ -24,6 +24,12 @@ pub enum RunFault {
     /// The rules of the import are not those of the file.
     #[error("import has other rules")]
     OtherRules,
+    /// The import names another start rule than the file.
+    #[error("import has another start rule")]
+    OtherStart,
+    /// The precedence levels of the import are not those of the file.
+    #[error("import has other precedence levels")]
+    OtherLevels,
     /// More than 4,096 strings stand for tokens, or tokens have a precedence.
     #[error("too many names")]
     TooManyNames,
@@ -75,19 +81,22 @@ pub fn fault_of_check(error: CheckedError) -> RunFault
         CheckedError::NoRules => RunFault::NoRules,
         CheckedError::NotRead(at) => RunFault::NotRead(at),
         CheckedError::OtherRules => RunFault::OtherRules,
+        CheckedError::OtherStart => RunFault::OtherStart,
+        CheckedError::OtherLevels => RunFault::OtherLevels,
         CheckedError::TooManyNames => RunFault::TooManyNames,
         CheckedError::Memory(e) => RunFault::Memory(e),
     }
 }
 
 /// Returns the program's exit status.
-pub fn status(done: &Result<(), RunFault>) -> u8
+pub fn status(done: &Result<Imported, RunFault>) -> u8
     ensures { result ≡ status_of done.now }
 {
     match done {
-        Ok(()) => 0,
+        Ok(_) => 0,
         Err(RunFault::Refused(_, _) | RunFault::NoRules | RunFault::NotRead(_)) => 2,
-        Err(RunFault::OtherRules | RunFault::TooManyNames) => 2,
+        Err(RunFault::OtherRules | RunFault::OtherStart | RunFault::OtherLevels) => 2,
+        Err(RunFault::TooManyNames) => 2,
         Err(RunFault::Memory(_)) => 6,
         Err(_) => 5,
     }

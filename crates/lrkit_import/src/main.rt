@@ -37,7 +37,9 @@ fn answer<R: Files + Print + Eprint + AllocGlobal>(rt: &R, words: &Words) -> u8 
     if let Err(fault) = &done {
         let _ = eprintln!(rt; "{fault}");
     }
-    status(&done)
+    let code = status(&done);
+    drop(done);
+    code
 }
 
 fn usage(rt: &impl Eprint) -> u8

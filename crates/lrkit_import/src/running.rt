@@ -4,7 +4,7 @@ ghost use Rattle.std.specs.Prelude.{◌+◌, IfOk, IfErr, OnOk, OnErr, string_by
 ghost use Rattle.std.specs.Io.KnownBytes.{Appends};
 ghost use Rattle.byte_streams.specs.Inputs.{most_bytes, TakesAtMost};
 ghost use Rattle.byte_streams.specs.Sink.{BeginningWritten};
-ghost use Rattle.lrkit_import.specs.Runs.{IsImportOf, IsCause, IsWriteFault};
+ghost use Rattle.lrkit_import.specs.Runs.{IsImportOf, IsImportOfSome, IsCause, IsWriteFault};
 
 use crate::counts::counts_text;
 use crate::fault::{RunFault, fault_of, fault_of_check};
@@ -47,7 +47,9 @@ fn write_to<W: Sink>(out: &mut W, text: &str) -> Result<(), RunFault>
 }
 
 /// Imports a file.
-fn import_file<R: Files + AllocGlobal>(rt: &R, path: &str) -> Result<Imported, RunFault> {
+fn import_file<R: Files + AllocGlobal>(rt: &R, path: &str) -> Result<Imported, RunFault>
+    ensures { IfOk result (λ m. IsImportOfSome (string_bytes m.text)) }
+{
     let Ok(file) = fs::open(rt, path) else {
         return Err(RunFault::Read);
     };
@@ -66,19 +68,35 @@ fn write_text<R: Files + Print>(rt: &R, out: Option<&str>, text: &str) -> Result
     write_to(&mut Counted::new(file), text)
 }
 
-/// Imports a file, writes the profile's text, and says on standard error what was changed.
-pub fn run<R: Files + Print + Eprint + AllocGlobal>(rt: &R, words: &Words) -> Result<(), RunFault> {
-    let imported = import_file(rt, words.file.as_str())?;
+/// Writes the profile's text, and says on standard error what was changed.
+fn write_import<R: Files + Print + Eprint + AllocGlobal>(
+    rt: &R,
+    out: Option<&str>,
+    imported: &Imported,
+) -> Result<(), RunFault> {
     let counts = match counts_text(rt.alloc(), imported.notes.as_slice()) {
         Ok(counts) => counts,
-        Err(e) => {
-            drop(imported);
-            return Err(RunFault::Memory(e));
-        }
+        Err(e) => return Err(RunFault::Memory(e)),
     };
-    let out = words.out.as_ref().map(|path| path.as_str());
     let written = write_text(rt, out, imported.text.as_str());
-    drop(imported);
     let _ = eprint!(rt; "{counts}");
     written
+}
+
+/// Imports a file, writes the profile's text, and says on standard error what was changed. Returns the import.
+pub fn run<R: Files + Print + Eprint + AllocGlobal>(
+    rt: &R,
+    words: &Words,
+) -> Result<Imported, RunFault>
+    ensures { IfOk result (λ m. IsImportOfSome (string_bytes m.text)) }
+{
+    let imported = import_file(rt, words.file.as_str())?;
+    let out = words.out.as_ref().map(|path| path.as_str());
+    match write_import(rt, out, &imported) {
+        Ok(()) => Ok(imported),
+        Err(e) => {
+            drop(imported);
+            Err(e)
+        }
+    }
 }

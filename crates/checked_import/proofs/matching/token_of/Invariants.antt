@@ -1,7 +1,7 @@
 -- None of the aliases so far is for the symbol.
 use Rattle.std.proofs.Common.{◌≡◌, drop, map}
 use Rattle.bison_rules.specs.Models as bison
-use Rattle.bison_rules.specs.Tokens.{alias_of}
+use Rattle.bison_rules.specs.Rules.{alias_of}
 use Rattle.checked_import.proofs.matching.token_of.Given as goal
 
 abbrev pub invariant-aliases : goal.invariant-aliases

@@ -1,3 +1,4 @@
+mod AddedMessages
 mod AddedTexts
 mod BeforeDots
 mod Told

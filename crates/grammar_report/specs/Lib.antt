@@ -2,3 +2,4 @@ pub mod ExampleTexts
 pub mod Nearer
 pub mod Outcomes
 pub mod Places
+pub mod Shown

@@ -1,5 +1,8 @@
 //! Errors and warnings of a text.
 
+ghost use Rattle.std.specs.Prelude.{OnOk};
+ghost use Rattle.text_messages.specs.Added.{AddsMessages, AddsWarnings};
+
 use crate::accept_reduce::{kept_of, push_ending};
 use crate::long_chains::push_long_chain;
 use cfg_base::span::Span;
@@ -103,7 +106,9 @@ pub(crate) fn push_named(
     severity: Severity,
     span: Span,
     what: &str,
-) -> Result<(), AllocError> {
+) -> Result<(), AllocError>
+    ensures { OnOk result (AddsMessages severity messages.old.items messages.new.items) }
+{
     let name = part(text, span.start(), span.end());
     let words = format!(in alloc; "{what} '{name}'")?;
     Message::new(severity, Some(span), words).push_to(messages)
@@ -114,7 +119,9 @@ fn push_warning(
     messages: &mut Vec<Message>,
     text: &str,
     warning: &YaccGrammarWarning,
-) -> Result<(), AllocError> {
+) -> Result<(), AllocError>
+    ensures { OnOk result (AddsWarnings messages.old.items messages.new.items) }
+{
     let what = warning.kind.to_string(alloc)?;
     match warning.spans.as_slice().first() {
         Some(span) => push_named(
@@ -134,7 +141,9 @@ fn push_token_warnings(
     alloc: Global,
     messages: &mut Vec<Message>,
     text: &str,
-) -> Result<(), AllocError> {
+) -> Result<(), AllocError>
+    ensures { OnOk result (AddsWarnings messages.old.items messages.new.items) }
+{
     let hints = token_warnings(alloc, text)?;
     'hints: for hint in &hints {
         let words = String::from_str(alloc, hint.words.as_str())?;
@@ -149,7 +158,9 @@ pub(crate) fn push_warnings(
     messages: &mut Vec<Message>,
     text: &str,
     ast: &GrammarAST,
-) -> Result<(), AllocError> {
+) -> Result<(), AllocError>
+    ensures { OnOk result (AddsWarnings messages.old.items messages.new.items) }
+{
     let warnings = ast.warnings(alloc)?;
     'warnings: for warning in &warnings {
         push_warning(alloc, messages, text, warning)?;

@@ -1,5 +1,8 @@
 //! Warnings of what has no effect: precedences that settle nothing, and productions that are never reduced.
 
+ghost use Rattle.std.specs.Prelude.{OnOk};
+ghost use Rattle.text_messages.specs.Added.{AddsWarnings};
+
 use crate::faults::push_named;
 use crate::production_places::production_span;
 use crate::settled::{Pair, is_ended};
@@ -60,7 +63,9 @@ fn push_idle_precedences(
     text: &str,
     kit: &ParserKit<u32>,
     pairs: &[Pair],
-) -> Result<(), AllocError> {
+) -> Result<(), AllocError>
+    ensures { OnOk result (AddsWarnings messages.old.items messages.new.items) }
+{
     let mut used = vec![in alloc; false; kit.ast().precs().len()]?;
     'pairs: for pair in pairs {
         set_named(&mut used, kit.ast(), token_name(kit.grm(), pair.tidx));
@@ -85,23 +90,37 @@ fn has_idle_prec(production: &Production, settles: bool) -> bool {
     }
 }
 
+/// Adds the warning that a production's `%prec` changes nothing.
+fn push_idle_prec(
+    alloc: Global,
+    messages: &mut Vec<Message>,
+    production: &Production,
+) -> Result<(), AllocError>
+    ensures { OnOk result (AddsWarnings messages.old.items messages.new.items) }
+{
+    let span = Some(production.prod_span());
+    let words = String::from_str(alloc, "%prec changes nothing")?;
+    Message::new(Severity::Warning, span, words).push_to(messages)
+}
+
 /// Adds a warning for each `%prec` that changes nothing.
 fn push_idle_precs(
     alloc: Global,
     messages: &mut Vec<Message>,
     ast: &GrammarAST,
     pairs: &[Pair],
-) -> Result<(), AllocError> {
+) -> Result<(), AllocError>
+    ensures { OnOk result (AddsWarnings messages.old.items messages.new.items) }
+{
     let mut settles = vec![in alloc; false; ast.prods().len()]?;
     'pairs: for pair in pairs {
         set(&mut settles, pair.pidx.0.to_usize());
     }
     'productions: for index in 0..ast.prods().len() {
         let production = &ast.prods()[index];
-        if has_idle_prec(production, is_set(settles.as_slice(), index)) {
-            let span = Some(production.prod_span());
-            let words = String::from_str(alloc, "%prec changes nothing")?;
-            Message::new(Severity::Warning, span, words).push_to(messages)?;
+        let idle = has_idle_prec(production, is_set(settles.as_slice(), index));
+        if idle {
+            push_idle_prec(alloc, messages, production)?;
         }
     }
     Ok(())
@@ -141,14 +160,17 @@ fn push_unreduced(
     alloc: Global,
     messages: &mut Vec<Message>,
     kit: &ParserKit<u32>,
-) -> Result<(), AllocError> {
+) -> Result<(), AllocError>
+    ensures { OnOk result (AddsWarnings messages.old.items messages.new.items) }
+{
     let count = kit.ast().prods().len();
     let mut reduced = vec![in alloc; false; count]?;
     set_reduced(&mut reduced, kit.stable());
     let ended = all_ended(alloc, kit)?;
     'productions: for index in 0..ended.len() {
         let number = ended[index].0.to_usize();
-        if number < count && !is_set(reduced.as_slice(), number) {
+        let idle = number < count && !is_set(reduced.as_slice(), number);
+        if idle {
             push_never(alloc, messages, kit, ended[index])?;
         }
     }
@@ -161,7 +183,9 @@ fn push_never(
     messages: &mut Vec<Message>,
     kit: &ParserKit<u32>,
     pidx: PIdx<u32>,
-) -> Result<(), AllocError> {
+) -> Result<(), AllocError>
+    ensures { OnOk result (AddsWarnings messages.old.items messages.new.items) }
+{
     let mut words = String::from_str(alloc, "Never reduced: ")?;
     push_prod(&mut words, kit.grm(), pidx)?;
     let span = production_span(kit.ast(), pidx);
@@ -175,7 +199,9 @@ pub(crate) fn push_idle(
     text: &str,
     kit: &ParserKit<u32>,
     pairs: &[Pair],
-) -> Result<(), AllocError> {
+) -> Result<(), AllocError>
+    ensures { OnOk result (AddsWarnings messages.old.items messages.new.items) }
+{
     push_idle_precedences(alloc, messages, text, kit, pairs)?;
     push_idle_precs(alloc, messages, kit.ast(), pairs)?;
     push_unreduced(alloc, messages, kit)

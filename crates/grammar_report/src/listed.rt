@@ -1,101 +1,31 @@
-//! Listed conflicts, ordered and taken together by their productions.
+//! Listed conflicts of a kit in blocks, their tokens and states in words, and their examples.
 
-use cfg_base::symbol::{PIdx, TIdx};
+ghost use Rattle.std.specs.Prelude.{All, Contains, IfOk, IfSome, map};
+ghost use Rattle.std.specs.List.{Any};
+ghost use Rattle.grammar_report.specs.Shown.{IsExampleOf};
+ghost use Rattle.refused_tables.specs.Blocks.{AreBlocks, all_listed};
+
+use conflict_examples::laws::examples_are_contests;
 use conflict_examples::{ConflictExample, ExampleFinder};
 use grammar_names::{Grammar, push_token};
-use lrtable::{Conflicts, StIdx};
+use lrtable::StIdx;
 use parser_kit::ParserKit;
+use refused_tables::{Listed, blocks_of, states_of};
 use std::alloc::{AllocError, Global};
 
-/// A listed conflict: a reduction against a shift, or against another reduction.
-#[derive(Clone, Copy, Debug, PartialEq, Eq, PartialOrd, Ord)]
-pub struct Listed {
-    /// The production that is reduced.
-    pub pidx: PIdx<u32>,
-    /// The other production of a pair.
-    pub other: Option<PIdx<u32>>,
-    /// The token ahead.
-    pub token: TIdx<u32>,
-    /// The state of both actions.
-    pub state: StIdx<u32>,
-}
-
-/// Adds a listed conflict.
-fn push_listed(
-    listed: &mut Vec<Listed>,
-    entry: (TIdx<u32>, PIdx<u32>, StIdx<u32>),
-    other: Option<PIdx<u32>>,
-) -> Result<(), AllocError> {
-    let (token, pidx, state) = entry;
-    listed.push(Listed {
-        pidx,
-        other,
-        token,
-        state,
-    })?;
-    Ok(())
-}
-
-/// Returns the listed pairs of reductions, and then the shifts against reductions, both ordered by their productions, token and
-/// state.
-fn listed_of(alloc: Global, conflicts: &Conflicts<u32>) -> Result<Vec<Listed>, AllocError> {
-    let (mut pairs, mut shifts) = (Vec::new(alloc), Vec::new(alloc));
-    'pairs: for entry in conflicts.rr_conflicts() {
-        let (token, pidx, other, state) = *entry;
-        push_listed(&mut pairs, (token, pidx, state), Some(other))?;
-    }
-    'shifts: for entry in conflicts.sr_conflicts() {
-        push_listed(&mut shifts, *entry, None)?;
-    }
-    pairs.sort()?;
-    shifts.sort()?;
-    pairs.extend_from_slice(shifts.as_slice())?;
-    Ok(pairs)
-}
-
-/// Returns how many conflicts at the front are in one block: those of the productions of the first one, or that one.
-fn block_len(listed: &[Listed], each: bool) -> usize {
-    let mut count: usize = 0;
-    'entries: for entry in listed {
-        let first = listed[0];
-        if count > 0 && (each || entry.pidx != first.pidx || entry.other != first.other) {
-            return count;
-        }
-        count = count.saturating_add(1);
-    }
-    count
-}
-
-/// Adds a block for each production or pair of productions, or for each conflict.
-fn push_blocks(
-    alloc: Global,
-    blocks: &mut Vec<Vec<Listed>>,
-    listed: &[Listed],
-    each: bool,
-) -> Result<(), AllocError> {
-    let mut start: usize = 0;
-    'blocks: while start < listed.len() {
-        let (_, left) = listed.split_at(start);
-        let (block, _) = left.split_at(block_len(left, each).min(left.len()));
-        blocks.push(Vec::from_slice(alloc, block)?)?;
-        start = start.saturating_add(block.len().max(1));
-    }
-    Ok(())
-}
-
-/// Returns the listed conflicts in blocks: one for each production or pair of productions, or for each conflict. Pairs of
-/// reductions come first. Blocks are in the order of the productions, and conflicts in that of the tokens, then of the states.
+/// Returns the conflicts that a kit lists in blocks, as `blocks_of` makes them; none where it lists none.
 pub fn conflict_blocks(
     alloc: Global,
     kit: &ParserKit<u32>,
     each: bool,
-) -> Result<Vec<Vec<Listed>>, AllocError> {
-    let mut blocks = Vec::new(alloc);
-    if let Some(conflicts) = kit.conflicts() {
-        let listed = listed_of(alloc, conflicts)?;
-        push_blocks(alloc, &mut blocks, listed.as_slice(), each)?;
+) -> Result<Vec<Vec<Listed>>, AllocError>
+    ensures blocks { IfOk result (λ v. AreBlocks ⟦<Listed as Ord>⟧.cmp each kit.now.parser.table.conflicts (map (λ b. b.items) v.items)) }
+    ensures listed { IfOk result (λ v. All (λ b. All (Contains (all_listed kit.now.parser.table.conflicts)) b.items) v.items) }
+{
+    match kit.conflicts() {
+        Some(conflicts) => blocks_of(alloc, conflicts, each),
+        None => Ok(Vec::new(alloc)),
     }
-    Ok(blocks)
 }
 
 /// Adds the tokens of conflicts that are ordered by token.
@@ -112,17 +42,6 @@ pub(crate) fn push_tokens(
         before = Some(entry.token);
     }
     Ok(())
-}
-
-/// Returns the states that conflicts are in, in order.
-pub fn states_of(alloc: Global, listed: &[Listed]) -> Result<Vec<StIdx<u32>>, AllocError> {
-    let mut states = Vec::new(alloc);
-    'entries: for entry in listed {
-        states.push(entry.state)?;
-    }
-    states.sort()?;
-    states.dedup();
-    Ok(states)
 }
 
 /// Adds how many states conflicts are in, or which state the one conflict of a block is in.
@@ -148,7 +67,10 @@ fn example_of_one(
     alloc: Global,
     finder: &ExampleFinder<'_, u32>,
     entry: &Listed,
-) -> Result<Option<ConflictExample<u32>>, AllocError> {
+) -> Result<Option<ConflictExample<u32>>, AllocError>
+    ensures { IfOk result (λ o. IfSome o (IsExampleOf finder.now entry.now)) }
+{
+    examples_are_contests();
     match entry.other {
         Some(other) => finder.reduce_reduce(alloc, &(entry.token, entry.pidx, other, entry.state)),
         None => finder.shift_reduce(alloc, &(entry.token, entry.pidx, entry.state)),
@@ -160,7 +82,9 @@ pub fn example_of(
     alloc: Global,
     finder: &ExampleFinder<'_, u32>,
     listed: &[Listed],
-) -> Result<Option<ConflictExample<u32>>, AllocError> {
+) -> Result<Option<ConflictExample<u32>>, AllocError>
+    ensures { IfOk result (λ o. IfSome o (λ x. Any (λ e. IsExampleOf finder.now e x) listed.now)) }
+{
     'entries: for entry in listed {
         let found = example_of_one(alloc, finder, entry)?;
         if found.is_some() {

@@ -1,6 +1,7 @@
 //! The report on a text.
 
-ghost use Rattle.std.specs.Prelude.{IfOk};
+ghost use Rattle.std.specs.Prelude.{IfOk, OnOk};
+ghost use Rattle.text_messages.specs.Added.{AddsWarnings};
 ghost use Rattle.grammar_report.specs.Outcomes.{IsOutcome};
 
 use crate::asked::Asked;
@@ -34,7 +35,9 @@ pub fn push_kit_warnings(
     messages: &mut Vec<Message>,
     text: &str,
     kit: &ParserKit<u32>,
-) -> Result<(), AllocError> {
+) -> Result<(), AllocError>
+    ensures { OnOk result (AddsWarnings messages.old.items messages.new.items) }
+{
     push_warnings(alloc, messages, text, kit.ast())?;
     let pairs = all_pairs(alloc, kit)?;
     push_idle(alloc, messages, text, kit, pairs.as_slice())

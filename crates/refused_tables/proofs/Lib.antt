@@ -1,1 +1,5 @@
+mod EachListed
+mod Groups
+mod Numbers
 pub mod Rounds
+mod Together

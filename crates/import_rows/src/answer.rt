@@ -2,7 +2,7 @@
 
 use row_files::{Part, parts};
 use std::alloc::{AllocError, Global};
-use yacc_import::{ImportError, Imported, Note, import};
+use yacc_import::{ImportError, Imported, Note, NoteKind, apply_notes, import};
 
 /// Adds a line behind a mark.
 fn push_line(out: &mut String, mark: &str, line: &str) -> Result<(), AllocError> {
@@ -41,13 +41,38 @@ fn push_imported(
     Ok(())
 }
 
+/// Returns the note that a heading `leave out START-END` asks for.
+fn asked_note(heading: &str) -> Option<Note> {
+    let (start, end) = heading.strip_prefix("leave out ")?.split_once('-')?;
+    let (Ok(start), Ok(end)) = (start.parse::<usize>(), end.parse::<usize>()) else {
+        return None;
+    };
+    let (kind, text) = (NoteKind::Mark, None);
+    Some(Note {
+        start,
+        end,
+        kind,
+        text,
+    })
+}
+
+/// Applies the note that a heading asks for, or imports a text.
+fn import_as(alloc: Global, heading: &str, text: &str) -> Result<Imported, ImportError> {
+    let Some(note) = asked_note(heading) else {
+        return import(alloc, text);
+    };
+    let mut notes = Vec::new(alloc);
+    notes.push(note)?;
+    apply_notes(alloc, text, notes)
+}
+
 fn push_answer(
     alloc: Global,
     out: &mut String,
     heading: &str,
     text: &str,
 ) -> Result<(), AllocError> {
-    match import(alloc, text) {
+    match import_as(alloc, heading, text) {
         Ok(imported) => {
             let pushed = push_imported(alloc, out, heading, &imported);
             drop(imported);

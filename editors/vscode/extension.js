@@ -1,4 +1,5 @@
-// A client of lrkit-lsp without other packages: it sends each change of a grammar file, and shows the diagnostics that come back.
+// A client of lrkit-lsp without other packages: it sends each change of a grammar file, shows the diagnostics that come back, and asks
+// for outlines, places of names, renames, hovers and completions.
 const vscode = require("vscode");
 const { spawn } = require("child_process");
 
@@ -8,12 +9,30 @@ const END = Buffer.from("\r\n\r\n");
 let server = null;
 let waiting = Buffer.alloc(0);
 let next = 1;
+const asked = new Map();
 
 function send(message) {
   if (!server) return;
   const body = Buffer.from(JSON.stringify({ jsonrpc: "2.0", ...message }), "utf8");
   server.stdin.write(`Content-Length: ${body.length}\r\n\r\n`);
   server.stdin.write(body);
+}
+
+// Asks for something, and returns what comes back.
+function ask(method, params) {
+  return new Promise((resolve, reject) => {
+    if (!server) return resolve(null);
+    const id = next++;
+    asked.set(id, { resolve, reject });
+    send({ id, method, params });
+  });
+}
+
+function take(message) {
+  const waits = asked.get(message.id);
+  asked.delete(message.id);
+  if (waits && message.error) waits.reject(new Error(message.error.message));
+  else if (waits) waits.resolve(message.result);
 }
 
 function range(it) {
@@ -39,7 +58,8 @@ function receive(shown, chunk) {
     if (waiting.length < past) return;
     const message = JSON.parse(waiting.subarray(end + END.length, past).toString("utf8"));
     waiting = waiting.subarray(past);
-    if (message.method === "textDocument/publishDiagnostics") {
+    if (message.id !== undefined) take(message);
+    else if (message.method === "textDocument/publishDiagnostics") {
       shown.set(vscode.Uri.parse(message.params.uri), message.params.diagnostics.map(diagnostic));
     }
   }
@@ -51,6 +71,57 @@ function open(document) {
   send({ method: "textDocument/didOpen", params: { textDocument } });
 }
 
+function about(document, position) {
+  return { textDocument: { uri: document.uri.toString() }, ...(position && { position: { line: position.line, character: position.character } }) };
+}
+
+function location(it) {
+  return new vscode.Location(vscode.Uri.parse(it.uri), range(it.range));
+}
+
+// Numbers of kinds count from 1 in the protocol, from 0 in the editor.
+function symbol(it) {
+  return new vscode.DocumentSymbol(it.name, "", it.kind - 1, range(it.range), range(it.selectionRange));
+}
+
+async function rename(document, position, newName) {
+  const edits = new vscode.WorkspaceEdit();
+  const found = await ask("textDocument/rename", { ...about(document, position), newName });
+  for (const [uri, list] of Object.entries(found ? found.changes : {})) {
+    for (const it of list) edits.replace(vscode.Uri.parse(uri), range(it.range), it.newText);
+  }
+  return edits;
+}
+
+async function hover(document, position) {
+  const found = await ask("textDocument/hover", about(document, position));
+  return found && new vscode.Hover(new vscode.MarkdownString().appendCodeblock(found.contents.value, "text"), range(found.range));
+}
+
+function providers() {
+  const list = (method, make) => async (document, position) =>
+    ((await ask(`textDocument/${method}`, about(document, position instanceof vscode.Position ? position : undefined))) || []).map(make);
+  const register = vscode.languages;
+  const selector = { language: LANGUAGE };
+  return [
+    register.registerDocumentSymbolProvider(selector, { provideDocumentSymbols: list("documentSymbol", symbol) }),
+    register.registerFoldingRangeProvider(selector, { provideFoldingRanges: list("foldingRange", (it) => new vscode.FoldingRange(it.startLine, it.endLine)) }),
+    register.registerDefinitionProvider(selector, { provideDefinition: list("definition", location) }),
+    register.registerReferenceProvider(selector, { provideReferences: list("references", location) }),
+    register.registerDocumentHighlightProvider(selector, { provideDocumentHighlights: list("documentHighlight", (it) => new vscode.DocumentHighlight(range(it.range))) }),
+    register.registerCompletionItemProvider(selector, { provideCompletionItems: list("completion", (it) => new vscode.CompletionItem(it.label, it.kind - 1)) }, "%"),
+    register.registerHoverProvider(selector, { provideHover: hover }),
+    register.registerRenameProvider(selector, {
+      provideRenameEdits: rename,
+      prepareRename: async (document, position) => {
+        const found = await ask("textDocument/prepareRename", about(document, position));
+        if (!found) throw new Error("no name is here");
+        return range(found);
+      },
+    }),
+  ];
+}
+
 function activate(context) {
   const shown = vscode.languages.createDiagnosticCollection("lrkit");
   const program = vscode.workspace.getConfiguration("lrkit").get("server");
@@ -59,7 +130,11 @@ function activate(context) {
     server = null;
     vscode.window.showErrorMessage(`${program}: ${e.message}`);
   });
-  server.on("exit", () => { server = null; });
+  server.on("exit", () => {
+    server = null;
+    asked.forEach((it) => it.resolve(null));
+    asked.clear();
+  });
   server.stdout.on("data", (chunk) => receive(shown, chunk));
   const capabilities = { textDocument: { publishDiagnostics: { relatedInformation: true } } };
   send({ id: next++, method: "initialize", params: { processId: process.pid, rootUri: null, capabilities } });
@@ -67,6 +142,7 @@ function activate(context) {
   vscode.workspace.textDocuments.forEach(open);
   context.subscriptions.push(
     shown,
+    ...providers(),
     vscode.workspace.onDidOpenTextDocument(open),
     vscode.workspace.onDidChangeTextDocument((event) => {
       if (event.document.languageId !== LANGUAGE || event.contentChanges.length === 0) return;

@@ -1,3 +1,5 @@
+pub mod Frames
+pub mod Lines
 pub mod Protocol
 pub mod Reading
 pub mod Texts

@@ -5,9 +5,10 @@ use Rattle.serde.specs.Event.{Log, Logs, Then, field_key, map_begins, map_ends, 
 use Rattle.serde.specs.declared.name.Case.TheVariants.{AsIs}
 use Rattle.language_server.specs.Protocol.{code_number, code_text}
 use Rattle.language_server.specs.declared.answers.Answer.{Answer}
-use Rattle.language_server.specs.declared.answers.Answer.TheVariants.{Done, Error, Initialized}
+use Rattle.language_server.specs.declared.answers.Answer.TheVariants.{Done, Error, Refused}
 use Rattle.language_server.specs.declared.answers.Response.{Response}
 use Rattle.language_server.specs.declared.messages.ErrorCode.{ErrorCode}
+use Rattle.language_server.specs.declared.messages.ErrorCode.TheVariants.{RequestFailed}
 use Rattle.language_server.specs.declared.messages.Id.{Id}
 use Rattle.language_server.specs.declared.messages.Id.TheVariants.{Null, Number, Text}
 
@@ -28,11 +29,16 @@ WritesId Null old new = Logs old new nothing
 abbrev pub WritesError : ErrorCode → Log → Log → Type 0
 WritesError code = InObject (Then (Member (codes "code") (λ old new. Logs old new (signed (code_number code)))) (Member (codes "message") (λ old new. Logs old new (text (code_text code)))))
 
+-- the error of a refusal, and why
+abbrev pub WritesRefusal : List ℕ → Log → Log → Type 0
+WritesRefusal words = InObject (Then (Member (codes "code") (λ old new. Logs old new (signed (code_number RequestFailed)))) (Member (codes "message") (λ old new. Logs old new (text words))))
+
 -- a result or an error, and not both
 abbrev pub WritesAnswer : Answer → Log → Log → Type 0
 WritesAnswer (Error code) = Member (codes "error") (WritesError code)
-WritesAnswer (Initialized encoding) = Member (codes "result") (λ old new. ⊤)
+WritesAnswer (Refused words) = Member (codes "error") (WritesRefusal (string_bytes words))
 WritesAnswer Done = Member (codes "result") (λ old new. Logs old new nothing)
+WritesAnswer answer = Member (codes "result") (λ old new. ⊤)
 
 abbrev pub WritesResponse : Response → Log → Log → Type 0
 WritesResponse r = InObject (Then (Member (codes "jsonrpc") (λ old new. Logs old new (text (codes "2.0")))) (Then (Member (codes "id") (WritesId r.id)) (WritesAnswer r.answer)))

@@ -13,6 +13,24 @@ pub enum Answer {
     Done,
     /// An error.
     Error(ErrorCode),
+    /// Why a rename is refused, in words.
+    Refused(String),
+    /// Places of a name.
+    Locations(Vec<Location>),
+    /// Ranges to highlight.
+    Highlights(Vec<Highlight>),
+    /// The range of what may be renamed.
+    Range(Range),
+    /// The edits of a rename, and their document.
+    Edits(String, Vec<Edit>),
+    /// The symbols of a document.
+    Symbols(Vec<Symbol>),
+    /// What can be folded.
+    Folds(Vec<Fold>),
+    /// What may be written.
+    Items(Vec<Item>),
+    /// What there is to say of a name.
+    Hover(Hover),
 }
 
 /// An answer, and the id of the request.
@@ -77,4 +95,72 @@ pub struct Published {
     pub version: Option<i64>,
     /// The diagnostics.
     pub diagnostics: Vec<Diagnostic>,
+}
+
+/// A range to highlight.
+#[derive(Clone, Copy, Debug, Serialize)]
+pub struct Highlight {
+    /// The range.
+    pub range: Range,
+}
+
+/// A part of a document, and what replaces it.
+#[derive(Debug, Drop, Serialize)]
+#[serde(rename_all = "camelCase")]
+pub struct Edit {
+    /// The part.
+    pub range: Range,
+    /// What replaces it.
+    pub new_text: String,
+}
+
+/// A rule or a token of an outline.
+#[derive(Debug, Drop, Serialize)]
+#[serde(rename_all = "camelCase")]
+pub struct Symbol {
+    /// Its name.
+    pub name: String,
+    /// 12 for a rule, 14 for a token.
+    pub kind: u8,
+    /// All of it.
+    pub range: Range,
+    /// Its name's place.
+    pub selection_range: Range,
+}
+
+/// Lines that can be folded.
+#[derive(Clone, Copy, Debug, Serialize)]
+#[serde(rename_all = "camelCase")]
+pub struct Fold {
+    /// The first line, which stays.
+    pub start_line: u64,
+    /// The last line.
+    pub end_line: u64,
+}
+
+/// A text that may be written.
+#[derive(Debug, Drop, Serialize)]
+pub struct Item {
+    /// The text.
+    pub label: String,
+    /// 3 for a rule, 21 for a token, 14 for a word behind `%`.
+    pub kind: u8,
+}
+
+/// A text that is shown as it is.
+#[derive(Debug, Drop, Serialize)]
+pub struct Contents {
+    /// `plaintext`.
+    pub kind: &'static str,
+    /// The text.
+    pub value: String,
+}
+
+/// What there is to say of a name.
+#[derive(Debug, Drop, Serialize)]
+pub struct Hover {
+    /// The text.
+    pub contents: Contents,
+    /// The name's place.
+    pub range: Range,
 }

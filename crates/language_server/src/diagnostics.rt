@@ -1,8 +1,10 @@
 //! From a document's text to its diagnostics.
 
 use crate::answers::{Diagnostic, Location, Range, Related};
+use crate::bison::push_bison;
 use crate::fault::{ServeFault, fault_of};
 use crate::places::{Encoding, Position, line_starts, position_at};
+use bison_sources::bison_file;
 use report_forms::{Conflict, Findings, Range as Reported, Said};
 use report_values::{Wanted, findings_on};
 use std::alloc::{AllocError, Global};
@@ -215,7 +217,7 @@ fn push_conflict(
 }
 
 /// Adds what is found of a document. Conflicts that are expected are no warnings.
-fn push_findings(
+pub(crate) fn push_findings(
     alloc: Global,
     view: &View<'_>,
     found: &mut Vec<Diagnostic>,
@@ -244,16 +246,14 @@ fn push_findings(
     Ok(())
 }
 
-/// Adds the diagnostics of a document.
-pub fn push_diagnostics(
+/// Adds what is found of a source.
+pub(crate) fn push_source(
     alloc: Global,
     view: &View<'_>,
     found: &mut Vec<Diagnostic>,
+    source: &Source<'_>,
 ) -> Result<(), ServeFault> {
-    let source = Source::new(alloc, view.text, view.uri)?;
-    let read = findings_on(alloc, &source, WANTED);
-    drop(source);
-    match read {
+    match findings_on(alloc, source, WANTED) {
         Ok(read) => {
             let pushed = push_findings(alloc, view, found, &read.findings);
             drop(read);
@@ -262,6 +262,21 @@ pub fn push_diagnostics(
         }
         Err(e) => Err(fault_of(e)),
     }
+}
+
+/// Adds the diagnostics of a document.
+pub fn push_diagnostics(
+    alloc: Global,
+    view: &View<'_>,
+    found: &mut Vec<Diagnostic>,
+) -> Result<(), ServeFault> {
+    let source = Source::new(alloc, view.text, view.uri)?;
+    let pushed = match bison_file(view.text, view.uri, false) {
+        Some(file) => push_bison(alloc, view, found, file, &source),
+        None => push_source(alloc, view, found, &source),
+    };
+    drop(source);
+    pushed
 }
 
 /// Adds the diagnostic of a document that is too long to be read.

@@ -2,7 +2,29 @@
 
 use crate::messages::Change;
 use crate::places::{Encoding, line_starts, offset_at};
+use bison_sources::bison_sign;
+use byte_streams::MOST_BYTES;
+use grammar_index::GrammarIndex;
 use std::alloc::{AllocError, Global};
+
+/// A version of a document.
+#[derive(Debug, Drop)]
+pub struct Document {
+    /// Its text.
+    pub text: String,
+    /// Where the text names its rules and tokens; nothing of one that is too long, or in Bison's syntax.
+    pub index: GrammarIndex,
+}
+
+/// Returns the document of a text.
+pub fn document_of(alloc: Global, text: String) -> Result<Document, AllocError> {
+    if text.len() > MOST_BYTES || bison_sign(text.as_str()).is_some() {
+        let index = GrammarIndex::empty(alloc);
+        return Ok(Document { text, index });
+    }
+    let index = GrammarIndex::of_text(alloc, text.as_str())?;
+    Ok(Document { text, index })
+}
 
 /// Returns a text with the bytes between two offsets replaced; the text itself where an offset is within a character.
 fn with_part(

@@ -9,7 +9,7 @@ pub const MOST_BYTES: usize = 536_870_912;
 /// The greatest count of bytes of a heading's line that is looked at.
 const MOST_LINE: usize = 256;
 
-/// What stands in a frame.
+/// What a frame has.
 #[derive(Debug, Drop)]
 pub enum Frame {
     /// The bytes of a message.

@@ -19,20 +19,31 @@
 #![tactic(auto)]
 
 mod answers;
+mod asked;
+mod bison;
+mod completion;
 mod diagnostics;
 mod documents;
 mod fault;
 mod frames;
+mod hovering;
 mod messages;
+mod naming;
+mod outline;
 mod places;
+mod queries;
 mod reading;
 mod server;
 mod texts;
 
-pub use answers::{Answer, Diagnostic, Location, Published, Range, Related, Response};
+pub use answers::{
+    Answer, Contents, Diagnostic, Edit, Fold, Highlight, Hover, Item, Location, Published, Range,
+    Related, Response, Symbol,
+};
+pub use documents::Document;
 pub use fault::ServeFault;
 pub use frames::{Frame, Frames, MOST_BYTES};
-pub use messages::{Change, ErrorCode, Id, Message, Method, Notice, Params};
+pub use messages::{Change, ErrorCode, Id, Message, Method, Notice, Params, Query};
 pub use places::{Encoding, Position};
 pub use reading::read_message;
 pub use server::{Phase, Server, Taken};

@@ -23,8 +23,33 @@ pub enum Method {
     Initialize,
     /// `shutdown`.
     Shutdown,
+    /// A query about a document.
+    Asks(Query),
     /// Any other one.
     Unknown,
+}
+
+/// What is asked of a document.
+#[derive(Clone, Copy, Debug, PartialEq, Eq)]
+pub enum Query {
+    /// `textDocument/documentSymbol`.
+    Symbols,
+    /// `textDocument/foldingRange`.
+    Folds,
+    /// `textDocument/definition`.
+    Definition,
+    /// `textDocument/references`.
+    References,
+    /// `textDocument/documentHighlight`.
+    Highlights,
+    /// `textDocument/prepareRename`.
+    Renamable,
+    /// `textDocument/rename`.
+    Rename,
+    /// `textDocument/completion`.
+    Completion,
+    /// `textDocument/hover`.
+    Hover,
 }
 
 /// What a notification says.
@@ -53,6 +78,8 @@ pub enum ErrorCode {
     MethodNotFound,
     /// The request came before `initialize`.
     ServerNotInitialized,
+    /// What is asked for is refused.
+    RequestFailed,
 }
 
 /// A part of a document that is replaced; all of it where there is no range.
@@ -75,6 +102,10 @@ pub struct Params {
     pub text: Option<String>,
     /// How it changed, in order.
     pub changes: Vec<Change>,
+    /// A place in the document.
+    pub place: Option<Position>,
+    /// A new name.
+    pub new_name: Option<String>,
     /// Whether the client counts columns in bytes, if the server does.
     pub has_utf8: bool,
     /// Whether the client shows places beside a diagnostic.
@@ -104,6 +135,7 @@ impl ErrorCode {
             ErrorCode::InvalidRequest => -32600,
             ErrorCode::MethodNotFound => -32601,
             ErrorCode::ServerNotInitialized => -32002,
+            ErrorCode::RequestFailed => -32803,
         }
     }
 
@@ -116,6 +148,7 @@ impl ErrorCode {
             ErrorCode::InvalidRequest => "no valid request",
             ErrorCode::MethodNotFound => "unknown method",
             ErrorCode::ServerNotInitialized => "not initialized",
+            ErrorCode::RequestFailed => "refused",
         }
     }
 }

@@ -1,6 +1,7 @@
 //! Places in a document: lines, and columns in units of UTF-16 or in bytes.
 
-ghost use Rattle.std.specs.Prelude.{◌≤◌, length};
+ghost use Rattle.std.specs.Prelude.{◌≡◌, ◌≤◌, length, IfOk};
+ghost use Rattle.language_server.specs.Lines.{ends_line, starts_upto};
 
 use serde::Serialize;
 use std::alloc::{AllocError, Global};
@@ -24,7 +25,9 @@ pub enum Encoding {
 }
 
 /// Returns where the lines of a text begin. A line ends with LF, CR LF or CR.
-pub fn line_starts(alloc: Global, text: &str) -> Result<Vec<usize>, AllocError> {
+pub fn line_starts(alloc: Global, text: &str) -> Result<Vec<usize>, AllocError>
+    ensures { IfOk result (λ v. v.items ≡ starts_upto text.now (length text.now)) }
+{
     let mut starts = Vec::new(alloc);
     starts.push(0)?;
     let bytes = text.as_bytes();
@@ -37,7 +40,9 @@ pub fn line_starts(alloc: Global, text: &str) -> Result<Vec<usize>, AllocError> 
 }
 
 /// Returns whether a line ends behind a byte.
-fn ends_line(bytes: &[u8], index: usize) -> bool {
+fn ends_line(bytes: &[u8], index: usize) -> bool
+    ensures { result ≡ ends_line bytes.now index }
+{
     match bytes.get(index) {
         Some(b'\n') => true,
         Some(b'\r') => bytes.get(index.saturating_add(1)) != Some(&b'\n'),

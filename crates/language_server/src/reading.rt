@@ -6,7 +6,7 @@ ghost use Rattle.serde_json.specs.View.{view};
 ghost use Rattle.language_server.specs.Reading.{IsId, Says, method_in};
 
 use crate::fault::ServeFault;
-use crate::messages::{Change, ErrorCode, Id, Message, Method, Notice, Params};
+use crate::messages::{Change, ErrorCode, Id, Message, Method, Notice, Params, Query};
 use crate::places::Position;
 use serde_json::Value;
 use std::alloc::{AllocError, Global};
@@ -84,6 +84,7 @@ fn has_related(value: &Value) -> bool {
 fn fill_params(alloc: Global, params: &mut Params, value: &Value) -> Result<(), AllocError> {
     params.uri = text_at(alloc, value, "/params/textDocument/uri")?;
     params.text = text_at(alloc, value, "/params/textDocument/text")?;
+    params.new_name = text_at(alloc, value, "/params/newName")?;
     push_changes(alloc, &mut params.changes, value)
 }
 
@@ -97,6 +98,8 @@ fn params_of(alloc: Global, value: &Value) -> Result<Params, AllocError> {
         version,
         text: None,
         changes: Vec::new(alloc),
+        place: place_at(value, "/params/position/line", "/params/position/character"),
+        new_name: None,
         has_utf8: has_utf8(value),
         has_related: has_related(value),
     };
@@ -109,12 +112,31 @@ fn params_of(alloc: Global, value: &Value) -> Result<Params, AllocError> {
     }
 }
 
+/// Returns the query of a name, if there is one.
+fn query_of(name: &str) -> Option<Query> {
+    match name {
+        "textDocument/documentSymbol" => Some(Query::Symbols),
+        "textDocument/foldingRange" => Some(Query::Folds),
+        "textDocument/definition" => Some(Query::Definition),
+        "textDocument/references" => Some(Query::References),
+        "textDocument/documentHighlight" => Some(Query::Highlights),
+        "textDocument/prepareRename" => Some(Query::Renamable),
+        "textDocument/rename" => Some(Query::Rename),
+        "textDocument/completion" => Some(Query::Completion),
+        "textDocument/hover" => Some(Query::Hover),
+        _ => None,
+    }
+}
+
 /// Returns the method of a name.
 fn method_of(name: &str) -> Method {
     match name {
         "initialize" => Method::Initialize,
         "shutdown" => Method::Shutdown,
-        _ => Method::Unknown,
+        _ => match query_of(name) {
+            Some(query) => Method::Asks(query),
+            None => Method::Unknown,
+        },
     }
 }
 

@@ -1,15 +1,17 @@
 //! The server: a state, and what it does with a message.
 
 ghost use Rattle.std.specs.Prelude.{◌≡◌, IfOk, OnOk, None, Some};
-ghost use Rattle.language_server.specs.Protocol.{Answers, IsAnswered, error_of, error_in, phase_after, phase_behind, status_after, status_in, status_on};
+ghost use Rattle.language_server.specs.Protocol.{Answers, IsAnswered, MayFail, MayGive, error_in, phase_after, phase_behind, status_after, status_in, status_on};
 ghost use Rattle.language_server.specs.declared.answers.Response.{Response};
 
 use crate::answers::{Answer, Published, Response};
+use crate::asked::Asked;
 use crate::diagnostics::{View, push_diagnostics, push_too_long};
-use crate::documents::with_changes;
+use crate::documents::{Document, document_of, with_changes};
 use crate::fault::ServeFault;
-use crate::messages::{Change, ErrorCode, Id, Message, Method, Notice, Params};
-use crate::places::Encoding;
+use crate::messages::{Change, ErrorCode, Id, Message, Method, Notice, Params, Query};
+use crate::places::{Encoding, line_starts};
+use crate::queries::query_answer;
 use byte_streams::MOST_BYTES;
 use std::alloc::{AllocError, Global};
 use std::collections::BTreeMap;
@@ -34,8 +36,8 @@ pub struct Server {
     pub encoding: Encoding,
     /// Whether the client shows places beside a diagnostic.
     pub has_related: bool,
-    /// The texts of the open documents by their names.
-    pub documents: BTreeMap<String, String>,
+    /// The open documents by their names.
+    pub documents: BTreeMap<String, Document>,
 }
 
 /// What is done with a message.
@@ -127,52 +129,97 @@ impl Server {
     /// Answers a request before the session has begun.
     fn answer_fresh(&mut self, method: Method, params: &Params) -> Answer
         requires { self.old.phase ≡ Phase.Fresh }
-        ensures answer { error_in result ≡ error_of Phase.Fresh method }
+        ensures answer { MayGive Phase.Fresh method (error_in result) }
         ensures phase { self.new.phase ≡ phase_behind Phase.Fresh method }
     {
         match method {
             Method::Initialize => self.initialize(params),
             Method::Shutdown => Answer::Error(ErrorCode::ServerNotInitialized),
+            Method::Asks(_) => Answer::Error(ErrorCode::ServerNotInitialized),
             Method::Unknown => Answer::Error(ErrorCode::ServerNotInitialized),
         }
     }
 
+    /// Answers what is asked of a document. One that isn't open has nothing.
+    fn ask(&self, alloc: Global, query: Query, params: &Params) -> Result<Answer, AllocError>
+        ensures { IfOk result (λ a. MayFail (error_in a) query) }
+    {
+        let Some(uri) = &params.uri else {
+            return Ok(Answer::Done);
+        };
+        let Some(document) = self.documents.get(uri.as_str()) else {
+            return Ok(Answer::Done);
+        };
+        let text = document.text.as_str();
+        let starts = line_starts(alloc, text)?;
+        let asked = Asked {
+            uri: uri.as_str(),
+            text,
+            index: &document.index,
+            starts: starts.as_slice(),
+            encoding: self.encoding,
+        };
+        query_answer(alloc, &asked, query, params)
+    }
+
     /// Answers a request within the session.
-    fn answer_ready(&mut self, method: Method) -> Answer
+    fn answer_ready(
+        &mut self,
+        alloc: Global,
+        method: Method,
+        params: &Params,
+    ) -> Result<Answer, AllocError>
         requires { self.old.phase ≡ Phase.Ready }
-        ensures answer { error_in result ≡ error_of Phase.Ready method }
-        ensures phase { self.new.phase ≡ phase_behind Phase.Ready method }
+        ensures answer { IfOk result (λ a. MayGive Phase.Ready method (error_in a)) }
+        ensures phase { OnOk result (self.new.phase ≡ phase_behind Phase.Ready method) }
     {
         match method {
-            Method::Initialize => Answer::Error(ErrorCode::InvalidRequest),
+            Method::Initialize => Ok(Answer::Error(ErrorCode::InvalidRequest)),
             Method::Shutdown => {
                 self.phase = Phase::Stopped;
-                Answer::Done
+                Ok(Answer::Done)
             }
-            Method::Unknown => Answer::Error(ErrorCode::MethodNotFound),
+            Method::Asks(query) => self.ask(alloc, query, params),
+            Method::Unknown => Ok(Answer::Error(ErrorCode::MethodNotFound)),
         }
     }
 
     /// Answers a request.
-    fn answer(&mut self, method: Method, params: &Params) -> Answer
-        ensures answer { error_in result ≡ error_of self.old.phase method }
-        ensures phase { self.new.phase ≡ phase_behind self.old.phase method }
+    fn answer(
+        &mut self,
+        alloc: Global,
+        method: Method,
+        params: &Params,
+    ) -> Result<Answer, AllocError>
+        ensures answer { IfOk result (λ a. MayGive self.old.phase method (error_in a)) }
+        ensures phase { OnOk result (self.new.phase ≡ phase_behind self.old.phase method) }
     {
         match self.phase {
-            Phase::Fresh => self.answer_fresh(method, params),
-            Phase::Ready => self.answer_ready(method),
-            Phase::Stopped => Answer::Error(ErrorCode::InvalidRequest),
+            Phase::Fresh => Ok(self.answer_fresh(method, params)),
+            Phase::Ready => self.answer_ready(alloc, method, params),
+            Phase::Stopped => Ok(Answer::Error(ErrorCode::InvalidRequest)),
         }
     }
 
     /// Answers a request, with its id.
-    fn respond(&mut self, id: Id, method: Method, params: &Params) -> Taken
-        ensures response { Answers id (error_of self.old.phase method) result.response }
-        ensures phase { self.new.phase ≡ phase_behind self.old.phase method }
-        ensures status { result.status ≡ None }
+    fn respond(
+        &mut self,
+        alloc: Global,
+        id: Id,
+        method: Method,
+        params: &Params,
+    ) -> Result<Taken, ServeFault>
+        ensures response { IfOk result (λ t. Answers id (MayGive self.old.phase method) t.response) }
+        ensures phase { OnOk result (self.new.phase ≡ phase_behind self.old.phase method) }
+        ensures status { IfOk result (λ t. t.status ≡ None) }
     {
-        let answer = self.answer(method, params);
-        with_response(Some(Response { id, answer }))
+        match self.answer(alloc, method, params) {
+            Ok(answer) => Ok(with_response(Some(Response { id, answer }))),
+            Err(e) => {
+                drop(id);
+                Err(ServeFault::Memory(e))
+            }
+        }
     }
 
     /// Fills in the diagnostics of a document.
@@ -213,11 +260,25 @@ impl Server {
             drop(published);
             return Err(e);
         }
-        if self.documents.insert(uri, text).is_err() {
+        if let Err(e) = self.put(alloc, uri, text) {
             drop(published);
-            return Err(ServeFault::Unwritten);
+            return Err(e);
         }
         Ok(with_published(Some(published)))
+    }
+
+    /// Puts a document's text in the place of what was there.
+    fn put(&mut self, alloc: Global, uri: String, text: String) -> Result<(), ServeFault>
+        ensures { OnOk result (self.new.phase ≡ self.old.phase) }
+    {
+        let document = document_of(alloc, text)?;
+        match self.documents.insert(uri, document) {
+            Ok(old) => {
+                drop(old);
+                Ok(())
+            }
+            Err(_) => Err(ServeFault::Unwritten),
+        }
     }
 
     /// Changes a document, and publishes its diagnostics.
@@ -232,9 +293,11 @@ impl Server {
         ensures status { IfOk result (λ t. t.status ≡ None) }
         ensures phase { OnOk result (self.new.phase ≡ self.old.phase) }
     {
-        let Some(text) = self.documents.remove(uri.as_str()) else {
+        let Some(document) = self.documents.remove(uri.as_str()) else {
             return Ok(with_published(None));
         };
+        let Document { text, index } = document;
+        drop(index);
         let text = with_changes(alloc, text, changes, self.encoding)?;
         self.store(alloc, uri, version, text)
     }
@@ -269,6 +332,8 @@ impl Server {
             version,
             text,
             changes,
+            place: _,
+            new_name: _,
             has_utf8: _,
             has_related: _,
         } = params;
@@ -302,7 +367,7 @@ impl Server {
         ensures phase { OnOk result (self.new.phase ≡ phase_after self.old.phase message) }
     {
         match message {
-            Message::Request(id, method, params) => Ok(self.respond(id, method, &params)),
+            Message::Request(id, method, params) => self.respond(alloc, id, method, &params),
             Message::Notification(notice, params) => self.notice(alloc, notice, params),
             Message::Reply => Ok(with_response(None)),
             Message::Malformed(id, code) => {

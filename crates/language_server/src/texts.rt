@@ -1,9 +1,10 @@
 //! What is sent, as JSON with its heading.
 
-ghost use Rattle.std.specs.Prelude.{OnOk};
-ghost use Rattle.language_server.specs.Texts.{Member, WritesAnswer};
+ghost use Rattle.std.specs.Prelude.{◌≡◌, IfOk, OnOk, codes, string_bytes, ⊤};
+ghost use Rattle.language_server.specs.Frames.{IsFrame, IsFrameOf, frame};
+ghost use Rattle.language_server.specs.Texts.{Member, WritesAnswer, WritesRefusal, WritesResponse};
 
-use crate::answers::{Answer, Published, Response};
+use crate::answers::{Answer, Edit, Published, Response};
 use crate::fault::ServeFault;
 use crate::messages::{ErrorCode, Id};
 use crate::places::Encoding;
@@ -24,6 +25,28 @@ struct Sync {
 struct Capabilities {
     position_encoding: &'static str,
     text_document_sync: Sync,
+    document_symbol_provider: bool,
+    folding_range_provider: bool,
+    definition_provider: bool,
+    references_provider: bool,
+    document_highlight_provider: bool,
+    rename_provider: Renames,
+    completion_provider: Completes,
+    hover_provider: bool,
+}
+
+/// Which names can be renamed, the client may ask first.
+#[derive(Debug, Drop, Serialize)]
+#[serde(rename_all = "camelCase")]
+struct Renames {
+    prepare_provider: bool,
+}
+
+/// What is completed as it is written.
+#[derive(Debug, Drop, Serialize)]
+#[serde(rename_all = "camelCase")]
+struct Completes {
+    trigger_characters: [&'static str; 1],
 }
 
 /// Who the server is.
@@ -61,6 +84,18 @@ fn begun_with(encoding: Encoding) -> Begun {
                 open_close: true,
                 change: 2,
             },
+            document_symbol_provider: true,
+            folding_range_provider: true,
+            definition_provider: true,
+            references_provider: true,
+            document_highlight_provider: true,
+            rename_provider: Renames {
+                prepare_provider: true,
+            },
+            completion_provider: Completes {
+                trigger_characters: ["%"],
+            },
+            hover_provider: true,
         },
         server_info: Info { name: "lrkit-lsp" },
     }
@@ -117,7 +152,40 @@ fn write_answer<S: Serializer>(answer: &Answer, out: &mut S) -> Result<(), S::Er
         Answer::Initialized(encoding) => write_member("result", &begun_with(*encoding), out),
         Answer::Done => write_member("result", &(), out),
         Answer::Error(code) => write_member("error", code, out),
+        Answer::Refused(words) => write_refusal(words.as_str(), out),
+        Answer::Locations(list) => write_member("result", list, out),
+        Answer::Highlights(list) => write_member("result", list, out),
+        Answer::Range(range) => write_member("result", range, out),
+        Answer::Edits(uri, edits) => write_edits(uri.as_str(), edits, out),
+        Answer::Symbols(list) => write_member("result", list, out),
+        Answer::Folds(list) => write_member("result", list, out),
+        Answer::Items(list) => write_member("result", list, out),
+        Answer::Hover(hover) => write_member("result", hover, out),
     }
+}
+
+/// Writes the member with the edits of a document.
+fn write_edits<S: Serializer>(uri: &str, edits: &Vec<Edit>, out: &mut S) -> Result<(), S::Error>
+    ensures { OnOk result (Member (codes "result") (λ old new. ⊤) (S.written out.old) (S.written out.new)) }
+{
+    out.key_cased("result", Case::AsIs)?;
+    out.begin_map(None)?;
+    out.key_cased("changes", Case::AsIs)?;
+    out.begin_map(None)?;
+    write_member(uri, edits, out)?;
+    out.end_map()?;
+    out.end_map()
+}
+
+/// Writes the member with the error of a refusal.
+fn write_refusal<S: Serializer>(words: &str, out: &mut S) -> Result<(), S::Error>
+    ensures { OnOk result (Member (codes "error") (WritesRefusal words.now) (S.written out.old) (S.written out.new)) }
+{
+    out.key_cased("error", Case::AsIs)?;
+    out.begin_map(None)?;
+    write_member("code", &ErrorCode::RequestFailed.number(), out)?;
+    write_member("message", &words, out)?;
+    out.end_map()
 }
 
 impl Described for Response {
@@ -137,14 +205,18 @@ impl Serialize for Response {
 }
 
 /// Returns a message behind its heading.
-fn frame_text(alloc: Global, body: &str) -> Result<String, ServeFault> {
+fn frame_text(alloc: Global, body: &str) -> Result<String, ServeFault>
+    ensures { IfOk result (λ s. string_bytes s ≡ frame body.now) }
+{
     let len = body.len();
     let text = format!(in alloc; "Content-Length: {len}\r\n\r\n{body}")?;
     Ok(text)
 }
 
 /// Returns an answer as it is sent.
-pub fn response_text(alloc: Global, response: &Response) -> Result<String, ServeFault> {
+pub fn response_text(alloc: Global, response: &Response) -> Result<String, ServeFault>
+    ensures { IfOk result (λ s. IsFrameOf (WritesResponse response.now) (string_bytes s)) }
+{
     match serde_json::to_string(alloc, response) {
         Ok(body) => frame_text(alloc, body.as_str()),
         Err(_) => Err(ServeFault::Unwritten),
@@ -152,7 +224,9 @@ pub fn response_text(alloc: Global, response: &Response) -> Result<String, Serve
 }
 
 /// Returns diagnostics as they are sent.
-pub fn published_text(alloc: Global, published: &Published) -> Result<String, ServeFault> {
+pub fn published_text(alloc: Global, published: &Published) -> Result<String, ServeFault>
+    ensures { IfOk result (λ s. IsFrame (string_bytes s)) }
+{
     let note = Note {
         jsonrpc: "2.0",
         method: "textDocument/publishDiagnostics",

@@ -4,8 +4,11 @@
 mod serving;
 
 use serving::{ProgramFault, serve};
+use std::io::ErrorKind;
 use std::process::ExitCode;
 use std::{env, io};
+
+const OUT_OF_MEMORY: u8 = 6;
 
 const USAGE: u8 = 64;
 
@@ -20,7 +23,8 @@ Status: 0 ended by exit after shutdown; 1 ended otherwise; 5 input or output; 6 
 fn main(rt: HostRuntime) -> ExitCode {
     let code = match env::args(&rt) {
         Ok(words) if words.len() <= 1 => answer(&rt),
-        _ => usage(&rt),
+        Ok(_) => usage(&rt),
+        Err(e) => refuse_arguments(&rt, &e),
     };
     ExitCode::from(code)
 }
@@ -37,6 +41,15 @@ fn answer<R: io::Input + Print + Eprint + AllocGlobal>(rt: &R) -> u8 {
             let _ = eprintln!(rt; "{fault}");
             6
         }
+    }
+}
+
+fn refuse_arguments(rt: &impl Eprint, error: &io::Error) -> u8 {
+    if error.kind() == ErrorKind::OutOfMemory {
+        let _ = eprintln!(rt; "out of memory");
+        OUT_OF_MEMORY
+    } else {
+        usage(rt)
     }
 }
 

@@ -1,5 +1,8 @@
 //! From bytes to bytes.
 
+ghost use Rattle.std.specs.Prelude.{IfOk, IfSome};
+ghost use Rattle.lrkit_lsp.specs.Statuses.{IsStatus};
+
 use byte_streams::{Recorded, Sink, Source, write_all};
 use language_server::{
     ErrorCode, Frame, Frames, Id, Message, ServeFault, Server, Taken, published_text, read_message,
@@ -8,7 +11,7 @@ use language_server::{
 use std::alloc::{AllocError, Global};
 use std::io;
 
-/// Why the program ends before it is told to.
+/// Why the program ends before the client ends it.
 #[derive(Clone, Copy, Debug)]
 pub enum ProgramFault {
     /// A read or a write failed.
@@ -60,12 +63,15 @@ fn send_taken<W: Sink>(alloc: Global, out: &mut W, taken: &Taken) -> Result<(), 
 }
 
 /// Does what a frame asks for, and returns the status if the server ends.
+#[tactic(auto, using(crate::proofs::Ended::of_status))]
 fn take_frame<W: Sink>(
     alloc: Global,
     out: &mut W,
     server: &mut Server,
     frame: Frame,
-) -> Result<Option<u8>, ProgramFault> {
+) -> Result<Option<u8>, ProgramFault>
+    ensures { IfOk result (λ o. IfSome o IsStatus) }
+{
     let message = message_in(alloc, frame)?;
     let taken = server.take(alloc, message)?;
     let sent = send_taken(alloc, out, &taken);
@@ -84,7 +90,9 @@ fn take_bytes<W: Sink>(
     server: &mut Server,
     frames: &mut Frames,
     bytes: &[u8],
-) -> Result<Option<u8>, ProgramFault> {
+) -> Result<Option<u8>, ProgramFault>
+    ensures { IfOk result (λ o. IfSome o IsStatus) }
+{
     'bytes: for byte in bytes {
         if let Some(frame) = frames.take(*byte)? {
             let status = take_frame(alloc, out, server, frame)?;
@@ -103,7 +111,9 @@ fn serve_with<S: Source, W: Sink>(
     out: &mut W,
     server: &mut Server,
     frames: &mut Frames,
-) -> Result<u8, ProgramFault> {
+) -> Result<u8, ProgramFault>
+    ensures { IfOk result IsStatus }
+{
     let mut chunk = [0u8; 8192];
     for _ in 0..u64::MAX {
         let count = match source.read(&mut chunk) {
@@ -119,8 +129,10 @@ fn serve_with<S: Source, W: Sink>(
     Ok(server.phase.status())
 }
 
-/// Serves a client on standard input and output, and returns the status.
-pub fn serve<R: io::Input + Print + AllocGlobal>(rt: &R) -> Result<u8, ProgramFault> {
+/// Serves a client on standard input and output, and returns the status: that of the phase that the session ends in.
+pub fn serve<R: io::Input + Print + AllocGlobal>(rt: &R) -> Result<u8, ProgramFault>
+    ensures { IfOk result IsStatus }
+{
     let alloc = rt.alloc();
     let mut source = Recorded::new(rt.reader());
     let mut out = Recorded::new(io::writer(rt));

@@ -1,0 +1,59 @@
+//! What a query is about: a document, and places in it.
+
+use crate::answers::{Location, Range};
+use crate::places::{Encoding, Position, offset_at, position_at};
+use grammar_index::{GrammarIndex, Occurrence};
+use std::alloc::{AllocError, Global};
+
+/// A document that a query is about.
+#[derive(Clone, Copy)]
+pub struct Asked<'a> {
+    /// Its name.
+    pub uri: &'a str,
+    /// Its text.
+    pub text: &'a str,
+    /// Where the text names its rules and tokens.
+    pub index: &'a GrammarIndex,
+    /// Where its lines begin.
+    pub starts: &'a [usize],
+    /// In what columns count.
+    pub encoding: Encoding,
+}
+
+impl<'a> Asked<'a> {
+    /// Returns the range between two offsets.
+    pub fn range(&self, start: usize, end: usize) -> Range {
+        Range {
+            start: position_at(self.text, self.starts, start, self.encoding),
+            end: position_at(self.text, self.starts, end, self.encoding),
+        }
+    }
+
+    /// Returns the range of a name.
+    pub fn range_of(&self, one: Occurrence) -> Range {
+        self.range(one.start, one.end)
+    }
+
+    /// Returns the text between two offsets; none where an end is within a character.
+    pub fn part(&self, start: usize, end: usize) -> &'a str {
+        self.text.get(start..end).unwrap_or("")
+    }
+
+    /// Returns the offset of a place.
+    pub fn offset(&self, place: Position) -> usize {
+        offset_at(self.text, self.starts, place, self.encoding)
+    }
+
+    /// Returns the name at a place, if there is one.
+    pub fn name_at(&self, place: Option<Position>) -> Option<Occurrence> {
+        let place = place?;
+        self.index.at(self.offset(place))
+    }
+
+    /// Returns the location of a name.
+    pub fn location(&self, alloc: Global, one: Occurrence) -> Result<Location, AllocError> {
+        let uri = String::from_str(alloc, self.uri)?;
+        let range = self.range_of(one);
+        Ok(Location { uri, range })
+    }
+}

@@ -1,0 +1,172 @@
+//! Where a name is defined and used, and what renames it.
+
+ghost use Rattle.std.specs.Prelude.{◌≡◌, IfOk, None};
+ghost use Rattle.language_server.specs.Protocol.{MayFail, error_in};
+ghost use Rattle.language_server.specs.declared.messages.Query.TheVariants.{Rename};
+
+use crate::answers::{Answer, Edit, Highlight, Location};
+use crate::asked::Asked;
+use crate::messages::Params;
+use grammar_index::{Occurrence, RenameFault, check_rename, definitions, references};
+use std::alloc::{AllocError, Global};
+
+/// Adds the locations of names.
+fn push_locations(
+    alloc: Global,
+    asked: &Asked<'_>,
+    list: &mut Vec<Location>,
+    names: &[Occurrence],
+) -> Result<(), AllocError> {
+    'names: for index in 0..names.len() {
+        list.push(asked.location(alloc, names[index])?)?;
+    }
+    Ok(())
+}
+
+/// Returns the locations of names.
+fn locations(alloc: Global, asked: &Asked<'_>, names: &[Occurrence]) -> Result<Answer, AllocError>
+    ensures { IfOk result (λ a. error_in a ≡ None) }
+{
+    let mut list = Vec::new(alloc);
+    match push_locations(alloc, asked, &mut list, names) {
+        Ok(()) => Ok(Answer::Locations(list)),
+        Err(e) => {
+            drop(list);
+            Err(e)
+        }
+    }
+}
+
+/// Answers where what is named at a place is defined.
+pub fn definition_answer(
+    alloc: Global,
+    asked: &Asked<'_>,
+    params: &Params,
+) -> Result<Answer, AllocError>
+    ensures { IfOk result (λ a. error_in a ≡ None) }
+{
+    let Some(one) = asked.name_at(params.place) else {
+        return Ok(Answer::Done);
+    };
+    let found = definitions(alloc, asked.text, asked.index.names(), one)?;
+    locations(alloc, asked, found.as_slice())
+}
+
+/// Answers where what is named at a place is named.
+pub fn references_answer(
+    alloc: Global,
+    asked: &Asked<'_>,
+    params: &Params,
+) -> Result<Answer, AllocError>
+    ensures { IfOk result (λ a. error_in a ≡ None) }
+{
+    let Some(one) = asked.name_at(params.place) else {
+        return Ok(Answer::Done);
+    };
+    let found = references(alloc, asked.text, asked.index.names(), one)?;
+    locations(alloc, asked, found.as_slice())
+}
+
+/// Answers which places to highlight with a place.
+pub fn highlights_answer(
+    alloc: Global,
+    asked: &Asked<'_>,
+    params: &Params,
+) -> Result<Answer, AllocError>
+    ensures { IfOk result (λ a. error_in a ≡ None) }
+{
+    let Some(one) = asked.name_at(params.place) else {
+        return Ok(Answer::Done);
+    };
+    let found = references(alloc, asked.text, asked.index.names(), one)?;
+    let mut list = Vec::new(alloc);
+    'names: for index in 0..found.len() {
+        let range = asked.range_of(found[index]);
+        list.push(Highlight { range })?;
+    }
+    Ok(Answer::Highlights(list))
+}
+
+/// Answers the range of the name at a place, which may be renamed.
+pub fn renamable_answer(asked: &Asked<'_>, params: &Params) -> Answer
+    ensures { error_in result ≡ None }
+{
+    match asked.name_at(params.place) {
+        Some(one) => Answer::Range(asked.range_of(one)),
+        None => Answer::Done,
+    }
+}
+
+/// Returns why a name is refused, in words.
+fn refusal(alloc: Global, name: &str, fault: RenameFault) -> Result<String, AllocError> {
+    match fault {
+        RenameFault::NoName => format!(in alloc; "'{name}' is no name here"),
+        RenameFault::Taken => format!(in alloc; "'{name}' is taken"),
+    }
+}
+
+/// Adds the edits that give names another text.
+fn push_edits(
+    alloc: Global,
+    asked: &Asked<'_>,
+    edits: &mut Vec<Edit>,
+    names: &[Occurrence],
+    text: &str,
+) -> Result<(), AllocError> {
+    'names: for index in 0..names.len() {
+        let new_text = String::from_str(alloc, text)?;
+        let range = asked.range_of(names[index]);
+        edits.push(Edit { range, new_text })?;
+    }
+    Ok(())
+}
+
+/// Returns the edits that rename what is named at an occurrence.
+fn edits(
+    alloc: Global,
+    asked: &Asked<'_>,
+    one: Occurrence,
+    name: &str,
+) -> Result<Vec<Edit>, AllocError> {
+    let found = references(alloc, asked.text, asked.index.names(), one)?;
+    let mut edits = Vec::new(alloc);
+    match push_edits(alloc, asked, &mut edits, found.as_slice(), name) {
+        Ok(()) => Ok(edits),
+        Err(e) => {
+            drop(edits);
+            Err(e)
+        }
+    }
+}
+
+/// Returns the edits that rename what is named at an occurrence, by their document.
+fn rename_edits(
+    alloc: Global,
+    asked: &Asked<'_>,
+    one: Occurrence,
+    name: &str,
+) -> Result<Answer, AllocError>
+    ensures { IfOk result (λ a. error_in a ≡ None) }
+{
+    let uri = String::from_str(alloc, asked.uri)?;
+    let edits = edits(alloc, asked, one, name)?;
+    Ok(Answer::Edits(uri, edits))
+}
+
+/// Answers the edits that rename what is named at a place, or why it can't have the name.
+pub fn rename_answer(
+    alloc: Global,
+    asked: &Asked<'_>,
+    params: &Params,
+) -> Result<Answer, AllocError>
+    ensures { IfOk result (λ a. MayFail (error_in a) Rename) }
+{
+    let (Some(one), Some(name)) = (asked.name_at(params.place), &params.new_name) else {
+        return Ok(Answer::Done);
+    };
+    let name = name.as_str();
+    match check_rename(alloc, asked.text, asked.index.names(), one, name)? {
+        Some(fault) => Ok(Answer::Refused(refusal(alloc, name, fault)?)),
+        None => rename_edits(alloc, asked, one, name),
+    }
+}

@@ -1,0 +1,108 @@
+//! The outline of a document: its rules and declared tokens, and what can be folded.
+
+ghost use Rattle.std.specs.Prelude.{◌≡◌, IfOk, None};
+ghost use Rattle.language_server.specs.Protocol.{error_in};
+
+use crate::answers::{Answer, Fold, Range, Symbol};
+use crate::asked::Asked;
+use grammar_index::{Heading, Occurrence, Role};
+use std::alloc::{AllocError, Global};
+
+/// The protocol's numbers of kinds of symbols.
+const RULE: u8 = 12;
+
+const TOKEN: u8 = 14;
+
+/// Adds a symbol.
+fn push_symbol(
+    alloc: Global,
+    asked: &Asked<'_>,
+    list: &mut Vec<Symbol>,
+    one: Occurrence,
+    kind: u8,
+    range: Range,
+) -> Result<(), AllocError> {
+    let name = String::from_str(alloc, asked.part(one.start, one.end))?;
+    let selection_range = asked.range_of(one);
+    list.push(Symbol {
+        name,
+        kind,
+        range,
+        selection_range,
+    })?;
+    Ok(())
+}
+
+/// Adds the declared tokens.
+fn push_tokens(
+    alloc: Global,
+    asked: &Asked<'_>,
+    list: &mut Vec<Symbol>,
+    names: &[Occurrence],
+) -> Result<(), AllocError> {
+    'names: for index in 0..names.len() {
+        let one = names[index];
+        if one.role == Role::Declared {
+            push_symbol(alloc, asked, list, one, TOKEN, asked.range_of(one))?;
+        }
+    }
+    Ok(())
+}
+
+/// Adds the rules.
+fn push_rules(
+    alloc: Global,
+    asked: &Asked<'_>,
+    list: &mut Vec<Symbol>,
+    headings: &[Heading],
+) -> Result<(), AllocError> {
+    'headings: for index in 0..headings.len() {
+        let one = headings[index];
+        let range = asked.range(one.name.start, one.end);
+        push_symbol(alloc, asked, list, one.name, RULE, range)?;
+    }
+    Ok(())
+}
+
+/// Adds the declared tokens and the rules.
+fn push_symbols(
+    alloc: Global,
+    asked: &Asked<'_>,
+    list: &mut Vec<Symbol>,
+) -> Result<(), AllocError> {
+    push_tokens(alloc, asked, list, asked.index.names())?;
+    push_rules(alloc, asked, list, asked.index.headings())
+}
+
+/// Answers the declared tokens and the rules.
+pub fn symbols_answer(alloc: Global, asked: &Asked<'_>) -> Result<Answer, AllocError>
+    ensures { IfOk result (λ a. error_in a ≡ None) }
+{
+    let mut list = Vec::new(alloc);
+    match push_symbols(alloc, asked, &mut list) {
+        Ok(()) => Ok(Answer::Symbols(list)),
+        Err(e) => {
+            drop(list);
+            Err(e)
+        }
+    }
+}
+
+/// Answers which lines can be folded: those of each heading with more than one.
+pub fn folds_answer(alloc: Global, asked: &Asked<'_>) -> Result<Answer, AllocError>
+    ensures { IfOk result (λ a. error_in a ≡ None) }
+{
+    let headings = asked.index.headings();
+    let mut list = Vec::new(alloc);
+    'headings: for index in 0..headings.len() {
+        let one = headings[index];
+        let range = asked.range(one.name.start, one.end);
+        if range.start.line < range.end.line {
+            list.push(Fold {
+                start_line: range.start.line,
+                end_line: range.end.line,
+            })?;
+        }
+    }
+    Ok(Answer::Folds(list))
+}

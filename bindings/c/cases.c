@@ -123,6 +123,9 @@ static int says(const test *of, const char *kind, size_t number) {
     return of->error.at && strcmp(shown, of->error.at) == 0;
 }
 
+static int run_errors(lrkit_parser *parser, const test *of, size_t edits);
+static int run_object(lrkit_parser *parser, const test *of, size_t edits);
+
 /* Runs a case, and returns 1 where it is right, 0 where it is wrong, -1 where memory was refused. */
 static int run(const test *of) {
     lrkit_answer found;
@@ -156,6 +159,12 @@ static int run(const test *of) {
     uint8_t message[4096];
     found = lrkit_parser_new(bytes(&of->grammar), of->grammar.len, bytes(&of->lexer), of->lexer.len, &parser, message, sizeof message);
     if (found.status != LRKIT_OK) return found.status == LRKIT_MEMORY ? -1 : found.status == LRKIT_GRAMMAR && says(of, "grammar", 0);
+    if (strncmp(of->kind.at, "errors ", 7) == 0 || strncmp(of->kind.at, "object ", 7) == 0) {
+        size_t edits = (size_t)atoi(of->kind.at + 7);
+        right = of->kind.at[0] == 'e' ? run_errors(&parser, of, edits) : run_object(&parser, of, edits);
+        lrkit_parser_free(&parser);
+        return right;
+    }
     found = parse(&parser, of, &nodes, &place);
     if (found.status == LRKIT_MEMORY) right = -1;
     else if (found.status == LRKIT_UNLEXED) right = says(of, "unlexed", place.start);
@@ -166,6 +175,93 @@ static int run(const test *of) {
         if (!right) fprintf(stderr, "%s: found\n%s\n", of->name.at, made.at);
     }
     lrkit_parser_free(&parser);
+    return right;
+}
+
+/* Adds what the marks say, a line for each error, for the tokens that may come there, and for each repair. */
+static void show_marks(lrkit_parser *parser, const text *input, const lrkit_mark *marks, size_t count, text *out) {
+    static const char *edits[] = {"insert ", "delete ", "shift "};
+    lrkit_counts counts = {0};
+    uint8_t name[512];
+    char line[64];
+    size_t expected = 0;
+    lrkit_parser_counts(parser, &counts);
+    for (size_t i = 0; i < count; i++) {
+        const lrkit_mark *mark = &marks[i];
+        if (mark->kind == LRKIT_ERROR) {
+            snprintf(line, sizeof line, "error %zu", mark->start);
+            append_line(out, line, strlen(line));
+            if (i + 1 < count && marks[i + 1].kind == LRKIT_EXPECTED) append(out, "\nexpected", 9);
+            expected = 0;
+        } else if (mark->kind == LRKIT_EXPECTED) {
+            if (expected++ < 8) {
+                lrkit_answer said = lrkit_name(parser, 0, mark->token, name, sizeof name);
+                append(out, " ", 1);
+                append(out, mark->token + 1 == counts.tokens ? "$" : (char *)name, mark->token + 1 == counts.tokens ? 1 : said.count);
+            }
+            if (expected > 8 && (i + 1 == count || marks[i + 1].kind != LRKIT_EXPECTED)) {
+                snprintf(line, sizeof line, " +%zu", expected - 8);
+                append(out, line, strlen(line));
+            }
+        } else if (mark->kind == LRKIT_REPAIR) append(out, "\nrepair", 7);
+        else {
+            append(out, marks[i - 1].kind == LRKIT_REPAIR ? " " : ", ", marks[i - 1].kind == LRKIT_REPAIR ? 1 : 2);
+            append(out, edits[mark->kind - LRKIT_INSERT], strlen(edits[mark->kind - LRKIT_INSERT]));
+            if (mark->kind == LRKIT_INSERT) append(out, (char *)name, lrkit_name(parser, 0, mark->token, name, sizeof name).count);
+            else append(out, input->at + mark->start, mark->end - mark->start);
+        }
+    }
+}
+
+/* Finds the errors of a text into rooms that are too small first, and by its lexemes too. Returns whether both calls find the same. */
+static int find_errors(lrkit_parser *parser, const test *of, size_t edits, lrkit_answer *found, lrkit_mark **marks) {
+    lrkit_mark none, *others;
+    lrkit_place place;
+    *found = lrkit_parse_text_errors(parser, bytes(&of->input), of->input.len, edits, &none, 0);
+    *marks = take((found->count + 1) * sizeof **marks);
+    if (found->status == LRKIT_ROOM) *found = lrkit_parse_text_errors(parser, bytes(&of->input), of->input.len, edits, *marks, found->count);
+    if (found->status == LRKIT_MEMORY || found->status == LRKIT_UNLEXED) return 1;
+    lrkit_lexeme *lexemes = take((of->input.len + 1) * sizeof *lexemes);
+    lrkit_answer lexed = lrkit_lex(parser, bytes(&of->input), of->input.len, lexemes, of->input.len + 1, &place);
+    if (lexed.status == LRKIT_MEMORY) *found = lexed;
+    if (lexed.status != LRKIT_OK) return lexed.status == LRKIT_MEMORY;
+    others = take((found->count + 1) * sizeof *others);
+    lrkit_answer same = lrkit_parse_errors(parser, lexemes, lexed.count, edits, others, found->count);
+    if (same.status == LRKIT_MEMORY) *found = same;
+    if (same.status != found->status || same.count != found->count) return same.status == LRKIT_MEMORY;
+    for (size_t i = 0; i < found->count; i++) {
+        const lrkit_mark *a = &(*marks)[i], *b = &others[i];
+        if (a->kind != b->kind || a->token != b->token || a->start != b->start || a->end != b->end) return 0;
+    }
+    return 1;
+}
+
+/* Runs a case of errors, and returns as `run` does. */
+static int run_errors(lrkit_parser *parser, const test *of, size_t edits) {
+    lrkit_mark *marks;
+    lrkit_answer found;
+    text made = {0};
+    int same = find_errors(parser, of, edits, &found, &marks);
+    if (found.status == LRKIT_MEMORY) return -1;
+    if (found.status == LRKIT_UNLEXED) return found.count == 1 && marks[0].kind == LRKIT_ERROR && marks[0].token == UINT32_MAX && says(of, "unlexed", marks[0].start);
+    if (found.status != (of->has_wanted ? LRKIT_SYNTAX : LRKIT_OK)) return 0;
+    show_marks(parser, &of->input, marks, found.count, &made);
+    int right = same && made.len == of->wanted.len && memcmp(bytes(&made), bytes(&of->wanted), made.len) == 0;
+    if (!right) fprintf(stderr, "%s: found\n%s\n", of->name.at, made.at ? made.at : "");
+    return right;
+}
+
+/* Runs a case of an object, and returns as `run` does. */
+static int run_object(lrkit_parser *parser, const test *of, size_t edits) {
+    uint8_t none, *out;
+    lrkit_answer found = lrkit_parse_text_json(parser, bytes(&of->input), of->input.len, (const uint8_t *)"g.txt", 5, edits, &none, 0);
+    if (found.status == LRKIT_MEMORY) return -1;
+    size_t room = found.count;
+    out = take(room + 1);
+    found = lrkit_parse_text_json(parser, bytes(&of->input), of->input.len, (const uint8_t *)"g.txt", 5, edits, out, room);
+    if (found.status == LRKIT_MEMORY) return -1;
+    int right = found.status == LRKIT_OK && found.count == of->wanted.len + 1 && memcmp(out, bytes(&of->wanted), of->wanted.len) == 0 && out[room - 1] == '\n';
+    if (!right) fprintf(stderr, "%s: found\n%.*s\n", of->name.at, (int)found.count, (char *)out);
     return right;
 }
 

@@ -36,24 +36,20 @@ static double value(const char *text, const lrkit_node *nodes, size_t count) {
     return stack[0];
 }
 
-/* Prints where a text has an error, and what may come there. */
-static void explain(lrkit_parser *parser, const char *text, lrkit_answer answer, lrkit_place place) {
-    uint8_t words[128];
-    lrkit_answer said = lrkit_error_text(answer.status, words, sizeof words);
-    printf("error at byte %zu: %.*s", place.start, (int)said.count, words);
-    if (answer.status == LRKIT_SYNTAX) {
-        lrkit_lexeme lexemes[64];
-        lrkit_place ignored;
-        uint32_t tokens[16];
-        lrkit_answer all = lrkit_lex(parser, TEXT(text), lexemes, 64, &ignored);
-        size_t before = 0;
-        while (all.status == LRKIT_OK && before < all.count && lexemes[before].start < place.start) before++;
-        lrkit_answer next = lrkit_expected(parser, lexemes, before, tokens, 16);
-        printf(all.status == LRKIT_MEMORY || next.status == LRKIT_MEMORY ? "; out of memory" : "; expected:");
-        for (size_t i = 0; next.status == LRKIT_OK && i < next.count; i++) {
-            said = lrkit_name(parser, 0, tokens[i], words, sizeof words);
-            printf(" %.*s", (int)said.count, words);
-        }
+/* Prints where a text has errors, what may come there, and by which steps each could be repaired. */
+static void explain(lrkit_parser *parser, const char *text) {
+    static const char *before[] = {"error at byte", "; expected:", "; repair:", " insert", " delete", " shift"};
+    lrkit_mark marks[128];
+    lrkit_answer found = lrkit_parse_text_errors(parser, TEXT(text), 3, marks, 128);
+    if (found.status != LRKIT_SYNTAX && found.status != LRKIT_UNLEXED) printf("%s", found.status == LRKIT_MEMORY ? "out of memory" : "too many errors");
+    for (size_t i = 0; (found.status == LRKIT_SYNTAX || found.status == LRKIT_UNLEXED) && i < found.count; i++) {
+        const lrkit_mark *mark = &marks[i];
+        uint8_t name[128];
+        if (mark->kind != LRKIT_EXPECTED || marks[i - 1].kind != LRKIT_EXPECTED) printf("%s", before[mark->kind]);
+        if (mark->kind == LRKIT_ERROR) printf(" %zu", mark->start);
+        if (mark->kind == LRKIT_ERROR || mark->kind == LRKIT_REPAIR) continue;
+        lrkit_answer said = lrkit_name(parser, 0, mark->token, name, sizeof name);
+        printf(" %.*s", said.status == LRKIT_OK ? (int)said.count : 0, name);
     }
     printf("\n");
 }
@@ -81,7 +77,7 @@ int main(void) {
         }
         printf("%s: ", lines[i]);
         if (parsed.status == LRKIT_OK) printf("%g\n", value(lines[i], nodes, parsed.count));
-        else explain(&parser, lines[i], parsed, place);
+        else explain(&parser, lines[i]);
     }
     lrkit_parser_free(&parser);
     return status;

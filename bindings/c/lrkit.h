@@ -1,7 +1,7 @@
 /* lrkit: LR parsers from Yacc grammars, with a checked table.
  *
  * Offsets and lengths count bytes. A text is a pointer and a length; it need not end in a zero byte, and a length of 0 goes with
- * any pointer that is not null. Rooms (`out`, `nodes`, `lexemes`, `tokens`) are the caller's, with how many elements they have: a
+ * any pointer that is not null. Rooms (`out`, `nodes`, `lexemes`, `tokens`, `marks`) are the caller's, with how many elements they have: a
  * call writes at their front, as many as its answer's `count` says, and leaves the rest alone. Where the status is LRKIT_ROOM,
  * nothing is written to the room, and `count` is how many elements are wanted.
  *
@@ -73,6 +73,25 @@ typedef struct {
     size_t end;
 } lrkit_place;
 
+/* What a mark says of an error of a parse. */
+enum lrkit_mark_kind {
+    LRKIT_ERROR = 0,    /* an error, at the lexeme that can't come there; behind the last lexeme, at the end token */
+    LRKIT_EXPECTED = 1, /* a token that may come there; each such mark is behind its error's */
+    LRKIT_REPAIR = 2,   /* the beginning of a repair: its steps are the marks behind it, up to the next repair or error */
+    LRKIT_INSERT = 3,   /* a step: insert a lexeme of the token in front of the next lexeme */
+    LRKIT_DELETE = 4,   /* a step: delete this lexeme, which is the next one */
+    LRKIT_SHIFT = 5     /* a step: keep this lexeme, which is the next one */
+};
+
+/* A part of what is said of an error. The errors of a parse are one list of marks: each error, the tokens that may come there by
+ * ascending numbers, and its repairs, those with the fewest edits first. */
+typedef struct {
+    uint32_t kind;     /* one of lrkit_mark_kind */
+    uint32_t token;    /* the token's number; UINT32_MAX for LRKIT_REPAIR, and for an error of the lexer */
+    size_t start;      /* the bytes of the lexeme; 0 for LRKIT_EXPECTED, LRKIT_REPAIR and LRKIT_INSERT */
+    size_t end;
+} lrkit_mark;
+
 /* What a grammar and its table have. */
 typedef struct {
     size_t tokens;         /* the end token is the last one */
@@ -133,6 +152,22 @@ lrkit_answer lrkit_parse_once(const uint8_t *grammar, size_t grammar_len, const 
 /* Writes the numbers of the tokens that may come behind lexemes, ascending; the end token is the last one, where they are a sentence.
  * LRKIT_SYNTAX where the lexemes themselves have an error: pass those in front of it. */
 lrkit_answer lrkit_expected(lrkit_parser *parser, const lrkit_lexeme *lexemes, size_t lexemes_len, uint32_t *tokens, size_t room);
+
+/* Parses lexemes and goes on behind each error, and writes the marks of all errors, as `lrkit-parse --repairs` lists them
+ * (docs/PROGRAMS.md, "Repairs"). A repair has at most `edits` insertions and deletions; an error has eight at most. The parse goes on by
+ * the first repair, and ends at an error without one; with 0 edits that is the first error. With LRKIT_OK there is no error, and `count`
+ * is 0; with LRKIT_SYNTAX it counts the marks. The calls above know of the first error alone, and of no repairs. */
+lrkit_answer lrkit_parse_errors(lrkit_parser *parser, const lrkit_lexeme *lexemes, size_t lexemes_len, size_t edits, lrkit_mark *marks, size_t room);
+
+/* Lexes a text and does the same. With LRKIT_UNLEXED there is one mark, of the error of the lexer. */
+lrkit_answer lrkit_parse_text_errors(lrkit_parser *parser, const uint8_t *text, size_t text_len, size_t edits, lrkit_mark *marks, size_t room);
+
+/* Parses lexemes of a text in this way, and writes one JSON object and a line feed: that of `lrkit-parse --json`, with the nodes of the
+ * tree or all errors (docs/parse.schema.json). Its path is empty. The status is LRKIT_OK with errors too. */
+lrkit_answer lrkit_parse_json(lrkit_parser *parser, const lrkit_lexeme *lexemes, size_t lexemes_len, const uint8_t *text, size_t text_len, size_t edits, uint8_t *out, size_t room);
+
+/* Lexes a text and does the same, with this path in the object. */
+lrkit_answer lrkit_parse_text_json(lrkit_parser *parser, const uint8_t *text, size_t text_len, const uint8_t *path, size_t path_len, size_t edits, uint8_t *out, size_t room);
 
 #ifdef __cplusplus
 }

@@ -15,10 +15,11 @@ variable LRKIT_LIBRARY says, then beside this file, then where the system looks.
 
 from ._errors import FileFault, GrammarFault, LexemeFault, LexerFault, LexingFault, LrkitError, ParseFault, SyntaxFault
 from ._parser import Counts, Lexeme, Parser, Report, import_text, report
+from ._repairs import Step, TextError
 from ._tree import Node
 
 __all__ = [
     "Counts", "FileFault", "GrammarFault", "LexemeFault", "Lexeme", "LexerFault", "LexingFault", "LrkitError", "Node", "ParseFault", "Parser", "Report",
-    "SyntaxFault", "import_text", "report",
+    "Step", "SyntaxFault", "TextError", "import_text", "report",
 ]
 __version__ = "0.1.0"

@@ -22,7 +22,7 @@ class FileFault(LrkitError):
 
 
 class LexemeFault(LrkitError):
-    """A lexeme is of no token, or starts before the one in front of it."""
+    """A lexeme is of no token, starts before the one in front of it, or has a place that no text has."""
 
 
 class ParseFault(LrkitError):

@@ -6,6 +6,7 @@ import ctypes
 import os
 from ctypes import POINTER, Structure, c_size_t, c_uint32, c_void_p
 
+ERROR, EXPECTED, REPAIR, INSERT, DELETE, SHIFT = range(6)
 OK, MEMORY, NOT_UTF8, ROOM, GRAMMAR, LEXER, FILE, UNLEXED, SYNTAX, LEXEMES, UNKNOWN, NO_LEXER = range(12)
 
 
@@ -29,6 +30,10 @@ class Place(Structure):
     _fields_ = [("token", c_uint32), ("start", c_size_t), ("end", c_size_t)]
 
 
+class RawMark(Structure):
+    _fields_ = [("kind", c_uint32), ("token", c_uint32), ("start", c_size_t), ("end", c_size_t)]
+
+
 class RawCounts(Structure):
     _fields_ = [(name, c_size_t) for name in ("tokens", "rules", "productions", "shift_reduce", "reduce_reduce")]
 
@@ -47,6 +52,10 @@ CALLS = {
     "lrkit_parse": [POINTER(Handle), c_void_p, c_size_t, c_void_p, c_size_t, POINTER(Place)],
     "lrkit_parse_text": [POINTER(Handle), *TEXT, c_void_p, c_size_t, POINTER(Place)],
     "lrkit_expected": [POINTER(Handle), c_void_p, c_size_t, c_void_p, c_size_t],
+    "lrkit_parse_errors": [POINTER(Handle), c_void_p, c_size_t, c_size_t, c_void_p, c_size_t],
+    "lrkit_parse_text_errors": [POINTER(Handle), *TEXT, c_size_t, c_void_p, c_size_t],
+    "lrkit_parse_json": [POINTER(Handle), c_void_p, c_size_t, *TEXT, c_size_t, *OUT],
+    "lrkit_parse_text_json": [POINTER(Handle), *TEXT, *TEXT, c_size_t, *OUT],
 }
 
 

@@ -3,14 +3,23 @@
 from __future__ import annotations
 
 import ctypes
+import mmap
+from array import array
+from bisect import bisect_left
 from dataclasses import dataclass
 from typing import Any, Callable, Dict, List, NoReturn, Optional, Sequence, Tuple
 
 from . import _library as lib
 from ._errors import FileFault, GrammarFault, LexemeFault, LexerFault, LexingFault, LrkitError, SyntaxFault
+from ._repairs import TextError, errors_of
 from ._tree import Node, Nodes, Offsets
 
 LIBRARY = lib.LIBRARY
+# The array type of each size of an integer.
+ARRAY_TYPES = {array(it).itemsize: it for it in "QLI"}
+# From how many bytes on nodes get pages of their own, and how these are asked for, where a system has several ways.
+LARGE_ROOM = 1 << 20
+PAGES: Dict[str, int] = {"flags": mmap.MAP_PRIVATE | mmap.MAP_ANONYMOUS} if hasattr(mmap, "MAP_ANONYMOUS") else {}
 
 
 @dataclass(frozen=True)
@@ -80,6 +89,32 @@ def import_text(file: str) -> str:
 def front_of(raw: Any, count: int) -> Any:
     """Lends the first lexemes of an array."""
     return (lib.RawLexeme * count).from_buffer(raw) if count else (lib.RawLexeme * 0)()
+
+
+def column(raw: Any, name: str) -> memoryview:
+    """Lends a field of all structures of an array, which has one or more: no object is made for each of them."""
+    field, size = getattr(raw._type_, name), ctypes.sizeof(raw._type_)
+    return memoryview(raw).cast("B").cast(ARRAY_TYPES[field.size])[field.offset // field.size :: size // field.size]
+
+
+def put_column(raw: Any, name: str, values: List[int]) -> None:
+    """Writes a field of all structures of an array, which has one or more. Raises LexemeFault where a value has no place in it."""
+    room = column(raw, name)
+    try:
+        room[:] = array(room.format, values)  # type: ignore[call-overload]
+    except OverflowError:
+        fail(lib.LEXEMES)
+
+
+def node_room(count: int) -> Any:
+    """Makes room for nodes. A large one takes memory only where nodes are written."""
+    kind, size = lib.RawNode * count, count * ctypes.sizeof(lib.RawNode)
+    if size < LARGE_ROOM:
+        return kind()
+    try:
+        return kind.from_buffer(mmap.mmap(-1, size, **PAGES))
+    except OSError:
+        fail(lib.MEMORY)
 
 
 class Parser:
@@ -187,6 +222,45 @@ class Parser:
 
         return self._tree_of_call(call, text, data, place, lambda: raw, 16 + 4 * len(raw))
 
+    def errors(self, text: str, edits: int = 3) -> List[TextError]:
+        """Returns all errors of a text, with repairs of at most `edits` insertions and deletions; none where it has a tree. With 0 there
+        are no repairs, and only the first error."""
+        data = text.encode()
+
+        def call(marks: Any, room: int) -> lib.Answer:
+            return LIBRARY.lrkit_parse_text_errors(self._at(), data, len(data), edits, marks, room)
+
+        return self._errors_of_call(call, Offsets(text, data))
+
+    def lexeme_errors(self, lexemes: Sequence[Lexeme], text: str = "", edits: int = 3) -> List[TextError]:
+        """Returns all errors of lexemes, whose places are in the text, as `errors` does."""
+        data = text.encode()
+        raw = self._lexeme_array(lexemes, text, data)
+
+        def call(marks: Any, room: int) -> lib.Answer:
+            return LIBRARY.lrkit_parse_errors(self._at(), raw, len(raw), edits, marks, room)
+
+        return self._errors_of_call(call, Offsets(text, data))
+
+    def parse_json(self, text: str, path: str = "", edits: int = 3) -> str:
+        """Returns the parse of a text as one JSON object: its tree, or all errors with their repairs (docs/parse.schema.json)."""
+        data, place = text.encode(), path.encode()
+        status, shown = call_with_room(
+            lambda out, room: LIBRARY.lrkit_parse_text_json(self._at(), data, len(data), place, len(place), edits, out, room), 256 + 64 * len(data)
+        )
+        if status != lib.OK:
+            fail(status)
+        return shown
+
+    def parse_lexemes_json(self, lexemes: Sequence[Lexeme], text: str = "", edits: int = 3) -> str:
+        """Returns the parse of lexemes, whose places are in the text, as `parse_json` does. The path is empty."""
+        data = text.encode()
+        raw = self._lexeme_array(lexemes, text, data)
+        status, shown = call_with_room(lambda out, room: LIBRARY.lrkit_parse_json(self._at(), raw, len(raw), data, len(data), edits, out, room), 256 + 64 * len(data))
+        if status != lib.OK:
+            fail(status)
+        return shown
+
     def lex(self, text: str) -> List[Lexeme]:
         """Returns the lexemes of a text. Raises LexingFault where there is none."""
         data = text.encode()
@@ -206,12 +280,21 @@ class Parser:
     def _lexeme_array(self, lexemes: Sequence[Lexeme], text: str, data: bytes) -> Any:
         """Makes the library's lexemes of these."""
         raw = (lib.RawLexeme * len(lexemes))()
+        if not len(raw):
+            return raw
+        names, starts, lengths = [it.token for it in lexemes], [it.start for it in lexemes], [it.length for it in lexemes]
         offsets = Offsets(text, data)
-        for at, it in enumerate(lexemes):
-            first, last = it.start, it.start + it.length
-            if not offsets.same:
-                first, last = offsets.bytes[first], offsets.bytes[last]
-            raw[at] = lib.RawLexeme(self.token(it.token), first, last - first)
+        if not offsets.same:
+            if min(starts) < 0 or min(lengths) < 0:
+                fail(lib.LEXEMES)
+            ends = [offsets.byte_offsets[start + length] for start, length in zip(starts, lengths)]
+            starts = [offsets.byte_offsets[start] for start in starts]
+            lengths = [end - start for start, end in zip(starts, ends)]
+        for name in dict.fromkeys(names):
+            self.token(name)
+        put_column(raw, "token", list(map(self._tokens.__getitem__, names)))
+        put_column(raw, "start", starts)
+        put_column(raw, "length", lengths)
         return raw
 
     def _raw_lexemes(self, data: bytes, offsets: Optional[Offsets] = None) -> Any:
@@ -241,7 +324,7 @@ class Parser:
     def _tree_of_call(self, call: Callable[[Any, int], lib.Answer], text: str, data: bytes, place: lib.Place, lexemes: Callable[[], Any], room: int) -> Node:
         """Calls until the room is large enough, and returns the tree or raises the first error."""
         while True:
-            nodes = (lib.RawNode * room)()
+            nodes = node_room(room)
             answer = call(nodes, room)
             if answer.status != lib.ROOM:
                 break
@@ -252,9 +335,22 @@ class Parser:
             fail(answer.status)
         return Node(Nodes(nodes, answer.count, text, data, self.names), answer.count - 1)
 
+    def _errors_of_call(self, call: Callable[[Any, int], lib.Answer], offsets: Offsets) -> List[TextError]:
+        """Calls until the room is large enough, and returns the errors."""
+        room = 256
+        while True:
+            marks = (lib.RawMark * room)()
+            answer = call(marks, room)
+            if answer.status != lib.ROOM:
+                break
+            room = answer.count
+        if answer.status not in (lib.OK, lib.SYNTAX, lib.UNLEXED):
+            fail(answer.status)
+        return errors_of(marks[: answer.count], self.names[0], offsets)
+
     def _raise(self, status: int, place: lib.Place, offsets: Offsets, raw: Any) -> NoReturn:
         """Raises the error at a place."""
-        before = sum(it.start < place.start for it in raw)
+        before = bisect_left(column(raw, "start"), place.start) if len(raw) else 0
         expected = self._expected(front_of(raw, before)) or []
         start, end = offsets.char(place.start), offsets.char(place.end)
         if status == lib.UNLEXED:

@@ -4,9 +4,13 @@ from __future__ import annotations
 
 import ctypes
 import struct
+from functools import cached_property
+from itertools import accumulate, compress
 from typing import Any, Iterator, List, Optional, Tuple
 
 ROW = struct.Struct("@IINNN")
+# For each byte whether a character begins with it.
+FIRST_BYTES = bytes(it & 0xC0 != 0x80 for it in range(256))
 
 
 class Offsets:
@@ -14,18 +18,21 @@ class Offsets:
 
     def __init__(self, text: str, data: bytes) -> None:
         self.same = len(text) == len(data)
-        self.chars: List[int] = []
-        self.bytes: List[int] = []
-        if not self.same:
-            for at, char in enumerate(text):
-                self.bytes.append(len(self.chars))
-                self.chars.extend([at] * len(char.encode()))
-            self.bytes.append(len(self.chars))
-            self.chars.append(len(text))
+        self._marks = b"" if self.same else data.translate(FIRST_BYTES) + b"\1"
+
+    @cached_property
+    def byte_offsets(self) -> List[int]:
+        """The offset in bytes of each character, and of the end."""
+        return list(compress(range(len(self._marks)), self._marks))
+
+    @cached_property
+    def char_offsets(self) -> List[int]:
+        """The offset in characters of each byte, and of the end."""
+        return list(accumulate(self._marks, initial=-1))[1:]
 
     def char(self, at: int) -> int:
         """Returns the character's offset for a byte's."""
-        return at if self.same else self.chars[at]
+        return at if self.same else self.char_offsets[at]
 
 
 class Nodes:
@@ -43,7 +50,7 @@ class Nodes:
             self.rows = list(ROW.iter_unpack(ctypes.string_at(self.raw, self.count * ROW.size)))
             offsets = Offsets(self.text, self.data)
             if not offsets.same:
-                chars = offsets.chars
+                chars = offsets.char_offsets
                 self.rows = [(kind, number, chars[start], chars[end], children) for kind, number, start, end, children in self.rows]
             self.raw = self.data = None
         return self.rows[at]

@@ -31,6 +31,32 @@ def shown(tree: lrkit.Node) -> str:
     return "\n".join(lines)
 
 
+def errors(parser: lrkit.Parser, text: str, edits: int) -> str:
+    """Writes all errors: a line for each, for the first eight tokens that may come there, and for each repair."""
+    found = parser.errors(text, edits)
+    if len(found) == 1 and found[0].token is None:
+        return f"!unlexed {len(text[: found[0].start].encode())}"
+    assert parser.lexeme_errors(parser.lex(text), text, edits) == found
+    lines = []
+    for error in found:
+        names = [it or "$" for it in error.expected]
+        more = [f"+{len(names) - 8}"] if len(names) > 8 else []
+        lines += [f"error {len(text[: error.start].encode())}", " ".join(["expected", *names[:8], *more])]
+        for repair in error.repairs:
+            lines.append("repair " + ", ".join(f"{it.edit} {it.token if it.start is None else text[it.start : it.end]}" for it in repair))
+    return "\n".join(lines)
+
+
+def parsed(parser: lrkit.Parser, case: Dict[str, str]) -> str:
+    """Returns what a parser answers to a text."""
+    kind, *edits = case["@"].split()
+    if kind == "errors":
+        return errors(parser, case["<"], int(edits[0]))
+    if kind == "object":
+        return parser.parse_json(case["<"], "g.txt", int(edits[0])).rstrip("\n")
+    return shown(parser.parse(case["<"]))
+
+
 def answer(case: Dict[str, str]) -> str:
     """Returns what the library answers, as a case says it."""
     if case["@"] == "report":
@@ -39,7 +65,7 @@ def answer(case: Dict[str, str]) -> str:
         if case["@"] == "import":
             return lrkit.import_text(case["|"])
         with lrkit.Parser.from_text(case["|"], case["$"]) as parser:
-            return shown(parser.parse(case["<"]))
+            return parsed(parser, case)
     except lrkit.FileFault:
         return "!file 0"
     except lrkit.GrammarFault:

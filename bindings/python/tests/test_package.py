@@ -3,7 +3,7 @@
 import json
 import unittest
 
-from lrkit import Counts, GrammarFault, Lexeme, LexemeFault, LexerFault, LexingFault, LrkitError, Parser, SyntaxFault, report
+from lrkit import Counts, GrammarFault, Lexeme, LexemeFault, LexerFault, LexingFault, LrkitError, Parser, Step, SyntaxFault, TextError, report
 
 GRAMMAR = "%token NUM\n%left '+'\n%left '*'\n%%\nE: E '+' E | E '*' E | NUM;\n"
 LEXER = '%%\n[0-9]+ "NUM"\n\\+ "+"\n\\* "*"\n[ \\n]+ ;\n'
@@ -32,6 +32,18 @@ class Package(unittest.TestCase):
             self.parser.parse("1 2")
         self.assertEqual(sorted(caught.exception.expected), ["", "*", "+"])
 
+    def test_errors(self) -> None:
+        found = self.parser.errors("1 + * 2", edits=1)
+        self.assertEqual(found, [TextError(4, 5, "*", ["NUM"], [[Step("delete", "*", 4, 5)], [Step("insert", "NUM")]])])
+        self.assertEqual(str(found[0].repairs[0][0]), "delete *")
+        self.assertEqual(self.parser.errors("1 + 2"), [])
+        self.assertEqual(self.parser.errors("1 + * 2", edits=0), [TextError(4, 5, "*", ["NUM"])])
+        self.assertEqual([(it.start, it.token, it.expected, it.repairs) for it in self.parser.errors("1 + é 2")], [(4, None, [], [])])
+        lexemes = self.parser.lex("1 + * 2")
+        self.assertEqual(self.parser.lexeme_errors(lexemes, "1 + * 2", 1), found)
+        self.assertEqual(self.parser.parse_lexemes_json(lexemes, "1 + * 2", 1), self.parser.parse_json("1 + * 2", "", 1))
+        self.assertEqual(json.loads(self.parser.parse_json("1 +", "sum.txt", 1))["errors"][0]["expected"], ["NUM"])
+
     def test_characters(self) -> None:
         with self.assertRaises(LexingFault) as caught:
             self.parser.parse("1 + é 2")
@@ -53,6 +65,34 @@ class Package(unittest.TestCase):
             parser.parse_lexemes([Lexeme("none", 0, 1)])
         with self.assertRaises(LrkitError):
             parser.parse("1")
+
+    def test_lexeme_lists(self) -> None:
+        parser = Parser.from_text("%token A B\n%%\nS: | S A | S B;\n")
+        self.assertEqual(parser.parse_lexemes([]).sexp(), "(S)")
+        text = "äöäbb" * 5000
+        lexemes = [it for at in range(0, len(text), 5) for it in (Lexeme("A", at, 3), Lexeme("B", at + 3, 2))]
+        found = list(parser.parse_lexemes(tuple(lexemes), text).lexemes())
+        self.assertEqual([(it.name, it.start, it.end, it.text) for it in found], [(it.token, it.start, it.start + it.length, text[it.start : it.start + it.length]) for it in lexemes])
+        with self.assertRaises(KeyError) as caught:
+            parser.parse_lexemes([Lexeme("A", 0, 1), Lexeme("first", 1, 1), Lexeme("other", 2, 1)])
+        self.assertEqual(caught.exception.args, ("first",))
+        for lexeme in (Lexeme("A", -1, 1), Lexeme("A", 0, -1), Lexeme("A", 1 << 64, 1)):
+            with self.assertRaises(LexemeFault):
+                parser.parse_lexemes([lexeme])
+        with self.assertRaises(LexemeFault):
+            parser.parse_lexemes([Lexeme("A", -1, 1)], text)
+
+    def test_errors_of_lists(self) -> None:
+        parser = Parser.from_text(GRAMMAR)
+        text = "é + 22 22"
+        lexemes = [Lexeme("NUM", 0, 1), Lexeme("+", 2, 1), Lexeme("NUM", 4, 2), Lexeme("NUM", 7, 2)]
+        with self.assertRaises(SyntaxFault) as caught:
+            parser.parse_lexemes(lexemes, text)
+        fault = caught.exception
+        self.assertEqual((fault.start, fault.end, fault.token, sorted(fault.expected)), (7, 9, "NUM", ["", "*", "+"]))
+        with self.assertRaises(SyntaxFault) as caught:
+            parser.parse_lexemes([])
+        self.assertEqual((caught.exception.token, caught.exception.expected), ("", ["NUM"]))
 
     def test_counts(self) -> None:
         self.assertEqual(self.parser.counts, Counts(tokens=4, rules=2, productions=4, shift_reduce=0, reduce_reduce=0))

@@ -45,6 +45,16 @@ pub struct Place {
     pub end: usize,
 }
 
+/// A mark.
+#[repr(C)]
+#[derive(Clone, Copy, Default)]
+pub struct RawMark {
+    pub kind: u32,
+    pub token: u32,
+    pub start: usize,
+    pub end: usize,
+}
+
 /// Counts.
 #[repr(C)]
 #[derive(Clone, Copy, Debug, Default, PartialEq, Eq)]
@@ -63,6 +73,12 @@ pub struct Counts {
 
 pub const TEXT: u32 = 0;
 pub const JSON: u32 = 1;
+
+pub const ERROR: u32 = 0;
+pub const EXPECTED: u32 = 1;
+pub const REPAIR: u32 = 2;
+pub const INSERT: u32 = 3;
+pub const DELETE: u32 = 4;
 
 pub const OK: u32 = 0;
 pub const MEMORY: u32 = 1;
@@ -87,4 +103,8 @@ extern "C" {
     pub fn lrkit_parse(parser: *mut Handle, lexemes: *const RawLexeme, len: usize, nodes: *mut RawNode, room: usize, place: *mut Place) -> Answer;
     pub fn lrkit_parse_text(parser: *mut Handle, text: *const u8, len: usize, nodes: *mut RawNode, room: usize, place: *mut Place) -> Answer;
     pub fn lrkit_expected(parser: *mut Handle, lexemes: *const RawLexeme, len: usize, tokens: *mut u32, room: usize) -> Answer;
+    pub fn lrkit_parse_errors(parser: *mut Handle, lexemes: *const RawLexeme, len: usize, edits: usize, marks: *mut RawMark, room: usize) -> Answer;
+    pub fn lrkit_parse_text_errors(parser: *mut Handle, text: *const u8, len: usize, edits: usize, marks: *mut RawMark, room: usize) -> Answer;
+    pub fn lrkit_parse_json(parser: *mut Handle, lexemes: *const RawLexeme, len: usize, text: *const u8, text_len: usize, edits: usize, out: *mut u8, room: usize) -> Answer;
+    pub fn lrkit_parse_text_json(parser: *mut Handle, text: *const u8, len: usize, path: *const u8, path_len: usize, edits: usize, out: *mut u8, room: usize) -> Answer;
 }

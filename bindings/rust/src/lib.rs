@@ -12,13 +12,15 @@
 
 mod calls;
 mod error;
+mod repairs;
 mod tree;
 
 pub use calls::Counts;
 pub use error::{Error, Fault};
+pub use repairs::{Step, TextError};
 pub use tree::{Node, Tree};
 
-use calls::{Answer, Handle, Place, RawLexeme, RawNode};
+use calls::{Answer, Handle, Place, RawLexeme, RawMark, RawNode};
 use std::collections::HashMap;
 use std::ptr;
 use std::rc::Rc;
@@ -208,6 +210,49 @@ impl Parser {
         self.expected_raw(&raw_lexemes(lexemes))
     }
 
+    /// Returns all errors of a text, with repairs of at most `edits` insertions and deletions; none where it has a tree. With 0 there
+    /// are no repairs, and only the first error.
+    pub fn errors(&mut self, text: &str, edits: usize) -> Result<Vec<TextError>, Error> {
+        let handle = &mut self.handle;
+        let (status, marks) = marks_of_call(|marks, room| unsafe { calls::lrkit_parse_text_errors(handle, text.as_ptr(), text.len(), edits, marks, room) });
+        self.errors_of(status, &marks)
+    }
+
+    /// Returns all errors of lexemes, as `errors` does.
+    pub fn lexeme_errors(&mut self, lexemes: &[Lexeme], edits: usize) -> Result<Vec<TextError>, Error> {
+        let raws = raw_lexemes(lexemes);
+        let handle = &mut self.handle;
+        let (status, marks) = marks_of_call(|marks, room| unsafe { calls::lrkit_parse_errors(handle, raws.as_ptr(), raws.len(), edits, marks, room) });
+        self.errors_of(status, &marks)
+    }
+
+    fn errors_of(&mut self, status: u32, marks: &[RawMark]) -> Result<Vec<TextError>, Error> {
+        match status {
+            calls::OK | calls::SYNTAX | calls::UNLEXED => Ok(repairs::errors_of(marks, |token| self.name(0, token))),
+            _ => Err(error_of(status, String::new())),
+        }
+    }
+
+    /// Returns the parse of a text as one JSON object with this path: its tree, or all errors with their repairs.
+    /// `docs/parse.schema.json` describes it.
+    pub fn parse_json(&mut self, text: &str, path: &str, edits: usize) -> Result<String, Error> {
+        let handle = &mut self.handle;
+        let (status, object) = call_with_room(256 + 64 * text.len(), |out, room| unsafe {
+            calls::lrkit_parse_text_json(handle, text.as_ptr(), text.len(), path.as_ptr(), path.len(), edits, out, room)
+        });
+        text_or_error(status, object)
+    }
+
+    /// Returns the parse of lexemes, whose places are in the text, as `parse_json` does. The path is empty.
+    pub fn parse_lexemes_json(&mut self, lexemes: &[Lexeme], text: &str, edits: usize) -> Result<String, Error> {
+        let raws = raw_lexemes(lexemes);
+        let handle = &mut self.handle;
+        let (status, object) = call_with_room(256 + 64 * text.len(), |out, room| unsafe {
+            calls::lrkit_parse_json(handle, raws.as_ptr(), raws.len(), text.as_ptr(), text.len(), edits, out, room)
+        });
+        text_or_error(status, object)
+    }
+
     fn expected_raw(&mut self, raws: &[RawLexeme]) -> Result<Option<Vec<u32>>, Error> {
         let mut tokens = vec![0; self.counts().tokens];
         let answer = unsafe { calls::lrkit_expected(&mut self.handle, raws.as_ptr(), raws.len(), tokens.as_mut_ptr(), tokens.len()) };
@@ -273,5 +318,18 @@ fn nodes_of_call(first: usize, mut call: impl FnMut(*mut RawNode, usize, *mut Pl
             return (answer.status, nodes, place);
         }
         nodes.resize(answer.count, RawNode::default());
+    }
+}
+
+/// Finds errors until the room is large enough.
+fn marks_of_call(mut call: impl FnMut(*mut RawMark, usize) -> Answer) -> (u32, Vec<RawMark>) {
+    let mut marks = vec![RawMark::default(); 256];
+    loop {
+        let answer = call(marks.as_mut_ptr(), marks.len());
+        if answer.status != calls::ROOM {
+            marks.truncate(answer.count);
+            return (answer.status, marks);
+        }
+        marks.resize(answer.count, RawMark::default());
     }
 }

@@ -1,6 +1,6 @@
 //! The cases of bindings/cases.
 
-use lrkit::{Error, Node, Parser, Tree};
+use lrkit::{Error, Node, Parser, Step, TextError, Tree};
 use std::collections::HashMap;
 use std::{fs, thread};
 
@@ -43,6 +43,43 @@ fn shown(tree: &Tree) -> String {
     lines.join("\n")
 }
 
+/// Writes all errors: a line for each, for the first eight tokens that may come there, and for each repair.
+fn errors(parser: &mut Parser, text: &str, edits: usize) -> Result<String, Error> {
+    let found = parser.errors(text, edits)?;
+    if let [TextError { token: None, start, .. }] = found[..] {
+        return Ok(format!("!unlexed {start}"));
+    }
+    assert_eq!(parser.lex(text).and_then(|lexemes| parser.lexeme_errors(&lexemes, edits))?, found);
+    let mut lines = Vec::new();
+    for error in &found {
+        let names: Vec<_> = error.expected.iter().take(8).map(|it| if it.is_empty() { "$" } else { it }).collect();
+        let more = if error.expected.len() > 8 { format!(" +{}", error.expected.len() - 8) } else { String::new() };
+        lines.push(format!("error {}\nexpected {}{more}", error.start, names.join(" ")));
+        for repair in &error.repairs {
+            let steps: Vec<_> = repair
+                .iter()
+                .map(|step| match step {
+                    Step::Insert { token } => format!("insert {token}"),
+                    Step::Delete { start, end, .. } => format!("delete {}", &text[*start..*end]),
+                    Step::Shift { start, end, .. } => format!("shift {}", &text[*start..*end]),
+                })
+                .collect();
+            lines.push(format!("repair {}", steps.join(", ")));
+        }
+    }
+    Ok(lines.join("\n"))
+}
+
+/// Returns what a parser answers to a text.
+fn parsed(parser: &mut Parser, case: &Case) -> Result<String, Error> {
+    let text = part(case, '<');
+    match part(case, '@').split_once(' ') {
+        Some(("errors", edits)) => errors(parser, text, edits.parse().unwrap()),
+        Some((_, edits)) => Ok(parser.parse_json(text, "g.txt", edits.parse().unwrap())?.trim_end().to_string()),
+        None => Ok(shown(&parser.parse(text)?)),
+    }
+}
+
 /// Returns what the library answers, as a case says it.
 fn answer(case: &Case) -> String {
     let grammar = part(case, '|');
@@ -54,7 +91,7 @@ fn answer(case: &Case) -> String {
             return format!("!outcome {}", told.outcome);
         },
         "import" => lrkit::import(grammar),
-        _ => Parser::with_lexer(grammar, part(case, '$')).and_then(|mut parser| Ok(shown(&parser.parse(part(case, '<'))?))),
+        _ => Parser::with_lexer(grammar, part(case, '$')).and_then(|mut parser| parsed(&mut parser, case)),
     };
     match found {
         Ok(text) => text,
@@ -104,4 +141,16 @@ fn errors_have_places() {
     assert_eq!(parser.counts().tokens, 3);
     assert!(matches!(Parser::new("%% S: T;"), Err(Error::Grammar(_))));
     assert!(matches!(Parser::new("%% S: 'a';").unwrap().parse("a"), Err(Error::Other(_))));
+}
+
+#[test]
+fn lexemes_as_objects() {
+    let mut parser = Parser::with_lexer("%token NUM\n%left '+'\n%%\nE: E '+' E | NUM;\n", "%%\n[0-9]+ \"NUM\"\n\\+ \"+\"\n[ ]+ ;\n").unwrap();
+    let text = "1 + + 2";
+    let lexemes = parser.lex(text).unwrap();
+    assert_eq!(parser.parse_lexemes_json(&lexemes, text, 1).unwrap(), parser.parse_json(text, "", 1).unwrap());
+    let found = parser.errors(text, 1).unwrap();
+    assert_eq!(found.len(), 1);
+    assert_eq!(found[0].repairs[0][0].to_string(), "delete +");
+    assert!(matches!(Parser::new("%% S: 'a';").unwrap().errors("a", 1), Err(Error::Other(_))));
 }

@@ -1,9 +1,14 @@
 pub mod Answers
+pub mod Errors
 pub mod Expecting
+pub mod Faults
 pub mod Handles
 pub mod Lexed
 pub mod Making
+pub mod Marks
 pub mod Names
 pub mod Nodes
+pub mod Objects
 pub mod Parses
+pub mod Reading
 pub mod Reports

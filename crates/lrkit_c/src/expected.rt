@@ -35,7 +35,7 @@ fn push_if(set: bool, number: u32, numbers: &mut Vec<u32>) -> Result<(), AllocEr
 }
 
 /// Returns the numbers of the tokens whose bits are set, ascending.
-fn numbers_of(alloc: Global, bits: &Vob) -> Result<Vec<u32>, AllocError>
+pub fn numbers_of(alloc: Global, bits: &Vob) -> Result<Vec<u32>, AllocError>
     requires { length bits.now.bits < 2 ^ 32 }
     ensures { IfOk result (λ v. v.items ≡ numbers_of bits.now.bits) }
 {

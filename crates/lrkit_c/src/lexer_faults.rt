@@ -1,22 +1,40 @@
 //! What is wrong with a lexer's text, in words.
 
+ghost use Rattle.std.specs.Prelude.{◌≡◌, ℕ, [], ◌++◌, IfOk, List, OnOk, string_bytes};
+ghost use Rattle.lrkit_c.specs.Faults.{BeginsAt, ShowsEach, ShowsError, ShowsFault, lexer_source};
+
 use cfg_base::span::Span;
 use cfg_sections::header::HeaderError;
 use lrlex::{LexFileError, LexTextError};
 use std::alloc::{AllocError, Global};
 use text_messages::{Severity, Source};
 
-/// Adds the errors of a section.
+/// Adds an error of a section, at the first of its places.
+fn push_section_error(
+    alloc: Global,
+    text: &mut String,
+    source: &Source<'_>,
+    error: &HeaderError<Span>,
+) -> Result<(), AllocError>
+    ensures { OnOk result ((shown : List ℕ) × ShowsError source.now error.now shown × (string_bytes text.new ≡ string_bytes text.old ++ shown)) }
+{
+    let message = error.to_string(alloc)?;
+    let first = error.locations.as_slice().first().copied();
+    source.push_message_if(alloc, text, Severity::Error, first, message.as_str())
+}
+
+/// Adds the errors of a section, in their order.
 fn push_section(
     alloc: Global,
     text: &mut String,
     source: &Source<'_>,
     errors: &[HeaderError<Span>],
-) -> Result<(), AllocError> {
-    'errors: for error in errors {
-        let message = error.to_string(alloc)?;
-        let first = error.locations.as_slice().first().copied();
-        source.push_message_if(alloc, text, Severity::Error, first, message.as_str())?;
+) -> Result<(), AllocError>
+    requires { string_bytes text.old ≡ [] }
+    ensures { OnOk result (ShowsEach source.now errors.now (string_bytes text.new)) }
+{
+    'errors: for index in 0..errors.len() {
+        push_section_error(alloc, text, source, &errors[index])?;
     }
     Ok(())
 }
@@ -28,11 +46,29 @@ fn push_expression(
     source: &Source<'_>,
     span: Span,
     shown: &str,
-) -> Result<(), AllocError> {
+) -> Result<(), AllocError>
+    requires { string_bytes text.old ≡ [] }
+    ensures { OnOk result (BeginsAt source.now span (string_bytes text.new)) }
+{
     let words = match shown.split_once(": ") {
         Some((_, words)) => words,
         None => shown,
     };
+    source.push_message(alloc, text, Severity::Error, span, words)
+}
+
+/// Adds the fault of a line, at an offset.
+fn push_line(
+    alloc: Global,
+    text: &mut String,
+    source: &Source<'_>,
+    offset: usize,
+    words: &str,
+) -> Result<(), AllocError>
+    requires { string_bytes text.old ≡ [] }
+    ensures { OnOk result (BeginsAt source.now (record { start = offset; end = offset }) (string_bytes text.new)) }
+{
+    let span = Span::new(offset, offset);
     source.push_message(alloc, text, Severity::Error, span, words)
 }
 
@@ -42,7 +78,10 @@ fn push_error(
     text: &mut String,
     source: &Source<'_>,
     error: &LexTextError,
-) -> Result<(), AllocError> {
+) -> Result<(), AllocError>
+    requires { string_bytes text.old ≡ [] }
+    ensures { OnOk result (ShowsFault source.now error.now (string_bytes text.new)) }
+{
     match error {
         LexTextError::File(LexFileError::Memory(e)) => Err(*e),
         LexTextError::File(LexFileError::Section(errors)) => {
@@ -50,8 +89,7 @@ fn push_error(
         }
         LexTextError::File(LexFileError::Line(fault)) => {
             let message = fault.kind.to_string(alloc)?;
-            let span = Span::new(fault.offset, fault.offset);
-            source.push_message(alloc, text, Severity::Error, span, message.as_str())
+            push_line(alloc, text, source, fault.offset, message.as_str())
         }
         LexTextError::Expression(span, error) => {
             let shown = error.to_string(alloc)?;
@@ -60,8 +98,10 @@ fn push_error(
     }
 }
 
-/// Returns what is wrong with a lexer's text.
-pub fn lexer_fault(alloc: Global, text: &str, error: &LexTextError) -> Result<String, AllocError> {
+/// Returns what is wrong with a lexer's text: a message at the place of the error, or one for each error of its section.
+pub fn lexer_fault(alloc: Global, text: &str, error: &LexTextError) -> Result<String, AllocError>
+    ensures { IfOk result (λ shown. ShowsFault (lexer_source text.now) error.now (string_bytes shown)) }
+{
     let source = Source::new(alloc, text, "lexer")?;
     let mut shown = String::new(alloc);
     let pushed = push_error(alloc, &mut shown, &source, error);

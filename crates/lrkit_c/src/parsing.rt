@@ -127,7 +127,7 @@ fn put_parsed(
 }
 
 /// Returns the status of a refusal.
-fn status_of(refusal: &ParseRefusal) -> Status
+pub fn status_of(refusal: &ParseRefusal) -> Status
     ensures { result ≡ status_for refusal.now }
 {
     match refusal {

@@ -42,11 +42,15 @@ pub record IsParseOf (g : GrammarValue) (a : Asked) (parsed : Parsed) (p : Parse
   pub line : p.line ≡ a.line
   pub found : HasFound g a parsed p.errors.items (option_map (λ v. v.items) p.tree)
 
--- the object was written, on a line
-pub record WritesObject (g : GrammarValue) (a : Asked) (parsed : Parsed) (known known' : Option (List ℕ)) : Type 0 where
+-- the line of such an object, with the next tokens where they are asked for
+pub record IsTextObject (g : GrammarValue) (a : Asked) (parsed : Parsed) (line : List ℕ) : Type 0 where
   pub object : Parse
   pub is : IsParseOf g a parsed object
   pub next : IsTrue a.next ↔ IsSome object.next
-  pub line : List ℕ
   pub is_line : IsParseLine object line
+
+-- it was written
+pub record WritesObject (g : GrammarValue) (a : Asked) (parsed : Parsed) (known known' : Option (List ℕ)) : Type 0 where
+  pub line : List ℕ
+  pub is_line : IsTextObject g a parsed line
   pub written : Appends known known' line

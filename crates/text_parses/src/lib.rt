@@ -46,3 +46,5 @@ pub use answer_fault::AnswerFault;
 pub use answering::{answer_line, answer_text};
 pub use form::{FileLine, Form, Input};
 pub use names::{Grammar, token_name};
+pub use objects::object_text;
+pub use parsing::{Parsed, WordError, WordLexer, WordTree, parse_lexed};

@@ -1,16 +1,16 @@
 //! The parse of a text as plain values, and as a JSON object.
 
-ghost use Rattle.std.specs.Prelude.{◌≡◌, ◌↔◌, IfOk, IsSome, IsTrue, None, OnOk};
+ghost use Rattle.std.specs.Prelude.{◌≡◌, ◌↔◌, IfOk, IsSome, IsTrue, None, OnOk, string_bytes};
 ghost use Rattle.report_forms.specs.Within.{range_numbers, range_numbers_at};
-ghost use Rattle.text_parses.specs.AskedTexts.{asked_in};
-ghost use Rattle.text_parses.specs.ParseObjects.{IsParseOf, WritesObject, error_places, places_of};
+ghost use Rattle.text_parses.specs.AskedTexts.{asked_in, asked_of};
+ghost use Rattle.text_parses.specs.ParseObjects.{IsTextObject, IsParseOf, WritesObject, error_places, places_of};
 ghost use Rattle.text_parses.specs.Parses.{placed};
 ghost use Rattle.text_parses.specs.declared.parsing.Parsed.TheVariants.{Tree, Unlexed, Unparsed};
 
 use crate::answer_fault::AnswerFault;
 use crate::errors::{lex_message, span_in_source};
 use crate::expected::{Reader, message_of};
-use crate::form::Shown;
+use crate::form::{Input, Shown};
 use crate::names::{Grammar, names_of, shown_token};
 use crate::next::next_of;
 use crate::nodes::nodes_of;
@@ -22,7 +22,7 @@ use lrpar::ParseRepair;
 use parser_kit::ParserKit;
 use report_forms::{Parse, Step, TextError, parse_json, range_at};
 use std::alloc::{AllocError, Global};
-use text_messages::part;
+use text_messages::{Source, part};
 
 /// The version of the object.
 const VERSION: u32 = 1;
@@ -215,6 +215,52 @@ fn next_names<'a>(
     Ok(Some(names))
 }
 
+/// Returns what is found of a text as one JSON object, a line.
+fn object_line(
+    alloc: Global,
+    kit: &ParserKit<u32>,
+    shown: Shown<'_>,
+    lexer: &WordLexer<'_>,
+    parsed: &Parsed,
+) -> Result<String, AnswerFault>
+    ensures { IfOk result (λ line. IsTextObject kit.now.parser.grammar (asked_in shown.entry) parsed.now (string_bytes line)) }
+{
+    let mut object = parse_object(alloc, kit, shown, lexer, parsed)?;
+    object.next = next_names(alloc, kit, shown, lexer)?;
+    let line = parse_json(alloc, &object);
+    drop(object);
+    match line {
+        Ok(line) => Ok(line),
+        Err(_) => Err(AnswerFault::Unwritten),
+    }
+}
+
+/// Returns what `parse_lexed` found of a text as one JSON object, a line. It is the object that `answer_text` writes.
+///
+/// # Errors
+///
+/// Where memory is refused.
+pub fn object_text(
+    alloc: Global,
+    kit: &ParserKit<u32>,
+    lexer: &WordLexer<'_>,
+    parsed: &Parsed,
+    input: Input<'_>,
+) -> Result<String, AnswerFault>
+    ensures { IfOk result (λ line. IsTextObject kit.now.parser.grammar (asked_of input.entry) parsed.now (string_bytes line)) }
+{
+    let source = Source::new(alloc, input.text, input.path)?;
+    let shown = Shown {
+        input,
+        source: &source,
+        start: 0,
+        line: None,
+    };
+    let line = object_line(alloc, kit, shown, lexer, parsed);
+    drop(source);
+    line
+}
+
 /// Writes what is found of a text as one JSON object on a line.
 pub(crate) fn write_object<W: Sink>(
     alloc: Global,
@@ -226,15 +272,7 @@ pub(crate) fn write_object<W: Sink>(
 ) -> Result<(), AnswerFault>
     ensures { OnOk result (WritesObject kit.now.parser.grammar (asked_in shown.entry) parsed.now (W.known out.old) (W.known out.new)) }
 {
-    let mut object = parse_object(alloc, kit, shown, lexer, parsed)?;
-    object.next = next_names(alloc, kit, shown, lexer)?;
-    let line = parse_json(alloc, &object);
-    drop(object);
-    match line {
-        Ok(line) => {
-            write_all(out, line.as_bytes())?;
-            Ok(())
-        }
-        Err(_) => Err(AnswerFault::Unwritten),
-    }
+    let line = object_line(alloc, kit, shown, lexer, parsed)?;
+    write_all(out, line.as_bytes())?;
+    Ok(())
 }

@@ -168,7 +168,7 @@ fn parse_repaired(
 /// # Errors
 ///
 /// Where memory is refused, or the lexemes are none that a run takes.
-pub(crate) fn parse_lexed(
+pub fn parse_lexed(
     alloc: Global,
     kit: &ParserKit<u32>,
     lexer: &WordLexer<'_>,

@@ -110,9 +110,10 @@ function showParse(parse) {
     }
     const tree = treeOf(parse.nodes, asked.text);
     const select = (start, end) => selectIn("text", start, end);
-    const picture = tree.length > MOST_NODES ? element("p", {}, `${tree.length} nodes are too many to draw: at most ${MOST_NODES}.`) : element("div", { class: "wide picture", tabindex: 0, role: "group", "aria-label": "tree, picture" }, treePicture(tree, at("outputs").clientWidth, select));
+    const help = element("p", { class: "aside" }, "Arrow keys move between the nodes. Enter or a click selects a node's part of the text.");
+    const picture = tree.length > MOST_NODES ? [element("p", {}, `${tree.length} nodes are too many to draw: at most ${MOST_NODES}.`)] : [element("div", { class: "wide picture" }, treePicture(tree, at("outputs").clientWidth, select)), help];
     const text = element("details", { open: tree.length <= 200 ? "" : null }, element("summary", {}, `As text, ${tree.length} nodes`), element("pre", { id: "tree-text", tabindex: 0 }, treeText(tree)));
-    at("tree").replaceChildren(picture, text);
+    at("tree").replaceChildren(...picture, text);
 }
 
 /** Takes a part of an answer. */

@@ -16,14 +16,14 @@ const WIDEST = 1.4;
 /** Pictures of more nodes are too large to be of use. */
 export const MOST_NODES = 5000;
 
-/** Makes a tree of nodes that each come right behind their children: each node gets its children, level and text, the root first. */
+/** Makes a tree of nodes that each come right behind their children: each node gets its parent, children, level and text, the root first. */
 export function treeOf(nodes, text) {
     const bytes = new TextEncoder().encode(text);
     const decoder = new TextDecoder("utf-8", { ignoreBOM: true });
     const open = [];
     for (const node of nodes) {
         const below = node.children === 0 ? [] : open.splice(open.length - node.children);
-        open.push({ isToken: node.kind === 0, name: node.name, start: node.start, end: node.end, text: node.kind === 0 ? decoder.decode(bytes.subarray(node.start, node.end)) : null, below, level: 0 });
+        open.push({ isToken: node.kind === 0, name: node.name, start: node.start, end: node.end, text: node.kind === 0 ? decoder.decode(bytes.subarray(node.start, node.end)) : null, above: null, below, level: 0 });
     }
     const root = open.pop();
     const order = [];
@@ -31,7 +31,7 @@ export function treeOf(nodes, text) {
         const node = left.pop();
         order.push(node);
         for (let i = node.below.length; i-- > 0; ) {
-            node.below[i].level = node.level + 1;
+            Object.assign(node.below[i], { above: node, level: node.level + 1 });
             left.push(node.below[i]);
         }
     }
@@ -98,11 +98,38 @@ function placeBelow(tree) {
     return { width: width + SPACE, height: tree.length * (LINE + 6) + LINE };
 }
 
-/** Draws a node: round for a token, which selects its part of the text. */
+/** Draws a node: round for a token, which selects its part of the text. The root is what the Tab key comes to. */
 function nodeOf(node, select) {
     const rect = svg("rect", { class: node.isToken ? "token" : "rule", x: node.x - node.width / 2, y: node.y - 11, width: node.width, height: 22, rx: node.isToken ? 11 : 3 });
     const label = svg("text", { x: node.x, y: node.y + 4 }, nodeLabel(node));
-    return svg("g", { class: "node", click: () => select(node.start, node.end) }, rect, label);
+    node.drawn = svg("g", { class: "node", role: "treeitem", "aria-level": node.level + 1, tabindex: node.above ? -1 : 0, click: () => select(node.start, node.end) }, rect, label);
+    return node.drawn;
+}
+
+/** Returns the node to which a key leads from one, if any: where they are beside each other, by where they are drawn, else line by line. */
+function nodeAt(tree, node, isBeside, key) {
+    if (key === "Home") return tree[0];
+    if (key === "End") return tree[tree.length - 1];
+    const row = isBeside ? tree.filter((it) => it.level === node.level) : tree;
+    const at = row.indexOf(node);
+    const along = [row[at - 1], row[at + 1]];
+    const across = [node.above, node.below[0]];
+    const [[up, down], [left, right]] = isBeside ? [across, along] : [along, across];
+    return { ArrowUp: up, ArrowDown: down, ArrowLeft: left, ArrowRight: right }[key];
+}
+
+/** Moves between the nodes by the arrow keys, Home and End; Enter and Space do what a click does. */
+function onNodeKey(event, tree, isBeside, select) {
+    const node = tree.find((it) => it.drawn === event.target);
+    if (!node || event.ctrlKey || event.metaKey || event.altKey || !/^(Arrow.*|Home|End|Enter| )$/.test(event.key)) return;
+    event.preventDefault();
+    if (event.key === "Enter" || event.key === " ") return select(node.start, node.end);
+    const to = nodeAt(tree, node, isBeside, event.key);
+    if (!to) return;
+    node.drawn.setAttribute("tabindex", -1);
+    to.drawn.setAttribute("tabindex", 0);
+    to.drawn.focus();
+    to.drawn.scrollIntoView({ block: "nearest", inline: "nearest" });
 }
 
 /** Draws the line from a node down to one of those below it. */
@@ -122,5 +149,6 @@ export function treePicture(tree, room, select) {
     const isBeside = beside.width <= WIDEST * room;
     const { width, height } = isBeside ? beside : placeBelow(tree);
     const edges = tree.flatMap((node) => node.below.map((it, i) => (isBeside ? edgeBeside(node, it) : edgeBelow(node, it, node.below[i - 1]))));
-    return svg("svg", { width: Math.ceil(width), height: Math.ceil(height), role: "img", "aria-label": `tree of ${tree.length} nodes; its text is below` }, ...edges, ...tree.map((it) => nodeOf(it, select)));
+    const keydown = (event) => onNodeKey(event, tree, isBeside, select);
+    return svg("svg", { width: Math.ceil(width), height: Math.ceil(height), role: "tree", "aria-label": `tree of ${tree.length} nodes; its text is below`, keydown }, ...edges, ...tree.map((it) => nodeOf(it, select)));
 }

@@ -1,5 +1,5 @@
 /* Parses a text's lexemes, and the text, once each by a parser that is made before: `bench GRAMMAR LEXER TEXT`. The last line is the
- * count of lexemes. */
+ * count of lexemes. `bench GRAMMAR` makes a parser of the grammar alone, and frees it. */
 #include "lrkit.h"
 
 #include <stdio.h>
@@ -23,12 +23,18 @@ static text read_all(const char *path) {
 }
 
 int main(int count, char **words) {
-    if (count != 4) return 64;
-    text grammar = read_all(words[1]), lexer = read_all(words[2]), input = read_all(words[3]);
+    if (count != 2 && count != 4) return 64;
+    text grammar = read_all(words[1]), lexer = {(uint8_t *)"", 0};
+    if (count == 4) lexer = read_all(words[2]);
     uint8_t message[4096];
     lrkit_parser parser;
     lrkit_place place;
     if (lrkit_parser_new(grammar.at, grammar.len, lexer.at, lexer.len, &parser, message, sizeof message).status) return 1;
+    if (count == 2) {
+        lrkit_parser_free(&parser);
+        return 0;
+    }
+    text input = read_all(words[3]);
     lrkit_lexeme *lexemes = malloc((input.len + 1) * sizeof *lexemes);
     lrkit_node *nodes = malloc(16 * (input.len + 1) * sizeof *nodes);
     lrkit_answer lexed = lrkit_lex(&parser, input.at, input.len, lexemes, input.len + 1, &place);

@@ -190,7 +190,7 @@ static int copy_of(int file) {
 
 /* Files that are read go on from where they are, without moving for the process that was forked from. */
 static void open_again(void) {
-    for (int file = 3; file < 64; file++) {
+    for (int file = 0; file < 64; file++) {
         struct stat is;
         char path[32];
         long at = lseek(file, 0, SEEK_CUR);

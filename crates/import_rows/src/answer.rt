@@ -41,13 +41,13 @@ fn push_imported(
     Ok(())
 }
 
-/// Returns the note that a heading `leave out START-END` asks for.
-fn asked_note(heading: &str) -> Option<Note> {
-    let (start, end) = heading.strip_prefix("leave out ")?.split_once('-')?;
+/// Returns a note of the range that a word `START-END` names.
+fn note_at(range: &str, text: Option<String>) -> Option<Note> {
+    let (start, end) = range.split_once('-')?;
     let (Ok(start), Ok(end)) = (start.parse::<usize>(), end.parse::<usize>()) else {
         return None;
     };
-    let (kind, text) = (NoteKind::Mark, None);
+    let kind = NoteKind::Mark;
     Some(Note {
         start,
         end,
@@ -56,9 +56,24 @@ fn asked_note(heading: &str) -> Option<Note> {
     })
 }
 
+/// Returns the note that a heading `leave out START-END` or `put TEXT in START-END` asks for; `LF` stands for a line feed.
+fn asked_note(alloc: Global, heading: &str) -> Result<Option<Note>, AllocError> {
+    if let Some(range) = heading.strip_prefix("leave out ") {
+        return Ok(note_at(range, None));
+    }
+    let Some(words) = heading.strip_prefix("put ") else {
+        return Ok(None);
+    };
+    let Some((text, range)) = words.split_once(" in ") else {
+        return Ok(None);
+    };
+    let put = if text == "LF" { "\n" } else { text };
+    Ok(note_at(range, Some(String::from_str(alloc, put)?)))
+}
+
 /// Applies the note that a heading asks for, or imports a text.
 fn import_as(alloc: Global, heading: &str, text: &str) -> Result<Imported, ImportError> {
-    let Some(note) = asked_note(heading) else {
+    let Some(note) = asked_note(alloc, heading)? else {
         return import(alloc, text);
     };
     let mut notes = Vec::new(alloc);

@@ -97,7 +97,7 @@ export class Library {
         return { status, text: new TextDecoder("utf-8", { ignoreBOM: true }).decode(bytes) };
     }
 
-    /** Returns the checker's report on a grammar: for a person by the form 0, as JSON by the form 1. */
+    /** Returns the checker's report on a grammar: for a person by the form 0, as JSON by 1, for a person with the states by 2. */
     report(grammar, path, form) {
         return this.freeing(() => {
             const outcome = this.take(4);

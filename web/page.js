@@ -2,7 +2,7 @@
 import { element } from "./elements.js";
 import { fragmentOf, placesOf, textsOf } from "./link.js";
 import { railroads } from "./railroads.js";
-import { conflictBlocks, conflictsPane, statesPane } from "./reports.js";
+import { conflictBlocks, conflictsPane, statesOf, statesPane } from "./reports.js";
 import { agrees, rulesOf } from "./rules.js";
 import { MOST_NODES, treeOf, treePicture, treeText } from "./trees.js";
 import { Work } from "./work.js";
@@ -52,11 +52,15 @@ function say(words, isWrong = false) {
     at("status").className = isWrong ? "error" : "";
 }
 
+/** Shows states, or none, beside the conflicts of the last report. */
+let showStates = null;
+
 /** Shows the messages, conflicts and states of a report, and its text. */
 function showReport({ found: report, words }) {
     const blocks = conflictBlocks(words);
     at("conflicts").replaceChildren(...conflictsPane(report, blocks, (start, end) => selectIn("grammar", start, end)));
-    at("states").replaceChildren(...statesPane(report, blocks, (i) => goTo(`conflict-${i}`)));
+    showStates = (states) => at("states").replaceChildren(...statesPane(report, blocks, states, goTo));
+    showStates(null);
     at("report").replaceChildren(element("pre", { id: "report-text", tabindex: 0 }, words));
     const count = report.conflicts.length;
     at("tab-conflicts").textContent = report.errors.length > 0 ? "Errors" : count > 0 ? `Conflicts (${count})` : "Conflicts";
@@ -121,6 +125,7 @@ function hear(part, value, took) {
     if (part === "report") showReport(value);
     else if (part === "names") showRules(value);
     else if (part === "parse") showParse(value);
+    else if (part === "states") showStates(statesOf(value));
     else if (part === "done") say(`${Math.max(1, Math.round(took))} ms`);
     else if (part === "import") takeImport(value);
     else if (part === "failed") say(value, true);

@@ -65,14 +65,31 @@ export function conflictsPane(report, blocks, select) {
     return parts;
 }
 
-/** Shows the states that have conflicts, each with the conflicts that it is in. */
-export function statesPane(report, blocks, show) {
+/** Returns the closed states of a report's text that lists them: the items and the edges of each, as lines. */
+export function statesOf(words) {
+    const mark = "\nStates:\n";
+    const states = [];
+    for (const line of words.slice(words.indexOf(mark) + mark.length).split("\n")) {
+        const first = /^\d+: (.*)$/.exec(line);
+        if (first) states.push({ items: [first[1]], edges: [] });
+        else if (line.trimStart().startsWith("[")) states.at(-1).items.push(line.trimStart());
+        else if (line !== "") states.at(-1).edges.push(/^ *(.*) -> (\d+)$/.exec(line).slice(1));
+    }
+    return states;
+}
+
+/** Shows the states, each with its items and edges and the conflicts that it is in; of many only those with conflicts. */
+export function statesPane(report, blocks, states, goTo) {
     if (!report.counts) return [element("p", {}, "This grammar gives no parser, so it has no states.")];
     const conflicts = new Map();
     report.conflicts.forEach((it, i) => it.states.forEach((state) => conflicts.set(state, [...(conflicts.get(state) ?? []), i])));
-    const linkOf = (i) => element("li", {}, element("button", { type: "button", class: "link", click: () => show(i) }, blocks[i] ? blocks[i].heading : report.conflicts[i].kind));
-    const shown = [...conflicts].sort(([one], [other]) => one - other).map(([state, list]) => element("section", { class: "state" }, element("h3", {}, `State ${state}`), element("ul", {}, ...list.map(linkOf))));
+    const linkTo = (id, words) => element("button", { type: "button", class: "link", click: () => goTo(id) }, words);
+    const conflictIn = (i) => element("li", {}, linkTo(`conflict-${i}`, blocks[i] ? blocks[i].heading : report.conflicts[i].kind));
+    const edgeOf = ([symbol, to]) => element("li", {}, element("code", {}, symbol), " to ", linkTo(`state-${to}`, `state ${to}`));
+    const inside = ({ items, edges }) => [element("pre", { tabindex: 0 }, items.join("\n")), element("ul", { class: "edges" }, ...edges.map(edgeOf))];
+    const numbers = states ? states.keys() : [...conflicts.keys()].sort((one, other) => one - other);
+    const stateOf = (state) => element("section", { class: "state", id: `state-${state}`, tabindex: -1 }, element("h3", {}, `State ${state}`), element("ul", {}, ...(conflicts.get(state) ?? []).map(conflictIn)), ...(states ? inside(states[state]) : []));
     const heading = `${report.counts.states} states, ${conflicts.size} with conflicts.`;
-    const aside = element("p", { class: "aside" }, "The items and edges of a state are not among the library's calls: ", element("code", {}, "./lrkit-check GRAMMAR --states"), " lists them, with the state's number.");
-    return [element("p", { class: "counts" }, heading), aside, ...shown];
+    const aside = element("p", { class: "aside" }, "Items and edges of so many states: ", element("code", {}, "./lrkit-check GRAMMAR --states"));
+    return [element("p", { class: "counts" }, heading), ...(states ? [] : [aside]), ...[...numbers].map(stateOf)];
 }

@@ -2,6 +2,9 @@
 // answer as soon as it is there.
 import { Library, Refusal, STATUS } from "./library.js";
 
+/** The states of a grammar with at most so many are listed. */
+const MOST_STATES = 400;
+
 /** The name under which reports show the grammar's places. */
 const PATH = "grammar.y";
 
@@ -81,7 +84,8 @@ function withParser(grammar, lexer, call) {
 /** Answers one request by posting its parts, and `done` at the end. */
 function answer({ id, grammar, lexer, text }) {
     const post = (part, value) => postMessage({ id, part, value });
-    post("report", { found: JSON.parse(library.report(grammar, PATH, 1).text), words: library.report(grammar, PATH, 0).text });
+    const found = JSON.parse(library.report(grammar, PATH, 1).text);
+    post("report", { found, words: library.report(grammar, PATH, 0).text });
     const hasLexer = lexer.trim() !== "";
     const refused = withParser(grammar, hasLexer ? lexer : "", (parser, names, counts) => {
         post("names", namesOf(names, counts));
@@ -92,6 +96,7 @@ function answer({ id, grammar, lexer, text }) {
         if (isLexer) withParser(grammar, "", (_, names, counts) => post("names", namesOf(names, counts)));
         post("parse", { refused: isLexer ? "lexer" : "grammar", message: refused.message });
     }
+    if (found.counts?.states <= MOST_STATES) post("states", library.report(grammar, PATH, 2).text);
     post("done", null);
 }
 

@@ -106,8 +106,9 @@ lrkit_answer lrkit_error_text(uint32_t status, uint8_t *out, size_t room);
 
 /* The form of a report. */
 enum lrkit_form {
-    LRKIT_TEXT = 0, /* for a person */
-    LRKIT_JSON = 1  /* one JSON object and a line feed (docs/report.schema.json) */
+    LRKIT_TEXT = 0,  /* for a person */
+    LRKIT_JSON = 1,  /* one JSON object and a line feed (docs/report.schema.json) */
+    LRKIT_STATES = 2 /* for a person, with the closed states at the end: items, lookaheads, edges */
 };
 
 /* Writes the checker's report on a grammar's text, with places at `path` (docs/PROGRAMS.md), in a form of lrkit_form; LRKIT_UNKNOWN for

@@ -8,6 +8,7 @@ from ctypes import POINTER, Structure, c_size_t, c_uint32, c_void_p
 
 ERROR, EXPECTED, REPAIR, INSERT, DELETE, SHIFT = range(6)
 OK, MEMORY, NOT_UTF8, ROOM, GRAMMAR, LEXER, FILE, UNLEXED, SYNTAX, LEXEMES, UNKNOWN, NO_LEXER = range(12)
+TEXT_FORM, JSON_FORM, STATES_FORM = range(3)
 
 
 class Answer(Structure):

@@ -68,10 +68,12 @@ def call_with_room(call: Callable[[Any, int], lib.Answer], room: int = 1024) -> 
         room = answer.count
 
 
-def report(grammar: str, path: str = "grammar.y", json: bool = False) -> Report:
-    """Returns the report on a grammar's text, with places at a path: for a person, or as one JSON object (docs/report.schema.json)."""
+def report(grammar: str, path: str = "grammar.y", json: bool = False, states: bool = False) -> Report:
+    """Returns the report on a grammar's text, with places at a path: for a person, with the closed states at the end if they are
+    asked for, or as one JSON object (docs/report.schema.json)."""
     text, place, outcome = grammar.encode(), path.encode(), ctypes.c_uint32()
-    status, shown = call_with_room(lambda out, room: LIBRARY.lrkit_report(text, len(text), place, len(place), int(json), ctypes.byref(outcome), out, room), 1 << 14)
+    form = lib.JSON_FORM if json else lib.STATES_FORM if states else lib.TEXT_FORM
+    status, shown = call_with_room(lambda out, room: LIBRARY.lrkit_report(text, len(text), place, len(place), form, ctypes.byref(outcome), out, room), 1 << 14)
     if status != lib.OK:
         fail(status)
     return Report(shown, outcome.value)

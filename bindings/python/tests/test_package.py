@@ -116,6 +116,10 @@ class Package(unittest.TestCase):
         self.assertEqual(report("%% S: 'a';").outcome, 0)
         self.assertEqual(report("%% S").outcome, 2)
 
+    def test_report_with_states(self) -> None:
+        states = report("%% S: 'a' S | ;", states=True).text.split("States:\n")[1]
+        self.assertEqual(states.splitlines()[:5], ["0: [S -> . 'a' S, {'$'}]", "   [S -> ., {'$'}]", "   [^ -> . S, {'$'}]", "   S -> 1", "   'a' -> 2"])
+
     def test_report_as_json(self) -> None:
         found = report("%% E: E '+' E | 'n';", "sums.y", json=True)
         made = json.loads(found.text)

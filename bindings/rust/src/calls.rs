@@ -73,6 +73,7 @@ pub struct Counts {
 
 pub const TEXT: u32 = 0;
 pub const JSON: u32 = 1;
+pub const STATES: u32 = 2;
 
 pub const ERROR: u32 = 0;
 pub const EXPECTED: u32 = 1;

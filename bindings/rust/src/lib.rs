@@ -111,6 +111,11 @@ pub fn report_json(grammar: &str, path: &str) -> Result<Report, Error> {
     report_in(calls::JSON, grammar, path)
 }
 
+/// Returns the report on a grammar's text with the closed states at its end: items, lookaheads, edges.
+pub fn report_states(grammar: &str, path: &str) -> Result<Report, Error> {
+    report_in(calls::STATES, grammar, path)
+}
+
 /// Returns the text of a Bison or Yacc file in the kit's syntax.
 pub fn import(file: &str) -> Result<String, Error> {
     let (status, text) = call_with_room(2 * file.len() + 256, |out, room| unsafe { calls::lrkit_import(file.as_ptr(), file.len(), out, room) });

@@ -88,6 +88,8 @@ fn answer(case: &Case) -> String {
             let (told, object) = (lrkit::report(grammar, "g.y").unwrap(), lrkit::report_json(grammar, "g.y").unwrap());
             assert_eq!(told.outcome, object.outcome);
             assert!(object.text.starts_with("{\"version\":1,\"status\":"));
+            let with_states = lrkit::report_states(grammar, "g.y").unwrap();
+            assert_eq!((with_states.outcome, with_states.text.contains("\nStates:\n0: [")), (told.outcome, told.outcome < 2));
             return format!("!outcome {}", told.outcome);
         },
         "import" => lrkit::import(grammar),

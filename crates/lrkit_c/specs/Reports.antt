@@ -21,7 +21,7 @@ PutsReport old new outcome outcome' (Err s) a = (outcome' ≡ outcome) × (new �
 abbrev pub IsReportRefusal : (grammar path : List ℕ) → ℕ → Status → Type 0
 IsReportRefusal grammar path form statuses.Memory = ⊤
 IsReportRefusal grammar path form statuses.NotUtf8 = IsUtf8 grammar → IsUtf8 path → ⊥
-IsReportRefusal grammar path form statuses.Unknown = (nat_eq form 0 ≡ false) × (nat_eq form 1 ≡ false)
+IsReportRefusal grammar path form statuses.Unknown = (nat_eq form 0 ≡ false) × (nat_eq form 1 ≡ false) × (nat_eq form 2 ≡ false)
 IsReportRefusal grammar path form status = ⊥
 
 -- a report whose outcome holds for the grammar's text

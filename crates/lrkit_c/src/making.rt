@@ -35,7 +35,7 @@ pub enum Refusal {
 
 /// Returns why a grammar's text gives no parser: what the report on it says.
 fn grammar_message(alloc: Global, text: &str) -> Result<String, AllocError> {
-    let shown = report_on(alloc, text, "grammar")?;
+    let shown = report_on(alloc, text, "grammar", false)?;
     Ok(shown.text)
 }
 

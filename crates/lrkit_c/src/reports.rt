@@ -15,14 +15,14 @@ use std::alloc::{AllocError, Global};
 use text_messages::Source;
 use yacc_import::{ImportError, Imported, import};
 
-/// Makes the report on a grammar's text that asks for nothing more.
-pub fn report_on(alloc: Global, text: &str, path: &str) -> Result<Report, AllocError>
+/// Makes the report on a grammar's text, with the closed states if they are asked for.
+pub fn report_on(alloc: Global, text: &str, path: &str, states: bool) -> Result<Report, AllocError>
     ensures { IfOk result (λ r. IsOutcome text.now r.outcome) }
 {
     let asked = Asked {
         each: false,
         full: false,
-        states: false,
+        states,
         sentences: false,
         next: None,
     };
@@ -70,18 +70,18 @@ fn object_report(alloc: Global, text: &str, path: &str) -> Result<Report, Status
     }
 }
 
-/// Makes the report on a text, for a person.
-fn text_report(alloc: Global, text: &str, path: &str) -> Result<Report, Status>
+/// Makes the report on a text for a person, with the closed states if they are asked for.
+fn text_report(alloc: Global, text: &str, path: &str, states: bool) -> Result<Report, Status>
     ensures outcome { IfOk result (λ r. IsOutcome text.now r.outcome) }
     ensures refused { IfErr result (λ s. s ≡ statuses.Memory) }
 {
-    match report_on(alloc, text, path) {
+    match report_on(alloc, text, path, states) {
         Ok(made) => Ok(made),
         Err(_) => Err(Status::Memory),
     }
 }
 
-/// Makes the report on a grammar's bytes: for a person for 0, as one JSON object for 1.
+/// Makes the report on a grammar's bytes: for a person for 0, as one JSON object for 1, for a person with the closed states for 2.
 fn find_report(alloc: Global, text: &[u8], path: &[u8], form: u32) -> Result<Report, Status>
     ensures outcome { IfOk result (λ r. IsOutcome text.now r.outcome) }
     ensures refused { IfErr result (IsReportRefusal text.now path.now form) }
@@ -93,10 +93,13 @@ fn find_report(alloc: Global, text: &[u8], path: &[u8], form: u32) -> Result<Rep
         return Err(Status::NotUtf8);
     };
     if form == 0 {
-        return text_report(alloc, text, path);
+        return text_report(alloc, text, path, false);
     }
     if form == 1 {
         return object_report(alloc, text, path);
+    }
+    if form == 2 {
+        return text_report(alloc, text, path, true);
     }
     Err(Status::Unknown)
 }
@@ -115,7 +118,7 @@ fn put_report(found: &Result<Report, Status>, outcome: &mut u32, out: &mut [u8])
 }
 
 /// Writes the report on a grammar's text, with places at a path, and the checker's exit status as the outcome. The form is 0 for a
-/// text, 1 for one JSON object.
+/// text, 1 for one JSON object, 2 for a text with the closed states.
 #[unsafe(no_mangle)]
 pub extern "C" fn lrkit_report(
     alloc: Global,

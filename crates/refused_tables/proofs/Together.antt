@@ -1,7 +1,7 @@
 -- Conflicts that go together.
 use Rattle.std.proofs.Common.{◌≡◌, ℕ, Bool, true, false, not, ◌&&◌, eqb, Option, None, Some, sym, ap, ◌∙◌, refl, arith}
 use Rattle.std.proofs.lemmas.Bool.{eqb-true}
-use Rattle.core.specs.Option.{option_eq}
+use Rattle.std.specs.Option.{option_eq}
 use Rattle.cfg_base.specs.declared.symbol.PIdx.{PIdx}
 use Rattle.refused_tables.specs.Blocks.{go_together}
 use Rattle.refused_tables.specs.declared.listed.Listed.{Listed}

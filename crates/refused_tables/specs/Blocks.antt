@@ -1,6 +1,6 @@
 -- Listed conflicts, and the blocks that they are taken together in.
 use Rattle.std.specs.Prelude.{◌≡◌, ℕ, Bool, cond, not, ◌&&◌, eqb, List, [], ◌∷◌, ◌++◌, map, Option, None, Some, IsPermutation, IsSorted}
-use Rattle.core.specs.Option.{option_eq}
+use Rattle.std.specs.Option.{option_eq}
 use Rattle.std.specs.declared.cmp.Ordering.{Ordering}
 use Rattle.table_theory.specs.Cells.{Conflicts, ReduceReduce, ShiftReduce}
 use Rattle.refused_tables.specs.declared.listed.Listed.{Listed}

@@ -57,6 +57,18 @@ def below(crate):
     return found
 
 
+def strangers(crate):
+    """Lists what a crate's sources name of libraries that are not in its line of crates.txt: the file and the library. Where the
+    libraries are passed as sources they are found, and `rt` refuses them."""
+    known = {crate, "std", "Prim", *lines_of_crates()[crate].split()}
+    found = set()
+    for at, _, names in os.walk(f"{TOP}/crates/{crate}"):
+        for name in [it for it in names if it.endswith((".rt", ".antt")) and "/out/" not in f"{at}/"]:
+            with open(f"{at}/{name}", encoding="utf-8") as it:
+                found |= {(os.path.relpath(f"{at}/{name}", TOP), word) for word in re.findall(r"\bRattle\.(\w+)", it.read()) if word not in known}
+    return sorted(found)
+
+
 def module_of(file):
     """Returns the module that a file of `src` holds, as its parts."""
     return [it for it in file[len("src/") : -len(".rt")].split("/") if it not in ("lib", "main", "mod")]

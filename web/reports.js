@@ -70,7 +70,7 @@ export function statesOf(words) {
     const mark = "\nStates:\n";
     const states = [];
     for (const line of words.slice(words.indexOf(mark) + mark.length).split("\n")) {
-        const first = /^\d+: (.*)$/.exec(line);
+        const first = /^\d+: *(.*)$/.exec(line);
         if (first) states.push({ items: [first[1]], edges: [] });
         else if (line.trimStart().startsWith("[")) states.at(-1).items.push(line.trimStart());
         else if (line !== "") states.at(-1).edges.push(/^ *(.*) -> (\d+)$/.exec(line).slice(1));

@@ -2,15 +2,15 @@
 use Rattle.std.proofs.Common.{◌≡◌, ℕ, zero, suc, ◌+◌, ◌<◌, ◌≤◌, ◌⊎◌, inl, inr, ◌↔◌, Bool, true, false, not, ◌||◌, List, [], ◌∷◌, ◌++◌, length, get_or, set, take, drop, Some, slice_get, refl, sym, ap, ◌∙◌, subst, arith}
 use Rattle.std.specs.Prelude.{IsTrue}
 use Rattle.std.specs.List.{Contains}
-use Rattle.std.proofs.lemmas.List.{length-set, take-append-drop}
+use Rattle.std.proofs.lemmas.List.{length-set, take-append-drop, get_or_past}
 use Rattle.std.proofs.lemmas.List.Sums.{sum_by-set}
-use Rattle.std.proofs.lemmas.Bool.{cases_eq, cases_Bool}
-use Rattle.cfg_theory.specs.Grammar.{Sym, rule, token, Grammar, IsOf, head_of, body_of}
+use Rattle.std.proofs.lemmas.Bool.{cases_eq, cases_lt, cases_Bool}
+use Rattle.cfg_theory.specs.Grammar.{Sym, rule, token, Grammar, IsOf, IsNext, head_of, body_of}
 use Rattle.cfg_theory.specs.Derivation.{Nullable, IsFirst}
 use Rattle.cfg_theory.specs.First.{AllOf}
 use Rattle.cfg_theory.proofs.Derivation.{derives_rule, nullable_of, first_of_list}
 use Rattle.vob.specs.Sets.{is_set, is_set_in, missing, missing_in, joined_to, AreRows}
-use Rattle.cfg_sets.specs.WorkLists.{NamesOne}
+use Rattle.cfg_sets.specs.WorkLists.{ListsNaming, NamesOne}
 use Rattle.cfg_sets.specs.Firsts.{FirstSets, HasEpsilon, HasFirst, AreOf, AreSound, AreSoundOf, IsClosedAt, IsClosedOrWaits, AreFirstsClosedBut, IsWithin, IsNullableIn, SymbolFirst, FirstsOf, Adds}
 use Rattle.vob.specs.Passes.{PassStep, Anything}
 use Rattle.vob.proofs.Bits.{join, length-bitwise, joined, put_in, put_fills, put_again, set_same, row_set, rows_set}
@@ -351,6 +351,49 @@ adds_of G p q A a old new same head body h =
     subst (λ k. Adds (head_of G k) (FirstsOf old (body_of G k)) (AllOf (HasEpsilon old) (body_of G k)) old new) same
     (subst (λ l. Adds (head_of G q) (FirstsOf old l) (AllOf (HasEpsilon old) l) old new) body
     (subst (λ B. Adds B (FirstsOf old a) (AllOf (HasEpsilon old) a) old new) head h))
+
+-- ---- productions that were gone through
+
+past_end : (bits : List Bool) (p : ℕ) → length bits ≤ p → IsTrue (is_set bits p) → ⊥
+past_end bits p le is = unset (sym (get_or_past bits p false le) ∙ is)
+  where
+    unset : false ≡ true → ⊥
+    unset e = cc
+
+-- the set of one production's rule changed: those that don't name the rule stay closed
+module _ (G : Grammar) (n : ℕ) (old new : FirstSets) (h : Adds (head_of G n) (FirstsOf old (body_of G n)) (AllOf (HasEpsilon old) (body_of G n)) old new) (lists : List (List ℕ)) (names : ListsNaming G (length G.productions) lists)
+    (done mid after : List Bool) (width : length done ≡ length G.productions) (lt : n < length G.productions) (put : mid ≡ set done n true) (closed : (p : ℕ) → IsTrue (is_set done p) → IsClosedAt G old p)
+    (same : length after ≡ length mid) (fewer : (p : ℕ) → IsTrue (is_set after p) → IsTrue (is_set mid p)) (gone : (p : ℕ) → Contains (get_or lists (head_of G n) []) p → IsTrue (is_set after p) → ⊥) where
+  abbrev A : ℕ
+  A = head_of G n
+
+  waits : Contains (head_of G n ∷ []) (head_of G n)
+  waits = (0, omega arith, refl)
+
+  closed_or : (p : ℕ) → IsTrue (is_set mid p) → IsClosedOrWaits G new (head_of G n ∷ []) p
+  closed_or p is = elim ((put_in done n p (omega (arith, lt, width))).0 (subst (λ l. IsTrue (is_set l p)) put is)) [
+    | inl was ↦ closed_still G (head_of G n) (FirstsOf old (body_of G n)) (AllOf (HasEpsilon old) (body_of G n)) old new h (head_of G n ∷ []) p waits (closed p was)
+    | inr e ↦ subst (IsClosedOrWaits G new (head_of G n ∷ [])) e (closed_here G n old new h (head_of G n ∷ []) waits)
+  ]
+
+  is_rule : (B : ℕ) → Contains (head_of G n ∷ []) B → B ≡ head_of G n
+  is_rule B (zero, within, e) = sym e
+  is_rule B (suc k, within, e) = absurd (omega (arith, within))
+
+  pub done_closed : (p : ℕ) → IsTrue (is_set after p) → IsClosedAt G new p
+  done_closed p is = elim (closed_or p (fewer p is)) [
+    | inl c ↦ c
+    | inr (B, d, next, one) ↦ absurd (gone p (names.named p d (head_of G n) low (subst (λ C. IsNext G p d (rule C)) (is_rule B one) next)) is)
+  ]
+    where
+      low : p < length G.productions
+      low = elim (cases_lt p (length after)) [
+        | inl less ↦ (let s = ap length put ∙ length-set done n true in omega (arith, less, same, s, width))
+        | inr le ↦ absurd (past_end after p le is)
+      ]
+
+  pub done_width : length after ≡ length G.productions
+  done_width = same ∙ ap length put ∙ length-set done n true ∙ width
 
 -- where no rule waits, all is closed
 pub closed_all : (G : Grammar) (s : FirstSets) → AreFirstsClosedBut G s [] → (p : ℕ) → p < length G.productions → IsClosedAt G s p

@@ -1,11 +1,12 @@
 -- Takings from work lists, and lists of the productions that name each rule.
-use Rattle.std.proofs.Common.{◌≡◌, ℕ, zero, suc, ◌+◌, ◌<◌, ◌≤◌, ◌⊎◌, inl, inr, List, [], ◌∷◌, ◌++◌, length, get_or, set, replicate, Some, slice_get, refl, sym, ap, ◌∙◌, subst, arith}
-use Rattle.std.specs.Prelude.{map}
+use Rattle.std.proofs.Common.{◌≡◌, ℕ, zero, suc, ◌+◌, ◌<◌, ◌≤◌, ◌⊎◌, inl, inr, Bool, true, false, List, [], ◌∷◌, ◌++◌, length, get_or, set, replicate, Some, slice_get, refl, sym, ap, ◌∙◌, subst, arith}
+use Rattle.std.specs.Prelude.{IsTrue, map}
 use Rattle.std.specs.List.{Contains}
 use Rattle.std.proofs.lemmas.List.{length-set, length-map, length-replicate, get_or-set_same, get_or-set_other, get_or-map, get_or-replicate, map-set, get_or_past}
 use Rattle.std.proofs.lemmas.List.Elements.{Contains-push, Contains-push_cases, Contains-append_left}
 use Rattle.std.proofs.lemmas.Bool.{cases_eq, cases_lt}
 use Rattle.cfg_theory.specs.Grammar.{Sym, rule, token, Grammar, WellFormed, InRange, IsNext, body_of}
+use Rattle.vob.specs.Sets.{is_set}
 use Rattle.vob.proofs.Bits.{set_same}
 use Rattle.cfg_sets.specs.WorkLists.{NamesOne, ListsNaming, AddsNamed, IsRule, IsSomeOf, IsSomeBelow, HasList, StandsFrom}
 
@@ -39,6 +40,36 @@ taken_off G n lists work A q h lt (B, d, next, waits) = elim (Contains-push_case
 
 pub in_range : (G : Grammar) (n : ℕ) (lists : List (List ℕ)) (A i d : ℕ) → ListsNaming G n lists → i < length (get_or lists A []) → get_or (get_or lists A []) i d < n
 in_range G n lists A i d h lt = h.within A (get_or (get_or lists A []) i d) (i, lt, get_any (get_or lists A []) i (get_or (get_or lists A []) i d) d lt)
+
+-- ---- productions that are taken out of a set
+
+never : false ≡ true → ⊥
+never e = cc
+
+put_out : (xs : List Bool) (n t : ℕ) → n < length xs → IsTrue (is_set (set xs n false) t) → IsTrue (is_set xs t) × (t ≡ n → ⊥)
+put_out xs n t lt h = elim (cases_eq t n) [
+  | inl e ↦ absurd (never (sym (get_or-set_same xs n false false lt) ∙ subst (λ k. IsTrue (is_set (set xs n false) k)) e h))
+  | inr ne ↦ (sym (get_or-set_other xs n t false false ne) ∙ h, ne)
+]
+
+-- the first i of the list were taken out
+pub record IsOutTo (list : List ℕ) (i : ℕ) (old new : List Bool) : Type 0 where
+  pub width : length new ≡ length old
+  pub fewer : (p : ℕ) → IsTrue (is_set new p) → IsTrue (is_set old p)
+  pub left : (p : ℕ) → Contains list p → IsTrue (is_set new p) → StandsFrom list i p
+
+pub out_none : (list : List ℕ) (old : List Bool) → IsOutTo list 0 old old
+out_none list old = record { width = refl; fewer = λ p h. h; left = λ p c h. from_start list p c }
+
+pub out_more : (list : List ℕ) (i : ℕ) (old mid new : List Bool) → i < length list → get_or list i 0 < length mid → new ≡ set mid (get_or list i 0) false → IsOutTo list i old mid → IsOutTo list (i + 1) old new
+out_more list i old mid new lt low is m = subst (IsOutTo list (i + 1) old) (sym is) (record {
+  width = length-set mid (get_or list i 0) false ∙ m.width;
+  fewer = λ p h. m.fewer p (put_out mid (get_or list i 0) p low h).0;
+  left = λ p c h. (let o = put_out mid (get_or list i 0) p low h in let (j, from, in_list, e) = m.left p c o.0 in elim (cases_eq j i) [
+    | inl same ↦ absurd (o.1 (sym (get_any list i 0 p lt ∙ sym (ap (λ k. get_or list k p) same) ∙ e)))
+    | inr ne ↦ (j, omega (arith, from, ne), in_list, e)
+  ]);
+})
 
 -- ---- how they are made
 

@@ -4,7 +4,7 @@ use Rattle.cfg_theory.specs.Grammar.{Sym, rule, token, Grammar, head_of, body_of
 use Rattle.cfg_theory.specs.Derivation.{Nullable, IsFirst}
 use Rattle.cfg_theory.specs.First.{AllOf, FirstOf}
 use Rattle.vob.specs.Sets.{is_set, is_set_in, missing, missing_in, AreRows}
-use Rattle.cfg_sets.specs.WorkLists.{NamesOne}
+use Rattle.cfg_sets.specs.WorkLists.{ListsNaming, NamesOne}
 
 pub record FirstSets : Type 0 where
   pub tokens : ℕ
@@ -91,6 +91,13 @@ pub record AreSoundOf (G : Grammar) (s : FirstSets) (row : List Bool) : Type 0 w
 -- the sets are closed under p, or p names a rule of the list
 abbrev pub IsClosedOrWaits : Grammar → FirstSets → List ℕ → ℕ → Type 0
 IsClosedOrWaits G s list p = IsClosedAt G s p ⊎ NamesOne G list p
+
+-- such sets beside productions under which they are closed, and the productions that name each rule
+pub record AreUnderWay (G : Grammar) (s : FirstSets) (row done : List Bool) (lists : List (List ℕ)) : Type 0 where
+  pub sound : AreSoundOf G s row
+  pub width : length done ≡ length G.productions
+  pub closed : (p : ℕ) → IsTrue (is_set done p) → IsClosedAt G s p
+  pub naming : ListsNaming G (length G.productions) lists
 
 -- so with each production
 abbrev pub AreFirstsClosedBut : Grammar → FirstSets → List ℕ → Type 0

@@ -5,7 +5,7 @@ ghost use Rattle.cfg_theory.specs.Grammar.{rule, Grammar};
 ghost use Rattle.cfg_theory.specs.First.{AllOf};
 ghost use Rattle.cfg_numbered.specs.Symbols.{sym_of, syms_of};
 ghost use Rattle.vob.specs.Sets.{is_set, joined_to, HasAllOf};
-ghost use Rattle.cfg_sets.specs.Firsts.{FirstSets, HasEpsilon, HasFirst, AreFirsts, AreSoundOf, IsClosedOrWaits, AreFirstsClosedBut, IsWithin, IsNullableIn, FirstBefore, SymbolFirst, FirstsOf, AllWithin, Adds, first_room};
+ghost use Rattle.cfg_sets.specs.Firsts.{FirstSets, HasEpsilon, HasFirst, AreFirsts, AreSoundOf, AreUnderWay, IsClosedOrWaits, AreFirstsClosedBut, IsWithin, IsNullableIn, FirstBefore, SymbolFirst, FirstsOf, AllWithin, Adds, first_room};
 ghost use Rattle.cfg_sets.specs.Orders.{IsOrder};
 ghost use Rattle.cfg_sets.specs.WorkLists.{ListsNaming};
 ghost use Rattle.vob.specs.Passes.{PassStep, Anything};
@@ -260,33 +260,6 @@ impl<S: IndexStorage> YaccFirsts<S> {
         let found = self.add_epsilon(head);
         changed | found
     }
-
-    /// Goes through a production. Where that changes the sets, its rule enters the list.
-    fn take_prod(
-        &mut self,
-        grm: &NumberedGrammar<S>,
-        number: usize,
-        row: &mut Vob,
-        work: &mut WorkList,
-    ) -> Result<(), AllocError>
-        requires production { number < length grm.now.grammar.productions }
-        requires sound { AreSoundOf grm.now.grammar self.old row.old.bits }
-        requires work { work.old.rules ≡ grm.now.grammar.rules }
-        ensures sound { OnOk result (AreSoundOf grm.now.grammar self.new row.new.bits) }
-        ensures work { OnOk result (work.new.rules ≡ work.old.rules) }
-        ensures kept { OnOk result ((p : ℕ) → IsClosedOrWaits grm.now.grammar self.old work.old.list p → IsClosedOrWaits grm.now.grammar self.new work.new.list p) }
-        ensures here { OnOk result (IsClosedOrWaits grm.now.grammar self.new work.new.list number) }
-        ensures room { OnOk result (first_room self.new + length work.new.list ≤ first_room self.old + length work.old.list) }
-    {
-        grm.stays_well_formed();
-        let pidx = grm.prod_at(number);
-        let head = grm.prod_to_rule(pidx);
-        if !self.add_body(head, grm.prod(pidx), row) {
-            return Ok(());
-        }
-        work.put(head.0.to_usize())?;
-        Ok(())
-    }
 }
 
 /// FIRST sets that are being filled.
@@ -296,17 +269,18 @@ struct Filling<'a, S: IndexStorage> {
     naming: &'a Naming,
     firsts: YaccFirsts<S>,
     row: Vob,
+    /// The productions that were gone through, and name no rule whose set changed since.
+    done: Vob,
 }
 
 impl<'a, S: IndexStorage> WorkTable for Filling<'a, S> {
     ghost use Rattle.std.specs.Prelude.{◌≡◌, length, refl};
     ghost use Rattle.std.proofs.Common.{◌∙◌};
-    ghost use Rattle.cfg_sets.specs.Firsts.{AreSoundOf, AreFirstsClosedBut, first_room};
-    ghost use Rattle.cfg_sets.specs.WorkLists.{ListsNaming};
+    ghost use Rattle.cfg_sets.specs.Firsts.{AreUnderWay, AreFirstsClosedBut, first_room};
 
     ghost rules = { λ s. s.grm.now.grammar.rules };
 
-    ghost is_sound = { λ s. AreSoundOf s.grm.now.grammar s.firsts s.row.bits × ListsNaming s.grm.now.grammar (length s.grm.now.grammar.productions) s.naming.now };
+    ghost is_sound = { λ s. AreUnderWay s.grm.now.grammar s.firsts s.row.bits s.done.bits s.naming.now };
 
     ghost room = { λ s. first_room s.firsts };
 
@@ -321,8 +295,7 @@ impl<'a, S: IndexStorage> WorkTable for Filling<'a, S> {
     fn take(&mut self, rule: usize, work: &mut WorkList) -> Result<(), AllocError> {
         let named = self.naming.of(rule);
         'prods: for index in 0..named.len() {
-            self.firsts
-                .take_prod(self.grm, named[index], &mut self.row, work)?;
+            self.take_prod(named[index], work)?;
         }
         Ok(())
     }
@@ -335,9 +308,10 @@ impl<'a, S: IndexStorage> Filling<'a, S> {
         grm: &'a NumberedGrammar<S>,
         naming: &'a Naming,
     ) -> Result<Filling<'a, S>, AllocError>
+        requires { ListsNaming grm.now.grammar (length grm.now.grammar.productions) naming.now }
         ensures grammar { IfOk result (λ f. f.grm.now ≡ grm.now) }
         ensures naming { IfOk result (λ f. f.naming.now ≡ naming.now) }
-        ensures sound { IfOk result (λ f. AreSoundOf grm.now.grammar f.firsts f.row.bits) }
+        ensures under_way { IfOk result (λ f. AreUnderWay grm.now.grammar f.firsts f.row.bits f.done.bits naming.now) }
         ensures room { IfOk result (λ f. first_room f.firsts ≡ grm.now.grammar.rules * (grm.now.grammar.tokens + 1)) }
     {
         let rules = grm.rules_len().0.to_usize();
@@ -347,24 +321,54 @@ impl<'a, S: IndexStorage> Filling<'a, S> {
             naming,
             firsts: YaccFirsts::empty(alloc, rules, tokens)?,
             row: Vob::from_elem(alloc, false, tokens)?,
+            done: Vob::from_elem(alloc, false, grm.prods_len().0.to_usize())?,
         })
+    }
+
+    /// Goes through a production, unless that would change nothing. Where the sets change, its rule enters the list.
+    fn take_prod(&mut self, number: usize, work: &mut WorkList) -> Result<(), AllocError>
+        requires production { number < length self.old.grm.now.grammar.productions }
+        requires under_way { AreUnderWay self.old.grm.now.grammar self.old.firsts self.old.row.bits self.old.done.bits self.old.naming.now }
+        requires work { work.old.rules ≡ self.old.grm.now.grammar.rules }
+        ensures grammar { OnOk result (self.new.grm.now ≡ self.old.grm.now) }
+        ensures naming { OnOk result (self.new.naming.now ≡ self.old.naming.now) }
+        ensures under_way { OnOk result (AreUnderWay self.old.grm.now.grammar self.new.firsts self.new.row.bits self.new.done.bits self.old.naming.now) }
+        ensures work { OnOk result (work.new.rules ≡ work.old.rules) }
+        ensures kept { OnOk result ((p : ℕ) → IsClosedOrWaits self.old.grm.now.grammar self.old.firsts work.old.list p → IsClosedOrWaits self.old.grm.now.grammar self.new.firsts work.new.list p) }
+        ensures here { OnOk result (IsClosedOrWaits self.old.grm.now.grammar self.new.firsts work.new.list number) }
+        ensures room { OnOk result (first_room self.new.firsts + length work.new.list ≤ first_room self.old.firsts + length work.old.list) }
+    {
+        if self.done.get_unchecked(number) {
+            return Ok(());
+        }
+        self.done.set(number, true);
+        let grm = self.grm;
+        grm.stays_well_formed();
+        let pidx = grm.prod_at(number);
+        let head = grm.prod_to_rule(pidx);
+        if !self.firsts.add_body(head, grm.prod(pidx), &mut self.row) {
+            return Ok(());
+        }
+        let rule = head.0.to_usize();
+        self.naming.take_out(rule, &mut self.done);
+        work.put(rule)?;
+        Ok(())
     }
 
     /// Goes through all productions once, in the order.
     fn start(&mut self, order: &Order, work: &mut WorkList) -> Result<(), AllocError>
         requires order { IsOrder (length self.old.grm.now.grammar.productions) order.now }
-        requires sound { AreSoundOf self.old.grm.now.grammar self.old.firsts self.old.row.bits }
+        requires under_way { AreUnderWay self.old.grm.now.grammar self.old.firsts self.old.row.bits self.old.done.bits self.old.naming.now }
         requires work { work.old.rules ≡ self.old.grm.now.grammar.rules }
         ensures grammar { OnOk result (self.new.grm.now ≡ self.old.grm.now) }
         ensures naming { OnOk result (self.new.naming.now ≡ self.old.naming.now) }
-        ensures sound { OnOk result (AreSoundOf self.old.grm.now.grammar self.new.firsts self.new.row.bits) }
+        ensures under_way { OnOk result (AreUnderWay self.old.grm.now.grammar self.new.firsts self.new.row.bits self.new.done.bits self.old.naming.now) }
         ensures work { OnOk result (work.new.rules ≡ work.old.rules) }
         ensures closed { OnOk result (AreFirstsClosedBut self.old.grm.now.grammar self.new.firsts work.new.list) }
         ensures room { OnOk result (first_room self.new.firsts + length work.new.list ≤ first_room self.old.firsts + length work.old.list) }
     {
         'prods: for index in 0..order.len() {
-            self.firsts
-                .take_prod(self.grm, order.at(index), &mut self.row, work)?;
+            self.take_prod(order.at(index), work)?;
         }
         Ok(())
     }
@@ -377,8 +381,7 @@ impl<'a, S: IndexStorage> Filling<'a, S> {
         steps: &mut Steps<L>,
     ) -> Result<(), AllocError>
         requires order { IsOrder (length self.old.grm.now.grammar.productions) order.now }
-        requires naming { ListsNaming self.old.grm.now.grammar (length self.old.grm.now.grammar.productions) self.old.naming.now }
-        requires sound { AreSoundOf self.old.grm.now.grammar self.old.firsts self.old.row.bits }
+        requires under_way { AreUnderWay self.old.grm.now.grammar self.old.firsts self.old.row.bits self.old.done.bits self.old.naming.now }
         requires work { work.old.rules ≡ self.old.grm.now.grammar.rules }
         ensures grammar { OnOk result (self.new.grm.now ≡ self.old.grm.now) }
         ensures sound { OnOk result (AreSoundOf self.old.grm.now.grammar self.new.firsts self.new.row.bits) }

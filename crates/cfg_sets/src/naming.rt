@@ -5,12 +5,14 @@ ghost use Rattle.std.specs.List.{Contains};
 ghost use Rattle.cfg_theory.specs.Grammar.{Sym, Grammar};
 ghost use Rattle.cfg_numbered.specs.Symbols.{sym_of, syms_of};
 ghost use Rattle.cfg_sets.specs.WorkLists.{ListsNaming, AddsNamed, IsRule, IsSomeOf, HasList};
+ghost use Rattle.vob.specs.Sets.{is_set};
 
 use cfg_base::index::IndexStorage;
 use cfg_base::symbol::Symbol;
 use cfg_numbered::yacc::grammar::NumberedGrammar;
 use std::alloc::{AllocError, Global};
 use std::marker::Model;
+use vob::Vob;
 
 /// The productions that name each rule, in order. One that names a rule twice is listed once.
 #[derive(Drop)]
@@ -65,6 +67,20 @@ impl Naming {
         ensures { result.now ≡ get_or self.now rule [] }
     {
         self.lists[rule].as_slice()
+    }
+
+    /// Takes the productions that name a rule out of a set.
+    pub fn take_out(&self, rule: usize, prods: &mut Vob)
+        requires rule { rule < length self.now }
+        requires within { (p : ℕ) → Contains (get_or self.now rule []) p → p < length prods.old.bits }
+        ensures width { length prods.new.bits ≡ length prods.old.bits }
+        ensures fewer { (p : ℕ) → IsTrue (is_set prods.new.bits p) → IsTrue (is_set prods.old.bits p) }
+        ensures gone { (p : ℕ) → Contains (get_or self.now rule []) p → IsTrue (is_set prods.new.bits p) → ⊥ }
+    {
+        let named = self.of(rule);
+        'prods: for index in 0..named.len() {
+            prods.set(named[index], false);
+        }
     }
 
     /// Lists a production beside each rule among the symbols.

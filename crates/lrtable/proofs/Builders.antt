@@ -1,11 +1,9 @@
 -- What the steps of a building keep of its builder.
-use Rattle.std.proofs.Common.{◌≡◌, ℕ, ◌<◌, ◌≤◌, false, List, length, map, refl, sym, ap, ◌∙◌, subst, arith, length-set}
+use Rattle.std.proofs.Common.{◌≡◌, ℕ, ◌<◌, ◌≤◌, false, List, length, refl, sym, ap, ◌∙◌, subst, arith, length-set}
 use Rattle.std.proofs.lemmas.List.{length-map}
-use Rattle.std.specs.declared.alloc.Global.{Global}
-use Rattle.std.specs.declared.vec.Vec.{Vec}
 use Rattle.lrtable.specs.Builders.{IsBuilder, GoesOn, states_in, lists_in}
 use Rattle.lrtable.specs.States.{StateValue, KeepsItems, AreBuckets, state_at}
-use Rattle.lrtable.specs.StateViews.{value_of}
+use Rattle.lrtable.specs.StateViews.{lists_of, value_of}
 use Rattle.lrtable.specs.Stepping.{set_off}
 use Rattle.lrtable.specs.declared.states.Builder.{Builder}
 use Rattle.lrtable.proofs.Buckets.{buckets_kept}
@@ -23,16 +21,9 @@ module _ {S : Type 0} (number : S → ℕ) where
     quiet = λ q. k.quiet (h.quiet q);
   }
 
-  -- the number of lists as the builder has it
-  pub own_builder : (limit productions : ℕ) (b : Builder S) → IsBuilder number limit productions b → IsBuilder number limit (length b.begins.items) b
-  own_builder limit productions b h = record { from = h.from; cursor = h.cursor; buckets = h.buckets; lists = refl; few = h.few }
-
-  pub builder_of : (limit productions : ℕ) (old new : Builder S) → IsBuilder number limit productions old → IsBuilder number limit (length old.begins.items) new → IsBuilder number limit productions new
-  builder_of limit productions old new h k = record { from = k.from; cursor = k.cursor; buckets = k.buckets; lists = k.lists ∙ h.lists; few = k.few }
-
   -- the states are as many, with the same items
-  pub builder_kept : (limit productions : ℕ) (old new : Builder S) → IsBuilder number limit productions old → KeepsItems (states_in number old) (states_in number new) → new.from ≡ old.from → new.cursor ≤ old.cursor → new.begins.items ≡ old.begins.items → IsBuilder number limit productions new
-  builder_kept limit productions old new h k f c e =
+  pub builder_kept : (limit : ℕ) (old new : Builder S) → IsBuilder number limit old → KeepsItems (states_in number old) (states_in number new) → new.from ≡ old.from → new.cursor ≤ old.cursor → new.begins.items ≡ old.begins.items → IsBuilder number limit new
+  builder_kept limit old new h k f c e =
       let n = length-map old.states.items (value_of number) in
       let m = length-map new.states.items (value_of number) in
       let count = k.count in
@@ -42,14 +33,13 @@ module _ {S : Type 0} (number : S → ℕ) where
       record {
         from = omega (arith, n, m, count, f, from);
         cursor = omega (arith, n, m, count, c, cursor);
-        buckets = subst (λ (l : List (Vec ℕ Global)). AreBuckets (states_in number new) (map (λ (v : Vec ℕ Global). v.items) l)) (sym e) (buckets_kept (states_in number old) (states_in number new) (lists_in old) k h.buckets);
-        lists = ap length e ∙ h.lists;
+        buckets = subst (λ l. AreBuckets (states_in number new) (lists_of l)) (sym e) (buckets_kept (states_in number old) (states_in number new) (lists_in old) k h.buckets);
         few = omega (arith, n, m, count, few);
       }
 
   -- a state is taken
-  pub builder_taken : (limit productions : ℕ) (old new : Builder S) (s : ℕ) → IsBuilder number limit productions old → s < length old.states.items → states_in number new ≡ set_off (states_in number old) s → new.from ≡ s → new.cursor ≡ s → new.begins.items ≡ old.begins.items → IsBuilder number limit productions new
-  builder_taken limit productions old new s h lt is f c e =
+  pub builder_taken : (limit : ℕ) (old new : Builder S) (s : ℕ) → IsBuilder number limit old → s < length old.states.items → states_in number new ≡ set_off (states_in number old) s → new.from ≡ s → new.cursor ≡ s → new.begins.items ≡ old.begins.items → IsBuilder number limit new
+  builder_taken limit old new s h lt is f c e =
       let states = states_in number old in
       let n = length-map old.states.items (value_of number) in
       let m = length-map new.states.items (value_of number) in
@@ -59,7 +49,6 @@ module _ {S : Type 0} (number : S → ℕ) where
       record {
         from = omega (arith, n, m, z, k, f, lt);
         cursor = omega (arith, n, m, z, k, c, lt);
-        buckets = subst (λ (l : List StateValue). AreBuckets l (lists_in new)) (sym is) (subst (λ (l : List (Vec ℕ Global)). AreBuckets (set_off states s) (map (λ (v : Vec ℕ Global). v.items) l)) (sym e) (off_buckets states s (lists_in old) (omega (arith, n, lt)) h.buckets));
-        lists = ap length e ∙ h.lists;
+        buckets = subst (λ (l : List StateValue). AreBuckets l (lists_in new)) (sym is) (subst (λ l. AreBuckets (set_off states s) (lists_of l)) (sym e) (off_buckets states s (lists_in old) (omega (arith, n, lt)) h.buckets));
         few = omega (arith, n, m, z, k, few);
       }

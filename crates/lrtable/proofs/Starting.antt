@@ -1,9 +1,8 @@
 -- Where the building begins: the start state alone.
-use Rattle.std.proofs.Common.{◌≡◌, ℕ, zero, suc, ◌<◌, ◌⊎◌, inl, inr, ◌↔◌, Bool, true, false, List, [], ◌∷◌, ◌++◌, length, get_or, map, set, replicate, refl, sym, ap, ap₂, ◌∙◌, subst, arith}
+use Rattle.std.proofs.Common.{◌≢◌, ◌≡◌, ℕ, zero, suc, ◌<◌, ◌⊎◌, inl, inr, ◌↔◌, Bool, true, false, List, [], ◌∷◌, ◌++◌, length, get_or, map, set, replicate, refl, sym, ap, ap₂, ◌∙◌, subst, arith}
 use Rattle.std.specs.Prelude.{IsTrue}
 use Rattle.std.specs.List.{Contains, AllPairs}
-use Rattle.std.proofs.lemmas.Bool.{cases_eq}
-use Rattle.std.proofs.lemmas.List.{length-replicate, length-set, get_or-set_same, get_or-set_other}
+use Rattle.std.proofs.lemmas.List.{length-replicate, length-set}
 use Rattle.cfg_theory.specs.Grammar.{Grammar, IsEnd, end_token}
 use Rattle.vob.specs.Sets.{is_set}
 use Rattle.vob.proofs.Bits.{none_set, put_in}
@@ -16,7 +15,8 @@ use Rattle.state_table.specs.CoreViews.{items_of, core_of_set}
 use Rattle.lrtable.specs.StateViews.{edges_of, value_of}
 use Rattle.state_table.specs.declared.cores.CoreItem.{CoreItem}
 use Rattle.lrtable.specs.declared.states.State.{State}
-use Rattle.lrtable.specs.States.{StateValue, Edge, state_at, AreBuckets, first_production}
+use Rattle.lrtable.proofs.Buckets.{cases_item}
+use Rattle.lrtable.specs.States.{StateValue, Edge, state_at, AreBuckets, first_item, list_at}
 use Rattle.lrtable.proofs.Handling.{begun}
 use Rattle.state_table.proofs.ItemSets.{has_item, has_look}
 
@@ -81,55 +81,37 @@ start_seen G number st no_items no_looks x y states none n e ni ei nl el edges t
     let whole : map (value_of number) states ≡ record { core = record { items = record { production = G.start; dot = 0 } ∷ []; rows = y.bits ∷ [] }; edges = []; todo = true } ∷ [] = ap (map (value_of number)) (e ∙ ap (λ l. l ++ st ∷ []) n) ∙ ap (λ (v : StateValue). v ∷ []) value in
     subst (λ (l : List StateValue). AreReached G l) (sym whole) (start_reached G y.bits wide ends)
 
--- ---- the lists by first production
+-- ---- the list of its first item
 
-abbrev pub no_numbers : List ℕ
-no_numbers = []
-
-pub empty_at : (n p : ℕ) → get_or (replicate n no_numbers) p [] ≡ []
-empty_at zero p = refl
-empty_at (suc n) zero = refl
-empty_at (suc n) (suc p) = empty_at n p
-
--- those where the start state stands alone
-module _ (states : List StateValue) (n p : ℕ) (one : length states ≡ 1) (first : first_production (state_at states 0).core.items ≡ p) (lt : p < n) where
-  abbrev lists : List (List ℕ)
-  lists = set (replicate n no_numbers) p (0 ∷ [])
-
-  at_p : get_or (set (replicate n no_numbers) p (0 ∷ [])) p [] ≡ 0 ∷ []
-  at_p = get_or-set_same (replicate n no_numbers) p (0 ∷ []) [] (let e : length (replicate n no_numbers) ≡ n = length-replicate n no_numbers in omega (arith, e, lt))
-
-  elsewhere : (q : ℕ) → (q ≡ p → ⊥) → get_or (set (replicate n no_numbers) p (0 ∷ [])) q [] ≡ []
-  elsewhere q ne = get_or-set_other (replicate n no_numbers) p q (0 ∷ []) [] ne ∙ empty_at n q
-
-  -- each has the start state or nothing
-  each_is : (q : ℕ) → (get_or lists q [] ≡ 0 ∷ []) ⊎ (get_or lists q [] ≡ [])
-  each_is q = elim (cases_eq q p) [ inl e ↦ inl (ap (λ k. get_or lists k []) e ∙ at_p) | inr ne ↦ inr (elsewhere q ne) ]
-
-  none_in : (k : ℕ) → Contains no_numbers k → ⊥
-  none_in k (i, l, e) = omega (arith, l)
-
-  only_nought : (k : ℕ) → Contains (0 ∷ no_numbers) k → k ≡ 0
-  only_nought k (zero, l, e) = sym e
-  only_nought k (suc i, l, e) = absurd (omega (arith, l))
-
-  ascends : (q : ℕ) → AllPairs (λ j k. j < k) (get_or lists q [])
-  ascends q = elim (each_is q) [
-    | inl e ↦ subst (λ (l : List ℕ). AllPairs (λ j k. j < k) l) (sym e) (λ i j d x within. absurd (omega (arith, x, within)))
-    | inr e ↦ subst (λ (l : List ℕ). AllPairs (λ j k. j < k) l) (sym e) (λ i j d x within. absurd (omega (arith, within)))
-  ]
-
-  within : (q k : ℕ) → Contains (get_or lists q []) k → k < length states
-  within q k h = elim (each_is q) [
-    | inl e ↦ (let z = only_nought k (subst (λ (l : List ℕ). Contains l k) e h) in omega (arith, z, one))
-    | inr e ↦ absurd (none_in k (subst (λ (l : List ℕ). Contains l k) e h))
-  ]
-
-  has : (k : ℕ) → k < length states → Contains (get_or lists (first_production (state_at states k).core.items) []) k
-  has k l =
-      let z : 0 ≡ k = omega (arith, l, one) in
-      subst (λ m. Contains (get_or lists (first_production (state_at states m).core.items) []) m) z
-      (subst (λ m. Contains (get_or lists m []) 0) (sym first) (subst (λ (u : List ℕ). Contains u 0) (sym at_p) (0, omega arith, refl)))
-
-  pub start_buckets : AreBuckets states (set (replicate n no_numbers) p (0 ∷ []))
+-- the start state stands alone
+module _ (states : List StateValue) (all : List (List (List ℕ))) (one : length states ≡ 1) (own : list_at all (first_item (state_at states 0).core.items) ≡ 0 ∷ []) (others : (i : Item) → i ≢ first_item (state_at states 0).core.items → list_at all i ≡ []) where
+  pub start_buckets : AreBuckets states all
   start_buckets = record { ascends = ascends; within = within; has = has }
+    where
+      -- each has the start state or nothing
+      each_is : (i : Item) → (list_at all i ≡ 0 ∷ []) ⊎ (list_at all i ≡ [])
+      each_is i = elim (cases_item i (first_item (state_at states 0).core.items)) [ inl e ↦ inl (ap (list_at all) e ∙ own) | inr ne ↦ inr (others i ne) ]
+
+      none_in : (k : ℕ) (list : List ℕ) → list ≡ [] → Contains list k → ⊥
+      none_in k list e (i, l, _) = let n = ap length e in omega (arith, l, n)
+
+      only_nought : (k : ℕ) → Contains (0 ∷ []) k → k ≡ 0
+      only_nought k (zero, l, e) = sym e
+      only_nought k (suc i, l, e) = absurd (omega (arith, l))
+
+      ascends : (i : Item) → AllPairs (λ j k. j < k) (list_at all i)
+      ascends i = elim (each_is i) [
+        | inl e ↦ subst (λ (l : List ℕ). AllPairs (λ j k. j < k) l) (sym e) (λ i j d x within. absurd (omega (arith, x, within)))
+        | inr e ↦ subst (λ (l : List ℕ). AllPairs (λ j k. j < k) l) (sym e) (λ i j d x within. absurd (omega (arith, within)))
+      ]
+
+      within : (i : Item) (k : ℕ) → Contains (list_at all i) k → k < length states
+      within i k h = elim (each_is i) [
+        | inl e ↦ (let z = only_nought k (subst (λ (l : List ℕ). Contains l k) e h) in omega (arith, z, one))
+        | inr e ↦ absurd (none_in k (list_at all i) e h)
+      ]
+
+      has : (k : ℕ) → k < length states → Contains (list_at all (first_item (state_at states k).core.items)) k
+      has k l =
+          let z : 0 ≡ k = omega (arith, l, one) in
+          subst (λ m. Contains (list_at all (first_item (state_at states m).core.items)) m) z (subst (λ (u : List ℕ). Contains u 0) (sym own) (0, omega arith, refl))

@@ -13,7 +13,7 @@ use Rattle.state_table.specs.ItemRows.{no_core, Item, Core, IsCoreOf, map_of, Fi
 use Rattle.lrtable.specs.Gaining.{core_in}
 use Rattle.lrtable.specs.Handling.{rank, AreReached, AreHandled, TooManyStand, left_in}
 use Rattle.lrtable.specs.MovedItems.{IsKernel}
-use Rattle.lrtable.specs.States.{StateValue, no_state, state_at, edge_in, edge_of, AscendEdges, Matches, AreStates, IsPlaced, JoinsNone, AreBuckets, first_production}
+use Rattle.lrtable.specs.States.{StateValue, no_state, state_at, edge_in, edge_of, AscendEdges, Matches, AreStates, IsPlaced, JoinsNone, AreBuckets}
 use Rattle.lrtable.proofs.Buckets.{buckets_kept}
 use Rattle.lrtable.specs.Stepping.{AreGotos, AreGotosOf, IsGotoAt, IsNextTaken, set_off}
 use Rattle.vob.proofs.Bits.{set_same}
@@ -222,15 +222,8 @@ skip_rank G before s n c is states h lt none = elim (cases_lt n G.rules) [
   | inr ge ↦ rank_skipped G before s n (token (n - G.rules)) (omega (arith, lt, ge)) (let e : G.rules + (n - G.rules) ≡ n = omega (arith, ge) in e) c is states h none
 ]
 
-first_below : (items : List Item) (n : ℕ) → ((k : ℕ) (d : Item) → k < length items → (get_or items k d).production < n) → 0 < length items → first_production items < n
-first_below [] n h lt = absurd (omega (arith, lt))
-first_below (i ∷ items) n h lt = h 0 i lt
-
-pub first_fits : (G : Grammar) (c : Core) → FitsCore G c → 0 < length c.items → first_production c.items < length G.productions
-first_fits G c h lt = first_below c.items (length G.productions) h.productions lt
-
 -- a state that isn't to be taken keeps its items
-pub off_buckets : (states : List StateValue) (s : ℕ) (buckets : List (List ℕ)) → s < length states → AreBuckets states buckets → AreBuckets (set_off states s) buckets
+pub off_buckets : (states : List StateValue) (s : ℕ) (buckets : List (List (List ℕ))) → s < length states → AreBuckets states buckets → AreBuckets (set_off states s) buckets
 off_buckets states s buckets lt h = buckets_kept states (set_off states s) buckets (record {
   count = length-set states s (record { core = (state_at states s).core; edges = (state_at states s).edges; todo = false });
   items = λ k l. elim (cases_eq k s) [

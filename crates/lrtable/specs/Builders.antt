@@ -1,7 +1,5 @@
 -- The states of a building with the lists by which a core is found, and what the steps that add to them keep.
 use Rattle.std.specs.Prelude.{◌≡◌, ℕ, ◌+◌, ◌<◌, ◌≤◌, true, false, List, length, map}
-use Rattle.std.specs.declared.alloc.Global.{Global}
-use Rattle.std.specs.declared.vec.Vec.{Vec}
 use Rattle.cfg_theory.specs.Grammar.{Grammar}
 use Rattle.lrtable.specs.declared.pager.Buffers.{Buffers}
 use Rattle.lrtable.specs.declared.states.Builder.{Builder}
@@ -9,20 +7,19 @@ use Rattle.lrtable.specs.Closers.{IsReady}
 use Rattle.lrtable.specs.Handling.{AreReached, left_in}
 use Rattle.lrtable.specs.MovedItems.{AreEmpty}
 use Rattle.lrtable.specs.States.{StateValue, AreBuckets, AreQuiet, state_at}
-use Rattle.lrtable.specs.StateViews.{value_of}
+use Rattle.lrtable.specs.StateViews.{lists_of, value_of}
 
 abbrev pub states_in : {S : Type 0} → (S → ℕ) → Builder S → List StateValue
 states_in number b = map (value_of number) b.states.items
 
-abbrev pub lists_in : {S : Type 0} → Builder S → List (List ℕ)
-lists_in b = map (λ (l : Vec ℕ Global). l.items) b.begins.items
+abbrev pub lists_in : {S : Type 0} → Builder S → List (List (List ℕ))
+lists_in b = lists_of b.begins.items
 
 -- the lists are those of the states, which are few enough, and the state that is taken is one
-pub record IsBuilder {S : Type 0} (number : S → ℕ) (limit productions : ℕ) (b : Builder S) : Type 0 where
+pub record IsBuilder {S : Type 0} (number : S → ℕ) (limit : ℕ) (b : Builder S) : Type 0 where
   pub from : b.from < length b.states.items
   pub cursor : b.cursor ≤ length b.states.items
   pub buckets : AreBuckets (states_in number b) (lists_in b)
-  pub lists : length b.begins.items ≡ productions
   pub few : length b.states.items ≤ limit
 
 -- sets of the state that is taken were placed
@@ -34,7 +31,7 @@ pub record GoesOn {S : Type 0} (number : S → ℕ) (old new : Builder S) : Type
 
 -- what holds between two steps
 pub record IsUnderWay {S : Type 0} (number : S → ℕ) (limit : ℕ) (G : Grammar) (b : Builder S) : Type 0 where
-  pub builder : IsBuilder number limit (length G.productions) b
+  pub builder : IsBuilder number limit b
   pub reached : AreReached G (states_in number b)
   pub quiet : AreQuiet (states_in number b) b.cursor
 

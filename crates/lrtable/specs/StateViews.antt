@@ -1,5 +1,7 @@
 -- States as contracts see them.
 use Rattle.std.specs.Prelude.{ℕ, List, map}
+use Rattle.std.specs.declared.alloc.Global.{Global}
+use Rattle.std.specs.declared.vec.Vec.{Vec}
 use Rattle.cfg_numbered.specs.Symbols.{sym_of}
 use Rattle.lrtable.specs.declared.states.EdgeTo.{EdgeTo}
 use Rattle.lrtable.specs.declared.states.State.{State}
@@ -14,3 +16,6 @@ edges_of number edges = map (edge_of_pair number) edges
 
 abbrev pub value_of : {S : Type 0} → (S → ℕ) → State S → StateValue
 value_of number s = record { core = core_of_set number s.core; edges = edges_of number s.edges.items; todo = s.todo }
+
+abbrev pub lists_of : List (Vec (Vec ℕ Global) Global) → List (List (List ℕ))
+lists_of lists = map (λ v. map (λ l. l.items) v.items) lists

@@ -51,6 +51,7 @@ mod pager;
 mod pruning;
 mod revisiting;
 mod rule_rows;
+mod state_lists;
 mod states;
 mod tails;
 mod weak_compatibility;

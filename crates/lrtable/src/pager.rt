@@ -14,7 +14,7 @@ ghost use Rattle.lrtable.specs.Handling.{AreReached, AreHandled, AreBuilt, TooMa
 ghost use Rattle.state_table.specs.Meeting.{rows_in};
 ghost use Rattle.lrtable.specs.MovedItems.{AreEmpty, IsKernel, set_of_moved};
 ghost use Rattle.lrtable.specs.Pruning.{AreLinked, graph_of_states};
-ghost use Rattle.lrtable.specs.States.{AreStates, AreQuiet, state_at, first_production};
+ghost use Rattle.lrtable.specs.States.{AreStates, AreQuiet, state_at};
 ghost use Rattle.lrtable.specs.StateViews.{value_of};
 ghost use Rattle.state_table.specs.CoreViews.{core_of_set};
 ghost use Rattle.lrtable.specs.Stepping.{AreGotos, AreGotosOf, IsGotoAt, IsNextTaken, set_off};
@@ -25,6 +25,7 @@ use crate::moves::{empty_sets, goto_sets, symbol_at};
 use crate::opening::Closer;
 use crate::pruning::prune;
 use crate::revisiting::{Retaken, retake_all};
+use crate::state_lists::put_number;
 use crate::states::{BuildError, Builder, EdgeTo, State, place};
 use cfg_base::index::IndexStorage;
 use cfg_base::symbol::SIdx;
@@ -83,10 +84,10 @@ fn place_rank<S: IndexStorage>(
     requires number { number < grm.now.grammar.rules + grm.now.grammar.tokens }
     requires count { length sets.old.items ≡ grm.now.grammar.rules + grm.now.grammar.tokens }
     requires tokens { 0 < grm.now.grammar.tokens }
-    requires builder { IsBuilder S.number S.MAX (length grm.now.grammar.productions) builder.old }
+    requires builder { IsBuilder S.number S.MAX builder.old }
     requires states { AreStates grm.now.grammar.tokens (states_in S.number builder.old) }
     requires set { FitsCore grm.now.grammar (core_in (map (set_of_moved S.number rows.now) sets.old.items) number) }
-    ensures builder { OnOk result (IsBuilder S.number S.MAX (length grm.now.grammar.productions) builder.new) }
+    ensures builder { OnOk result (IsBuilder S.number S.MAX builder.new) }
     ensures goes { OnOk result (GoesOn S.number builder.old builder.new) }
     ensures states { OnOk result (AreStates grm.now.grammar.tokens (states_in S.number builder.new)) }
     ensures sets { OnOk result (map (set_of_moved S.number rows.now) sets.new.items ≡ slice_set (map (set_of_moved S.number rows.now) sets.old.items) number no_core) }
@@ -117,11 +118,11 @@ fn place_all<S: IndexStorage>(
     requires wide { length marks.now.bits ≡ grm.now.grammar.rules + grm.now.grammar.tokens }
     requires marked { AreMarked marks.now.bits (map (set_of_moved S.number rows.now) sets.old.items) }
     requires tokens { 0 < grm.now.grammar.tokens }
-    requires builder { IsBuilder S.number S.MAX (length grm.now.grammar.productions) builder.old }
+    requires builder { IsBuilder S.number S.MAX builder.old }
     requires states { AreStates grm.now.grammar.tokens (states_in S.number builder.old) }
     requires sets { (n : ℕ) → n < grm.now.grammar.rules + grm.now.grammar.tokens → FitsCore grm.now.grammar (core_in (map (set_of_moved S.number rows.now) sets.old.items) n) }
     ensures emptied { OnOk result (AreEmpty (grm.now.grammar.rules + grm.now.grammar.tokens) sets.new.items) }
-    ensures builder { OnOk result (IsBuilder S.number S.MAX (length grm.now.grammar.productions) builder.new) }
+    ensures builder { OnOk result (IsBuilder S.number S.MAX builder.new) }
     ensures goes { OnOk result (GoesOn S.number builder.old builder.new) }
     ensures handled { OnOk result ((before : Building) → AreGotosOf grm.now.grammar before builder.old.from (map (set_of_moved S.number rows.now) sets.old.items) → AreHandled grm.now.grammar before builder.old.from 0 (states_in S.number builder.old) → AreHandled grm.now.grammar before builder.old.from (grm.now.grammar.rules + grm.now.grammar.tokens) (states_in S.number builder.new)) }
     ensures many { IsErrOf result faults.TooManyStates → (before : Building) → IsNextTaken grm.now.grammar before builder.old.from → AreGotosOf grm.now.grammar before builder.old.from (map (set_of_moved S.number rows.now) sets.old.items) → AreHandled grm.now.grammar before builder.old.from 0 (states_in S.number builder.old) → TooManyStand grm.now.grammar S.MAX }
@@ -346,7 +347,7 @@ pub(crate) fn start_states<S: IndexStorage>(
 ) -> Result<Vec<State<S>>, AllocError>
     ensures reached { IfOk result (λ v. AreReached grm.now.grammar (map (value_of S.number) v.items)) }
     ensures one { IfOk result (λ v. length v.items ≡ 1) }
-    ensures first { IfOk result (λ v. first_production (state_at (map (value_of S.number) v.items) 0).core.items ≡ grm.now.grammar.start) }
+    ensures some { IfOk result (λ v. 0 < length (state_at (map (value_of S.number) v.items) 0).core.items) }
 {
     let mut items = Vec::new(alloc);
     items.push(CoreItem {
@@ -364,30 +365,6 @@ pub(crate) fn start_states<S: IndexStorage>(
     Ok(states)
 }
 
-/// Makes `count` empty lists.
-pub(crate) fn empty_lists(alloc: Global, count: usize) -> Result<Vec<Vec<usize>>, AllocError>
-    ensures lists { IfOk result (λ v. map (λ l. l.items) v.items ≡ replicate count []) }
-    ensures count { IfOk result (λ v. length v.items ≡ count) }
-{
-    let mut lists = Vec::new(alloc);
-    'lists: for _ in 0..count {
-        lists.push(Vec::new(alloc))?;
-    }
-    Ok(lists)
-}
-
-/// Makes `count` lists of states by first production, with the first state alone, in one of them.
-fn start_lists(alloc: Global, count: usize, first: usize) -> Result<Vec<Vec<usize>>, AllocError>
-    requires { first < count }
-    ensures lists { IfOk result (λ v. map (λ l. l.items) v.items ≡ slice_set (replicate count []) first (0 ∷ [])) }
-    ensures count { IfOk result (λ v. length v.items ≡ count) }
-{
-    let mut lists = empty_lists(alloc, count)?;
-    let list = &mut lists[first];
-    list.push(0)?;
-    Ok(lists)
-}
-
 /// Returns the start state with the lists that name it: no step is made yet.
 fn start_builder<S: IndexStorage>(
     alloc: Global,
@@ -395,9 +372,10 @@ fn start_builder<S: IndexStorage>(
 ) -> Result<Builder<S>, AllocError>
     ensures { IfOk result (λ b. IsUnderWay S.number S.MAX grm.now.grammar b) }
 {
-    let first = grm.start_prod().0.to_usize();
-    let begins = start_lists(alloc, grm.prods_len().0.to_usize(), first)?;
+    grm.start_prod();
     let states = start_states(alloc, grm)?;
+    let mut begins = Vec::with_capacity(alloc, grm.prods_len().0.to_usize())?;
+    put_number(alloc, &mut begins, &states[0].core.items[0], 0)?;
     Ok(Builder {
         states,
         begins,

@@ -13,14 +13,15 @@ ghost use Rattle.state_table.specs.ItemRows.{Item, IsAt, IsCoreOf, map_of};
 ghost use Rattle.state_table.specs.Meeting.{rows_in};
 ghost use Rattle.lrtable.specs.MovedItems.{moved_items, row_from, rows_from};
 ghost use Rattle.lrtable.specs.Revisits.{core_noted, IsMoved, AreMoved, IsRowBehind, AreRowsBehind, AreHeld, IsNoted, LeadsOn};
-ghost use Rattle.lrtable.specs.States.{Edge, AreStates, AreBuckets, AscendEdges, ListsCore, edge_in, edge_of, state_at, first_production};
+ghost use Rattle.lrtable.specs.States.{Edge, AreStates, AreBuckets, AscendEdges, ListsCore, edge_in, edge_of, state_at};
 ghost use Rattle.cfg_numbered.specs.Symbols.{sym_of};
 ghost use Rattle.state_table.specs.CoreViews.{item_of, items_of, core_of_set};
-ghost use Rattle.lrtable.specs.StateViews.{edge_of_pair, edges_of, value_of};
+ghost use Rattle.lrtable.specs.StateViews.{edge_of_pair, edges_of, lists_of, value_of};
 ghost use Rattle.lrtable.specs.Stepping.{IsNextTaken};
 ghost use Rattle.lrtable.specs.declared.states.BuildError.TheVariants as faults;
 
 use crate::moved_items::{MovedItem, Rows, Source};
+use crate::state_lists::numbers_at;
 use crate::states::{BuildError, Builder, EdgeTo, State, place};
 use cfg_base::index::IndexStorage;
 use cfg_base::symbol::SIdx;
@@ -182,18 +183,17 @@ fn is_first<S: IndexStorage>(states: &[State<S>], bucket: &[usize], number: usiz
 fn stays<S: IndexStorage>(
     grm: &NumberedGrammar<S>,
     states: &[State<S>],
-    begins: &[Vec<usize>],
+    begins: &[Vec<Vec<usize>>],
     was: &Retaken<S>,
     rows: &Rows<'_>,
     target: usize,
 ) -> bool
     requires noted { IsNoted S.number grm.now.grammar was.now rows.now }
     requires states { AreStates grm.now.grammar.tokens (map (value_of S.number) states.now) }
-    requires buckets { AreBuckets (map (value_of S.number) states.now) (map (λ l. l.items) begins.now) }
+    requires buckets { AreBuckets (map (value_of S.number) states.now) (lists_of begins.now) }
     requires target { target < length states.now }
     requires moved { AreMoved grm.now.grammar (core_noted S.number was.now rows.now) (state_at (map (value_of S.number) states.now) target).core.items }
     requires some { 0 < length (state_at (map (value_of S.number) states.now) target).core.items }
-    requires listed { first_production (state_at (map (value_of S.number) states.now) target).core.items < length begins.now }
     ensures held { result ≡ true → AreHeld grm.now.grammar (core_noted S.number was.now rows.now) (state_at (map (value_of S.number) states.now) target).core.items (length (state_at (map (value_of S.number) states.now) target).core.items) (state_at (map (value_of S.number) states.now) target).core.rows }
     ensures alone { result ≡ true → (j : ℕ) → j < target → (state_at (map (value_of S.number) states.now) j).core.items ≡ (state_at (map (value_of S.number) states.now) target).core.items → ⊥ }
 {
@@ -201,8 +201,7 @@ fn stays<S: IndexStorage>(
     if !are_held(grm, was, rows, core) {
         return false;
     }
-    let first = core.items[0].pidx.0.to_usize();
-    is_first(states, begins[first].as_slice(), target)
+    is_first(states, numbers_at(begins, &core.items[0]), target)
 }
 
 /// Places the goto set of an edge's symbol: the edge stays where it is, or leads to the state that the set joins or becomes.
@@ -215,10 +214,10 @@ fn retake_edge<S: IndexStorage>(
     rows: &Rows<'_>,
 ) -> Result<(), BuildError>
     requires noted { IsNoted S.number grm.now.grammar was.now rows.now }
-    requires builder { IsBuilder S.number S.MAX (length grm.now.grammar.productions) builder.old }
+    requires builder { IsBuilder S.number S.MAX builder.old }
     requires states { AreStates grm.now.grammar.tokens (states_in S.number builder.old) }
     requires leads { LeadsOn grm.now.grammar (core_noted S.number was.now rows.now) (states_in S.number builder.old) builder.old.from (edge_of_pair S.number edge) }
-    ensures builder { OnOk result (IsBuilder S.number S.MAX (length grm.now.grammar.productions) builder.new) }
+    ensures builder { OnOk result (IsBuilder S.number S.MAX builder.new) }
     ensures goes { OnOk result (GoesOn S.number builder.old builder.new) }
     ensures states { OnOk result (AreStates grm.now.grammar.tokens (states_in S.number builder.new)) }
     ensures items { OnOk result ((k : ℕ) → k < length builder.old.states.items → (state_at (states_in S.number builder.new) k).core.items ≡ (state_at (states_in S.number builder.old) k).core.items) }
@@ -253,12 +252,12 @@ pub(crate) fn retake_all<S: IndexStorage>(
     rows: &Rows<'_>,
 ) -> Result<(), BuildError>
     requires noted { IsNoted S.number grm.now.grammar was.now rows.now }
-    requires builder { IsBuilder S.number S.MAX (length grm.now.grammar.productions) builder.old }
+    requires builder { IsBuilder S.number S.MAX builder.old }
     requires states { AreStates grm.now.grammar.tokens (states_in S.number builder.old) }
     requires leads { (k : ℕ) (e : Edge) → k < length was.now.edges.items → LeadsOn grm.now.grammar (core_noted S.number was.now rows.now) (states_in S.number builder.old) builder.old.from (get_or (edges_of S.number was.now.edges.items) k e) }
     requires ascends { AscendEdges (edges_of S.number was.now.edges.items) }
     requires whole { (X : Sym) (p d : ℕ) → edge_in (edges_of S.number was.now.edges.items) X ≡ None → Closure grm.now.grammar (HasItem (map_of (core_noted S.number was.now rows.now))) p d → IsNext grm.now.grammar p d X → ⊥ }
-    ensures builder { OnOk result (IsBuilder S.number S.MAX (length grm.now.grammar.productions) builder.new) }
+    ensures builder { OnOk result (IsBuilder S.number S.MAX builder.new) }
     ensures goes { OnOk result (GoesOn S.number builder.old builder.new) }
     ensures handled { OnOk result ((before : Building) → core_of before.graph builder.old.from ≡ map_of (core_noted S.number was.now rows.now) → AreHandled grm.now.grammar before builder.old.from 0 (states_in S.number builder.old) → AreHandled grm.now.grammar before builder.old.from (grm.now.grammar.rules + grm.now.grammar.tokens) (states_in S.number builder.new)) }
     ensures many { IsErrOf result faults.TooManyStates → (before : Building) → IsNextTaken grm.now.grammar before builder.old.from → core_of before.graph builder.old.from ≡ map_of (core_noted S.number was.now rows.now) → AreHandled grm.now.grammar before builder.old.from 0 (states_in S.number builder.old) → TooManyStand grm.now.grammar S.MAX }

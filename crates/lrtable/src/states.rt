@@ -9,13 +9,14 @@ ghost use Rattle.state_table.specs.Meeting.{AreAlike, RowsFit, rows_in};
 ghost use Rattle.lrtable.specs.Builders.{states_in, IsBuilder, GoesOn};
 ghost use Rattle.lrtable.specs.MovedItems.{AreWide, core_of_moved, moved_items, rows_from};
 ghost use Rattle.state_table.specs.ItemRows.{Item, Core, join_rows, CoversRows, LacksRows, IsCoreOf};
-ghost use Rattle.lrtable.specs.States.{IsPut, IsLinked, IsPlaced, JoinsAt, JoinsNone, AreStates, AscendEdges, ListsCore, IsApartFrom, Edge, first_production, grown_at, state_at};
+ghost use Rattle.lrtable.specs.States.{IsPut, IsLinked, IsPlaced, JoinsAt, JoinsNone, AreStates, AscendEdges, ListsCore, IsApartFrom, Edge, grown_at, state_at};
 ghost use Rattle.state_table.specs.Graphs.{SymBefore};
 ghost use Rattle.lrtable.specs.declared.states.BuildError.TheVariants as faults;
 ghost use Rattle.state_table.specs.CoreViews.{item_of, items_of, core_of_set};
 ghost use Rattle.lrtable.specs.StateViews.{edge_of_pair, edges_of, value_of};
 
 use crate::moved_items::{MovedItem, Rows, same_items, to_core};
+use crate::state_lists::{numbers_at, put_number};
 use crate::weak_compatibility::{hold_all, weakly_compatible};
 use cfg_base::index::IndexStorage;
 use cfg_base::symbol::Symbol;
@@ -44,8 +45,8 @@ pub(crate) struct State<S> {
 #[derive(Drop)]
 pub(crate) struct Builder<S> {
     pub states: Vec<State<S>>,
-    /// For each production the states whose first item is of it, ascending.
-    pub begins: Vec<Vec<usize>>,
+    /// For each production and dot the states whose first item they are, ascending.
+    pub begins: Vec<Vec<Vec<usize>>>,
     /// No state below it is to be taken.
     pub cursor: usize,
     /// The state that is taken: the goto sets are its own.
@@ -309,11 +310,11 @@ fn join<S: IndexStorage>(
     rows: &Rows<'_>,
     held: bool,
 ) -> Result<(), AllocError>
-    requires builder { IsBuilder S.number S.MAX (length builder.old.begins.items) builder.old }
+    requires builder { IsBuilder S.number S.MAX builder.old }
     requires states { (tokens : ℕ) × AreStates tokens (states_in S.number builder.old) × IsCoreOf tokens (core_of_moved S.number rows.now set.now) × (0 < tokens) }
     requires joins { JoinsAt (states_in S.number builder.old) number (core_of_moved S.number rows.now set.now) }
     requires held { held ≡ true → CoversRows (state_at (states_in S.number builder.old) number).core.rows (rows_from rows.now set.now) }
-    ensures builder { OnOk result (IsBuilder S.number S.MAX (length builder.old.begins.items) builder.new) }
+    ensures builder { OnOk result (IsBuilder S.number S.MAX builder.new) }
     ensures goes { OnOk result (GoesOn S.number builder.old builder.new) }
     ensures placed { OnOk result (IsPlaced (states_in S.number builder.old) builder.old.from (sym_of S.number symbol) (core_of_moved S.number rows.now set.now) (states_in S.number builder.new)) }
 {
@@ -348,21 +349,19 @@ fn push_state<S: IndexStorage>(
     Ok(())
 }
 
-/// Makes the goto set of a symbol a state, and puts it last in the list of its first production.
+/// Makes the goto set of a symbol a state, and puts it last in the list of its first item.
 fn add<S: IndexStorage>(
     alloc: Global,
     builder: &mut Builder<S>,
-    first: usize,
     symbol: Symbol<S>,
     set: &[MovedItem<S>],
     rows: &Rows<'_>,
 ) -> Result<(), BuildError>
-    requires builder { IsBuilder S.number S.MAX (length builder.old.begins.items) builder.old }
+    requires builder { IsBuilder S.number S.MAX builder.old }
     requires states { (tokens : ℕ) × AreStates tokens (states_in S.number builder.old) × IsCoreOf tokens (core_of_moved S.number rows.now set.now) × (0 < tokens) }
     requires joins { JoinsNone (states_in S.number builder.old) (core_of_moved S.number rows.now set.now) }
-    requires first { first ≡ first_production (moved_items S.number set.now) }
-    requires listed { first < length builder.old.begins.items }
-    ensures builder { OnOk result (IsBuilder S.number S.MAX (length builder.old.begins.items) builder.new) }
+    requires some { 0 < length set.now }
+    ensures builder { OnOk result (IsBuilder S.number S.MAX builder.new) }
     ensures goes { OnOk result (GoesOn S.number builder.old builder.new) }
     ensures placed { OnOk result (IsPlaced (states_in S.number builder.old) builder.old.from (sym_of S.number symbol) (core_of_moved S.number rows.now set.now) (states_in S.number builder.new)) }
     ensures full { IsErrOf result faults.TooManyStates → S.MAX ≤ length builder.old.states.items }
@@ -379,8 +378,7 @@ fn add<S: IndexStorage>(
         symbol,
         number,
     )?;
-    let list = &mut builder.begins[first];
-    list.push(number)?;
+    put_number(alloc, &mut builder.begins, &set[0].item, number)?;
     Ok(())
 }
 
@@ -393,28 +391,22 @@ pub(crate) fn place<S: IndexStorage>(
     set: &[MovedItem<S>],
     rows: &Rows<'_>,
 ) -> Result<(), BuildError>
-    requires builder { IsBuilder S.number S.MAX (length builder.old.begins.items) builder.old }
+    requires builder { IsBuilder S.number S.MAX builder.old }
     requires states { (tokens : ℕ) × AreStates tokens (states_in S.number builder.old) × IsCoreOf tokens (core_of_moved S.number rows.now set.now) × (0 < tokens) }
     requires some { 0 < length set.now }
-    requires listed { first_production (moved_items S.number set.now) < length builder.old.begins.items }
-    ensures builder { OnOk result (IsBuilder S.number S.MAX (length builder.old.begins.items) builder.new) }
+    ensures builder { OnOk result (IsBuilder S.number S.MAX builder.new) }
     ensures goes { OnOk result (GoesOn S.number builder.old builder.new) }
     ensures placed { OnOk result (IsPlaced (states_in S.number builder.old) builder.old.from (sym_of S.number symbol) (core_of_moved S.number rows.now set.now) (states_in S.number builder.new)) }
     ensures full { IsErrOf result faults.TooManyStates → JoinsNone (states_in S.number builder.old) (core_of_moved S.number rows.now set.now) × (S.MAX ≤ length builder.old.states.items) }
 {
-    let first = set[0].item.pidx.0.to_usize();
-    match first_joined(
-        builder.states.as_slice(),
-        builder.begins[first].as_slice(),
-        set,
-        rows,
-    ) {
+    let bucket = numbers_at(builder.begins.as_slice(), &set[0].item);
+    match first_joined(builder.states.as_slice(), bucket, set, rows) {
         Some((number, held)) => {
             join(builder, symbol, number, set, rows, held)?;
             Ok(())
         }
         None => {
-            add(alloc, builder, first, symbol, set, rows)?;
+            add(alloc, builder, symbol, set, rows)?;
             Ok(())
         }
     }

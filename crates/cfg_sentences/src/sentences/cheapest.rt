@@ -14,13 +14,13 @@ ghost use Rattle.cfg_sentences.specs.CostTable.{bound, cost_of, cost_in};
 ghost use Rattle.cfg_sentences.specs.TokenLists.{lists_of};
 ghost use Rattle.cfg_sentences.specs.CheapestTable.{ListsAreRefused, lists_in, lists_before, AllHaveLists, AreLists, IsJoined, spare_in};
 
-use super::dirty_productions::Once;
+use super::dirty_productions::closed_by_prods;
 use super::least::LeastCosts;
 use super::needed::wanted_rules;
 use super::token_costs::BOUND;
 use super::token_lists::{TokenLists, insert_all, join_all, put_before};
 use super::{SentenceError, SentenceGenerator};
-use crate::by_prods::{ByProds, ProdTable, close_by_prods};
+use crate::by_prods::ProdTable;
 use cfg_base::index::IndexStorage;
 use cfg_base::symbol::{RIdx, Symbol, TIdx};
 use cfg_theory::cost::{cheapest_lists_of_wanted_rules, productive_rules_have_least_costs};
@@ -202,22 +202,15 @@ fn cheapest_lists<S: IndexStorage>(
     ensures joined { IfOk result (λ v. (p : ℕ) → p < length least.now.grammar.productions → IsJoined least.now.grammar (cost_of least.now.costs) least.now.table wanted.now.bits p v.items) }
 {
     let naming = least.naming(alloc)?;
-    let naming = &naming;
     let order = least.order(alloc)?;
     let lists = no_lists(alloc, least.rules_len().0.to_usize())?;
-    let taken = Vob::from_elem(alloc, false, least.prods_len().0.to_usize())?;
     let table = Joining {
         alloc,
         least,
         wanted,
         lists,
     };
-    let table = Once {
-        table,
-        naming,
-        taken,
-    };
-    let mut filling = ByProds { table, naming };
-    close_by_prods(alloc, &order, &mut filling)?;
-    Ok(filling.table.table.lists)
+    let prods = least.prods_len().0.to_usize();
+    let closed = closed_by_prods(alloc, &order, &naming, prods, table)?;
+    Ok(closed.lists)
 }

@@ -17,13 +17,14 @@ ghost use Rattle.cfg_sentences.specs.CheapestTable.{ListsAreRefused, IsFirstChea
 ghost use Rattle.cfg_sentences.specs.EarliestTable.{GivesNone, GivesOne, ComesFirst, IsNestedIn, AreFound, IsTakenIn, room_in};
 
 use super::cheapest::lists_of_rule;
+use super::dirty_productions::closed_by_prods;
 use super::least::LeastCosts;
 use super::needed::wanted_rules;
 use super::shared_lists::{SharedLists, write};
 use super::shared_order::is_list_ahead;
 use super::token_costs::BOUND;
 use super::{SentenceError, SentenceGenerator};
-use crate::by_prods::{ByProds, ProdTable, close_by_prods};
+use crate::by_prods::ProdTable;
 use cfg_base::index::IndexStorage;
 use cfg_base::symbol::{RIdx, Symbol, TIdx};
 use cfg_theory::cost::{
@@ -299,8 +300,7 @@ fn first_lists<S: IndexStorage>(
         wanted,
         firsts,
     };
-    let naming = &naming;
-    let mut filling = ByProds { table, naming };
-    close_by_prods(alloc, &order, &mut filling)?;
-    Ok(filling.table.firsts)
+    let prods = least.prods_len().0.to_usize();
+    let closed = closed_by_prods(alloc, &order, &naming, prods, table)?;
+    Ok(closed.firsts)
 }

@@ -10,8 +10,9 @@ ghost use Rattle.cfg_sets.specs.WorkLists.{ListsNaming, TakesIn};
 ghost use Rattle.cfg_sets.specs.Orders.{IsOrder};
 ghost use Rattle.cfg_sentences.specs.CheapestTable.{GivesLeast};
 
+use super::dirty_productions::closed_by_prods;
 use super::token_costs::{BOUND, TokenCosts};
-use crate::by_prods::{ByProds, ProdTable, close_by_prods};
+use crate::by_prods::ProdTable;
 use cfg_base::index::IndexStorage;
 use cfg_base::symbol::{PIdx, RIdx, Symbol};
 use cfg_sets::naming::Naming;
@@ -271,7 +272,7 @@ fn least_costs<S: IndexStorage>(
 {
     let least = no_costs(alloc, tokens.rules_len().0.to_usize())?;
     let table = Lowering { tokens, least };
-    let mut filling = ByProds { table, naming };
-    close_by_prods(alloc, order, &mut filling)?;
-    Ok(filling.table.least)
+    let prods = tokens.prods_len().0.to_usize();
+    let closed = closed_by_prods(alloc, order, naming, prods, table)?;
+    Ok(closed.least)
 }

@@ -9,12 +9,13 @@ ghost use Rattle.cfg_sets.specs.WorkLists.{ListsNaming, TakesIn};
 ghost use Rattle.cfg_sets.specs.Orders.{IsOrder};
 ghost use Rattle.cfg_sentences.specs.Greatest.{AreRaised, IsRaisedBy, IsMore, rise, AreGreatest, GreatestIsRefused};
 
+use super::dirty_productions::closed_by_prods;
 use super::kept_costs::KeptCosts;
 use super::least::no_costs;
 use super::token_costs::{BOUND, TokenCosts};
 use super::unbounded::unbounded_rules;
 use super::{CostError, SentenceGenerator};
-use crate::by_prods::{ByProds, ProdTable, close_by_prods};
+use crate::by_prods::ProdTable;
 use cfg_base::index::IndexStorage;
 use cfg_base::symbol::RIdx;
 use cfg_sets::naming::Naming;
@@ -174,7 +175,7 @@ fn greatest_costs<S: IndexStorage>(
         top,
         greatest,
     };
-    let mut filling = ByProds { table, naming };
-    close_by_prods(alloc, order, &mut filling)?;
-    Ok(filling.table.greatest)
+    let prods = tokens.prods_len().0.to_usize();
+    let closed = closed_by_prods(alloc, order, naming, prods, table)?;
+    Ok(closed.greatest)
 }

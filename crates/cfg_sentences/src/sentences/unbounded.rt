@@ -11,8 +11,9 @@ ghost use Rattle.cfg_sets.specs.Orders.{IsOrder};
 ghost use Rattle.cfg_sentences.specs.Greatest.{AreGaining, IsNarrowedBy};
 
 use super::bounded::settle;
+use super::dirty_productions::closed_by_prods;
 use super::kept_costs::KeptCosts;
-use crate::by_prods::{ByProds, ProdTable, close_by_prods};
+use crate::by_prods::ProdTable;
 use cfg_base::index::IndexStorage;
 use cfg_base::symbol::PIdx;
 use cfg_sets::naming::Naming;
@@ -134,9 +135,9 @@ fn rules_before<S: IndexStorage>(
 {
     let new = Vob::from_elem(alloc, false, costly.rules_len().0.to_usize())?;
     let table = Narrowing { costly, old, new };
-    let mut filling = ByProds { table, naming };
-    close_by_prods(alloc, order, &mut filling)?;
-    Ok(filling.table.new)
+    let prods = costly.prods_len().0.to_usize();
+    let closed = closed_by_prods(alloc, order, naming, prods, table)?;
+    Ok(closed.new)
 }
 
 /// Returns the unbounded rules, where `costly` says which rules derive a token list, and one that costs something.

@@ -21,7 +21,7 @@ invariant-ranks g l =
       emptied : (n : ℕ) → n < m → core_in (map (set_of_moved number l.rows) l.sets.items) n ≡ no_core;
       count : length l.sets.items ≡ length l.initial.sets.items;
       states : AreStates l.grm.grammar.tokens (states_in number l.builder);
-      builder : IsBuilder number g.S.IndexStorage.MAX (length l.grm.grammar.productions) l.builder;
+      builder : IsBuilder number g.S.IndexStorage.MAX l.builder;
       goes : GoesOn number l.initial.builder l.builder;
       rest : (n : ℕ) → m ≤ n → core_in (map (set_of_moved number l.rows) l.sets.items) n ≡ core_in (map (set_of_moved number l.rows) l.initial.sets.items) n;
       handled : (before : Building) → AreGotosOf l.grm.grammar before l.initial.builder.from (map (set_of_moved number l.rows) l.initial.sets.items) → AreHandled l.grm.grammar before l.initial.builder.from 0 (states_in number l.initial.builder) →

@@ -8,9 +8,9 @@ use Rattle.lrtable.specs.StateViews.{value_of}
 use Rattle.lrtable.specs.Stepping.{IsGotoAt}
 use Rattle.lrtable.specs.declared.moved_items.MovedItem.{MovedItem}
 use Rattle.state_table.proofs.CoreSteps.{map_at}
-use Rattle.lrtable.proofs.Builders.{goes_none, own_builder, builder_of}
+use Rattle.lrtable.proofs.Builders.{goes_none}
 use Rattle.lrtable.proofs.Emptying.{none_core}
-use Rattle.lrtable.proofs.Stepping.{skip_rank, first_fits, rank_placed, rank_refused}
+use Rattle.lrtable.proofs.Stepping.{skip_rank, rank_placed, rank_refused}
 use Rattle.lrtable.proofs.pager.place_rank.Goals as goal
 
 pub returns-then-is_empty-clause-sets : goal.returns-then-is_empty-clause-sets
@@ -59,21 +59,14 @@ place-requires g c =
     let some : 0 < length x.items = search rules in
     let same = ap (λ (l : List (MovedItem g.row.S.Denot)). length l) c.as_slice-items.ensures.value in
     let there : 0 < length c.as_slice-items.result.now = omega (arith, some, same) in
-    let n = length-map c.as_slice-items.result.now (moved_item number) in
-    let f = first_fits G (core_of_moved number c.args.rows.now c.as_slice-items.result.now) good (omega (arith, n, there)) in
-    let l = c.requires.builder.lists in
     record {
-      builder = own_builder number g.S.IndexStorage.MAX (length G.productions) c.args.builder.now c.requires.builder;
+      builder = c.requires.builder;
       states = (G.tokens, c.requires.states, good.good, c.requires.tokens);
       some = there;
-      listed = omega (arith, f, l);
     }
 
 pub returns-then-is_empty-clause-goes : goal.returns-then-is_empty-clause-goes
 returns-then-is_empty-clause-goes g c = goes_none g.S.IndexStorage.number c.args.builder.now
-
-pub returns-clause-builder : goal.returns-clause-builder
-returns-clause-builder g c = builder_of g.S.IndexStorage.number g.S.IndexStorage.MAX (length c.args.grm.now.grammar.productions) c.args.builder.now c.place.new.builder c.requires.builder c.in_ok-place.ensures.builder
 
 pub returns-in_err-place-clause-many : goal.returns-in_err-place-clause-many
 returns-in_err-place-clause-many g c = λ e before next is h.

@@ -74,7 +74,7 @@ retake_all-requires g c =
           subst (λ (s : RuleSets). IsClosureOf G fronts own s) opening (subst (λ (x : Core). IsClosureOf G fronts x c.close.new.self.opening) (sym noted) c.in_ok-close.ensures.closed),
         );
       };
-      builder = builder_taken number g.S.IndexStorage.MAX (length G.productions) c.args.builder.now _ c.args.number c.requires.builder.builder low c.in_ok-take.ensures refl refl refl;
+      builder = builder_taken number g.S.IndexStorage.MAX c.args.builder.now _ c.args.number c.requires.builder.builder low c.in_ok-take.ensures refl refl refl;
       states = all;
       leads = λ j d l. again_leads G good states h c.args.number lt c.requires.edges own es same alike (map (value_of number) c.take.new.states.items) c.in_ok-take.ensures all j d (omega (arith, l, long));
       ascends = again_ascends G good states h c.args.number lt c.requires.edges own es same alike;

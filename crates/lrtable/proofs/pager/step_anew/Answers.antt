@@ -56,7 +56,7 @@ place_all-requires g c =
       wide = c.in_ok-gotos.ensures.wide;
       marked = subst (λ (r : LookRows). AreMarked c.gotos.new.marks.bits (map (set_of_moved number r) c.gotos.new.sets.items)) (sym rows) c.in_ok-gotos.ensures.marked;
       tokens = c.start_prod.ensures.well_formed.end_token;
-      builder = builder_taken number g.S.IndexStorage.MAX (length G.productions) c.args.builder.now _ c.args.number c.requires.builder.builder low c.in_ok-take.ensures refl refl refl;
+      builder = builder_taken number g.S.IndexStorage.MAX c.args.builder.now _ c.args.number c.requires.builder.builder low c.in_ok-take.ensures refl refl refl;
       states = subst (λ (l : List StateValue). AreStates G.tokens l) (sym c.in_ok-take.ensures) (off_states states h.building c.args.number h.matches (omega (arith, n, low)) G.tokens h.cores);
       sets = all_fit G (Closure G (HasItem core)) (ClosureLook G (HasItem core) (HasLook core)) (map (set_of_moved number c.new-rows.result) c.gotos.new.sets.items) made;
     }

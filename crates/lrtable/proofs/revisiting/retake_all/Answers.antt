@@ -39,7 +39,7 @@ retake_edge-requires g c =
     let test = c.edges-test.true in
     record {
       noted = c.requires.noted;
-      builder = record { from = v.builder.from; cursor = v.builder.cursor; buckets = v.builder.buckets; lists = v.builder.lists; few = v.builder.few };
+      builder = record { from = v.builder.from; cursor = v.builder.cursor; buckets = v.builder.buckets; few = v.builder.few };
       states = v.through.states;
       leads = subst (λ s. LeadsOn G own states s (edge_of_pair number c.index-edge.result.now)) (sym v.goes.from)
           (subst (λ (x : Edge). LeadsOn G own states c.args.builder.now.from x) (map_at (edge_of_pair number) c.args.was.now.edges.items c.edges.near c.index-edge.result.now no_edge (omega (arith, test)) c.index-edge.ensures)

@@ -10,6 +10,6 @@ invariant-edges g l =
     let number = g.S.IndexStorage.number in
     (n : ℕ) × record {
       through : IsThrough l.grm.grammar (core_noted number l.was l.rows) l.initial.builder.from (edges_of number l.was.edges.items) l.near n (states_in number l.initial.builder) (states_in number l.builder);
-      builder : IsBuilder number g.S.IndexStorage.MAX (length l.grm.grammar.productions) l.builder;
+      builder : IsBuilder number g.S.IndexStorage.MAX l.builder;
       goes : GoesOn number l.initial.builder l.builder;
     }

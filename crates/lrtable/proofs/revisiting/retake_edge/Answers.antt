@@ -3,18 +3,16 @@ use Rattle.std.proofs.lemmas.List.{length-map}
 use Rattle.lrtable.specs.Handling.{rank}
 use Rattle.state_table.specs.ItemRows.{Item}
 use Rattle.lrtable.specs.MovedItems.{moved_item, core_of_moved}
-use Rattle.std.specs.declared.alloc.Global.{Global}
-use Rattle.std.specs.declared.vec.Vec.{Vec}
-use Rattle.lrtable.specs.States.{StateValue, AreBuckets, no_state, state_at, first_production}
+use Rattle.lrtable.specs.States.{StateValue, AreBuckets, no_state, state_at}
 use Rattle.state_table.specs.CoreViews.{items_of}
-use Rattle.lrtable.specs.StateViews.{edge_of_pair, value_of}
+use Rattle.lrtable.specs.StateViews.{edge_of_pair, lists_of, value_of}
 use Rattle.lrtable.specs.Revisits.{core_noted, AreMoved, AreHeld}
 use Rattle.lrtable.specs.declared.states.State.{State}
 use Rattle.state_table.proofs.CoreSteps.{map_at}
-use Rattle.lrtable.proofs.Builders.{goes_none, own_builder, builder_of}
+use Rattle.lrtable.proofs.Builders.{goes_none}
 use Rattle.lrtable.proofs.Gathered.{IsGathered, gathered_set}
-use Rattle.lrtable.proofs.Stepping.{first_fits, rank_placed, rank_refused}
-use Rattle.lrtable.proofs.Revisits.{all_moved, goto_core_fits, set_is_goto, edge_kept}
+use Rattle.lrtable.proofs.Stepping.{rank_placed, rank_refused}
+use Rattle.lrtable.proofs.Revisits.{all_moved, set_is_goto, edge_kept}
 use Rattle.lrtable.proofs.revisiting.retake_edge.Goals as goal
 
 pub stays-requires-clause-moved : goal.stays-requires-clause-moved
@@ -32,22 +30,7 @@ stays-requires-clause-moved g c =
 pub stays-requires-clause-buckets : goal.stays-requires-clause-buckets
 stays-requires-clause-buckets g c =
     let number = g.S.IndexStorage.number in
-    subst₂ (λ (s : List (State g.row.S.Denot)) (l : List (Vec ℕ Global)). AreBuckets (map (value_of number) s) (map (λ (v : Vec ℕ Global). v.items) l)) (sym c.as_slice.ensures.value) (sym c.as_slice-2.ensures.value) c.requires.builder.buckets
-
-pub stays-requires-clause-listed : goal.stays-requires-clause-listed
-stays-requires-clause-listed g c =
-    let number = g.S.IndexStorage.number in
-    let G = c.args.grm.now.grammar in
-    let own = core_noted number c.args.was.now c.args.rows.now in
-    let states = map (value_of number) c.args.builder.now.states.items in
-    let e = edge_of_pair number c.args.edge in
-    let leads = c.requires.leads in
-    let led = (state_at states e.target).core in
-    let f = first_fits G led (goto_core_fits G own e.symbol led (c.requires.states.cores e.target leads.target) leads.items) leads.some in
-    let l = c.requires.builder.lists in
-    let s = ap (λ (l : List (State g.row.S.Denot)). first_production (state_at (map (value_of number) l) e.target).core.items) c.as_slice.ensures.value in
-    let b = ap length c.as_slice-2.ensures.value in
-    omega (arith, f, l, s, b)
+    subst₂ (λ (s : List (State g.row.S.Denot)) l. AreBuckets (map (value_of number) s) (lists_of l)) (sym c.as_slice.ensures.value) (sym c.as_slice-2.ensures.value) c.requires.builder.buckets
 
 pub returns-then-stays-clause-handled : goal.returns-then-stays-clause-handled
 returns-then-stays-clause-handled g c = λ before core h.
@@ -80,9 +63,6 @@ goto_of_items-requires-clause-moved g c =
 pub returns-then-stays-clause-goes : goal.returns-then-stays-clause-goes
 returns-then-stays-clause-goes g c = goes_none g.S.IndexStorage.number c.args.builder.now
 
-pub returns-clause-builder : goal.returns-clause-builder
-returns-clause-builder g c = builder_of g.S.IndexStorage.number g.S.IndexStorage.MAX (length c.args.grm.now.grammar.productions) c.args.builder.now c.place.new.builder c.requires.builder c.in_ok-place.ensures.builder
-
 pub place-requires : goal.place-requires
 place-requires g c =
     let number = g.S.IndexStorage.number in
@@ -97,17 +77,13 @@ place-requires g c =
     let given = core_of_moved number c.args.rows.now c.as_slice-3.result.now in
     let made : IsGathered G own led given = gathered_set number G own c.args.rows.now c.args.builder.now.states.items e.target c.index.result.now c.as_slice-items.result.now c.in_ok-set.set.items c.as_slice-3.result.now (let t = leads.target in omega (arith, t, n)) c.index.ensures
     c.as_slice-items.ensures.value c.in_ok-set.ensures.items c.in_ok-set.ensures.rows c.as_slice-3.ensures.value good in
-    let f = first_fits G led (goto_core_fits G own e.symbol led good leads.items) leads.some in
-    let l = c.requires.builder.lists in
-    let s = ap first_production made.same in
     let some = leads.some in
     let count = ap (λ (i : List Item). length i) made.same in
     let k = length-map c.as_slice-3.result.now (moved_item number) in
     record {
-      builder = own_builder number g.S.IndexStorage.MAX (length G.productions) c.args.builder.now c.requires.builder;
+      builder = c.requires.builder;
       states = (G.tokens, c.requires.states, made.core, c.start_prod.ensures.well_formed.end_token);
       some = omega (arith, count, k, some);
-      listed = omega (arith, f, l, s);
     }
 
 pub returns-in_err-place-clause-many : goal.returns-in_err-place-clause-many

@@ -1,12 +1,10 @@
-use Rattle.std.proofs.Common.{◌≡◌, ℕ, [], List, length, get_or, map, sym, ap, ◌∙◌, subst, arith}
+use Rattle.std.proofs.Common.{◌≡◌, ℕ, List, length, get_or, map, sym, ap, ◌∙◌, subst, arith}
 use Rattle.std.proofs.lemmas.List.{length-map}
-use Rattle.std.specs.declared.alloc.Global.{Global}
-use Rattle.std.specs.declared.vec.Vec.{Vec}
-use Rattle.lrtable.specs.States.{StateValue, no_state, state_at, ListsCore, first_production}
+use Rattle.lrtable.specs.States.{StateValue, no_state, state_at, ListsCore, first_item, list_at}
 use Rattle.state_table.specs.CoreViews.{item_of}
-use Rattle.lrtable.specs.StateViews.{value_of}
+use Rattle.lrtable.specs.StateViews.{lists_of, value_of}
 use Rattle.lrtable.specs.Revisits.{core_noted, AreMoved}
-use Rattle.lrtable.proofs.Buckets.{lists_core, first_is, bucket_is}
+use Rattle.lrtable.proofs.Buckets.{lists_core, first_is}
 use Rattle.state_table.proofs.CoreSteps.{map_at}
 use Rattle.lrtable.proofs.revisiting.stays.Goals as goal
 
@@ -22,7 +20,6 @@ pub is_first-requires-clause-bucket : goal.is_first-requires-clause-bucket
 is_first-requires-clause-bucket g c =
     let number = g.S.IndexStorage.number in
     let states = map (value_of number) c.args.states.now in
-    let buckets = map (λ (l : Vec ℕ Global). l.items) c.args.begins.now in
     let items = (state_at states c.args.target).core.items in
     let low = c.requires.target in
     let is = c.index-states-target.is in
@@ -31,7 +28,6 @@ is_first-requires-clause-bucket g c =
     let same = ap (λ (v : StateValue). length v.core.items) at in
     let n = length-map xs (item_of number) in
     let some = c.requires.some in
-    let f : c.to_usize-first.result ≡ first_production items = c.to_usize-first.ensures.value ∙ (first_is (item_of number) xs c.index.result.now (omega (arith, same, n, some)) c.index.ensures ∙ ap (λ (v : StateValue). first_production v.core.items) (sym at)) in
-    let lt = c.requires.listed in
-    let e : c.as_slice.result.now ≡ get_or buckets (first_production items) [] = c.as_slice.ensures.value ∙ bucket_is (λ (l : Vec ℕ Global). l.items) c.args.begins.now c.to_usize-first.result (first_production items) c.index-begins-first.result (omega (arith, f, lt)) f c.index-begins-first.is in
-    subst (λ (l : List ℕ). ListsCore states items l) (sym e) (lists_core states buckets items c.requires.buckets)
+    let first : item_of number c.index.result.now ≡ first_item items = first_is (item_of number) xs c.index.result.now (omega (arith, same, n, some)) c.index.ensures ∙ ap (λ (v : StateValue). first_item v.core.items) (sym at) in
+    let lists = lists_of c.args.begins.now in
+    subst (λ (l : List ℕ). ListsCore states items l) (sym (c.numbers_at.ensures ∙ ap (list_at lists) first)) (lists_core states lists items c.requires.buckets)

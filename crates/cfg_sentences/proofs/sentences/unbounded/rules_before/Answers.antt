@@ -5,8 +5,8 @@ use Rattle.cfg_sentences.specs.Greatest.{AreGaining, IsNarrowedBy}
 use Rattle.cfg_sentences.proofs.NarrowSteps.{none_gain}
 use Rattle.cfg_sentences.proofs.sentences.unbounded.rules_before.Goals as goal
 
-pub close_by_prods-requires-clause-sound : goal.close_by_prods-requires-clause-sound
-close_by_prods-requires-clause-sound g c =
+pub closed_by_prods-requires-clause-sound : goal.closed_by_prods-requires-clause-sound
+closed_by_prods-requires-clause-sound g c =
     let G = c.args.costly.now.grammar in
     let n : c.to_usize.result ≡ G.rules = c.to_usize.ensures.value ∙ c.rules_len.ensures in
     let bits = c.in_ok-new.new.bits in
@@ -14,20 +14,20 @@ close_by_prods-requires-clause-sound g c =
     (c.requires.old_width, ap length made ∙ length-replicate c.to_usize.result false ∙ n, none_gain G (cost_of c.args.costly.now.costs) c.args.old.now.bits c.to_usize.result bits made)
 
 pub returns-clause-width : goal.returns-clause-width
-returns-clause-width g c = c.in_ok-close_by_prods.ensures.sound.1 ∙ ap (λ v. v.grammar.rules) c.in_ok-close_by_prods.ensures.same.0
+returns-clause-width g c = c.in_ok-closed.ensures.sound.1 ∙ ap (λ v. v.grammar.rules) c.in_ok-closed.ensures.same.0
 
 pub returns-clause-sound : goal.returns-clause-sound
 returns-clause-sound g c =
-    let t = c.close_by_prods.new.filling.table in
-    let h = c.in_ok-close_by_prods.ensures in
+    let t = c.in_ok-closed.closed in
+    let h = c.in_ok-closed.ensures in
     let costly = t.costly.now in
     subst (λ v. AreGaining v.grammar (cost_of v.costs) c.args.old.now.bits t.new.bits) h.same.0
     (subst (λ v. AreGaining costly.grammar (cost_of costly.costs) v.bits t.new.bits) h.same.1 h.sound.2)
 
 pub returns-clause-closed : goal.returns-clause-closed
 returns-clause-closed g c = λ p lt.
-    let t = c.close_by_prods.new.filling.table in
-    let h = c.in_ok-close_by_prods.ensures in
+    let t = c.in_ok-closed.closed in
+    let h = c.in_ok-closed.ensures in
     let costly = t.costly.now in
     subst (λ v. IsNarrowedBy v.grammar (cost_of v.costs) v.table c.args.old.now.bits p t.new.bits) h.same.0
     (subst (λ v. IsNarrowedBy costly.grammar (cost_of costly.costs) costly.table v.bits p t.new.bits) h.same.1 (h.closed p lt))

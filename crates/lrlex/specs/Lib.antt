@@ -1,3 +1,4 @@
 pub mod Expressions
 pub mod Lexing
 pub mod LexTexts
+pub mod LexTextErrors

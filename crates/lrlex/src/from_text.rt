@@ -4,6 +4,7 @@ ghost use Rattle.std.specs.Prelude.{◌≡◌, ◌++◌, ◌∷◌, [], map, opt
 ghost use Rattle.lex_files.specs.LexFiles.{rule_value, file_value};
 ghost use Rattle.lrlex.specs.Lexing.{rules_of, names_of};
 ghost use Rattle.lrlex.specs.LexTexts.{AddsLine, AddsLines, AreRulesOf, ReadsRules};
+ghost use Rattle.lrlex.specs.LexTextErrors.{is_memory};
 
 use crate::rules::LexRules;
 use cfg_base::span::Span;
@@ -25,11 +26,17 @@ pub enum LexTextError {
 
 impl LexTextError {
     /// Returns whether memory was refused.
-    pub fn is_memory(&self) -> bool {
+    pub fn is_memory(&self) -> bool
+        ensures { result ≡ is_memory self.now }
+    {
         match self {
             LexTextError::File(LexFileError::Memory(_)) => true,
+            LexTextError::File(LexFileError::Section(_)) => false,
+            LexTextError::File(LexFileError::Line(_)) => false,
             LexTextError::Expression(_, Error::OutOfMemory) => true,
-            _ => false,
+            LexTextError::Expression(_, Error::Syntax(_)) => false,
+            LexTextError::Expression(_, Error::CompiledTooBig) => false,
+            LexTextError::Expression(_, Error::Internal) => false,
         }
     }
 }

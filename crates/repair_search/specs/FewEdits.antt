@@ -25,3 +25,7 @@ most_edits r = r.edits
 -- how many actions were looked up in searches
 abbrev pub steps_made : {S : Type 0} → Repairs S → ℕ
 steps_made r = r.steps
+
+-- the number of errors with repairs
+abbrev pub errors_repaired : {S : Type 0} → Repairs S → ℕ
+errors_repaired r = length r.found.items

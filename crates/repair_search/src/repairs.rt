@@ -2,7 +2,7 @@
 
 ghost use Rattle.std.specs.Prelude.{◌≡◌, ◌≤◌, [], ◌++◌, ◌∷◌, IfOk, OnOk};
 ghost use Rattle.parse_trees.specs.Edits.{edit_of, edits_of, sequences_of};
-ghost use Rattle.repair_search.specs.FewEdits.{AreFew, edits_in, most_edits, steps_made, weight};
+ghost use Rattle.repair_search.specs.FewEdits.{AreFew, edits_in, errors_repaired, most_edits, steps_made, weight};
 
 use crate::search::MOST;
 use cfg_base::index::IndexStorage;
@@ -40,7 +40,9 @@ impl<S: IndexStorage> Repairs<S> {
     }
 
     /// Counts the errors with repairs.
-    pub fn len(&self) -> usize {
+    pub fn len(&self) -> usize
+        ensures { result ≡ errors_repaired self.now }
+    {
         self.found.len()
     }
 

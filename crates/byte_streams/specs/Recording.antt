@@ -1,5 +1,5 @@
 -- What a recorded reader or writer is made of.
-use Rattle.std.specs.Prelude.{◌≡◌, Option, None, Some}
+use Rattle.std.specs.Prelude.{◌≡◌, ◌≢◌, ℕ, List, ◌++◌, codes, Option, None, Some}
 use Rattle.std.specs.IoError.{error_kind}
 use Rattle.std.specs.declared.io.Error.{Error}
 use Rattle.std.specs.declared.io.ErrorKind.TheVariants.{BrokenPipe}
@@ -17,3 +17,7 @@ failure_of r = r.failure
 abbrev pub IsBroken : Option Error → Type 0
 IsBroken None = ⊥
 IsBroken (Some e) = error_kind e ≡ BrokenPipe
+
+-- words have no number of the system's
+abbrev pub HasNoNumber : List ℕ → Type 0
+HasNoNumber words = (front back : List ℕ) → words ≢ front ++ (codes " (os error " ++ back)

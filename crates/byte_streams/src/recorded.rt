@@ -1,8 +1,8 @@
 //! A reader or a writer that keeps the cause of its last failure.
 
-ghost use Rattle.std.specs.Prelude.{◌≡◌, ◌↔◌, None, IsTrue};
+ghost use Rattle.std.specs.Prelude.{◌≡◌, ◌↔◌, [], None, IfOk, IsTrue, string_bytes};
 ghost use Rattle.byte_streams.specs.Counting.{inner_of, failures_of};
-ghost use Rattle.byte_streams.specs.Recording.{counted_of, failure_of, IsBroken};
+ghost use Rattle.byte_streams.specs.Recording.{counted_of, failure_of, HasNoNumber, IsBroken};
 
 use crate::counting::Counted;
 use crate::reading::Source;
@@ -33,7 +33,10 @@ impl<T> Recorded<T> {
     }
 
     /// Returns the system's cause of the last failure, in words; none where nothing has failed.
-    pub fn cause(&self, alloc: Global) -> Result<String, AllocError> {
+    pub fn cause(&self, alloc: Global) -> Result<String, AllocError>
+        ensures numberless { IfOk result (λ t. HasNoNumber (string_bytes t)) }
+        ensures none { failure_of self.now ≡ None → IfOk result (λ t. string_bytes t ≡ []) }
+    {
         match &self.failure {
             Some(failure) => cause_of(alloc, failure),
             None => Ok(String::new(alloc)),
@@ -52,7 +55,9 @@ impl<T> Recorded<T> {
 }
 
 /// Returns the system's cause in words, without its number.
-pub fn cause_of(alloc: Global, failure: &io::Error) -> Result<String, AllocError> {
+pub fn cause_of(alloc: Global, failure: &io::Error) -> Result<String, AllocError>
+    ensures { IfOk result (λ t. HasNoNumber (string_bytes t)) }
+{
     let shown = failure.to_string(alloc)?;
     match shown.as_str().split_once(" (os error ") {
         Some((words, _)) => String::from_str(alloc, words),

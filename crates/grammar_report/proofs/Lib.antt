@@ -1,4 +1,2 @@
-mod AddedMessages
-mod AddedTexts
 mod BeforeDots
 mod Told

@@ -1,5 +1,5 @@
-pub mod ExampleTexts
 pub mod Nearer
 pub mod Outcomes
 pub mod Places
 pub mod Shown
+pub mod Told

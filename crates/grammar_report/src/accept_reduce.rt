@@ -1,6 +1,10 @@
 //! Why no parser is made of a grammar with a production that may be reduced where a text has ended.
 
-use crate::examples::push_example;
+ghost use Rattle.std.specs.Prelude.{IfOk, OnOk, codes};
+ghost use Rattle.text_messages.specs.Added.{AddsOne};
+ghost use Rattle.grammar_report.specs.Places.{production_place};
+ghost use Rattle.grammar_report.specs.Told.{IsError, IsKeptOf};
+
 use crate::production_places::production_span;
 use cfg_base::symbol::PIdx;
 use cfg_numbered::yacc::NumberedGrammar;
@@ -10,9 +14,9 @@ use cfg_read::yacc::{
 use cfgrammar::yacc::{YaccGrammar, YaccGrammarMakeError};
 use conflict_examples::accept_reduce;
 use grammar_names::push_prod;
-use refused_tables::push_derivation;
+use refused_tables::{push_derivation, push_example};
 use std::alloc::{AllocError, Global};
-use text_messages::{Message, Severity};
+use text_messages::{Message, Messages, Severity};
 
 /// Returns the kind that a text's section names, else that of Yacc's own syntax with trees.
 fn kind_or_default(alloc: Global, text: &str) -> Result<YaccKind, AllocError> {
@@ -26,7 +30,9 @@ fn kind_or_default(alloc: Global, text: &str) -> Result<YaccKind, AllocError> {
 }
 
 /// Returns what is kept of a text, of the kind that its section names, else of Yacc's own syntax with trees.
-pub(crate) fn kept_of(alloc: Global, source: &str) -> Result<ASTWithValidityInfo, AllocError> {
+pub(crate) fn kept_of(alloc: Global, source: &str) -> Result<ASTWithValidityInfo, AllocError>
+    ensures { IfOk result (IsKeptOf source.now) }
+{
     let kind = kind_or_default(alloc, source)?;
     ASTWithValidityInfo::new(alloc, kind, source)
 }
@@ -43,7 +49,7 @@ pub(crate) fn grammar_of(
     }
 }
 
-/// Adds what is wrong with the production, and an example to a second text.
+/// Adds which production is to be reduced and why, and an example to a second text.
 fn push_cause(
     alloc: Global,
     words: &mut String,
@@ -51,7 +57,7 @@ fn push_cause(
     grm: &NumberedGrammar<u32>,
     pidx: PIdx<u32>,
 ) -> Result<(), AllocError> {
-    words.push_str("accept/reduce conflict: where a text has ended, reduce ")?;
+    words.push_str(": where a text has ended, reduce ")?;
     push_prod(words, grm, pidx)?;
     let example = accept_reduce(alloc, grm, pidx)?;
     match &example {
@@ -64,22 +70,36 @@ fn push_cause(
     }
 }
 
-/// Adds that a production may be reduced where a text has ended, how the start rule derives itself, and an example.
-pub(crate) fn push_ending(
+/// Adds the cause by the grammar of what is kept of a text, if it has one.
+fn push_cause_in(
     alloc: Global,
-    messages: &mut Vec<Message>,
+    words: &mut String,
+    shown: &mut String,
     kept: &ASTWithValidityInfo,
     pidx: PIdx<u32>,
 ) -> Result<(), AllocError> {
     let Some(grm) = grammar_of(alloc, kept)? else {
         return Ok(());
     };
-    let (mut words, mut shown) = (String::new(alloc), String::new(alloc));
-    let pushed = push_cause(alloc, &mut words, &mut shown, &grm, pidx);
+    let pushed = push_cause(alloc, words, shown, &grm, pidx);
     drop(grm);
-    pushed?;
+    pushed
+}
+
+/// Adds that a production may be reduced where a text has ended, how the start rule derives itself, and an example.
+pub(crate) fn push_ending(
+    alloc: Global,
+    messages: &mut Messages<'_>,
+    kept: &ASTWithValidityInfo,
+    pidx: PIdx<u32>,
+) -> Result<(), AllocError>
+    ensures { OnOk result (AddsOne (IsError messages.old.text (production_place kept.now.ast pidx.0) (codes "accept/reduce conflict")) messages.old messages.new) }
+{
+    let (mut cause, mut shown) = (String::new(alloc), String::new(alloc));
+    push_cause_in(alloc, &mut cause, &mut shown, kept, pidx)?;
+    let words = format!(in alloc; "accept/reduce conflict{cause}")?;
     let span = production_span(kept.ast(), pidx);
     let mut message = Message::new(Severity::Error, span, words);
     message.example = Some(shown);
-    message.push_to(messages)
+    messages.push(message)
 }

@@ -2,13 +2,12 @@
 
 use crate::asked::Asked;
 use crate::beginnings::nearest;
-use crate::examples::push_example;
 use crate::listed::{conflict_blocks, example_of, push_states, push_tokens};
 use crate::production_places::{production_span, shift_span};
 use conflict_examples::{ConflictExample, ExampleFinder};
 use grammar_names::{push_prod, push_token};
 use parser_kit::ParserKit;
-use refused_tables::Listed;
+use refused_tables::{Listed, push_example};
 use std::alloc::{AllocError, Global};
 use text_messages::{Severity, Source};
 

@@ -1,7 +1,9 @@
 //! Errors and warnings of a text.
 
-ghost use Rattle.std.specs.Prelude.{OnOk};
-ghost use Rattle.text_messages.specs.Added.{AddsMessages, AddsWarnings};
+ghost use Rattle.std.specs.Prelude.{◌≡◌, ◌++◌, List, IfOk, OnOk, drop, map, slice_get, string_bytes, ⊤};
+ghost use Rattle.cfg_read.specs.WarningModels.{warning_of};
+ghost use Rattle.text_messages.specs.Added.{AddsOne, AddsSaid, AddsSome, AddsWarnings, AreWarnings, OneForEach, Said};
+ghost use Rattle.grammar_report.specs.Told.{AreOfError, AreOfErrors, AreOfRefusal, AreOfUnused, ExplainRefusal, IsNamed, NamesPart, SaysUnused, again_at, at_places};
 
 use crate::accept_reduce::{kept_of, push_ending};
 use crate::long_chains::push_long_chain;
@@ -13,57 +15,93 @@ use grammar_hints::{Hint, hint_of, token_warnings};
 use parser_kit::KitError;
 use refused_tables::Beginning;
 use std::alloc::{AllocError, Global};
-use text_messages::{Message, Severity, part};
+use text_messages::{Message, Messages, Severity, part};
 
-/// Adds what may help: as a note at its own place, or to the message before it.
-fn push_hint(messages: &mut Vec<Message>, hint: Hint) -> Result<(), AllocError> {
-    let Hint { words, span } = hint;
-    if span.is_some() {
-        return Message::new(Severity::Note, span, words).push_to(messages);
-    }
-    if let Some(last) = messages.as_mut_slice().last_mut() {
-        last.help = Some(words);
+/// Adds a note at each further place of an error.
+fn push_again(alloc: Global, messages: &mut Messages<'_>, spans: &[Span]) -> Result<(), AllocError>
+    ensures { OnOk result (AddsSaid (map (again_at messages.old.text) spans.now) messages.old messages.new) }
+{
+    'spans: for span in spans {
+        let words = String::from_str(alloc, "and here again")?;
+        messages.push(Message::new(Severity::Note, Some(*span), words))?;
     }
     Ok(())
 }
 
-/// Adds an error at the first of its places, a note at each other one, and what may help.
+/// Returns the first of the places of an error, and those behind it.
+fn places_of(spans: &[Span]) -> (Option<Span>, &[Span])
+    ensures first { result.0 ≡ slice_get spans.now 0 }
+    ensures further { result.1.now ≡ drop 1 spans.now }
+{
+    let first = spans.first().copied();
+    match spans.get(1..) {
+        Some(further) => (first, further),
+        None => (first, &[]),
+    }
+}
+
+/// Adds an error with help at the first of its places, and a note at each other one.
+fn push_at_places(
+    alloc: Global,
+    messages: &mut Messages<'_>,
+    error: &YaccGrammarError,
+    help: Option<String>,
+) -> Result<(), AllocError>
+    ensures { OnOk result (AddsSaid (at_places messages.old.text error.now) messages.old messages.new) }
+{
+    let words = error.to_string(alloc)?;
+    let (first, further) = places_of(error.spans.as_slice());
+    let mut message = Message::new(Severity::Error, first, words);
+    message.help = help;
+    messages.push(message)?;
+    push_again(alloc, messages, further)
+}
+
+/// Adds an error at the first of its places, a note at each other one, and what may help: in the error, or as a note elsewhere.
 fn push_error(
     alloc: Global,
-    messages: &mut Vec<Message>,
-    text: &str,
+    messages: &mut Messages<'_>,
     ast: &GrammarAST,
     error: &YaccGrammarError,
-) -> Result<(), AllocError> {
-    let first = error.spans.as_slice().first().copied();
-    let words = error.to_string(alloc)?;
-    Message::new(Severity::Error, first, words).push_to(messages)?;
-    'spans: for index in 1..error.spans.len() {
-        let span = Some(error.spans[index]);
-        let words = String::from_str(alloc, "and here again")?;
-        Message::new(Severity::Note, span, words).push_to(messages)?;
+) -> Result<(), AllocError>
+    ensures { OnOk result (AddsSome (AreOfError messages.old.text error.now) messages.old messages.new) }
+{
+    match hint_of(alloc, messages.text(), ast, error)? {
+        Some(Hint { words, span: None }) => push_at_places(alloc, messages, error, Some(words)),
+        Some(Hint { words, span }) => {
+            push_at_places(alloc, messages, error, None)?;
+            messages.push(Message::new(Severity::Note, span, words))
+        }
+        None => push_at_places(alloc, messages, error, None),
     }
-    match hint_of(alloc, text, ast, error)? {
-        Some(hint) => push_hint(messages, hint),
-        None => Ok(()),
+}
+
+/// Adds errors, each with its notes.
+fn push_errors(
+    alloc: Global,
+    messages: &mut Messages<'_>,
+    ast: &GrammarAST,
+    errors: &[YaccGrammarError],
+) -> Result<(), AllocError>
+    ensures { OnOk result (AddsSome (AreOfErrors messages.old.text errors.now) messages.old messages.new) }
+{
+    'errors: for error in errors {
+        push_error(alloc, messages, ast, error)?;
     }
+    Ok(())
 }
 
 /// Adds why a text gives no parser, by what is kept of it.
 fn push_refusal_of(
     alloc: Global,
-    messages: &mut Vec<Message>,
-    text: &str,
+    messages: &mut Messages<'_>,
     kept: &ASTWithValidityInfo,
     refusal: &KitError<u32>,
-) -> Result<(), AllocError> {
+) -> Result<(), AllocError>
+    ensures { OnOk result (AddsSome (AreOfRefusal messages.old.text kept.now.ast refusal.now) messages.old messages.new) }
+{
     match refusal {
-        KitError::Grammar(errors) => {
-            'errors: for error in errors {
-                push_error(alloc, messages, text, kept.ast(), error)?;
-            }
-            Ok(())
-        }
+        KitError::Grammar(errors) => push_errors(alloc, messages, kept.ast(), errors.as_slice()),
         KitError::AcceptReduce(pidx) => push_ending(alloc, messages, kept, *pidx),
         KitError::TooManyReductions {
             state,
@@ -80,74 +118,97 @@ fn push_refusal_of(
         }
         other => {
             let words = other.to_string(alloc)?;
-            Message::new(Severity::Error, None, words).push_to(messages)
+            messages.push(Message::new(Severity::Error, None, words))
         }
     }
 }
 
-/// Adds why a text gives no parser: errors, and notes on the error before them.
+/// Adds why a text gives no parser: errors, and notes on the error before them. The text is that of the messages.
 pub fn push_refusal(
     alloc: Global,
-    messages: &mut Vec<Message>,
-    text: &str,
+    messages: &mut Messages<'_>,
     refusal: &KitError<u32>,
-) -> Result<(), AllocError> {
-    let kept = kept_of(alloc, text)?;
-    let pushed = push_refusal_of(alloc, messages, text, &kept, refusal);
+) -> Result<(), AllocError>
+    ensures { OnOk result (AddsSome (ExplainRefusal messages.old.text refusal.now) messages.old messages.new) }
+{
+    let kept = kept_of(alloc, messages.text())?;
+    let pushed = push_refusal_of(alloc, messages, &kept, refusal);
     drop(kept);
     pushed
+}
+
+/// Returns words about the name that a text has at a place.
+fn named_words(alloc: Global, text: &str, span: Span, what: &str) -> Result<String, AllocError>
+    ensures { IfOk result (λ words. NamesPart text.now span what.now (string_bytes words)) }
+{
+    let name = part(text, span.start(), span.end());
+    let words = format!(in alloc; "{what} '{name}'")?;
+    Ok(words)
 }
 
 /// Adds a message about the name at a place.
 pub(crate) fn push_named(
     alloc: Global,
-    messages: &mut Vec<Message>,
-    text: &str,
+    messages: &mut Messages<'_>,
     severity: Severity,
     span: Span,
     what: &str,
 ) -> Result<(), AllocError>
-    ensures { OnOk result (AddsMessages severity messages.old.items messages.new.items) }
+    ensures { OnOk result (AddsOne (IsNamed messages.old.text severity span what.now) messages.old messages.new) }
 {
-    let name = part(text, span.start(), span.end());
-    let words = format!(in alloc; "{what} '{name}'")?;
-    Message::new(severity, Some(span), words).push_to(messages)
+    let words = named_words(alloc, messages.text(), span, what)?;
+    messages.push(Message::new(severity, Some(span), words))
 }
 
-fn push_warning(
+/// Adds that a name is declared and isn't used.
+fn push_unused_name(
     alloc: Global,
-    messages: &mut Vec<Message>,
-    text: &str,
+    messages: &mut Messages<'_>,
     warning: &YaccGrammarWarning,
 ) -> Result<(), AllocError>
-    ensures { OnOk result (AddsWarnings messages.old.items messages.new.items) }
+    ensures { OnOk result (AddsOne (SaysUnused messages.old.text (warning_of warning.now)) messages.old messages.new) }
 {
-    let what = warning.kind.to_string(alloc)?;
+    let what = warning.to_string(alloc)?;
     match warning.spans.as_slice().first() {
-        Some(span) => push_named(
-            alloc,
-            messages,
-            text,
-            Severity::Warning,
-            *span,
-            what.as_str(),
-        ),
-        None => Message::new(Severity::Warning, None, what).push_to(messages),
+        Some(span) => push_named(alloc, messages, Severity::Warning, *span, what.as_str()),
+        None => messages.push(Message::new(Severity::Warning, None, what)),
     }
 }
 
-/// Adds what of the declared tokens means something else than it seems to.
-fn push_token_warnings(
+/// Adds that names are declared and aren't used.
+fn push_unused_names(
     alloc: Global,
-    messages: &mut Vec<Message>,
-    text: &str,
+    messages: &mut Messages<'_>,
+    warnings: &[YaccGrammarWarning],
 ) -> Result<(), AllocError>
-    ensures { OnOk result (AddsWarnings messages.old.items messages.new.items) }
+    ensures { OnOk result (AddsSome (OneForEach (λ w. ⊤) (SaysUnused messages.old.text) (map warning_of warnings.now)) messages.old messages.new) }
 {
-    let hints = token_warnings(alloc, text)?;
+    'warnings: for warning in warnings {
+        push_unused_name(alloc, messages, warning)?;
+    }
+    Ok(())
+}
+
+/// Adds a warning for each rule and token that a valid text has and doesn't use.
+fn push_unused(
+    alloc: Global,
+    messages: &mut Messages<'_>,
+    ast: &GrammarAST,
+) -> Result<(), AllocError>
+    ensures { OnOk result (AddsSome (AreOfUnused messages.old.text ast.now) messages.old messages.new) }
+{
+    let warnings = ast.warnings(alloc)?;
+    push_unused_names(alloc, messages, warnings.as_slice())
+}
+
+/// Adds what of the declared tokens means something else than it seems to.
+fn push_token_warnings(alloc: Global, messages: &mut Messages<'_>) -> Result<(), AllocError>
+    ensures { OnOk result (AddsWarnings messages.old messages.new) }
+{
+    let hints = token_warnings(alloc, messages.text())?;
     'hints: for hint in &hints {
         let words = String::from_str(alloc, hint.words.as_str())?;
-        Message::new(Severity::Warning, hint.span, words).push_to(messages)?;
+        messages.push(Message::new(Severity::Warning, hint.span, words))?;
     }
     Ok(())
 }
@@ -155,15 +216,11 @@ fn push_token_warnings(
 /// Adds what a text declares and doesn't use, or declares twice.
 pub(crate) fn push_warnings(
     alloc: Global,
-    messages: &mut Vec<Message>,
-    text: &str,
+    messages: &mut Messages<'_>,
     ast: &GrammarAST,
 ) -> Result<(), AllocError>
-    ensures { OnOk result (AddsWarnings messages.old.items messages.new.items) }
+    ensures { OnOk result (AddsSome (λ these. (unused more : List Said) × AreOfUnused messages.old.text ast.now unused × AreWarnings more × (these ≡ unused ++ more)) messages.old messages.new) }
 {
-    let warnings = ast.warnings(alloc)?;
-    'warnings: for warning in &warnings {
-        push_warning(alloc, messages, text, warning)?;
-    }
-    push_token_warnings(alloc, messages, text)
+    push_unused(alloc, messages, ast)?;
+    push_token_warnings(alloc, messages)
 }

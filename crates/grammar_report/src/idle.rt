@@ -1,7 +1,11 @@
 //! Warnings of what has no effect: precedences that settle nothing, and productions that are never reduced.
 
-ghost use Rattle.std.specs.Prelude.{OnOk};
-ghost use Rattle.text_messages.specs.Added.{AddsWarnings};
+ghost use Rattle.std.specs.Prelude.{◌≡◌, ◌++◌, OnOk, Some, codes};
+ghost use Rattle.cfg_read.specs.AstModels.{production_of};
+ghost use Rattle.grammar_names.specs.Names.{prod_text};
+ghost use Rattle.text_messages.specs.Added.{AddsOne, AddsWarnings, said_in};
+ghost use Rattle.text_messages.specs.declared.source.Severity.TheVariants.{Warning};
+ghost use Rattle.grammar_report.specs.Places.{production_place};
 
 use crate::faults::push_named;
 use crate::production_places::production_span;
@@ -13,7 +17,7 @@ use grammar_names::{push_prod, token_name};
 use lrtable::{Action, StateTable};
 use parser_kit::ParserKit;
 use std::alloc::{AllocError, Global};
-use text_messages::{Message, Severity};
+use text_messages::{Message, Messages, Severity};
 
 /// Returns the name of the last token of a production; no name where it has none.
 fn last_token(production: &Production) -> &str {
@@ -59,12 +63,11 @@ fn set_named(flags: &mut Vec<bool>, ast: &GrammarAST, name: &str) {
 /// Adds a warning for each precedence that settles no conflict, as that of the token or of the production.
 fn push_idle_precedences(
     alloc: Global,
-    messages: &mut Vec<Message>,
-    text: &str,
+    messages: &mut Messages<'_>,
     kit: &ParserKit<u32>,
     pairs: &[Pair],
 ) -> Result<(), AllocError>
-    ensures { OnOk result (AddsWarnings messages.old.items messages.new.items) }
+    ensures { OnOk result (AddsWarnings messages.old messages.new) }
 {
     let mut used = vec![in alloc; false; kit.ast().precs().len()]?;
     'pairs: for pair in pairs {
@@ -75,7 +78,7 @@ fn push_idle_precedences(
     let mut index: usize = 0;
     'precedences: for (_name, kept) in kit.ast().precs() {
         if !is_set(used.as_slice(), index) {
-            push_named(alloc, messages, text, Severity::Warning, kept.1, what)?;
+            push_named(alloc, messages, Severity::Warning, kept.1, what)?;
         }
         index = index.saturating_add(1);
     }
@@ -93,24 +96,24 @@ fn has_idle_prec(production: &Production, settles: bool) -> bool {
 /// Adds the warning that a production's `%prec` changes nothing.
 fn push_idle_prec(
     alloc: Global,
-    messages: &mut Vec<Message>,
+    messages: &mut Messages<'_>,
     production: &Production,
 ) -> Result<(), AllocError>
-    ensures { OnOk result (AddsWarnings messages.old.items messages.new.items) }
+    ensures { OnOk result (AddsOne (λ m. m ≡ said_in messages.old.text Warning (Some (production_of production.now).span) (codes "%prec changes nothing")) messages.old messages.new) }
 {
     let span = Some(production.prod_span());
     let words = String::from_str(alloc, "%prec changes nothing")?;
-    Message::new(Severity::Warning, span, words).push_to(messages)
+    messages.push(Message::new(Severity::Warning, span, words))
 }
 
 /// Adds a warning for each `%prec` that changes nothing.
 fn push_idle_precs(
     alloc: Global,
-    messages: &mut Vec<Message>,
+    messages: &mut Messages<'_>,
     ast: &GrammarAST,
     pairs: &[Pair],
 ) -> Result<(), AllocError>
-    ensures { OnOk result (AddsWarnings messages.old.items messages.new.items) }
+    ensures { OnOk result (AddsWarnings messages.old messages.new) }
 {
     let mut settles = vec![in alloc; false; ast.prods().len()]?;
     'pairs: for pair in pairs {
@@ -158,10 +161,10 @@ fn all_ended(alloc: Global, kit: &ParserKit<u32>) -> Result<Vec<PIdx<u32>>, Allo
 /// Adds a warning for each production of the text that stands complete in some state, and is reduced in none.
 fn push_unreduced(
     alloc: Global,
-    messages: &mut Vec<Message>,
+    messages: &mut Messages<'_>,
     kit: &ParserKit<u32>,
 ) -> Result<(), AllocError>
-    ensures { OnOk result (AddsWarnings messages.old.items messages.new.items) }
+    ensures { OnOk result (AddsWarnings messages.old messages.new) }
 {
     let count = kit.ast().prods().len();
     let mut reduced = vec![in alloc; false; count]?;
@@ -180,29 +183,28 @@ fn push_unreduced(
 /// Adds the warning that a production is never reduced.
 fn push_never(
     alloc: Global,
-    messages: &mut Vec<Message>,
+    messages: &mut Messages<'_>,
     kit: &ParserKit<u32>,
     pidx: PIdx<u32>,
 ) -> Result<(), AllocError>
-    ensures { OnOk result (AddsWarnings messages.old.items messages.new.items) }
+    ensures { OnOk result (AddsOne (λ m. m ≡ said_in messages.old.text Warning (production_place kit.now.kept.ast pidx.0) (codes "Never reduced: " ++ prod_text kit.now.parser.grammar pidx.0)) messages.old messages.new) }
 {
     let mut words = String::from_str(alloc, "Never reduced: ")?;
     push_prod(&mut words, kit.grm(), pidx)?;
     let span = production_span(kit.ast(), pidx);
-    Message::new(Severity::Warning, span, words).push_to(messages)
+    messages.push(Message::new(Severity::Warning, span, words))
 }
 
 /// Adds warnings of what has no effect, with these pairs settled by precedence.
 pub(crate) fn push_idle(
     alloc: Global,
-    messages: &mut Vec<Message>,
-    text: &str,
+    messages: &mut Messages<'_>,
     kit: &ParserKit<u32>,
     pairs: &[Pair],
 ) -> Result<(), AllocError>
-    ensures { OnOk result (AddsWarnings messages.old.items messages.new.items) }
+    ensures { OnOk result (AddsWarnings messages.old messages.new) }
 {
-    push_idle_precedences(alloc, messages, text, kit, pairs)?;
+    push_idle_precedences(alloc, messages, kit, pairs)?;
     push_idle_precs(alloc, messages, kit.ast(), pairs)?;
     push_unreduced(alloc, messages, kit)
 }

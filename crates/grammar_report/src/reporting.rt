@@ -1,8 +1,9 @@
 //! The report on a text.
 
-ghost use Rattle.std.specs.Prelude.{IfOk, OnOk};
-ghost use Rattle.text_messages.specs.Added.{AddsWarnings};
+ghost use Rattle.std.specs.Prelude.{◌≡◌, ◌++◌, List, IfOk, OnOk};
+ghost use Rattle.text_messages.specs.Added.{AddsSome, AreWarnings, Said};
 ghost use Rattle.grammar_report.specs.Outcomes.{IsOutcome};
+ghost use Rattle.grammar_report.specs.Told.{AreOfUnused};
 
 use crate::asked::Asked;
 use crate::conflicts::push_conflicts;
@@ -16,7 +17,7 @@ use crate::sentences::{push_sentences, push_unproductive};
 use crate::settled::{all_pairs, push_settled};
 use parser_kit::{KitError, ParserKit};
 use std::alloc::{AllocError, Global};
-use text_messages::{Message, Severity, Source};
+use text_messages::{Message, Messages, Severity, Source};
 
 /// Returns whether each line that is a sentence gets its only tree, or that no line is one.
 fn completeness(kit: &ParserKit<u32>, barren: bool) -> &'static str {
@@ -32,15 +33,14 @@ fn completeness(kit: &ParserKit<u32>, barren: bool) -> &'static str {
 /// Adds the warnings of a text that gives a parser.
 pub fn push_kit_warnings(
     alloc: Global,
-    messages: &mut Vec<Message>,
-    text: &str,
+    messages: &mut Messages<'_>,
     kit: &ParserKit<u32>,
 ) -> Result<(), AllocError>
-    ensures { OnOk result (AddsWarnings messages.old.items messages.new.items) }
+    ensures { OnOk result (AddsSome (λ these. (unused more : List Said) × AreOfUnused messages.old.text kit.now.kept.ast unused × AreWarnings more × (these ≡ unused ++ more)) messages.old messages.new) }
 {
-    push_warnings(alloc, messages, text, kit.ast())?;
+    push_warnings(alloc, messages, kit.ast())?;
     let pairs = all_pairs(alloc, kit)?;
-    push_idle(alloc, messages, text, kit, pairs.as_slice())
+    push_idle(alloc, messages, kit, pairs.as_slice())
 }
 
 /// Adds messages.
@@ -61,14 +61,14 @@ fn push_collected(
     alloc: Global,
     text: &mut String,
     source: &Source<'_>,
-    messages: Vec<Message>,
+    messages: Messages<'_>,
     collected: Result<(), AllocError>,
 ) -> Result<bool, AllocError> {
     let pushed = match collected {
         Ok(()) => push_messages(alloc, text, source, messages.as_slice()),
         Err(e) => Err(e),
     };
-    let has_some = !messages.is_empty();
+    let has_some = !messages.as_slice().is_empty();
     drop(messages);
     pushed?;
     Ok(has_some)
@@ -82,11 +82,11 @@ fn push_part(
     kit: &ParserKit<u32>,
     warnings: bool,
 ) -> Result<(), AllocError> {
-    let mut messages = Vec::new(alloc);
+    let mut messages = Messages::new(alloc, source.text());
     let collected = if warnings {
-        push_kit_warnings(alloc, &mut messages, source.text(), kit)
+        push_kit_warnings(alloc, &mut messages, kit)
     } else {
-        push_unproductive(alloc, &mut messages, source.text(), kit)
+        push_unproductive(alloc, &mut messages, kit)
     };
     if push_collected(alloc, text, source, messages, collected)? {
         return text.push('\n');
@@ -167,8 +167,8 @@ fn text_of_refusal(
     source: &Source<'_>,
     refusal: &KitError<u32>,
 ) -> Result<String, AllocError> {
-    let mut messages = Vec::new(alloc);
-    let collected = push_refusal(alloc, &mut messages, source.text(), refusal);
+    let mut messages = Messages::new(alloc, source.text());
+    let collected = push_refusal(alloc, &mut messages, refusal);
     let mut text = String::new(alloc);
     push_collected(alloc, &mut text, source, messages, collected)?;
     Ok(text)

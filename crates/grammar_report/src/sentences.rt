@@ -1,21 +1,25 @@
 //! Cheapest sentences of rules, and rules without sentences. Each token costs one.
 
-ghost use Rattle.std.specs.Prelude.{◌≡◌, ◌<◌, IfOk};
+ghost use Rattle.std.specs.Prelude.{◌≡◌, ◌<◌, IfOk, OnOk};
 ghost use Rattle.cfg_theory.specs.Decides.{Decides};
 ghost use Rattle.cfg_theory.specs.Derivation.{IsProductive};
+ghost use Rattle.text_messages.specs.Added.{AddsOne, AddsSome};
+ghost use Rattle.grammar_report.specs.Told.{AreUnproductive, IsOfUnproductive, IsUnproductive, is_start};
 
 use crate::faults::push_named;
+use cfg_base::span::Span;
 use cfg_base::symbol::{RIdx, TIdx};
 use cfg_read::yacc::ast::GrammarAST;
 use cfg_sentences::{CostError, SentenceError, SentenceGenerator};
 use grammar_names::{Grammar, push_line, push_token, push_word};
 use parser_kit::ParserKit;
 use std::alloc::{AllocError, Global};
-use text_messages::{Message, Severity};
+use text_messages::{Messages, Severity};
 
-/// Whether a rule of the text derives no list of tokens.
+/// Returns whether a rule of the text derives no list of tokens.
 fn is_unproductive(grm: &Grammar, costs: &SentenceGenerator<'_, u32>, name: &str) -> bool
     requires { costs.now.grammar ≡ grm.now.grammar }
+    ensures { Decides (IsUnproductive grm.now name.now) result }
 {
     let Some(ridx) = grm.rule_idx(name) else {
         return false;
@@ -26,36 +30,54 @@ fn is_unproductive(grm: &Grammar, costs: &SentenceGenerator<'_, u32>, name: &str
     }
 }
 
-/// Whether a rule is the one that sentences begin with.
-fn is_start(ast: &GrammarAST, name: &str) -> bool {
+/// Returns whether a rule is the one that sentences begin with.
+fn is_start(ast: &GrammarAST, name: &str) -> bool
+    ensures { result ≡ is_start ast.now name.now }
+{
     match ast.start() {
         Some((start, _)) => start.as_str() == name,
         None => false,
     }
 }
 
-/// Adds the rules of the text that derive no list of tokens: the start rule as an error.
+/// Adds that a rule derives no list of tokens: an error of the start rule.
+fn push_unproductive_rule(
+    alloc: Global,
+    messages: &mut Messages<'_>,
+    span: Span,
+    starts: bool,
+) -> Result<(), AllocError>
+    ensures { OnOk result (AddsOne (IsOfUnproductive messages.old.text starts span) messages.old messages.new) }
+{
+    if starts {
+        let what = "No line is a sentence: unproductive start rule";
+        push_named(alloc, messages, Severity::Error, span, what)
+    } else {
+        push_named(
+            alloc,
+            messages,
+            Severity::Warning,
+            span,
+            "Unproductive rule",
+        )
+    }
+}
+
+/// Adds the rules of the text that derive no list of tokens.
 fn push_unproductive_of(
     alloc: Global,
-    messages: &mut Vec<Message>,
-    text: &str,
+    messages: &mut Messages<'_>,
     grm: &Grammar,
     ast: &GrammarAST,
     costs: &SentenceGenerator<'_, u32>,
 ) -> Result<(), AllocError>
     requires { costs.now.grammar ≡ grm.now.grammar }
+    ensures { OnOk result (AddsSome (AreUnproductive messages.old.text grm.now ast.now) messages.old messages.new) }
 {
     'rules: for (name, rule) in ast.rules() {
         if is_unproductive(grm, costs, name.as_str()) {
-            let (severity, what) = if is_start(ast, name.as_str()) {
-                (
-                    Severity::Error,
-                    "No line is a sentence: unproductive start rule",
-                )
-            } else {
-                (Severity::Warning, "Unproductive rule")
-            };
-            push_named(alloc, messages, text, severity, rule.name.1, what)?;
+            let starts = is_start(ast, name.as_str());
+            push_unproductive_rule(alloc, messages, rule.name.1, starts)?;
         }
     }
     Ok(())
@@ -64,15 +86,13 @@ fn push_unproductive_of(
 /// Adds a message for each rule of the text that derives no list of tokens: an error for the start rule, warnings for others.
 pub fn push_unproductive(
     alloc: Global,
-    messages: &mut Vec<Message>,
-    text: &str,
+    messages: &mut Messages<'_>,
     kit: &ParserKit<u32>,
-) -> Result<(), AllocError> {
-    if kit.all_productive() {
-        return Ok(());
-    }
+) -> Result<(), AllocError>
+    ensures { OnOk result (AddsSome (AreUnproductive messages.old.text kit.now.parser.grammar kit.now.kept.ast) messages.old messages.new) }
+{
     let costs = SentenceGenerator::new(alloc, kit.grm(), |_token| 1)?;
-    let pushed = push_unproductive_of(alloc, messages, text, kit.grm(), kit.ast(), &costs);
+    let pushed = push_unproductive_of(alloc, messages, kit.grm(), kit.ast(), &costs);
     drop(costs);
     pushed
 }

@@ -1,5 +1,10 @@
 //! The arguments.
 
+ghost use Rattle.std.specs.Prelude.{◌≡◌, codes, IfOk, IsSome};
+ghost use Rattle.clap.specs.Matches.{first_value, found_of};
+ghost use Rattle.lrkit_check.specs.Asked.{HasForm, lent, path_of};
+ghost use Rattle.lrkit_check.specs.declared.words.Shape.TheVariants.{Html};
+
 use crate::fault::Input;
 use clap::error::ErrorKind;
 use clap::{Arg, ArgAction, ArgMatches, Command, Error};
@@ -45,7 +50,9 @@ pub struct Words<'a> {
 
 impl<'a> Words<'a> {
     /// Returns the path of a file, as it was given.
-    pub fn path(&self, input: Input) -> &'a str {
+    pub fn path(&self, input: Input) -> &'a str
+        ensures { result.now ≡ path_of self.now input }
+    {
         match input {
             Input::Grammar => self.grammar,
             Input::Lines => self.lines.unwrap_or(""),
@@ -112,7 +119,9 @@ fn command<'a>(alloc: Global) -> Result<Command<'a>, AllocError> {
 }
 
 /// Returns the form that is asked for.
-fn shape_of(matches: &ArgMatches<'_>) -> Shape {
+fn shape_of(matches: &ArgMatches<'_>) -> Shape
+    ensures { result ≡ Html → IsSome (first_value (found_of matches.now) (codes "html")) }
+{
     if matches.get_flag("json") {
         Shape::Json
     } else if matches.get_flag("dot") {
@@ -131,8 +140,12 @@ fn reads_twice(alloc: Global) -> Result<Error, AllocError> {
     command.error(ErrorKind::ArgumentConflict, words)
 }
 
-/// Returns what the arguments behind the program's name ask for, or the text for who called it otherwise.
-pub fn read_words<'a>(alloc: Global, args: &'a [String]) -> Result<Words<'a>, Error> {
+/// Returns what the arguments behind the program's name ask for, or the text for who called it otherwise. The values of the
+/// arguments are as clap reads them.
+pub fn read_words<'a>(alloc: Global, args: &'a [String]) -> Result<Words<'a>, Error>
+    ensures page { IfOk result HasForm }
+    ensures input { IfOk result (λ w. w.grammar.now ≡ codes "-" → lent w.lines ≡ codes "-" → ⊥) }
+{
     let command = command(alloc)?;
     let matches = command.try_get_matches_from(args)?;
     let words = Words {

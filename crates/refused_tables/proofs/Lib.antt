@@ -1,3 +1,4 @@
+mod AddedTexts
 mod EachListed
 mod Groups
 mod Numbers

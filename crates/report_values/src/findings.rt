@@ -17,7 +17,7 @@ use grammar_report::{
 use parser_kit::{KitError, ParserKit};
 use report_forms::{Counts, Findings, Object, said_of};
 use std::alloc::{AllocError, Global};
-use text_messages::{Message, Source};
+use text_messages::{Message, Messages, Source};
 
 /// The version of the object. It grows if a member changes its meaning or goes.
 const VERSION: u32 = 1;
@@ -66,26 +66,25 @@ fn object_counts(kit: &ParserKit<u32>) -> Counts
 /// Adds the messages about a kit's text.
 fn push_kit_messages(
     alloc: Global,
-    messages: &mut Vec<Message>,
-    text: &str,
+    messages: &mut Messages<'_>,
     kit: &ParserKit<u32>,
 ) -> Result<(), AllocError> {
-    push_kit_warnings(alloc, messages, text, kit)?;
-    push_unproductive(alloc, messages, text, kit)
+    push_kit_warnings(alloc, messages, kit)?;
+    push_unproductive(alloc, messages, kit)
 }
 
 /// Puts messages that were collected into the errors and warnings.
 fn put_messages(
     object: &mut Object,
     source: &Source<'_>,
-    messages: Vec<Message>,
+    messages: Messages<'_>,
     collected: Result<(), AllocError>,
 ) -> Result<(), AllocError>
     ensures status { OnOk result (object.new.status ≡ object.old.status) }
     ensures counts { OnOk result (object.new.counts ≡ object.old.counts) }
 {
     match collected {
-        Ok(()) => push_messages(object, source, messages),
+        Ok(()) => push_messages(object, source, messages.into_vec()),
         Err(e) => {
             drop(messages);
             Err(e)
@@ -115,8 +114,8 @@ fn fill_object(
     ensures status { OnOk result (object.new.status ≡ object.old.status) }
     ensures counts { OnOk result (IsSomeAnd object.new.counts (λ counts. counts.states ≡ state_count kit.now)) }
 {
-    let mut messages = Vec::new(alloc);
-    let collected = push_kit_messages(alloc, &mut messages, source.text(), kit);
+    let mut messages = Messages::new(alloc, source.text());
+    let collected = push_kit_messages(alloc, &mut messages, kit);
     put_messages(object, source, messages, collected)?;
     object.counts = Some(object_counts(kit));
     if !wanted.conflicts {
@@ -176,8 +175,8 @@ fn fill_of_refusal(
     ensures status { OnOk result (object.new.status ≡ object.old.status) }
     ensures counts { OnOk result (object.new.counts ≡ object.old.counts) }
 {
-    let mut messages = Vec::new(alloc);
-    let collected = push_refusal(alloc, &mut messages, source.text(), refusal);
+    let mut messages = Messages::new(alloc, source.text());
+    let collected = push_refusal(alloc, &mut messages, refusal);
     put_messages(object, source, messages, collected)
 }
 

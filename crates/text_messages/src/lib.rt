@@ -22,6 +22,9 @@
 //!       |   ^
 //! ```
 //!
+//! A list of `Messages` about a text has places within it alone (`LiesWithin` of `specs/Added`): an offset past the end counts as
+//! the end.
+//!
 //! Where the text was made of another one, as an import of a file is, `Source::of_original` makes a source that shows the other
 //! one, with the places there. The contract of `Source::push_heading` is that the first line is `heading` of `specs/Places`: path, line and column of a place
 //! that lies within the text shown, how grave it is, and the message. A tab has a tab below it, wide characters have a mark below each
@@ -30,7 +33,9 @@
 #![tactic(auto)]
 
 mod excerpt;
+mod messages;
 mod source;
 
 pub use excerpt::part;
+pub use messages::Messages;
 pub use source::{Message, Original, Position, Severity, Source};

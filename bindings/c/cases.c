@@ -147,7 +147,7 @@ static int run(const test *of) {
         right &= found.status == LRKIT_ROOM && same == outcome;
         found = lrkit_report(bytes(&of->grammar), of->grammar.len, (const uint8_t *)"g.y", 3, LRKIT_STATES, &same, &none, 0);
         if (found.status == LRKIT_MEMORY) return -1;
-        return right && found.status == LRKIT_ROOM && same == outcome && (outcome == 2 ? found.count == shown : found.count > shown);
+        return right && found.status == LRKIT_ROOM && same == outcome && (found.count > shown || (outcome == 2 && found.count == shown));
     }
     if (strcmp(of->kind.at, "import") == 0) {
         size_t room = 16 * of->grammar.len + 4096;

@@ -1,5 +1,5 @@
 -- A status that a message ends the server with is that of a phase.
-use Rattle.std.proofs.Common.{◌≡◌, ℕ, Option, IfSome}
+use Rattle.std.proofs.Common.{◌≡◌, ℕ, Option, IfSome, refl, subst, sym}
 use Rattle.language_server.specs.declared.messages.Message.{Message}
 use Rattle.language_server.specs.declared.messages.Message.TheVariants.{Malformed, Notification, Reply, Request}
 use Rattle.language_server.specs.declared.messages.Notice.TheVariants as notices
@@ -18,4 +18,4 @@ of_message p Reply = tt
 of_message p (Malformed id code) = tt
 
 pub of_status : (s : Option ℕ) (p : Phase) (m : Message) → s ≡ status_after p m → IfSome s IsStatus
-of_status s p m is = rw is of_message p m
+of_status s p m is = subst (λ (x : Option ℕ). IfSome x IsStatus) (sym is) (of_message p m)

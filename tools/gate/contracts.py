@@ -112,7 +112,8 @@ def functions_in(crate):
                 if argument and argument[1] not in head[: len(head) - len(bare)]:
                     owner = [f"{owner[0]}+{argument[1]}"]
                 elif kind == "impl":
-                    module = types.get(owner[0], module)
+                    # (another module may declare a type of this name too)
+                    module = types_in({file: text}).get(owner[0]) or types.get(owner[0], module)
             found.append(("::".join([crate, *module, *owner, name]), file, start, end))
     return found
 

@@ -1,2 +1,3 @@
 mod BeforeDots
-mod Told
+mod Outcomes
+mod ReportMessages

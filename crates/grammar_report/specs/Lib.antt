@@ -1,5 +1,4 @@
-pub mod Nearer
+pub mod Messages
 pub mod Outcomes
 pub mod Places
 pub mod Shown
-pub mod Told

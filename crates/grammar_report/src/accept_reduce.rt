@@ -3,7 +3,7 @@
 ghost use Rattle.std.specs.Prelude.{IfOk, OnOk, codes};
 ghost use Rattle.text_messages.specs.Added.{AddsOne};
 ghost use Rattle.grammar_report.specs.Places.{production_place};
-ghost use Rattle.grammar_report.specs.Told.{IsError, IsKeptOf};
+ghost use Rattle.grammar_report.specs.Messages.{IsError, IsKeptOf};
 
 use crate::production_places::production_span;
 use cfg_base::symbol::PIdx;

@@ -103,24 +103,21 @@ pub fn counts_of(kit: &ParserKit<u32>) -> Counts
     }
 }
 
-/// Adds how many rules, tokens and productions the text has, how many states there are, and the conflicts, if any are listed.
-pub(crate) fn push_counts(
-    alloc: Global,
-    text: &mut String,
-    counts: Counts,
-) -> Result<(), AllocError> {
+/// Returns how many rules, tokens and productions the text has, how many states there are, and the conflicts, if any are listed,
+/// in words.
+pub(crate) fn counts_text(alloc: Global, counts: Counts) -> Result<String, AllocError> {
     let (rules, tokens, prods) = (counts.rules, counts.tokens, counts.productions);
     let (states, sr, rr) = (counts.states, counts.shift_reduce, counts.reduce_reduce);
     let (expect, expect_rr) = (counts.expected_shift_reduce, counts.expected_reduce_reduce);
-    let mut line = format!(in alloc;
+    let mut text = format!(in alloc;
         "rules: {rules}, tokens: {tokens}, productions: {prods}, states: {states}\n"
     )?;
     if sr > 0 || rr > 0 {
         let conflicts = format!(in alloc;
             "conflicts: {sr} shift/reduce, {rr} reduce/reduce, expected {expect} and {expect_rr}\n"
         )?;
-        line.push_str(conflicts.as_str())?;
+        text.push_str(conflicts.as_str())?;
     }
-    text.push_str(line.as_str())?;
-    text.push('\n')
+    text.push('\n')?;
+    Ok(text)
 }

@@ -1,9 +1,9 @@
 //! Errors and warnings of a text.
 
-ghost use Rattle.std.specs.Prelude.{◌≡◌, ◌++◌, List, IfOk, OnOk, drop, map, slice_get, string_bytes, ⊤};
+ghost use Rattle.std.specs.Prelude.{◌≡◌, IfOk, OnOk, drop, map, slice_get, string_bytes, ⊤};
 ghost use Rattle.cfg_read.specs.WarningModels.{warning_of};
-ghost use Rattle.text_messages.specs.Added.{AddsOne, AddsSaid, AddsSome, AddsWarnings, AreWarnings, OneForEach, Said};
-ghost use Rattle.grammar_report.specs.Told.{AreOfError, AreOfErrors, AreOfRefusal, AreOfUnused, ExplainRefusal, IsNamed, NamesPart, SaysUnused, again_at, at_places};
+ghost use Rattle.text_messages.specs.Added.{AddsOne, AddsSaid, AddsSome, AddsWarnings, OneForEach};
+ghost use Rattle.grammar_report.specs.Messages.{AreOfError, AreOfErrors, AreOfRefusal, AreOfUnused, AreOfWarnings, ExplainRefusal, IsNamed, NamesPart, SaysUnused, again_at, at_places};
 
 use crate::accept_reduce::{kept_of, push_ending};
 use crate::long_chains::push_long_chain;
@@ -219,7 +219,7 @@ pub(crate) fn push_warnings(
     messages: &mut Messages<'_>,
     ast: &GrammarAST,
 ) -> Result<(), AllocError>
-    ensures { OnOk result (AddsSome (λ these. (unused more : List Said) × AreOfUnused messages.old.text ast.now unused × AreWarnings more × (these ≡ unused ++ more)) messages.old messages.new) }
+    ensures { OnOk result (AddsSome (AreOfWarnings messages.old.text ast.now) messages.old messages.new) }
 {
     push_unused(alloc, messages, ast)?;
     push_token_warnings(alloc, messages)

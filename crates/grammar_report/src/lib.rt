@@ -21,14 +21,13 @@
 //! ```
 //!
 //! For `%start E %% E: E '+' 'n' | 'n';` it answers 0, for `%start E %% E: E '+' E | 'n';` 1, and for `%start E %% E: E '+'`
-//! 2. The contract of `report` is that its outcome holds for the text (`specs/Outcomes`); `docs/PROGRAMS.md` says which text it
-//! has, which is tested. A report is made of messages, counts and blocks of conflicts, which other forms may
-//! take too.
+//! 2. By the contract of `report` its outcome holds for the text (`specs/Outcomes`), and it shows, in order, the messages of the text
+//! (`specs/Messages`): errors, or warnings, rules without sentences and a message for each block of conflicts, each at a place
+//! within the text. The lines between these are tested. Other forms may take the messages, counts and blocks too.
 #![tactic(auto)]
 
 mod accept_reduce;
 mod asked;
-mod beginnings;
 mod conflicts;
 mod counts;
 mod faults;
@@ -44,13 +43,12 @@ mod sentences;
 mod settled;
 
 pub use asked::{Asked, LineFile};
-pub use beginnings::nearest;
 pub use counts::{Counts, counts_of};
 pub use faults::push_refusal;
 pub use listed::{conflict_blocks, example_of};
 pub use outcome::{Outcome, Report, status};
 pub use production_places::{production_span, shift_span};
 pub use reading::{Reading, read_grammar};
-pub use refused_tables::{Listed, push_example, states_of};
+pub use refused_tables::{Listed, nearest, push_example, states_of};
 pub use reporting::{push_kit_warnings, report, report_on};
 pub use sentences::push_unproductive;

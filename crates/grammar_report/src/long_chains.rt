@@ -4,7 +4,7 @@ ghost use Rattle.std.specs.Prelude.{◌≡◌, OnOk, Option, string_bytes};
 ghost use Rattle.cfg_base.specs.SpanModel.{SpanModel};
 ghost use Rattle.text_messages.specs.Added.{AddsOne};
 ghost use Rattle.text_messages.specs.Places.{BeginsWith};
-ghost use Rattle.grammar_report.specs.Told.{IsError, chain_words};
+ghost use Rattle.grammar_report.specs.Messages.{IsError, chain_words};
 
 use crate::accept_reduce::grammar_of;
 use crate::production_places::production_span;

@@ -1,8 +1,9 @@
 //! A grammar's text as a parser of it, or as what is wrong with it.
 
-ghost use Rattle.std.specs.Prelude.{IfOk, OnOk};
+ghost use Rattle.std.specs.Prelude.{◌≡◌, IfOk, Ok, OnErr, OnOk};
 ghost use Rattle.parser_kit.specs.KitErrors.{IsMemory};
-ghost use Rattle.grammar_report.specs.Outcomes.{IsOutcome, TellsOutcome};
+ghost use Rattle.grammar_report.specs.Outcomes.{IsKitIn, IsOutcome, TellsOutcome};
+ghost use Rattle.grammar_report.specs.declared.outcome.Outcome.TheVariants.{Invalid};
 
 use crate::counts::outcome_of;
 use crate::outcome::Outcome;
@@ -33,7 +34,8 @@ fn refuse_memory(refusal: &KitError<u32>) -> Result<(), AllocError>
 
 /// Returns a kit with what holds for its text.
 fn reading_of_kit(alloc: Global, kit: ParserKit<u32>) -> Result<Reading, AllocError>
-    ensures { IfOk result (λ r. TellsOutcome kit r.outcome) }
+    ensures outcome { IfOk result (λ r. TellsOutcome kit r.outcome) }
+    ensures kit { IfOk result (λ r. r.kit ≡ Ok kit) }
 {
     match outcome_of(alloc, &kit) {
         Ok(outcome) => {
@@ -50,7 +52,9 @@ fn reading_of_kit(alloc: Global, kit: ParserKit<u32>) -> Result<Reading, AllocEr
 /// Reads a grammar's text, of the kind that its section names, else of `Original(GenericParseTree)`. No chain of reductions on
 /// one token passes 1000.
 pub fn read_grammar(alloc: Global, text: &str) -> Result<Reading, AllocError>
-    ensures { IfOk result (λ r. IsOutcome text.now r.outcome) }
+    ensures outcome { IfOk result (λ r. IsOutcome text.now r.outcome) }
+    ensures kit { IfOk result (λ r. IfOk r.kit (λ k. IsKitIn text.now k × TellsOutcome k r.outcome)) }
+    ensures refusal { IfOk result (λ r. OnErr r.kit (r.outcome ≡ Invalid)) }
 {
     match ParserKit::of_text(alloc, text, CAP) {
         Ok(kit) => {

@@ -1,13 +1,14 @@
 //! The report on a text.
 
-ghost use Rattle.std.specs.Prelude.{◌≡◌, ◌++◌, List, IfOk, OnOk};
-ghost use Rattle.text_messages.specs.Added.{AddsSome, AreWarnings, Said};
-ghost use Rattle.grammar_report.specs.Outcomes.{IsOutcome};
-ghost use Rattle.grammar_report.specs.Told.{AreOfUnused};
+ghost use Rattle.std.specs.Prelude.{◌≡◌, [], IfOk, OnErr, OnOk, map, string_bytes};
+ghost use Rattle.text_messages.specs.Added.{AddsSome, said};
+ghost use Rattle.grammar_report.specs.Messages.{AreOfConflicts, AreOfKit, AreOfText, AreOfWarnings, AreUnproductive, ExplainRefusal, Shows, ShowsSome, source_of};
+ghost use Rattle.grammar_report.specs.Outcomes.{IsKitIn, IsOutcome, TellsOutcome};
+ghost use Rattle.grammar_report.specs.declared.outcome.Outcome.TheVariants.{Invalid};
 
 use crate::asked::Asked;
 use crate::conflicts::push_conflicts;
-use crate::counts::{counts_of, expectation_of, push_counts};
+use crate::counts::{counts_of, counts_text};
 use crate::faults::{push_refusal, push_warnings};
 use crate::idle::push_idle;
 use crate::next::push_next;
@@ -16,8 +17,9 @@ use crate::reading::{Reading, read_grammar};
 use crate::sentences::{push_sentences, push_unproductive};
 use crate::settled::{all_pairs, push_settled};
 use parser_kit::{KitError, ParserKit};
+use refused_tables::Listed;
 use std::alloc::{AllocError, Global};
-use text_messages::{Message, Messages, Severity, Source};
+use text_messages::{Message, Messages, Source};
 
 /// Returns whether each line that is a sentence gets its only tree, or that no line is one.
 fn completeness(kit: &ParserKit<u32>, barren: bool) -> &'static str {
@@ -36,7 +38,7 @@ pub fn push_kit_warnings(
     messages: &mut Messages<'_>,
     kit: &ParserKit<u32>,
 ) -> Result<(), AllocError>
-    ensures { OnOk result (AddsSome (λ these. (unused more : List Said) × AreOfUnused messages.old.text kit.now.kept.ast unused × AreWarnings more × (these ≡ unused ++ more)) messages.old messages.new) }
+    ensures { OnOk result (AddsSome (AreOfWarnings messages.old.text kit.now.kept.ast) messages.old messages.new) }
 {
     push_warnings(alloc, messages, kit.ast())?;
     let pairs = all_pairs(alloc, kit)?;
@@ -49,72 +51,72 @@ fn push_messages(
     text: &mut String,
     source: &Source<'_>,
     messages: &[Message],
-) -> Result<(), AllocError> {
+) -> Result<(), AllocError>
+    ensures { OnOk result (Shows source.now (string_bytes text.old) (map said messages.now) (string_bytes text.new)) }
+{
     'messages: for message in messages {
         source.push(alloc, text, message)?;
     }
     Ok(())
 }
 
-/// Adds messages that were collected, and returns whether there are any.
-fn push_collected(
-    alloc: Global,
-    text: &mut String,
-    source: &Source<'_>,
-    messages: Messages<'_>,
-    collected: Result<(), AllocError>,
-) -> Result<bool, AllocError> {
-    let pushed = match collected {
-        Ok(()) => push_messages(alloc, text, source, messages.as_slice()),
-        Err(e) => Err(e),
-    };
-    let has_some = !messages.as_slice().is_empty();
-    drop(messages);
-    pushed?;
-    Ok(has_some)
-}
-
-/// Adds the warnings, or the rules that derive no list of tokens, and an empty line behind them, if there are any.
+/// Adds messages, and an empty line behind them, if there are any.
 fn push_part(
     alloc: Global,
     text: &mut String,
     source: &Source<'_>,
-    kit: &ParserKit<u32>,
-    warnings: bool,
-) -> Result<(), AllocError> {
-    let mut messages = Messages::new(alloc, source.text());
-    let collected = if warnings {
-        push_kit_warnings(alloc, &mut messages, kit)
-    } else {
-        push_unproductive(alloc, &mut messages, kit)
-    };
-    if push_collected(alloc, text, source, messages, collected)? {
-        return text.push('\n');
+    messages: &[Message],
+) -> Result<(), AllocError>
+    ensures { OnOk result (Shows source.now (string_bytes text.old) (map said messages.now) (string_bytes text.new)) }
+{
+    push_messages(alloc, text, source, messages)?;
+    if !messages.is_empty() {
+        text.push('\n')?;
     }
     Ok(())
 }
 
-/// Returns how grave listed conflicts are.
-fn conflict_severity(kit: &ParserKit<u32>) -> Severity {
-    match expectation_of(kit) {
-        Outcome::Expected => Severity::Note,
-        _ => Severity::Warning,
-    }
+/// Adds the warnings of a kit.
+fn show_warnings(
+    alloc: Global,
+    text: &mut String,
+    source: &Source<'_>,
+    kit: &ParserKit<u32>,
+) -> Result<(), AllocError>
+    ensures { OnOk result (ShowsSome (AreOfWarnings source.now.text kit.now.kept.ast) source.now (string_bytes text.old) (string_bytes text.new)) }
+{
+    let mut messages = Messages::new(alloc, source.text());
+    push_kit_warnings(alloc, &mut messages, kit)?;
+    push_part(alloc, text, source, messages.as_slice())
 }
 
-/// Adds what a report has of each kit behind its warnings.
-fn push_findings(
+/// Adds the rules of a kit that derive no list of tokens.
+fn show_unproductive(
+    alloc: Global,
+    text: &mut String,
+    source: &Source<'_>,
+    kit: &ParserKit<u32>,
+) -> Result<(), AllocError>
+    ensures { OnOk result (ShowsSome (AreUnproductive source.now.text kit.now.parser.grammar kit.now.kept.ast) source.now (string_bytes text.old) (string_bytes text.new)) }
+{
+    let mut messages = Messages::new(alloc, source.text());
+    push_unproductive(alloc, &mut messages, kit)?;
+    push_part(alloc, text, source, messages.as_slice())
+}
+
+/// Adds the conflicts of a kit.
+fn show_conflicts(
     alloc: Global,
     text: &mut String,
     source: &Source<'_>,
     kit: &ParserKit<u32>,
     asked: Asked<'_>,
-) -> Result<(), AllocError> {
-    push_counts(alloc, text, counts_of(kit))?;
-    push_part(alloc, text, source, kit, false)?;
-    push_conflicts(alloc, text, source, kit, conflict_severity(kit), asked)?;
-    let pairs = all_pairs(alloc, kit)?;
-    push_settled(text, kit.grm(), pairs.as_slice())
+) -> Result<(), AllocError>
+    ensures { OnOk result (ShowsSome (AreOfConflicts ⟦<Listed as Ord>⟧.cmp asked.entry.each source.now.text kit.now) source.now (string_bytes text.old) (string_bytes text.new)) }
+{
+    let mut messages = Messages::new(alloc, source.text());
+    push_conflicts(alloc, &mut messages, kit, asked)?;
+    push_messages(alloc, text, source, messages.as_slice())
 }
 
 /// Adds the closed states.
@@ -145,6 +147,23 @@ fn push_asked(
     Ok(())
 }
 
+/// Returns what a report has behind the conflicts: what precedences settle, whether each sentence gets its only tree, and what
+/// was asked for.
+fn rest_of(
+    alloc: Global,
+    kit: &ParserKit<u32>,
+    outcome: Outcome,
+    asked: Asked<'_>,
+    color: bool,
+) -> Result<String, AllocError> {
+    let mut text = String::new(alloc);
+    let pairs = all_pairs(alloc, kit)?;
+    push_settled(&mut text, kit.grm(), pairs.as_slice())?;
+    text.push_str(completeness(kit, outcome == Outcome::Barren))?;
+    push_asked(alloc, &mut text, kit, asked, color)?;
+    Ok(text)
+}
+
 /// Returns the report on a text that gives a parser.
 fn text_of_kit(
     alloc: Global,
@@ -152,12 +171,17 @@ fn text_of_kit(
     kit: &ParserKit<u32>,
     outcome: Outcome,
     asked: Asked<'_>,
-) -> Result<String, AllocError> {
+) -> Result<String, AllocError>
+    ensures { IfOk result (λ text. ShowsSome (AreOfKit ⟦<Listed as Ord>⟧.cmp asked.entry.each source.now.text kit.now) source.now [] (string_bytes text)) }
+{
+    let counts = counts_text(alloc, counts_of(kit))?;
+    let rest = rest_of(alloc, kit, outcome, asked, source.in_color())?;
     let mut text = String::new(alloc);
-    push_part(alloc, &mut text, source, kit, true)?;
-    push_findings(alloc, &mut text, source, kit, asked)?;
-    text.push_str(completeness(kit, outcome == Outcome::Barren))?;
-    push_asked(alloc, &mut text, kit, asked, source.in_color())?;
+    show_warnings(alloc, &mut text, source, kit)?;
+    text.push_str(counts.as_str())?;
+    show_unproductive(alloc, &mut text, source, kit)?;
+    show_conflicts(alloc, &mut text, source, kit, asked)?;
+    text.push_str(rest.as_str())?;
     Ok(text)
 }
 
@@ -166,11 +190,13 @@ fn text_of_refusal(
     alloc: Global,
     source: &Source<'_>,
     refusal: &KitError<u32>,
-) -> Result<String, AllocError> {
+) -> Result<String, AllocError>
+    ensures { IfOk result (λ text. ShowsSome (ExplainRefusal source.now.text refusal.now) source.now [] (string_bytes text)) }
+{
     let mut messages = Messages::new(alloc, source.text());
-    let collected = push_refusal(alloc, &mut messages, refusal);
+    push_refusal(alloc, &mut messages, refusal)?;
     let mut text = String::new(alloc);
-    push_collected(alloc, &mut text, source, messages, collected)?;
+    push_messages(alloc, &mut text, source, messages.as_slice())?;
     Ok(text)
 }
 
@@ -180,7 +206,11 @@ fn text_of(
     source: &Source<'_>,
     reading: &Reading,
     asked: Asked<'_>,
-) -> Result<String, AllocError> {
+) -> Result<String, AllocError>
+    requires kit { IfOk reading.now.kit (λ k. IsKitIn source.now.text k × TellsOutcome k reading.now.outcome) }
+    requires refusal { OnErr reading.now.kit (reading.now.outcome ≡ Invalid) }
+    ensures { IfOk result (λ text. ShowsSome (AreOfText ⟦<Listed as Ord>⟧.cmp asked.entry.each source.now.text reading.now.outcome) source.now [] (string_bytes text)) }
+{
     match &reading.kit {
         Ok(kit) => text_of_kit(alloc, source, kit, reading.outcome, asked),
         Err(refusal) => text_of_refusal(alloc, source, refusal),
@@ -189,22 +219,24 @@ fn text_of(
 
 /// Returns the report on a source's text, as `read_grammar` reads it. Places are those of the source.
 pub fn report_on(alloc: Global, source: &Source<'_>, asked: Asked<'_>) -> Result<Report, AllocError>
-    ensures { IfOk result (λ r. IsOutcome source.now.text r.outcome) }
+    ensures outcome { IfOk result (λ r. IsOutcome source.now.text r.outcome) }
+    ensures shows { IfOk result (λ r. ShowsSome (AreOfText ⟦<Listed as Ord>⟧.cmp asked.entry.each source.now.text r.outcome) source.now [] (string_bytes r.text)) }
 {
     let reading = read_grammar(alloc, source.text())?;
     let outcome = reading.outcome;
-    let told = text_of(alloc, source, &reading, asked);
+    let made = text_of(alloc, source, &reading, asked);
     drop(reading);
-    let text = told?;
+    let text = made?;
     Ok(Report { text, outcome })
 }
 
 /// Returns the report on a grammar's text, as `report_on` makes it. Places have the path.
 pub fn report(alloc: Global, text: &str, path: &str, asked: Asked<'_>) -> Result<Report, AllocError>
-    ensures { IfOk result (λ r. IsOutcome text.now r.outcome) }
+    ensures outcome { IfOk result (λ r. IsOutcome text.now r.outcome) }
+    ensures shows { IfOk result (λ r. ShowsSome (AreOfText ⟦<Listed as Ord>⟧.cmp asked.entry.each text.now r.outcome) (source_of text.now path.now) [] (string_bytes r.text)) }
 {
     let source = Source::new(alloc, text, path)?;
-    let told = report_on(alloc, &source, asked);
+    let made = report_on(alloc, &source, asked);
     drop(source);
-    told
+    made
 }

@@ -4,7 +4,7 @@ ghost use Rattle.std.specs.Prelude.{◌≡◌, ◌<◌, IfOk, OnOk};
 ghost use Rattle.cfg_theory.specs.Decides.{Decides};
 ghost use Rattle.cfg_theory.specs.Derivation.{IsProductive};
 ghost use Rattle.text_messages.specs.Added.{AddsOne, AddsSome};
-ghost use Rattle.grammar_report.specs.Told.{AreUnproductive, IsOfUnproductive, IsUnproductive, is_start};
+ghost use Rattle.grammar_report.specs.Messages.{AreUnproductive, IsOfUnproductive, IsUnproductive, is_start};
 
 use crate::faults::push_named;
 use cfg_base::span::Span;

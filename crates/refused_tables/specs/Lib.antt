@@ -2,3 +2,4 @@ pub mod Blocks
 pub mod Cycles
 pub mod Derivations
 pub mod ExampleTexts
+pub mod Nearer

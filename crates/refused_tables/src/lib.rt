@@ -1,6 +1,7 @@
 //! Why a grammar is refused a table, for a reader: how its start rule derives itself (`push_derivation`), and which
 //! productions are reduced before a token without end (`find_cycle`, `push_cycle`), behind a string that leads there. Of a table
-//! that is made, the conflicts that it lists, ordered and in blocks (`blocks_of`), and their examples as texts (`push_example`).
+//! that is made, the conflicts that it lists, ordered and in blocks (`blocks_of`), and their examples (`nearest`) as texts
+//! (`push_example`).
 //!
 //! ```rust
 //! use cfg_base::symbol::{RIdx, TIdx};
@@ -31,6 +32,7 @@ mod cycle;
 mod derivations;
 mod examples;
 mod listed;
+mod nearer;
 mod paths;
 mod runs;
 mod words;
@@ -39,4 +41,5 @@ pub use cycle::{Beginning, ReductionCycle, find_cycle};
 pub use derivations::push_derivation;
 pub use examples::push_example;
 pub use listed::{Listed, blocks_of, states_of};
+pub use nearer::nearest;
 pub use words::push_cycle;

@@ -1,6 +1,6 @@
 use Rattle.std.proofs.lemmas.Result.{IfOk-weaker}
 use Rattle.cfg_read.specs.ValidityInfo.{CheckedAst, IsChecked}
-use Rattle.grammar_report.specs.Told.{IsKeptOf}
+use Rattle.grammar_report.specs.Messages.{IsKeptOf}
 use Rattle.grammar_report.proofs.accept_reduce.kept_of.Goals as goal
 
 pub returns : goal.returns

@@ -2,7 +2,7 @@ use Rattle.std.proofs.Common.{codes, refl, string_bytes, ap, ◌∙◌}
 use Rattle.text_messages.specs.declared.source.Severity.TheVariants.{Error}
 use Rattle.text_messages.proofs.AddedMessages.{pushed_if}
 use Rattle.grammar_report.specs.Places.{production_place}
-use Rattle.grammar_report.specs.Told.{IsError}
+use Rattle.grammar_report.specs.Messages.{IsError}
 use Rattle.grammar_report.proofs.accept_reduce.push_ending.Goals as goal
 
 pub returns : goal.returns

@@ -3,7 +3,7 @@ use Rattle.std.proofs.lemmas.List.{map_more, take_all}
 use Rattle.text_messages.specs.Added.{AddsSaid, Said, said_in}
 use Rattle.text_messages.specs.declared.source.Severity.TheVariants.{Note}
 use Rattle.text_messages.proofs.AddedMessages.{adds_more, adds_none, pushed}
-use Rattle.grammar_report.specs.Told.{again_at}
+use Rattle.grammar_report.specs.Messages.{again_at}
 use Rattle.grammar_report.proofs.faults.push_again.Goals as goal
 
 pub spans-init : goal.spans-init

@@ -1,6 +1,6 @@
 use Rattle.std.proofs.Common.{map, take}
 use Rattle.text_messages.specs.Added.{AddsSaid}
-use Rattle.grammar_report.specs.Told.{again_at}
+use Rattle.grammar_report.specs.Messages.{again_at}
 use Rattle.grammar_report.proofs.faults.push_again.Given as goal
 
 abbrev pub invariant-spans : goal.invariant-spans

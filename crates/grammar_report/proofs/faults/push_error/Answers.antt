@@ -4,7 +4,7 @@ use Rattle.std.proofs.lemmas.Result.{on_ok_weaker}
 use Rattle.text_messages.specs.Added.{Said, said_in}
 use Rattle.text_messages.specs.declared.source.Severity.TheVariants.{Note}
 use Rattle.text_messages.proofs.AddedMessages.{adds_more, pushed}
-use Rattle.grammar_report.specs.Told.{at_places}
+use Rattle.grammar_report.specs.Messages.{at_places}
 use Rattle.grammar_report.proofs.faults.push_error.Goals as goal
 
 pub returns-in_ok-push_at_places-in-Some : goal.returns-in_ok-push_at_places-in-Some

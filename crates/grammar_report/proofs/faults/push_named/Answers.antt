@@ -1,6 +1,6 @@
 use Rattle.std.proofs.Common.{Some, ap, refl, string_bytes}
 use Rattle.text_messages.proofs.AddedMessages.{pushed_if}
-use Rattle.grammar_report.specs.Told.{IsNamed}
+use Rattle.grammar_report.specs.Messages.{IsNamed}
 use Rattle.grammar_report.proofs.faults.push_named.Goals as goal
 
 pub returns : goal.returns

@@ -11,7 +11,7 @@ use Rattle.parser_kit.specs.declared.kit_error.KitError.TheVariants.{AcceptReduc
 use Rattle.text_messages.specs.Added.{Said, said_in}
 use Rattle.text_messages.specs.declared.source.Severity.TheVariants.{Error}
 use Rattle.text_messages.proofs.AddedMessages.{pushed}
-use Rattle.grammar_report.specs.Told.{AreOfRefusal, IsError}
+use Rattle.grammar_report.specs.Messages.{AreOfRefusal, IsError}
 use Rattle.grammar_report.proofs.faults.push_refusal_of.Goals as goal
 
 one_error : (text : List ℕ) (a : Ast) (e : KitError ℕ) (m : Said) → ((es : Vec YaccGrammarError Global) → e ≡ Grammar es → ⊥) → ((p : PIdx ℕ) → e ≡ AcceptReduce p → ⊥) →

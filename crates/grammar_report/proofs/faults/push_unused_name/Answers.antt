@@ -4,7 +4,7 @@ use Rattle.text_messages.specs.Added.{said_in}
 use Rattle.text_messages.specs.declared.source.Severity.TheVariants.{Warning}
 use Rattle.text_messages.proofs.AddedMessages.{pushed_if}
 use Rattle.cfg_read.specs.WarningModels.{warning_of, warning_text}
-use Rattle.grammar_report.specs.Told.{SaysAt, SaysUnused}
+use Rattle.grammar_report.specs.Messages.{SaysAt, SaysUnused}
 use Rattle.grammar_report.proofs.faults.push_unused_name.Goals as goal
 
 pub returns-in-None : goal.returns-in-None

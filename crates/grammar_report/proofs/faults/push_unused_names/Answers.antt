@@ -5,7 +5,7 @@ use Rattle.cfg_read.specs.Warnings.{WarningText}
 use Rattle.cfg_read.specs.WarningModels.{warning_of}
 use Rattle.text_messages.specs.Added.{AddsSome, OneForEach}
 use Rattle.text_messages.proofs.AddedMessages.{nothing_told, told_more}
-use Rattle.grammar_report.specs.Told.{SaysUnused}
+use Rattle.grammar_report.specs.Messages.{SaysUnused}
 use Rattle.grammar_report.proofs.faults.push_unused_names.Goals as goal
 
 pub warnings-init : goal.warnings-init

@@ -2,7 +2,7 @@ use Rattle.std.proofs.Common.{map, take}
 use Rattle.std.specs.Bool.{⊤}
 use Rattle.cfg_read.specs.WarningModels.{warning_of}
 use Rattle.text_messages.specs.Added.{AddsSome, OneForEach}
-use Rattle.grammar_report.specs.Told.{SaysUnused}
+use Rattle.grammar_report.specs.Messages.{SaysUnused}
 use Rattle.grammar_report.proofs.faults.push_unused_names.Given as goal
 
 abbrev pub invariant-warnings : goal.invariant-warnings

@@ -4,7 +4,7 @@ use Rattle.text_messages.specs.Added.{Said}
 use Rattle.text_messages.specs.Places.{BeginsWith}
 use Rattle.text_messages.specs.declared.source.Severity.TheVariants.{Error}
 use Rattle.text_messages.proofs.AddedMessages.{pushed_if}
-use Rattle.grammar_report.specs.Told.{IsError, chain_words}
+use Rattle.grammar_report.specs.Messages.{IsError, chain_words}
 use Rattle.grammar_report.proofs.long_chains.push_long_chain.Goals as goal
 
 pub returns-in-Ok : goal.returns-in-Ok

@@ -5,7 +5,7 @@ use Rattle.cfg_read.specs.Asts.{RuleAst}
 use Rattle.cfg_read.specs.AstModels.{named_rule}
 use Rattle.text_messages.specs.Added.{AddsOne, AddsSome, MessagesValue, OneForEach, Said}
 use Rattle.text_messages.proofs.AddedMessages.{nothing_told, passed_over, told_more}
-use Rattle.grammar_report.specs.Told.{IsOfUnproductive, IsUnproductive, is_start}
+use Rattle.grammar_report.specs.Messages.{IsOfUnproductive, IsUnproductive, is_start}
 use Rattle.grammar_report.proofs.sentences.push_unproductive_of.Goals as goal
 
 pub rules-init : goal.rules-init

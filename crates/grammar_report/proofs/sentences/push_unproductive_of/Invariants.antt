@@ -3,7 +3,7 @@ use Rattle.std.specs.Map.Iter.{deref_pair}
 use Rattle.cfg_read.specs.Asts.{RuleAst}
 use Rattle.cfg_read.specs.AstModels.{named_rule}
 use Rattle.text_messages.specs.Added.{AddsSome, OneForEach}
-use Rattle.grammar_report.specs.Told.{IsOfUnproductive, IsUnproductive, is_start}
+use Rattle.grammar_report.specs.Messages.{IsOfUnproductive, IsUnproductive, is_start}
 use Rattle.grammar_report.proofs.sentences.push_unproductive_of.Given as goal
 
 -- the rules so far and those that are left are all of them, and each so far that is unproductive has its message

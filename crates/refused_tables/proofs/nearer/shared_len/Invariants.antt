@@ -1,5 +1,5 @@
 use Rattle.std.proofs.Common.{◌≡◌, take}
-use Rattle.grammar_report.proofs.beginnings.shared_len.Given as goal
+use Rattle.refused_tables.proofs.nearer.shared_len.Given as goal
 
 -- the open productions before the index are the same
 abbrev pub invariant-items : goal.invariant-items

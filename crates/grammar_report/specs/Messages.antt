@@ -1,8 +1,9 @@
 -- The messages of a report.
-use Rattle.std.specs.Prelude.{◌≡◌, ℕ, ◌≤◌, Bool, true, false, List, [], ◌∷◌, ◌++◌, Option, None, Some, codes, drop, length, map, slice_get, slice_range, IsCharBoundary, ⊤}
+use Rattle.std.specs.Prelude.{◌≡◌, ℕ, ◌≤◌, Bool, true, false, List, [], ◌∷◌, ◌++◌, Option, None, Some, IfSome, codes, drop, length, map, slice_get, slice_range, IsCharBoundary, ⊤}
 use Rattle.std.specs.List.{All}
 use Rattle.std.specs.Str.{bytes_eq}
 use Rattle.cfg_base.specs.SpanModel.{SpanModel}
+use Rattle.cfg_base.specs.declared.symbol.PIdx.{PIdx}
 use Rattle.cfg_theory.specs.Derivation.{IsProductive}
 use Rattle.cfg_read.specs.Asts.{Ast, RuleAst}
 use Rattle.cfg_read.specs.ErrorModels.{failure_of}
@@ -18,11 +19,18 @@ use Rattle.cfg_numbered.specs.Value.{GrammarValue, IsRuleNamed}
 use Rattle.parser_kit.specs.declared.kit_error.KitError.{KitError}
 use Rattle.parser_kit.specs.declared.kit_error.KitError.TheVariants.{AcceptReduce, Grammar, TooManyReductions}
 use Rattle.std.specs.Fmt.{decimal}
-use Rattle.text_messages.specs.Added.{OneForEach, Said, said_in}
-use Rattle.text_messages.specs.Places.{BeginsWith}
+use Rattle.std.specs.declared.cmp.Ordering.{Ordering}
+use Rattle.parser_kit.specs.Kit.{KitValue}
+use Rattle.refused_tables.specs.Blocks.{AreBlocks}
+use Rattle.refused_tables.specs.declared.listed.Listed.{Listed}
+use Rattle.text_messages.specs.Added.{AreWarnings, IsPartOf, OneForEach, Said, said_in}
+use Rattle.text_messages.specs.Places.{BeginsWith, SourceValue, heading_if}
 use Rattle.text_messages.specs.declared.source.Severity.{Severity}
 use Rattle.text_messages.specs.declared.source.Severity.TheVariants.{Error, Note, Warning}
+use Rattle.grammar_report.specs.Outcomes.{IsKitIn, TellsExpected, TellsOutcome}
 use Rattle.grammar_report.specs.Places.{production_place}
+use Rattle.grammar_report.specs.declared.outcome.Outcome.{Outcome}
+use Rattle.grammar_report.specs.declared.outcome.Outcome.TheVariants.{Barren, Expected, Invalid, Unexpected}
 
 -- `WHAT 'NAME'`, with the name that the text has at a span
 abbrev pub NamesPart : List ℕ → SpanModel → List ℕ → List ℕ → Type 0
@@ -47,10 +55,13 @@ at_places text e = said_in text Error (slice_get e.spans.items 0) (failure_text 
 abbrev pub AreOfError : List ℕ → YaccGrammarError → List Said → Type 0
 AreOfError text e these = (notes : List Said) × All (λ m. m.severity ≡ Note) notes × (length notes ≤ 1) × (these ≡ at_places text e ++ notes)
 
--- those of errors, one after another
-pub data AreOfErrors (text : List ℕ) : List YaccGrammarError → List Said → Type 0 where
-  none : AreOfErrors text [] []
-  one_more : {es : List YaccGrammarError} {ms these : List Said} (e : YaccGrammarError) → AreOfErrors text es ms → AreOfError text e these → AreOfErrors text (es ++ e ∷ []) (ms ++ these)
+-- the messages of the elements of a list, one after another
+pub data AreOfEach {A : Type 0} (F : A → List Said → Type 0) : List A → List Said → Type 0 where
+  none : AreOfEach F [] []
+  one_more : {xs : List A} {ms these : List Said} (x : A) → AreOfEach F xs ms → F x these → AreOfEach F (xs ++ x ∷ []) (ms ++ these)
+
+abbrev pub AreOfErrors : List ℕ → List YaccGrammarError → List Said → Type 0
+AreOfErrors text es these = AreOfEach (AreOfError text) es these
 
 abbrev pub chain_words : ℕ → List ℕ
 chain_words cap = codes "more than " ++ (decimal cap ++ codes " reductions follow each other")
@@ -100,3 +111,67 @@ SaysUnused text w m = SaysAt text (warning_text w.kind) (slice_get w.spans 0) m
 -- one for each unused rule and token
 abbrev pub AreOfUnused : List ℕ → Ast → List Said → Type 0
 AreOfUnused text ast these = (ws : List WarningText) × unused.AreWarnings ast ws × OneForEach (λ w. ⊤) (SaysUnused text) ws these
+
+-- those of unused names, and further warnings
+abbrev pub AreOfWarnings : List ℕ → Ast → List Said → Type 0
+AreOfWarnings text ast these = (names more : List Said) × AreOfUnused text ast names × AreWarnings more × (these ≡ names ++ more)
+
+-- what a conflict begins with in words
+abbrev pub kind_text : Option (PIdx ℕ) → List ℕ
+kind_text None = codes "shift/reduce conflict"
+kind_text (Some p) = codes "reduce/reduce conflict"
+
+-- at the production that is reduced
+abbrev pub IsOfConflict : List ℕ → Ast → Severity → Listed → Said → Type 0
+IsOfConflict text ast severity e m = (words : List ℕ) × BeginsWith (kind_text e.other) words × (m ≡ said_in text severity (production_place ast e.pidx.0) words)
+
+-- a message, and behind it at most one note
+abbrev pub AreWithNote : Said → List Said → Type 0
+AreWithNote m these = (notes : List Said) × All (λ n. n.severity ≡ Note) notes × (length notes ≤ 1) × (these ≡ m ∷ notes)
+
+abbrev pub AreOfConflict : List ℕ → Ast → Severity → Listed → List Said → Type 0
+AreOfConflict text ast severity e these = (m : Said) × IsOfConflict text ast severity e m × AreWithNote m these
+
+-- those of the first conflict of a block
+abbrev pub AreOfBlock : List ℕ → Ast → Severity → List Listed → List Said → Type 0
+AreOfBlock text ast severity [] these = these ≡ []
+AreOfBlock text ast severity (e ∷ es) these = AreOfConflict text ast severity e these
+
+-- conflicts that are expected are notes
+abbrev pub conflict_severity : Outcome → Severity
+conflict_severity Expected = Note
+conflict_severity Unexpected = Warning
+conflict_severity Barren = Warning
+conflict_severity Invalid = Warning
+
+abbrev pub IsConflictSeverity : KitValue → Severity → Type 0
+IsConflictSeverity k severity = (o : Outcome) × TellsExpected k o × (severity ≡ conflict_severity o)
+
+-- those of the blocks of the conflicts that a kit lists
+abbrev pub AreOfConflicts : (Listed → Listed → Ordering) → Bool → List ℕ → KitValue → List Said → Type 0
+AreOfConflicts cmp each text k these =
+    (severity : Severity) × (blocks : List (List Listed)) × IsConflictSeverity k severity × AreBlocks cmp each k.parser.table.conflicts blocks × AreOfEach (AreOfBlock text k.kept.ast severity) blocks these
+
+-- warnings, rules that derive no list of tokens, and conflicts
+abbrev pub AreOfKit : (Listed → Listed → Ordering) → Bool → List ℕ → KitValue → List Said → Type 0
+AreOfKit cmp each text k these =
+    (warnings barren conflicts : List Said) × AreOfWarnings text k.kept.ast warnings × AreUnproductive text k.parser.grammar k.kept.ast barren × AreOfConflicts cmp each text k conflicts × (these ≡ warnings ++ (barren ++ conflicts))
+
+-- the errors that explain why a text has no kit, or what is said of its kit
+pub data AreOfText (cmp : Listed → Listed → Ordering) (each : Bool) (text : List ℕ) : Outcome → List Said → Type 0 where
+  of_refusal : {these : List Said} (e : KitError ℕ) → ExplainRefusal text e these → AreOfText cmp each text Invalid these
+  of_kit : {o : Outcome} {these : List Said} (k : KitValue) → IsKitIn text k → TellsOutcome k o → AreOfKit cmp each text k these → AreOfText cmp each text o these
+
+-- a text goes on with the headings of these messages, in order, among other lines
+pub data Shows (source : SourceValue) (old : List ℕ) : List Said → List ℕ → Type 0 where
+  nothing : Shows source old [] old
+  others : {these : List Said} {text : List ℕ} (words : List ℕ) → Shows source old these text → Shows source old these (text ++ words)
+  heading : {these : List Said} {text : List ℕ} (m : Said) → Shows source old these text → Shows source old (these ++ m ∷ []) (text ++ heading_if source m.severity m.span m.words)
+
+-- some of which P holds, and whose places lie within the text
+abbrev pub ShowsSome : (List Said → Type 0) → SourceValue → List ℕ → List ℕ → Type 0
+ShowsSome P source old new = (these : List Said) × P these × All (λ m. IfSome m.span (IsPartOf source.text)) these × Shows source old these new
+
+-- a text that was read as it is shown, in plain
+abbrev pub source_of : List ℕ → List ℕ → SourceValue
+source_of text path = record { text = text; shown = text; places = []; path = path; color = false }

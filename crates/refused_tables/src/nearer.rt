@@ -1,7 +1,7 @@
 //! Where an example begins that isn't shown from the start rule on: at the nearest rule in which both actions are open.
 
 ghost use Rattle.std.specs.Prelude.{◌≡◌, take, drop, IsTrue, IfOk};
-ghost use Rattle.grammar_report.specs.Nearer.{IsEndOf};
+ghost use Rattle.refused_tables.specs.Nearer.{IsEndOf};
 
 use cfg_base::index::IndexStorage;
 use cfg_base::symbol::{PIdx, SIdx};

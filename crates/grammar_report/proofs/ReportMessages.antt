@@ -58,7 +58,7 @@ shows_more v a b c s t x nothing = subst (λ (l : List Said). Shows v a l b) (sy
 shows_more v a b c s t x (others {these} {text} words y) = others words (shows_more v a b text s these x y)
 shows_more v a b c s t x (heading {these} {text} m y) = subst (λ (l : List Said). Shows v a l (text ++ heading_if v m.severity m.span m.words)) (append_assoc s these (m ∷ [])) (heading m (shows_more v a b text s these x y))
 
--- one more, with what stands below its heading
+-- one more, with the lines below its heading
 pub shows_one : (v : SourceValue) (a b c : List ℕ) (s : List Said) (m : Said) → Shows v a s b → BeginsWith (b ++ heading_if v m.severity m.span m.words) c → Shows v a (s ++ m ∷ []) c
 shows_one v a b c s m x (rest, e) = subst (λ (t : List ℕ). Shows v a (s ++ m ∷ []) t) (sym e) (others rest (heading m x))
 

@@ -2,12 +2,13 @@
 
 use crate::fault::{Outcome, ParseFault};
 use crate::lines::answer_lines;
-use crate::making::{make_kit, make_rules};
+use crate::making::make_rules;
 use crate::streams::{fault_of_answer, read_file};
 use crate::warnings::{say_notes, say_refusal, say_warnings};
 use crate::words::Words;
 use bison_sources::{BisonFile, BisonImport, bison_file, import_file};
 use byte_streams::Recorded;
+use kit_texts::make_kit;
 use lrlex::{BoundRules, LexRules};
 use parser_kit::ParserKit;
 use std::io;

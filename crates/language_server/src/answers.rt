@@ -4,11 +4,20 @@ use crate::messages::{ErrorCode, Id};
 use crate::places::{Encoding, Position};
 use serde::Serialize;
 
+/// Which requests are offered.
+#[derive(Clone, Copy, Debug, PartialEq, Eq)]
+pub enum Offers {
+    /// Those about grammar files.
+    Grammars,
+    /// Those about texts of a language: an outline, and what may come at a place.
+    Texts,
+}
+
 /// The answer to a request.
 #[derive(Debug, Drop)]
 pub enum Answer {
     /// What the server can do, and how it counts columns.
-    Initialized(Encoding),
+    Initialized(Offers, Encoding),
     /// Nothing but that it is done.
     Done,
     /// An error.
@@ -25,6 +34,8 @@ pub enum Answer {
     Edits(String, Vec<Edit>),
     /// The symbols of a document.
     Symbols(Vec<Symbol>),
+    /// The symbols of a document, some below others.
+    Outline(Outline),
     /// What can be folded.
     Folds(Vec<Fold>),
     /// What may be written.
@@ -126,6 +137,22 @@ pub struct Symbol {
     pub range: Range,
     /// Its name's place.
     pub selection_range: Range,
+}
+
+/// A symbol of an outline that is a tree.
+#[derive(Debug, Drop)]
+pub struct Nested {
+    /// How many symbols it is below.
+    pub depth: usize,
+    /// The symbol.
+    pub symbol: Symbol,
+}
+
+/// An outline that is a tree: each symbol before those below it, which are one deeper.
+#[derive(Debug, Drop)]
+pub struct Outline {
+    /// The symbols.
+    pub symbols: Vec<Nested>,
 }
 
 /// Lines that can be folded.

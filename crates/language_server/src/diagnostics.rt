@@ -88,8 +88,8 @@ fn push_related(
     Ok(())
 }
 
-/// Makes a diagnostic without more than its message.
-fn diagnostic(alloc: Global, range: Range, severity: u8, message: String) -> Diagnostic {
+/// Makes a diagnostic without more than its message. The numbers of `severity` are the protocol's.
+pub fn diagnostic(alloc: Global, range: Range, severity: u8, message: String) -> Diagnostic {
     Diagnostic {
         range,
         severity,

@@ -1,8 +1,8 @@
 //! The documents that the client has open, and their changes.
 
+use crate::languages::Language;
 use crate::messages::Change;
 use crate::places::{Encoding, line_starts, offset_at};
-use bison_sources::bison_sign;
 use byte_streams::MOST_BYTES;
 use grammar_index::GrammarIndex;
 use std::alloc::{AllocError, Global};
@@ -12,17 +12,21 @@ use std::alloc::{AllocError, Global};
 pub struct Document {
     /// Its text.
     pub text: String,
-    /// Where the text names its rules and tokens; nothing of one that is too long, or in Bison's syntax.
+    /// Where the text names its rules and tokens; nothing of one that is too long, in Bison's syntax, or no grammar.
     pub index: GrammarIndex,
 }
 
 /// Returns the document of a text.
-pub fn document_of(alloc: Global, text: String) -> Result<Document, AllocError> {
-    if text.len() > MOST_BYTES || bison_sign(text.as_str()).is_some() {
+pub fn document_of<L: Language>(
+    alloc: Global,
+    language: &L,
+    text: String,
+) -> Result<Document, AllocError> {
+    if text.len() > MOST_BYTES {
         let index = GrammarIndex::empty(alloc);
         return Ok(Document { text, index });
     }
-    let index = GrammarIndex::of_text(alloc, text.as_str())?;
+    let index = language.index(alloc, text.as_str())?;
     Ok(Document { text, index })
 }
 

@@ -1,14 +1,14 @@
-//! A server of the Language Server Protocol for grammar files, as a state and what it does with a message.
+//! A server of the Language Server Protocol, as a state and what it does with a message: for grammar files, or another `Language`.
 //!
 //! ```rust
-//! use language_server::{ServeFault, Server, read_message};
+//! use language_server::{GrammarFiles, ServeFault, Server, read_message};
 //! use std::alloc::Global;
 //!
 //! /// Whether a server that has just begun answers what these bytes say.
 //! fn is_answered(alloc: Global, bytes: &[u8]) -> Result<bool, ServeFault> {
 //!     let mut server = Server::new(alloc);
 //!     let message = read_message(alloc, bytes)?;
-//!     let taken = server.take(alloc, message)?;
+//!     let taken = server.take(alloc, &GrammarFiles, message)?;
 //!     Ok(taken.response.is_some())
 //! }
 //! ```
@@ -27,8 +27,10 @@ mod documents;
 mod fault;
 mod frames;
 mod hovering;
+mod languages;
 mod messages;
 mod naming;
+mod nested;
 mod outline;
 mod places;
 mod queries;
@@ -37,14 +39,17 @@ mod server;
 mod texts;
 
 pub use answers::{
-    Answer, Contents, Diagnostic, Edit, Fold, Highlight, Hover, Item, Location, Published, Range,
-    Related, Response, Symbol,
+    Answer, Contents, Diagnostic, Edit, Fold, Highlight, Hover, Item, Location, Nested, Offers,
+    Outline, Published, Range, Related, Response, Symbol,
 };
+pub use asked::Asked;
+pub use diagnostics::{View, diagnostic};
 pub use documents::Document;
 pub use fault::ServeFault;
 pub use frames::{Frame, Frames, MOST_BYTES};
+pub use languages::{GrammarFiles, Language};
 pub use messages::{Change, ErrorCode, Id, Message, Method, Notice, Params, Query};
-pub use places::{Encoding, Position};
+pub use places::{Encoding, Position, line_starts, position_at};
 pub use reading::read_message;
 pub use server::{Phase, Server, Taken};
 pub use texts::{published_text, response_text};

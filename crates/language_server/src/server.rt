@@ -4,16 +4,16 @@ ghost use Rattle.std.specs.Prelude.{◌≡◌, IfOk, OnOk, None, Some};
 ghost use Rattle.language_server.specs.Protocol.{Answers, IsAnswered, MayFail, MayGive, error_in, phase_after, phase_behind, status_after, status_in, status_on};
 ghost use Rattle.language_server.specs.declared.answers.Response.{Response};
 
-use crate::answers::{Answer, Published, Response};
+use crate::answers::{Answer, Offers, Published, Response};
 use crate::asked::Asked;
-use crate::diagnostics::{View, push_diagnostics, push_too_long};
+use crate::diagnostics::{View, push_too_long};
 use crate::documents::{Document, document_of, with_changes};
 use crate::fault::ServeFault;
+use crate::languages::Language;
 use crate::messages::{Change, ErrorCode, Id, Message, Method, Notice, Params, Query};
 use crate::places::{Encoding, line_starts};
-use crate::queries::query_answer;
 use byte_streams::MOST_BYTES;
-use std::alloc::{AllocError, Global};
+use std::alloc::Global;
 use std::collections::BTreeMap;
 
 /// How far the session has come.
@@ -114,7 +114,7 @@ impl Server {
     }
 
     /// Begins the session with what the client can do.
-    fn initialize(&mut self, params: &Params) -> Answer
+    fn initialize(&mut self, offers: Offers, params: &Params) -> Answer
         ensures answer { error_in result ≡ None }
         ensures phase { self.new.phase ≡ Phase.Ready }
     {
@@ -123,17 +123,17 @@ impl Server {
         if params.has_utf8 {
             self.encoding = Encoding::Utf8;
         }
-        Answer::Initialized(self.encoding)
+        Answer::Initialized(offers, self.encoding)
     }
 
     /// Answers a request before the session has begun.
-    fn answer_fresh(&mut self, method: Method, params: &Params) -> Answer
+    fn answer_fresh(&mut self, offers: Offers, method: Method, params: &Params) -> Answer
         requires { self.old.phase ≡ Phase.Fresh }
         ensures answer { MayGive Phase.Fresh method (error_in result) }
         ensures phase { self.new.phase ≡ phase_behind Phase.Fresh method }
     {
         match method {
-            Method::Initialize => self.initialize(params),
+            Method::Initialize => self.initialize(offers, params),
             Method::Shutdown => Answer::Error(ErrorCode::ServerNotInitialized),
             Method::Asks(_) => Answer::Error(ErrorCode::ServerNotInitialized),
             Method::Unknown => Answer::Error(ErrorCode::ServerNotInitialized),
@@ -141,7 +141,13 @@ impl Server {
     }
 
     /// Answers what is asked of a document. One that isn't open has nothing.
-    fn ask(&self, alloc: Global, query: Query, params: &Params) -> Result<Answer, AllocError>
+    fn ask<L: Language>(
+        &self,
+        alloc: Global,
+        language: &L,
+        query: Query,
+        params: &Params,
+    ) -> Result<Answer, ServeFault>
         ensures { IfOk result (λ a. MayFail (error_in a) query) }
     {
         let Some(uri) = &params.uri else {
@@ -159,16 +165,17 @@ impl Server {
             starts: starts.as_slice(),
             encoding: self.encoding,
         };
-        query_answer(alloc, &asked, query, params)
+        language.answer(alloc, &asked, query, params)
     }
 
     /// Answers a request within the session.
-    fn answer_ready(
+    fn answer_ready<L: Language>(
         &mut self,
         alloc: Global,
+        language: &L,
         method: Method,
         params: &Params,
-    ) -> Result<Answer, AllocError>
+    ) -> Result<Answer, ServeFault>
         requires { self.old.phase ≡ Phase.Ready }
         ensures answer { IfOk result (λ a. MayGive Phase.Ready method (error_in a)) }
         ensures phase { OnOk result (self.new.phase ≡ phase_behind Phase.Ready method) }
@@ -179,32 +186,34 @@ impl Server {
                 self.phase = Phase::Stopped;
                 Ok(Answer::Done)
             }
-            Method::Asks(query) => self.ask(alloc, query, params),
+            Method::Asks(query) => self.ask(alloc, language, query, params),
             Method::Unknown => Ok(Answer::Error(ErrorCode::MethodNotFound)),
         }
     }
 
     /// Answers a request.
-    fn answer(
+    fn answer<L: Language>(
         &mut self,
         alloc: Global,
+        language: &L,
         method: Method,
         params: &Params,
-    ) -> Result<Answer, AllocError>
+    ) -> Result<Answer, ServeFault>
         ensures answer { IfOk result (λ a. MayGive self.old.phase method (error_in a)) }
         ensures phase { OnOk result (self.new.phase ≡ phase_behind self.old.phase method) }
     {
         match self.phase {
-            Phase::Fresh => Ok(self.answer_fresh(method, params)),
-            Phase::Ready => self.answer_ready(alloc, method, params),
+            Phase::Fresh => Ok(self.answer_fresh(language.offers(), method, params)),
+            Phase::Ready => self.answer_ready(alloc, language, method, params),
             Phase::Stopped => Ok(Answer::Error(ErrorCode::InvalidRequest)),
         }
     }
 
     /// Answers a request, with its id.
-    fn respond(
+    fn respond<L: Language>(
         &mut self,
         alloc: Global,
+        language: &L,
         id: Id,
         method: Method,
         params: &Params,
@@ -213,17 +222,23 @@ impl Server {
         ensures phase { OnOk result (self.new.phase ≡ phase_behind self.old.phase method) }
         ensures status { IfOk result (λ t. t.status ≡ None) }
     {
-        match self.answer(alloc, method, params) {
+        match self.answer(alloc, language, method, params) {
             Ok(answer) => Ok(with_response(Some(Response { id, answer }))),
             Err(e) => {
                 drop(id);
-                Err(ServeFault::Memory(e))
+                Err(e)
             }
         }
     }
 
     /// Fills in the diagnostics of a document.
-    fn fill(&self, alloc: Global, published: &mut Published, text: &str) -> Result<(), ServeFault> {
+    fn fill<L: Language>(
+        &self,
+        alloc: Global,
+        language: &L,
+        published: &mut Published,
+        text: &str,
+    ) -> Result<(), ServeFault> {
         if text.len() > MOST_BYTES {
             push_too_long(alloc, &mut published.diagnostics)?;
             return Ok(());
@@ -234,13 +249,14 @@ impl Server {
             encoding: self.encoding,
             has_related: self.has_related,
         };
-        push_diagnostics(alloc, &view, &mut published.diagnostics)
+        language.push_found(alloc, &view, &mut published.diagnostics)
     }
 
     /// Stores a document's text, and publishes its diagnostics.
-    fn store(
+    fn store<L: Language>(
         &mut self,
         alloc: Global,
+        language: &L,
         uri: String,
         version: Option<i64>,
         text: String,
@@ -256,11 +272,11 @@ impl Server {
             version,
             diagnostics,
         };
-        if let Err(e) = self.fill(alloc, &mut published, text.as_str()) {
+        if let Err(e) = self.fill(alloc, language, &mut published, text.as_str()) {
             drop(published);
             return Err(e);
         }
-        if let Err(e) = self.put(alloc, uri, text) {
+        if let Err(e) = self.put(alloc, language, uri, text) {
             drop(published);
             return Err(e);
         }
@@ -268,10 +284,16 @@ impl Server {
     }
 
     /// Puts a document's text in the place of what was there.
-    fn put(&mut self, alloc: Global, uri: String, text: String) -> Result<(), ServeFault>
+    fn put<L: Language>(
+        &mut self,
+        alloc: Global,
+        language: &L,
+        uri: String,
+        text: String,
+    ) -> Result<(), ServeFault>
         ensures { OnOk result (self.new.phase ≡ self.old.phase) }
     {
-        let document = document_of(alloc, text)?;
+        let document = document_of(alloc, language, text)?;
         match self.documents.insert(uri, document) {
             Ok(old) => {
                 drop(old);
@@ -282,9 +304,10 @@ impl Server {
     }
 
     /// Changes a document, and publishes its diagnostics.
-    fn change(
+    fn change<L: Language>(
         &mut self,
         alloc: Global,
+        language: &L,
         uri: String,
         version: Option<i64>,
         changes: Vec<Change>,
@@ -299,7 +322,7 @@ impl Server {
         let Document { text, index } = document;
         drop(index);
         let text = with_changes(alloc, text, changes, self.encoding)?;
-        self.store(alloc, uri, version, text)
+        self.store(alloc, language, uri, version, text)
     }
 
     /// Forgets a document, and takes back its diagnostics.
@@ -319,7 +342,13 @@ impl Server {
     }
 
     /// Follows a notification about a document, which is ignored where requests aren't answered.
-    fn follow(&mut self, alloc: Global, notice: Notice, params: Params) -> Result<Taken, ServeFault>
+    fn follow<L: Language>(
+        &mut self,
+        alloc: Global,
+        language: &L,
+        notice: Notice,
+        params: Params,
+    ) -> Result<Taken, ServeFault>
         ensures response { IfOk result (λ t. t.response ≡ None) }
         ensures status { IfOk result (λ t. t.status ≡ None) }
         ensures phase { OnOk result (self.new.phase ≡ self.old.phase) }
@@ -338,37 +367,52 @@ impl Server {
             has_related: _,
         } = params;
         match (notice, uri, text) {
-            (Notice::Opened, Some(uri), Some(text)) => self.store(alloc, uri, version, text),
-            (Notice::Changed, Some(uri), _) => self.change(alloc, uri, version, changes),
+            (Notice::Opened, Some(uri), Some(text)) => self.store(
+                alloc, language, uri, version, text,
+            ),
+            (Notice::Changed, Some(uri), _) => self.change(alloc, language, uri, version, changes),
             (Notice::Closed, Some(uri), _) => Ok(self.close(alloc, uri)),
             _ => Ok(with_published(None)),
         }
     }
 
     /// Follows a notification.
-    fn notice(&mut self, alloc: Global, notice: Notice, params: Params) -> Result<Taken, ServeFault>
+    fn notice<L: Language>(
+        &mut self,
+        alloc: Global,
+        language: &L,
+        notice: Notice,
+        params: Params,
+    ) -> Result<Taken, ServeFault>
         ensures response { IfOk result (λ t. t.response ≡ None) }
         ensures status { IfOk result (λ t. t.status ≡ status_on self.old.phase notice) }
         ensures phase { OnOk result (self.new.phase ≡ self.old.phase) }
     {
         match notice {
             Notice::Exit => Ok(with_status(self.phase.status())),
-            Notice::Opened => self.follow(alloc, notice, params),
-            Notice::Changed => self.follow(alloc, notice, params),
-            Notice::Closed => self.follow(alloc, notice, params),
+            Notice::Opened => self.follow(alloc, language, notice, params),
+            Notice::Changed => self.follow(alloc, language, notice, params),
+            Notice::Closed => self.follow(alloc, language, notice, params),
             Notice::Other => Ok(with_published(None)),
         }
     }
 
     /// Does what a message asks for.
-    pub fn take(&mut self, alloc: Global, message: Message) -> Result<Taken, ServeFault>
+    pub fn take<L: Language>(
+        &mut self,
+        alloc: Global,
+        language: &L,
+        message: Message,
+    ) -> Result<Taken, ServeFault>
         ensures response { IfOk result (λ t. IsAnswered self.old.phase message t.response) }
         ensures status { IfOk result (λ t. t.status ≡ status_after self.old.phase message) }
         ensures phase { OnOk result (self.new.phase ≡ phase_after self.old.phase message) }
     {
         match message {
-            Message::Request(id, method, params) => self.respond(alloc, id, method, &params),
-            Message::Notification(notice, params) => self.notice(alloc, notice, params),
+            Message::Request(id, method, params) => {
+                self.respond(alloc, language, id, method, &params)
+            }
+            Message::Notification(notice, params) => self.notice(alloc, language, notice, params),
             Message::Reply => Ok(with_response(None)),
             Message::Malformed(id, code) => {
                 let answer = Answer::Error(code);

@@ -4,7 +4,7 @@ ghost use Rattle.std.specs.Prelude.{◌≡◌, IfOk, OnOk, codes, string_bytes, 
 ghost use Rattle.language_server.specs.Frames.{IsFrame, IsFrameOf, frame};
 ghost use Rattle.language_server.specs.Texts.{Member, WritesAnswer, WritesRefusal, WritesResponse};
 
-use crate::answers::{Answer, Edit, Published, Response};
+use crate::answers::{Answer, Edit, Offers, Published, Response};
 use crate::fault::ServeFault;
 use crate::messages::{ErrorCode, Id};
 use crate::places::Encoding;
@@ -12,7 +12,7 @@ use serde::{Case, Described, Serialize, Serializer};
 use std::alloc::Global;
 
 /// What the server can do with documents.
-#[derive(Debug, Drop, Serialize)]
+#[derive(Clone, Copy, Debug, Serialize)]
 #[serde(rename_all = "camelCase")]
 struct Sync {
     open_close: bool,
@@ -49,6 +49,23 @@ struct Completes {
     trigger_characters: [&'static str; 1],
 }
 
+/// What the server can do with texts of a language.
+#[derive(Debug, Drop, Serialize)]
+#[serde(rename_all = "camelCase")]
+struct TextCapabilities {
+    position_encoding: &'static str,
+    text_document_sync: Sync,
+    document_symbol_provider: bool,
+    completion_provider: Bare,
+}
+
+/// What is completed where it is asked for alone.
+#[derive(Debug, Drop, Serialize)]
+#[serde(rename_all = "camelCase")]
+struct Bare {
+    resolve_provider: bool,
+}
+
 /// Who the server is.
 #[derive(Debug, Drop, Serialize)]
 struct Info {
@@ -63,6 +80,14 @@ struct Begun {
     server_info: Info,
 }
 
+/// The answer to `initialize`, where texts are served.
+#[derive(Debug, Drop, Serialize)]
+#[serde(rename_all = "camelCase")]
+struct TextBegun {
+    capabilities: TextCapabilities,
+    server_info: Info,
+}
+
 /// Diagnostics as a notification.
 #[derive(Debug, Drop, Serialize)]
 struct Note<'a> {
@@ -71,19 +96,26 @@ struct Note<'a> {
     params: &'a Published,
 }
 
-/// Returns what the server can do.
-fn begun_with(encoding: Encoding) -> Begun {
-    let position_encoding = match encoding {
+/// Documents come as they are opened, with changes of their parts.
+const SYNC: Sync = Sync {
+    open_close: true,
+    change: 2,
+};
+
+/// Returns the protocol's name for an encoding.
+fn encoding_name(encoding: Encoding) -> &'static str {
+    match encoding {
         Encoding::Utf8 => "utf-8",
         Encoding::Utf16 => "utf-16",
-    };
+    }
+}
+
+/// Returns what the server can do.
+fn begun_with(encoding: Encoding) -> Begun {
     Begun {
         capabilities: Capabilities {
-            position_encoding,
-            text_document_sync: Sync {
-                open_close: true,
-                change: 2,
-            },
+            position_encoding: encoding_name(encoding),
+            text_document_sync: SYNC,
             document_symbol_provider: true,
             folding_range_provider: true,
             definition_provider: true,
@@ -101,8 +133,23 @@ fn begun_with(encoding: Encoding) -> Begun {
     }
 }
 
+/// Returns what the server can do with texts.
+fn text_begun_with(encoding: Encoding) -> TextBegun {
+    TextBegun {
+        capabilities: TextCapabilities {
+            position_encoding: encoding_name(encoding),
+            text_document_sync: SYNC,
+            document_symbol_provider: true,
+            completion_provider: Bare {
+                resolve_provider: false,
+            },
+        },
+        server_info: Info { name: "lrkit-lsp" },
+    }
+}
+
 /// Writes a member: its key, and then its value.
-fn write_member<T: Serialize, S: Serializer>(
+pub(crate) fn write_member<T: Serialize, S: Serializer>(
     key: &str,
     value: &T,
     out: &mut S,
@@ -149,7 +196,12 @@ fn write_answer<S: Serializer>(answer: &Answer, out: &mut S) -> Result<(), S::Er
     ensures { OnOk result (WritesAnswer answer.now (S.written out.old) (S.written out.new)) }
 {
     match answer {
-        Answer::Initialized(encoding) => write_member("result", &begun_with(*encoding), out),
+        Answer::Initialized(Offers::Grammars, encoding) => {
+            write_member("result", &begun_with(*encoding), out)
+        }
+        Answer::Initialized(Offers::Texts, encoding) => {
+            write_member("result", &text_begun_with(*encoding), out)
+        }
         Answer::Done => write_member("result", &(), out),
         Answer::Error(code) => write_member("error", code, out),
         Answer::Refused(words) => write_refusal(words.as_str(), out),
@@ -158,6 +210,7 @@ fn write_answer<S: Serializer>(answer: &Answer, out: &mut S) -> Result<(), S::Er
         Answer::Range(range) => write_member("result", range, out),
         Answer::Edits(uri, edits) => write_edits(uri.as_str(), edits, out),
         Answer::Symbols(list) => write_member("result", list, out),
+        Answer::Outline(outline) => write_member("result", outline, out),
         Answer::Folds(list) => write_member("result", list, out),
         Answer::Items(list) => write_member("result", list, out),
         Answer::Hover(hover) => write_member("result", hover, out),

@@ -5,8 +5,8 @@ ghost use Rattle.lrkit_lsp.specs.Statuses.{IsStatus};
 
 use byte_streams::{Recorded, Sink, Source, write_all};
 use language_server::{
-    ErrorCode, Frame, Frames, Id, Message, ServeFault, Server, Taken, published_text, read_message,
-    response_text,
+    ErrorCode, Frame, Frames, GrammarFiles, Id, Message, ServeFault, Server, Taken, published_text,
+    read_message, response_text,
 };
 use std::alloc::{AllocError, Global};
 use std::io;
@@ -73,7 +73,7 @@ fn take_frame<W: Sink>(
     ensures { IfOk result (λ o. IfSome o IsStatus) }
 {
     let message = message_in(alloc, frame)?;
-    let taken = server.take(alloc, message)?;
+    let taken = server.take(alloc, &GrammarFiles, message)?;
     let sent = send_taken(alloc, out, &taken);
     let status = taken.status;
     drop(taken);

@@ -1,6 +1,6 @@
 //! What is wrong at a lexeme, and which tokens may come there.
 
-use crate::names::{Grammar, token_name};
+use crate::names::{Grammar, shown_name, token_name};
 use crate::parsing::{WordError, WordLexer};
 use cfg_base::index::IndexStorage;
 use cfg_base::symbol::TIdx;
@@ -12,14 +12,6 @@ use vob::Vob;
 
 /// How many tokens are named at most.
 const MOST_NAMED: usize = 8;
-
-/// Returns the text by which messages show a token, that of its `%epp` if it has one.
-fn shown_name(grm: &Grammar, tidx: TIdx<u32>) -> &str {
-    if !grm.has_token(tidx) {
-        return "";
-    }
-    grm.token_epp(tidx).unwrap_or("")
-}
 
 /// Adds what a token is called: its `%epp` text, or its name in quotes.
 pub(crate) fn push_token(

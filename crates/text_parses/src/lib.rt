@@ -45,6 +45,6 @@ mod words;
 pub use answer_fault::AnswerFault;
 pub use answering::{answer_line, answer_text};
 pub use form::{FileLine, Form, Input};
-pub use names::{Grammar, token_name};
-pub use objects::object_text;
+pub use names::{Grammar, shown_name, token_name};
+pub use objects::{object_text, parse_value};
 pub use parsing::{Parsed, WordError, WordLexer, WordTree, parse_lexed};

@@ -1,6 +1,7 @@
 //! Names of a tree's nodes.
 
-ghost use Rattle.std.specs.Prelude.{◌≡◌, ◌<◌, length};
+ghost use Rattle.std.specs.Prelude.{◌≡◌, ◌<◌, length, option_map, slice_get, Some};
+ghost use Rattle.cfg_numbered.specs.Value.{shown_text};
 ghost use Rattle.cfg_theory.specs.Grammar.{end_token, head_of};
 ghost use Rattle.parse_trees.specs.Shapes.{rule_text, token_text};
 
@@ -24,6 +25,22 @@ pub fn token_name(grm: &Grammar, tidx: TIdx<u32>) -> &str
     }
     match grm.token_name(tidx) {
         Some(name) => name,
+        None => "",
+    }
+}
+
+/// Returns the text by which messages show a token: that of its `%epp` if it has one, else its name; nothing for the end token, and
+/// for one that the grammar lacks.
+pub fn shown_name(grm: &Grammar, tidx: TIdx<u32>) -> &str
+    ensures { tidx.0 < end_token grm.now.grammar → option_map shown_text (slice_get grm.now.tokens tidx.0) ≡ Some (Some result.now) }
+{
+    // Read, so that the proof may use what is so of each grammar.
+    let _end = grm.eof_token_idx();
+    if !grm.has_token(tidx) {
+        return "";
+    }
+    match grm.token_epp(tidx) {
+        Some(shown) => shown,
         None => "",
     }
 }

@@ -2,7 +2,7 @@
 
 ghost use Rattle.std.specs.Prelude.{◌≡◌, ◌↔◌, IfOk, IsSome, IsTrue, None, OnOk, string_bytes};
 ghost use Rattle.report_forms.specs.Within.{range_numbers, range_numbers_at};
-ghost use Rattle.text_parses.specs.AskedTexts.{asked_in, asked_of};
+ghost use Rattle.text_parses.specs.AskedTexts.{asked_in, asked_of, shown_in};
 ghost use Rattle.text_parses.specs.ParseObjects.{IsTextObject, IsParseOf, WritesObject, error_places, places_of};
 ghost use Rattle.text_parses.specs.Parses.{placed};
 ghost use Rattle.text_parses.specs.declared.parsing.Parsed.TheVariants.{Tree, Unlexed, Unparsed};
@@ -259,6 +259,30 @@ pub fn object_text(
     let line = object_line(alloc, kit, shown, lexer, parsed);
     drop(source);
     line
+}
+
+/// Returns what `parse_lexed` found of a text as plain values, with the places of the source.
+///
+/// # Errors
+///
+/// Where memory is refused.
+pub fn parse_value<'a>(
+    alloc: Global,
+    kit: &'a ParserKit<u32>,
+    lexer: &WordLexer<'_>,
+    parsed: &Parsed,
+    source: &'a Source<'a>,
+    input: Input<'a>,
+) -> Result<Parse<'a>, AllocError>
+    ensures { IfOk result (IsParseOf kit.entry.now.parser.grammar (shown_in source.entry.now 0 None (asked_of input.entry)) parsed.now) }
+{
+    let shown = Shown {
+        input,
+        source,
+        start: 0,
+        line: None,
+    };
+    parse_object(alloc, kit, shown, lexer, parsed)
 }
 
 /// Writes what is found of a text as one JSON object on a line.

@@ -3,34 +3,14 @@
 ghost use Rattle.std.specs.Prelude.{IfOk, IfSome};
 ghost use Rattle.lrkit_lsp.specs.Statuses.{IsStatus};
 
+use crate::fault::ProgramFault;
 use byte_streams::{Recorded, Sink, Source, write_all};
 use language_server::{
-    ErrorCode, Frame, Frames, GrammarFiles, Id, Message, ServeFault, Server, Taken, published_text,
+    ErrorCode, Frame, Frames, Id, Language, Message, ServeFault, Server, Taken, published_text,
     read_message, response_text,
 };
-use std::alloc::{AllocError, Global};
+use std::alloc::Global;
 use std::io;
-
-/// Why the program ends before the client ends it.
-#[derive(Clone, Copy, Debug)]
-pub enum ProgramFault {
-    /// A read or a write failed.
-    Stream,
-    /// Memory was refused.
-    Serve(ServeFault),
-}
-
-impl From<ServeFault> for ProgramFault {
-    fn from(e: ServeFault) -> ProgramFault {
-        ProgramFault::Serve(e)
-    }
-}
-
-impl From<AllocError> for ProgramFault {
-    fn from(e: AllocError) -> ProgramFault {
-        ProgramFault::Serve(ServeFault::Memory(e))
-    }
-}
 
 /// Returns the message of a frame.
 fn message_in(alloc: Global, frame: Frame) -> Result<Message, ServeFault> {
@@ -64,8 +44,9 @@ fn send_taken<W: Sink>(alloc: Global, out: &mut W, taken: &Taken) -> Result<(), 
 
 /// Does what a frame asks for, and returns the status if the server ends.
 #[tactic(auto, using(crate::proofs::Ended::of_status))]
-fn take_frame<W: Sink>(
+fn take_frame<W: Sink, L: Language>(
     alloc: Global,
+    language: &L,
     out: &mut W,
     server: &mut Server,
     frame: Frame,
@@ -73,7 +54,7 @@ fn take_frame<W: Sink>(
     ensures { IfOk result (λ o. IfSome o IsStatus) }
 {
     let message = message_in(alloc, frame)?;
-    let taken = server.take(alloc, &GrammarFiles, message)?;
+    let taken = server.take(alloc, language, message)?;
     let sent = send_taken(alloc, out, &taken);
     let status = taken.status;
     drop(taken);
@@ -84,8 +65,9 @@ fn take_frame<W: Sink>(
 }
 
 /// Takes bytes, and returns the status if the server ends.
-fn take_bytes<W: Sink>(
+fn take_bytes<W: Sink, L: Language>(
     alloc: Global,
+    language: &L,
     out: &mut W,
     server: &mut Server,
     frames: &mut Frames,
@@ -95,7 +77,7 @@ fn take_bytes<W: Sink>(
 {
     'bytes: for byte in bytes {
         if let Some(frame) = frames.take(*byte)? {
-            let status = take_frame(alloc, out, server, frame)?;
+            let status = take_frame(alloc, language, out, server, frame)?;
             if status.is_some() {
                 return Ok(status);
             }
@@ -105,8 +87,9 @@ fn take_bytes<W: Sink>(
 }
 
 /// Serves until `exit` or the input's end.
-fn serve_with<S: Source, W: Sink>(
+fn serve_with<S: Source, W: Sink, L: Language>(
     alloc: Global,
+    language: &L,
     source: &mut S,
     out: &mut W,
     server: &mut Server,
@@ -121,7 +104,7 @@ fn serve_with<S: Source, W: Sink>(
             Ok(count) => count,
             Err(_) => return Err(ProgramFault::Stream),
         };
-        let status = take_bytes(alloc, out, server, frames, &chunk[..count])?;
+        let status = take_bytes(alloc, language, out, server, frames, &chunk[..count])?;
         if let Some(status) = status {
             return Ok(status);
         }
@@ -130,7 +113,10 @@ fn serve_with<S: Source, W: Sink>(
 }
 
 /// Serves a client on standard input and output, and returns the status: that of the phase that the session ends in.
-pub fn serve<R: io::Input + Print + AllocGlobal>(rt: &R) -> Result<u8, ProgramFault>
+pub fn serve<R: io::Input + Print + AllocGlobal, L: Language>(
+    rt: &R,
+    language: &L,
+) -> Result<u8, ProgramFault>
     ensures { IfOk result IsStatus }
 {
     let alloc = rt.alloc();
@@ -138,7 +124,14 @@ pub fn serve<R: io::Input + Print + AllocGlobal>(rt: &R) -> Result<u8, ProgramFa
     let mut out = Recorded::new(io::writer(rt));
     let mut server = Server::new(alloc);
     let mut frames = Frames::new(alloc);
-    let ended = serve_with(alloc, &mut source, &mut out, &mut server, &mut frames);
+    let ended = serve_with(
+        alloc,
+        language,
+        &mut source,
+        &mut out,
+        &mut server,
+        &mut frames,
+    );
     drop(frames);
     drop(server);
     ended

@@ -1,1 +1,2 @@
 pub mod Errors
+mod Once

@@ -2,4 +2,5 @@ pub mod Frames
 pub mod Lines
 pub mod Protocol
 pub mod Reading
+pub mod Sessions
 pub mod Texts

@@ -15,7 +15,7 @@
 //!
 //! For `{"jsonrpc":"2.0","id":1,"method":"shutdown"}` it is `true`: the answer is an error, since `initialize` hasn't come. By the
 //! contract of `Server::take` each request is answered once, with its id, and nothing else is answered but by its error
-//! (`specs/Protocol`).
+//! (`specs/Protocol`); so are lists of messages (`laws`).
 #![tactic(auto)]
 
 mod answers;
@@ -28,6 +28,7 @@ mod fault;
 mod frames;
 mod hovering;
 mod languages;
+pub mod laws;
 mod messages;
 mod naming;
 mod nested;

@@ -1,9 +1,10 @@
 //! From the text of a message to what it says.
 
-ghost use Rattle.std.specs.Prelude.{◌≡◌, Some, IfOk, IsSome, IsSomeAnd, None, codes, option_and_then};
+ghost use Rattle.std.specs.Prelude.{◌≡◌, ◌≢◌, Some, IfOk, IfSome, IsSomeAnd, None, codes, option_and_then};
 ghost use Rattle.serde_json.specs.Find.{as_i64, as_number, get};
 ghost use Rattle.serde_json.specs.View.{view};
-ghost use Rattle.language_server.specs.Reading.{IsId, Says, method_in};
+ghost use Rattle.language_server.specs.Reading.{IsId, IsMethod, IsNotice, IsRead, Says, method_in, query_text};
+ghost use Rattle.language_server.specs.declared.messages.Query.{Query};
 
 use crate::fault::ServeFault;
 use crate::messages::{Change, ErrorCode, Id, Message, Method, Notice, Params, Query};
@@ -113,7 +114,10 @@ fn params_of(alloc: Global, value: &Value) -> Result<Params, AllocError> {
 }
 
 /// Returns the query of a name, if there is one.
-fn query_of(name: &str) -> Option<Query> {
+fn query_of(name: &str) -> Option<Query>
+    ensures some { IfSome result (λ query. name.now ≡ query_text query) }
+    ensures none { result ≡ None → (query : Query) → name.now ≢ query_text query }
+{
     match name {
         "textDocument/documentSymbol" => Some(Query::Symbols),
         "textDocument/foldingRange" => Some(Query::Folds),
@@ -129,7 +133,9 @@ fn query_of(name: &str) -> Option<Query> {
 }
 
 /// Returns the method of a name.
-fn method_of(name: &str) -> Method {
+fn method_of(name: &str) -> Method
+    ensures { IsMethod result name.now }
+{
     match name {
         "initialize" => Method::Initialize,
         "shutdown" => Method::Shutdown,
@@ -141,7 +147,9 @@ fn method_of(name: &str) -> Method {
 }
 
 /// Returns the notice of a name.
-fn notice_of(name: &str) -> Notice {
+fn notice_of(name: &str) -> Notice
+    ensures { IsNotice result name.now }
+{
     match name {
         "exit" => Notice::Exit,
         "textDocument/didOpen" => Notice::Opened,
@@ -153,7 +161,7 @@ fn notice_of(name: &str) -> Notice {
 
 /// Returns the name of a value's method, if there is one.
 fn method_name(value: &Value) -> Option<&str>
-    ensures some { IsSome result → IsSome (method_in (view value.now)) }
+    ensures some { IfSome result (λ name. method_in (view value.now) ≡ Some name.now) }
     ensures none { result ≡ None → method_in (view value.now) ≡ None }
 {
     match value.get("method") {
@@ -215,7 +223,7 @@ fn with_id(alloc: Global, value: &Value, id: &Value) -> Result<Message, AllocErr
 
 /// Returns a request.
 fn with_method(alloc: Global, value: &Value, id: Id, method: Method) -> Result<Message, AllocError>
-    requires named { IsSome (method_in (view value.now)) }
+    requires named { IsSomeAnd (method_in (view value.now)) (IsMethod method) }
     requires same { IsSomeAnd (get (codes "id") (view value.now)) (λ i. IsId i id) }
     ensures { IfOk result (Says (view value.now)) }
 {
@@ -256,7 +264,9 @@ pub fn message_of(alloc: Global, value: &Value) -> Result<Message, AllocError>
 }
 
 /// Returns what the bytes of a message say.
-pub fn read_message(alloc: Global, bytes: &[u8]) -> Result<Message, ServeFault> {
+pub fn read_message(alloc: Global, bytes: &[u8]) -> Result<Message, ServeFault>
+    ensures { IfOk result (IsRead bytes.now) }
+{
     let value = match Value::from_slice(alloc, bytes) {
         Ok(value) => value,
         Err(e) if e.is_memory() => return Err(ServeFault::Unwritten),

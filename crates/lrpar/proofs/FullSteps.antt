@@ -99,30 +99,25 @@ module _ {S : Type 0} (number : S → ℕ) (v : TableValue) (s : ℕ) where
   cell_read (Some a) = refl
 
   pub are_cells : (row : List (ℕ × TableAction S)) (full : List (TableAction S)) → get_or v.actions s [] ≡ full_cells v.tokens (cells_of number row) → IsCellRow v.tokens (cells_of number row) → IsFull v.tokens row actions.Error full → AreCells number v s full
-  are_cells row full whole is h = λ t lt. (
-    or_else actions.Error (at_of row t),
-    h t lt,
-    sym (cell_of_row v s (cells_of number row) whole is t lt ∙ (ap or_error (at_over (action_of number) row t) ∙ cell_read (at_of row t))),
-  )
+  are_cells row full whole is h = λ t a lt at.
+      ap (action_of number) (same_Some a (or_else actions.Error (at_of row t)) (sym at ∙ h t lt))
+      ∙ sym (cell_of_row v s (cells_of number row) whole is t lt ∙ (ap or_error (at_over (action_of number) row t) ∙ cell_read (at_of row t)))
 
-  target_read : (full : List (StIdx S)) (empty : StIdx S) (A q : ℕ) (o : Option (StIdx S)) → option_map (λ (x : StIdx S). number x.0) o ≡ Some q → slice_get full A ≡ Some (or_else empty o) → (x : StIdx S) × (slice_get full A ≡ Some x) × (number x.0 ≡ q)
-  target_read full empty A q None e at = cc
-  target_read full empty A q (Some x) e at = (x, at, same_Some (number x.0) q e)
+  target_read : (empty : StIdx S) (q : ℕ) (y : StIdx S) (o : Option (StIdx S)) → option_map (λ (x : StIdx S). number x.0) o ≡ Some q → Some y ≡ Some (or_else empty o) → number y.0 ≡ q
+  target_read empty q y None e same = cc
+  target_read empty q y (Some x) e same = ap (λ (z : StIdx S). number z.0) (same_Some y x same) ∙ same_Some (number x.0) q e
 
-  goto_below : (row : List (ℕ × ℕ)) → get_or v.gotos s [] ≡ full_targets v.rules row → IsTargetRow v.rules row → (A q : ℕ) → goto_at v s A ≡ Some q → A < v.rules
+  pub goto_below : (row : List (ℕ × ℕ)) → get_or v.gotos s [] ≡ full_targets v.rules row → IsTargetRow v.rules row → (A q : ℕ) → goto_at v s A ≡ Some q → A < v.rules
   goto_below row whole is A q e = elim (cases_lt A v.rules) [
     | inl lt ↦ lt
     | inr le ↦ (let none = past_gotos v s row whole is A le in cc (sym e ∙ none))
   ]
 
-  pub are_targets : (row : List (ℕ × StIdx S)) (empty : StIdx S) (n : ℕ) (full : List (StIdx S)) → get_or v.gotos s [] ≡ full_targets v.rules (targets_of number row) → IsTargetRow v.rules (targets_of number row) → (row ≡ []) ⊎ (n ≡ v.rules) → IsFull n row empty full → AreTargets number v s full
-  are_targets row empty n full whole is room h = λ A q e.
+  pub are_targets : (row : List (ℕ × StIdx S)) (empty : StIdx S) (full : List (StIdx S)) → get_or v.gotos s [] ≡ full_targets v.rules (targets_of number row) → IsTargetRow v.rules (targets_of number row) → IsFull v.rules row empty full → AreTargets number v s full
+  are_targets row empty full whole is h = λ A q x e at.
       let lt = goto_below (targets_of number row) whole is A q e in
-      let there : option_map (λ (x : StIdx S). number x.0) (at_of row A) ≡ Some q = sym (goto_of_row v s (targets_of number row) whole is A lt ∙ at_over (λ (x : StIdx S). number x.0) row A) ∙ e in
-      elim room [
-        | inl none ↦ (let f : option_map (λ (x : StIdx S). number x.0) (at_of [] A) ≡ Some q = ap (λ (l : List (ℕ × StIdx S)). option_map (λ (x : StIdx S). number x.0) (at_of l A)) (sym none) ∙ there in cc f)
-        | inr all ↦ target_read full empty A q (at_of row A) there (h A (omega (arith, lt, all)))
-      ]
+      let there : option_map (λ (y : StIdx S). number y.0) (at_of row A) ≡ Some q = sym (goto_of_row v s (targets_of number row) whole is A lt ∙ at_over (λ (y : StIdx S). number y.0) row A) ∙ e in
+      target_read empty q x (at_of row A) there (sym at ∙ h A lt)
 
 -- ---- rows
 
@@ -164,21 +159,6 @@ module _ {X : Type 0} (P : ℕ → List X → Type 0) where
   pub row_told : (n : ℕ) (rows : List (Vec X Global)) (s : ℕ) (row : Vec X Global) → AreRows n P rows → s < n → slice_get rows s ≡ Some row → P s row.items
   row_told n rows s row h lt at = let r = h s lt in subst (λ (x : Vec X Global). P s x.items) (same_Some r.0 row (sym r.1 ∙ at)) r.2
 
--- ---- what stands at a place
-
-module _ {S : Type 0} (number : S → ℕ) (v : TableValue) (s : ℕ) where
-  pub cell_within : (row : List (TableAction S)) (t : ℕ) → AreCells number v s row → t < v.tokens → t < length row
-  cell_within row t h lt = let a = h t lt in slice_get_within row t a.0 a.1
-
-  pub cell_told : (row : List (TableAction S)) (t : ℕ) (a : TableAction S) → AreCells number v s row → t < v.tokens → slice_get row t ≡ Some a → action_of number a ≡ action_at v s t
-  cell_told row t a h lt at = let b = h t lt in ap (action_of number) (same_Some a b.0 (sym at ∙ b.1)) ∙ b.2
-
-  pub target_within : (row : List (StIdx S)) (A q : ℕ) → AreTargets number v s row → goto_at v s A ≡ Some q → A < length row
-  target_within row A q h e = let x = h A q e in slice_get_within row A x.0 x.1
-
-  pub target_told : (row : List (StIdx S)) (A q : ℕ) (x : StIdx S) → AreTargets number v s row → goto_at v s A ≡ Some q → slice_get row A ≡ Some x → goto_at v s A ≡ Some (number x.0)
-  target_told row A q x h e at = let y = h A q e in e ∙ ap (λ (k : ℕ). Some k) (sym y.2 ∙ ap (λ (z : StIdx S). number z.0) (same_Some y.0 x (sym y.1 ∙ at)))
-
 -- ---- rows of which full ones can be made
 
 pub below_under : {V W : Type 0} (h : V → W) (row : List (ℕ × V)) (n : ℕ) → Below n (map (λ (e : ℕ × V). (e.0, h e.1)) row) → Below n row
@@ -188,9 +168,3 @@ below_under {V} {W} h row n low i d w =
     let b = low i (f d) (omega (arith, k, w)) in
     let e = ap (λ (y : ℕ × W). y.0) (get_or-map f row i d (f d) w) in
     omega (arith, b, e)
-
-pub below_places : {V : Type 0} (row : List (ℕ × V)) (n m : ℕ) → Below n row → (row ≡ []) ⊎ (m ≡ n) → Below m row
-below_places {V} row n m low room = elim room [
-  | inl none ↦ subst (Below m) (sym none) (λ i d w. absurd (omega (arith, w)))
-  | inr same ↦ subst (λ k. Below k row) (sym same) low
-]

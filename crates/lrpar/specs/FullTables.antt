@@ -16,13 +16,13 @@ or_else empty (Some v) = v
 abbrev pub IsFull : {V : Type 0} → ℕ → List (ℕ × V) → V → List V → Type 0
 IsFull n row empty full = (k : ℕ) → k < n → slice_get full k ≡ Some (or_else empty (at_of row k))
 
--- the cells of the state s, where `number` reads an index
+-- the cells of the state s that the row is long enough for, each at its token, where `number` reads an index
 abbrev pub AreCells : {S : Type 0} → (S → ℕ) → TableValue → ℕ → List (Action S) → Type 0
-AreCells {S} number v s row = (t : ℕ) → t < v.tokens → (a : Action S) × (slice_get row t ≡ Some a) × (action_of number a ≡ action_at v s t)
+AreCells {S} number v s row = (t : ℕ) (a : Action S) → t < v.tokens → slice_get row t ≡ Some a → action_of number a ≡ action_at v s t
 
--- the gotos that it has, each at the place of its rule
+-- the gotos of the state s that the row is long enough for, each at its rule
 abbrev pub AreTargets : {S : Type 0} → (S → ℕ) → TableValue → ℕ → List (StIdx S) → Type 0
-AreTargets {S} number v s row = (A q : ℕ) → goto_at v s A ≡ Some q → (x : StIdx S) × (slice_get row A ≡ Some x) × (number x.0 ≡ q)
+AreTargets {S} number v s row = (A q : ℕ) (x : StIdx S) → goto_at v s A ≡ Some q → slice_get row A ≡ Some x → number x.0 ≡ q
 
 -- each of n numbers has a row of which P holds
 abbrev pub AreRows : {X : Type 0} → ℕ → (ℕ → List X → Type 0) → List (Vec X Global) → Type 0

@@ -1,6 +1,6 @@
 //! A table beside full rows, in which its cells and its gotos are read at once.
 
-ghost use Rattle.std.specs.Prelude.{◌≡◌, ◌<◌, ◌⊎◌, ℕ, [], Some, length, replicate, slice_get, slice_set, IfOk};
+ghost use Rattle.std.specs.Prelude.{◌≡◌, ◌<◌, ℕ, Some, length, replicate, slice_get, slice_set, IfOk};
 ghost use Rattle.state_table.specs.CellViews.{action_of, state_of};
 ghost use Rattle.state_table.specs.Rows.{Rises, Below};
 ghost use Rattle.state_table.specs.TableValues.{action_at, goto_at};
@@ -12,7 +12,8 @@ use state_table::{Action, StIdx, StateTable};
 use std::alloc::{AllocError, Global};
 use std::marker::Model;
 
-/// A table, and of each state a full row of its cells and, where it has gotos, one of these. Contracts see the table.
+/// A table with full rows, one of cells and one of gotos for each state. Where a state has few of them the row is empty, and they are
+/// searched for in the table. Contracts see the table.
 #[derive(Drop)]
 pub(crate) struct FullTable<S: IndexStorage> {
     stable: StateTable<S>,
@@ -29,6 +30,24 @@ impl<S: IndexStorage> Model for FullTable<S> {
     ghost view = { λ f. f.stable };
 
     ghost invariant = { λ f. AreRows f.stable.states (AreCells S.number f.stable) f.cells.items × AreRows f.stable.states (AreTargets S.number f.stable) f.targets.items };
+}
+
+// A state has a full row of cells if it has at least one cell for this many tokens.
+const TOKENS_PER_CELL: usize = 8;
+
+// It has a full row of gotos, which takes half the room, if it has at least one for this many rules.
+const RULES_PER_GOTO: usize = 16;
+
+// A row of at most this many places is made wherever there is an entry.
+const SHORT_ROW: usize = 128;
+
+/// Returns whether a row has too few entries for a full row of `count` places: less than one for each `places` of them, or none if
+/// it is short.
+fn are_few(entries: usize, count: usize, places: usize) -> bool {
+    if count <= SHORT_ROW {
+        return entries == 0;
+    }
+    entries.saturating_mul(places) < count
 }
 
 /// Sets the entry at an index.
@@ -76,16 +95,15 @@ fn row_at<E>(rows: &[Vec<E>], s: usize) -> &Vec<E>
     &rows[s]
 }
 
-/// Returns the entry of a row at a number.
+/// Returns the entry of a row at a number, if the row is that long.
 #[inline(always)]
-fn place_at<V: Copy>(row: &[V], number: usize) -> V
-    requires { number < length row.now }
-    ensures { slice_get row.now number ≡ Some result }
+fn place_at<V: Copy>(row: &[V], number: usize) -> Option<V>
+    ensures { result ≡ slice_get row.now number }
 {
-    row[number]
+    row.get(number).copied()
 }
 
-/// Returns a state's full row of cells.
+/// Returns a state's full row of cells, or an empty row if it has few.
 fn cell_row<S: IndexStorage>(
     alloc: Global,
     stable: &StateTable<S>,
@@ -95,21 +113,15 @@ fn cell_row<S: IndexStorage>(
     ensures { IfOk result (λ v. AreCells S.number stable.now (S.number stidx.0) v.items) }
 {
     let count = stable.tokens_len().0.to_usize();
-    let row = full_row(alloc, stable.state_cells(stidx), Action::Error, count)?;
+    let cells = stable.state_cells(stidx);
+    if are_few(cells.len(), count, TOKENS_PER_CELL) {
+        return Ok(Vec::new(alloc));
+    }
+    let row = full_row(alloc, cells, Action::Error, count)?;
     Ok(row)
 }
 
-/// Returns the number of entries of a full row: none where the row is empty.
-fn places_for<E>(row: &[E], count: usize) -> usize
-    ensures { (row.now ≡ []) ⊎ (result ≡ count) }
-{
-    if row.is_empty() {
-        return 0;
-    }
-    count
-}
-
-/// Returns a state's row of gotos, empty where it has none.
+/// Returns a state's full row of gotos, or an empty row if it has few.
 fn target_row<S: IndexStorage>(
     alloc: Global,
     stable: &StateTable<S>,
@@ -119,7 +131,10 @@ fn target_row<S: IndexStorage>(
     ensures { IfOk result (λ v. AreTargets S.number stable.now (S.number stidx.0) v.items) }
 {
     let gotos = stable.state_gotos(stidx);
-    let count = places_for(gotos, stable.rules_len().0.to_usize());
+    let count = stable.rules_len().0.to_usize();
+    if are_few(gotos.len(), count, RULES_PER_GOTO) {
+        return Ok(Vec::new(alloc));
+    }
     let row = full_row(alloc, gotos, stidx, count)?;
     Ok(row)
 }
@@ -207,7 +222,10 @@ impl<S: IndexStorage> FullTable<S> {
         ensures { action_of S.number result ≡ action_at self.now (S.number stidx.0) (S.number tidx.0) }
     {
         let row = row_at(self.cells.as_slice(), stidx.0.to_usize());
-        place_at(row.as_slice(), tidx.0.to_usize())
+        match place_at(row.as_slice(), tidx.0.to_usize()) {
+            Some(action) => action,
+            None => self.stable.action(stidx, tidx),
+        }
     }
 
     /// Returns the state after the rule, where there is one.
@@ -218,7 +236,24 @@ impl<S: IndexStorage> FullTable<S> {
         ensures { goto_at self.now (S.number stidx.0) (S.number ridx.0) ≡ Some (S.number result.0) }
     {
         let row = row_at(self.targets.as_slice(), stidx.0.to_usize());
-        place_at(row.as_slice(), ridx.0.to_usize())
+        match place_at(row.as_slice(), ridx.0.to_usize()) {
+            Some(target) => target,
+            None => self.search_target(stidx, ridx),
+        }
+    }
+
+    /// Returns the state after the rule, where there is one, by search.
+    fn search_target(&self, stidx: StIdx<S>, ridx: RIdx<S>) -> StIdx<S>
+        requires there { (q : ℕ) × (goto_at self.now (S.number stidx.0) (S.number ridx.0) ≡ Some q) }
+        requires state { S.number stidx.0 < self.now.states }
+        ensures { goto_at self.now (S.number stidx.0) (S.number ridx.0) ≡ Some (S.number result.0) }
+    {
+        // Read, so that the proof may use that the rule is in range.
+        let _gotos = self.stable.state_gotos(stidx);
+        match self.stable.goto(stidx, ridx) {
+            Some(target) => target,
+            None => unreachable!(),
+        }
     }
 
     /// Returns the state after the rule.

@@ -2,7 +2,7 @@ use Rattle.std.proofs.Common.{◌≡◌, ◌<◌, length, Some, sym, ap, ◌∙�
 use Rattle.std.specs.Prelude.{slice_get}
 use Rattle.state_table.specs.TableValues.{TableValue, action_at}
 use Rattle.lrpar.specs.FullTables.{AreCells}
-use Rattle.lrpar.proofs.FullSteps.{row_within, row_told, cell_within, cell_told}
+use Rattle.lrpar.proofs.FullSteps.{row_within, row_told}
 use Rattle.lrpar.proofs.full_table.FullTable.action.Goals.{After-row_at-row}
 use Rattle.lrpar.proofs.full_table.FullTable.action.Goals as goal
 
@@ -29,26 +29,14 @@ cells g c =
     let at : slice_get i.cells.items (number c.args.stidx.0) ≡ Some c.row_at-row.result.now = ap (slice_get i.cells.items) (sym c.to_usize.ensures.value) ∙ (ap (λ l. slice_get l c.to_usize.result) (sym c.as_slice.ensures.value) ∙ c.row_at-row.ensures) in
     row_told (AreCells number i.stable) i.stable.states i.cells.items (number c.args.stidx.0) c.row_at-row.result.now c.self.invariant.0 lt at
 
-pub place_at-requires : goal.place_at-requires
-place_at-requires g c =
-    let number = g.S.IndexStorage.number in
-    let i = c.self.inside in
-    let seen = ap (λ (v : TableValue). v.tokens) c.self.view_is in
-    let t = c.requires.token in
-    let lt : number c.args.tidx.0 < i.stable.tokens = omega (arith, seen, t) in
-    let w = cell_within number i.stable (number c.args.stidx.0) c.row_at-row.result.now.items (number c.args.tidx.0) (cells g (goal.at.place_at-requires g c).After-row_at-row) lt in
-    let n = ap (λ l. length l) c.as_slice-2.ensures.value in
-    let e = c.to_usize-2.ensures.value in
-    omega (arith, w, n, e)
-
-pub returns : goal.returns
-returns g c =
+pub returns-in-Some : goal.returns-in-Some
+returns-in-Some g c =
     let number = g.S.IndexStorage.number in
     let i = c.self.inside in
     let seen = ap (λ (v : TableValue). v.tokens) c.self.view_is in
     let t = c.requires.token in
     let lt : number c.args.tidx.0 < i.stable.tokens = omega (arith, seen, t) in
     let row = c.row_at-row.result.now.items in
-    let at : slice_get row (number c.args.tidx.0) ≡ Some c.place_at.result = ap (slice_get row) (sym c.to_usize-2.ensures.value) ∙ (ap (λ l. slice_get l c.to_usize-2.result) (sym c.as_slice-2.ensures.value) ∙ c.place_at.ensures) in
-    cell_told number i.stable (number c.args.stidx.0) row (number c.args.tidx.0) c.place_at.result (cells g (goal.at.returns g c).After-row_at-row) lt at
+    let at : slice_get row (number c.args.tidx.0) ≡ Some c.in-Some.action = ap (slice_get row) (sym c.to_usize-2.ensures.value) ∙ (ap (λ l. slice_get l c.to_usize-2.result) (sym c.as_slice-2.ensures.value) ∙ (sym c.place_at.ensures ∙ c.in-Some.is)) in
+    cells g (goal.at.returns-in-Some g c).After-row_at-row (number c.args.tidx.0) c.in-Some.action lt at
     ∙ ap (λ (v : TableValue). action_at v (number c.args.stidx.0) (number c.args.tidx.0)) c.self.view_is

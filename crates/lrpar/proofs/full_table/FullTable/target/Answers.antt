@@ -2,7 +2,7 @@ use Rattle.std.proofs.Common.{◌≡◌, ◌<◌, length, Some, sym, ap, ◌∙�
 use Rattle.std.specs.Prelude.{slice_get}
 use Rattle.state_table.specs.TableValues.{TableValue, goto_at}
 use Rattle.lrpar.specs.FullTables.{AreTargets}
-use Rattle.lrpar.proofs.FullSteps.{row_within, row_told, target_within, target_told}
+use Rattle.lrpar.proofs.FullSteps.{row_within, row_told}
 use Rattle.lrpar.proofs.full_table.FullTable.target.Goals.{After-row_at-row}
 use Rattle.lrpar.proofs.full_table.FullTable.target.Goals as goal
 
@@ -29,22 +29,12 @@ targets g c =
     let at : slice_get i.targets.items (number c.args.stidx.0) ≡ Some c.row_at-row.result.now = ap (slice_get i.targets.items) (sym c.to_usize.ensures.value) ∙ (ap (λ l. slice_get l c.to_usize.result) (sym c.as_slice.ensures.value) ∙ c.row_at-row.ensures) in
     row_told (AreTargets number i.stable) i.stable.states i.targets.items (number c.args.stidx.0) c.row_at-row.result.now c.self.invariant.1 lt at
 
-pub place_at-requires : goal.place_at-requires
-place_at-requires g c =
-    let number = g.S.IndexStorage.number in
-    let i = c.self.inside in
-    let there = ap (λ (v : TableValue). goto_at v (number c.args.stidx.0) (number c.args.ridx.0)) c.self.view_is ∙ c.requires.there.1 in
-    let w = target_within number i.stable (number c.args.stidx.0) c.row_at-row.result.now.items (number c.args.ridx.0) c.requires.there.0 (targets g (goal.at.place_at-requires g c).After-row_at-row) there in
-    let n = ap (λ l. length l) c.as_slice-2.ensures.value in
-    let e = c.to_usize-2.ensures.value in
-    omega (arith, w, n, e)
-
-pub returns : goal.returns
-returns g c =
+pub returns-in-Some : goal.returns-in-Some
+returns-in-Some g c =
     let number = g.S.IndexStorage.number in
     let i = c.self.inside in
     let there = ap (λ (v : TableValue). goto_at v (number c.args.stidx.0) (number c.args.ridx.0)) c.self.view_is ∙ c.requires.there.1 in
     let row = c.row_at-row.result.now.items in
-    let at : slice_get row (number c.args.ridx.0) ≡ Some c.place_at.result = ap (slice_get row) (sym c.to_usize-2.ensures.value) ∙ (ap (λ l. slice_get l c.to_usize-2.result) (sym c.as_slice-2.ensures.value) ∙ c.place_at.ensures) in
-    sym (ap (λ (v : TableValue). goto_at v (number c.args.stidx.0) (number c.args.ridx.0)) c.self.view_is)
-    ∙ target_told number i.stable (number c.args.stidx.0) row (number c.args.ridx.0) c.requires.there.0 c.place_at.result (targets g (goal.at.returns g c).After-row_at-row) there at
+    let at : slice_get row (number c.args.ridx.0) ≡ Some c.in-Some.target = ap (slice_get row) (sym c.to_usize-2.ensures.value) ∙ (ap (λ l. slice_get l c.to_usize-2.result) (sym c.as_slice-2.ensures.value) ∙ (sym c.place_at.ensures ∙ c.in-Some.is)) in
+    c.requires.there.1
+    ∙ ap (λ k. Some k) (sym (targets g (goal.at.returns-in-Some g c).After-row_at-row (number c.args.ridx.0) c.requires.there.0 c.in-Some.target there at))

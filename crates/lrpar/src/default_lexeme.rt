@@ -24,20 +24,33 @@ use cfg_base::span::Span;
 use parse_trees::lex_api::{LexError, Lexeme, LexerTypes};
 use std::error::Error;
 use std::fmt;
-use std::fmt::{Display, Formatter, Write};
+use std::fmt::{Debug, Display, Formatter, Write};
 use std::hash::Hash;
 use std::marker::PhantomData;
 
 /// A token at a span of the text. It is shown as `DefaultLexeme[S..E]`, by the offsets of its first byte and of the one behind its
 /// last.
-#[derive(Clone, Copy, Debug, PartialEq, Eq, Hash)]
+#[derive(Clone, Copy, PartialEq, Eq, Hash)]
 pub struct DefaultLexeme<S> {
     /// The token's number.
     pub tok_id: S,
-    /// The lexeme's bytes in the text.
-    pub span: Span,
     /// Whether a repair inserted it.
     pub faulty: bool,
+    /// The lexeme's bytes in the text.
+    pub span: Span,
+}
+
+// Prints the fields as a derived one would, with `faulty` last. The fields' own order saves room.
+impl<S: IndexStorage> Debug for DefaultLexeme<S> {
+    fn fmt<W: Write>(&self, f: &mut Formatter<W>) -> fmt::Result {
+        let tok_id = self.tok_id;
+        let span = self.span;
+        let faulty = self.faulty;
+        write!(
+            f,
+            "DefaultLexeme {{ tok_id: {tok_id:?}, span: {span:?}, faulty: {faulty:?} }}"
+        )
+    }
 }
 
 impl<S: IndexStorage> Display for DefaultLexeme<S> {

@@ -5,20 +5,33 @@ use cfg_base::span::Span;
 use lrpar::{LexError, Lexeme, LexerTypes};
 use std::error::Error;
 use std::fmt;
-use std::fmt::{Display, Formatter, Write};
+use std::fmt::{Debug, Display, Formatter, Write};
 use std::hash::Hash;
 use std::marker::PhantomData;
 
 /// A word of a line that is a token's name, or a lexeme that a repair made up. It is shown as `WordLexeme[S..E]`, by the offsets
 /// of its first byte and of the one behind its last.
-#[derive(Clone, Copy, Debug, PartialEq, Eq, Hash)]
+#[derive(Clone, Copy, PartialEq, Eq, Hash)]
 pub struct WordLexeme<S> {
     /// The token's number.
     pub token: S,
-    /// The word's bytes in the line.
-    pub span: Span,
     /// Whether it was made up.
     pub faulty: bool,
+    /// The word's bytes in the line.
+    pub span: Span,
+}
+
+// Prints the fields as a derived one would, with `faulty` last. The fields' own order saves room.
+impl<S: IndexStorage> Debug for WordLexeme<S> {
+    fn fmt<W: Write>(&self, f: &mut Formatter<W>) -> fmt::Result {
+        let token = self.token;
+        let span = self.span;
+        let faulty = self.faulty;
+        write!(
+            f,
+            "WordLexeme {{ token: {token:?}, span: {span:?}, faulty: {faulty:?} }}"
+        )
+    }
 }
 
 impl<S: IndexStorage> Display for WordLexeme<S> {

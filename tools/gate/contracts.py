@@ -101,7 +101,7 @@ def functions_in(crate):
             owner = []
             if kind == "impl" and " for " in sources.without_parameters(head):
                 of_trait, of_type = sources.without_parameters(head).split(" for ", 1)
-                argument = re.search(r"<([^'].*)>", of_trait)
+                argument = re.search(r"<(?:'\w+, *)*([^'].*)>", of_trait)
                 own = re.findall(r"\w+", head[: len(head) - len(sources.without_parameters(head))])
                 is_named = argument and argument[1].strip() not in own
                 owner = [sources.word_of(of_type) + sources.word_of(of_trait) + (sources.word_of(argument[1]) if is_named else "")]

@@ -54,3 +54,21 @@ cut_is_last bs f g b h cut nearest = go (cases_lt g f)
     go : ((g < f) ⊎ (f ≤ g)) → f ≤ g
     go (inl less) = absurd (nearest f less h cut)
     go (inr more) = more
+
+-- each character that ends takes up a byte
+pub ended_within : (cs : List ℕ) (n : ℕ) → ended_among cs n ≤ n
+ended_within [] n = omega arith
+ended_within (c ∷ cs) n = go (ended_within cs (n - len_utf8 c)) (cases_lt n (len_utf8 c))
+  where
+    go : ended_among cs (n - len_utf8 c) ≤ n - len_utf8 c → ((n < len_utf8 c) ⊎ (len_utf8 c ≤ n)) → ended_among (c ∷ cs) n ≤ n
+    go h (inl less) = rw (lt-leb (len_utf8 c) n less) (omega arith)
+    go h (inr more) = rw (le-leb (len_utf8 c) n more) (omega (arith, h, more, (len_utf8_bounds c).0))
+
+-- those that end within fewer bytes end within more
+pub ended_more : (cs : List ℕ) (a b : ℕ) → a ≤ b → ended_among cs a ≤ ended_among cs b
+ended_more [] a b le = omega arith
+ended_more (c ∷ cs) a b le = go (ended_more cs (a - len_utf8 c) (b - len_utf8 c) (omega (arith, le))) (cases_lt a (len_utf8 c))
+  where
+    go : ended_among cs (a - len_utf8 c) ≤ ended_among cs (b - len_utf8 c) → ((a < len_utf8 c) ⊎ (len_utf8 c ≤ a)) → ended_among (c ∷ cs) a ≤ ended_among (c ∷ cs) b
+    go h (inl less) = rw (lt-leb (len_utf8 c) a less) (omega arith)
+    go h (inr more) = rw (le-leb (len_utf8 c) a more, le-leb (len_utf8 c) b (omega (arith, more, le))) (omega (arith, h))

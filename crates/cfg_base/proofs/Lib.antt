@@ -1,4 +1,5 @@
 pub mod Columns
+pub mod LineCuts
 pub mod Lines
 pub mod NewlineOffsets
 pub mod Pieces

@@ -31,3 +31,4 @@ pub mod span;
 pub mod steps;
 pub mod symbol;
 pub mod text;
+pub mod text_lines;

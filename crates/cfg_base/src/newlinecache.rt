@@ -212,8 +212,8 @@ fn end_after(offsets: &[usize], count: usize, bytes: usize) -> usize
     }
 }
 
-// Counts the characters that end after byte `from` and at or before byte `to`.
-fn chars_between(src: &str, from: usize, to: usize) -> usize
+/// Counts the characters that end after byte `from` and at or before byte `to`.
+pub(crate) fn chars_between(src: &str, from: usize, to: usize) -> usize
     requires order { from ≤ to }
     requires inside { to ≤ length src.now }
     ensures value { result ≡ chars_ended src.now to - chars_ended src.now from }

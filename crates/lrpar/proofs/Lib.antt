@@ -43,4 +43,3 @@ pub mod Prefixes
 pub mod FullSteps
 pub mod NodesLeft
 pub mod FlatsLeft
-pub mod LineCuts

@@ -1,11 +1,9 @@
 //! Lexers over lists that were made beforehand, by a function of the caller's.
 
-ghost use Rattle.std.specs.Prelude.{◌≡◌, ◌≤◌, IfOk, length, slice_range};
-ghost use Rattle.cfg_base.specs.Newlines.{newlines_of, line_of, line_start, column_of};
-ghost use Rattle.cfg_base.specs.Text.{line_end};
+ghost use Rattle.std.specs.Prelude.{◌≡◌, IfOk};
 
-use cfg_base::newlinecache::NewlineCache;
 use cfg_base::span::Span;
+use cfg_base::text_lines::TextLines;
 use parse_trees::lex_api::{Lexer, LexerTypes, NonStreamingLexer};
 use std::alloc::{AllocError, Global};
 use std::marker::Model;
@@ -46,21 +44,16 @@ impl<T: LexerTypes> Lexer<T> for ListLexer<T> {
 /// and the list.
 #[derive(Drop)]
 pub struct TextLexer<'input, T: LexerTypes> {
-    text: &'input str,
+    text: TextLines<'input>,
     items: Vec<Result<T::LexemeT, T::LexErrorT>>,
-    newlines: NewlineCache,
 }
 
 impl<'input, T: LexerTypes> Model for TextLexer<'input, T> {
-    ghost use Rattle.std.specs.Prelude.{◌≡◌};
-    ghost use Rattle.cfg_base.specs.Newlines.{newlines_of};
     ghost use Rattle.lrpar.specs.Lexers.{LexedText};
 
     ghost Value = { LexedText T.LexemeT T.LexErrorT };
 
-    ghost view = { λ l. record { text = l.text.now; items = l.items.items } };
-
-    ghost invariant = { λ l. l.newlines ≡ newlines_of l.text.now };
+    ghost view = { λ l. record { text = l.text; items = l.items.items } };
 }
 
 impl<'input, T: LexerTypes> TextLexer<'input, T> {
@@ -74,12 +67,8 @@ impl<'input, T: LexerTypes> TextLexer<'input, T> {
         ensures text { IfOk result (λ l. l.text ≡ text.entry.now) }
         ensures items { IfOk result (λ l. l.items ≡ items.items) }
     {
-        let newlines = NewlineCache::from_str(alloc, text)?;
-        Ok(TextLexer {
-            text,
-            items,
-            newlines,
-        })
+        let text = TextLines::new(alloc, text)?;
+        Ok(TextLexer { text, items })
     }
 }
 
@@ -95,38 +84,17 @@ impl<'input, T: LexerTypes> NonStreamingLexer<'input, T> for TextLexer<'input, T
     ghost text = { λ l. l.text };
 
     fn span_str(&self, span: Span) -> &'input str {
-        &self.text[span.start()..span.end()]
+        &self.text.text()[span.start()..span.end()]
     }
 
     fn span_lines_str(&self, span: Span) -> &'input str {
-        lines_part(&self.newlines, self.text, span)
+        self.text.lines_of(span)
     }
 
     fn line_col(&self, span: Span) -> ((usize, usize), (usize, usize)) {
         (
-            place_of(&self.newlines, self.text, span.start()),
-            place_of(&self.newlines, self.text, span.end()),
+            self.text.line_col(span.start()),
+            self.text.line_col(span.end()),
         )
     }
-}
-
-/// Returns the line and the column of an offset.
-fn place_of(newlines: &NewlineCache, text: &str, offset: usize) -> (usize, usize)
-    requires cache { newlines.now ≡ newlines_of text.now }
-    requires within { offset ≤ length text.now }
-    ensures { result ≡ (line_of text.now offset, column_of text.now text.now offset) }
-{
-    newlines.byte_to_line_num_and_col_num(text, offset).unwrap()
-}
-
-/// Returns the lines that a span is on.
-fn lines_part<'a>(newlines: &NewlineCache, text: &'a str, span: Span) -> &'a str
-    requires cache { newlines.now ≡ newlines_of text.now }
-    requires within { span.end ≤ length text.now }
-    ensures { result.now ≡ slice_range text.now (line_start text.now span.start) (line_end text.now span.end) }
-{
-    // Read, so that the proof may use that it ends behind its start.
-    span.start();
-    let (start, end) = newlines.span_line_bytes(span);
-    &text[start..end]
 }

@@ -2,12 +2,12 @@
 
 ghost use Rattle.std.specs.Prelude.{◌≡◌, ◌≤◌, false, [], ◌∷◌, ◌++◌, length, IfOk, OnOk};
 ghost use Rattle.std.specs.String.{string_bytes};
-ghost use Rattle.cfg_base.specs.Newlines.{newlines_of, line_start};
+ghost use Rattle.cfg_base.specs.Newlines.{line_start};
 ghost use Rattle.text_messages.specs.Places.{offset_by, shown_at, place_of, place_text, severity_text, colored_severity_text, word_text, heading, heading_without_place, heading_if, BeginsWith};
 
 use crate::excerpt::{excerpt, part};
-use cfg_base::newlinecache::NewlineCache;
 use cfg_base::span::Span;
+use cfg_base::text_lines::TextLines;
 use std::alloc::{AllocError, Global};
 use std::marker::Model;
 
@@ -114,22 +114,18 @@ pub struct Original<'a> {
 #[derive(Drop)]
 pub struct Source<'a> {
     text: &'a str,
-    original: Original<'a>,
+    shown: TextLines<'a>,
+    places: &'a [usize],
     path: &'a str,
-    newlines: NewlineCache,
     color: bool,
 }
 
 impl<'a> Model for Source<'a> {
-    ghost use Rattle.std.specs.Prelude.{◌≡◌};
-    ghost use Rattle.cfg_base.specs.Newlines.{newlines_of};
     ghost use Rattle.text_messages.specs.Places.{SourceValue};
 
     ghost Value = { SourceValue };
 
-    ghost view = { λ s. record { text = s.text.now; shown = s.original.text.now; places = s.original.places.now; path = s.path.now; color = s.color } };
-
-    ghost invariant = { λ s. s.newlines ≡ newlines_of s.original.text.now };
+    ghost view = { λ s. record { text = s.text.now; shown = s.shown; places = s.places.now; path = s.path.now; color = s.color } };
 }
 
 impl<'a> Source<'a> {
@@ -151,13 +147,13 @@ impl<'a> Source<'a> {
     ) -> Result<Source<'a>, AllocError>
         ensures { IfOk result (λ s. s ≡ record { text = text.entry.now; shown = original.entry.text.now; places = original.entry.places.now; path = path.entry.now; color = false }) }
     {
-        let newlines = NewlineCache::from_str(alloc, original.text)?;
+        let shown = TextLines::new(alloc, original.text)?;
         let color = false;
         Ok(Source {
             text,
-            original,
+            shown,
+            places: original.places,
             path,
-            newlines,
             color,
         })
     }
@@ -188,7 +184,7 @@ impl<'a> Source<'a> {
     pub(crate) fn shown_text(&self) -> &str
         ensures { result.now ≡ self.now.shown }
     {
-        self.original.text
+        self.shown.text()
     }
 
     /// Returns the offset in the text shown for an offset: one past the end counts as the end.
@@ -196,13 +192,13 @@ impl<'a> Source<'a> {
         ensures value { result ≡ shown_at self.now at }
         ensures inside { result ≤ length self.now.shown }
     {
-        offset_by(self.original.places, self.shown_text().len(), at)
+        offset_by(self.places, self.shown_text().len(), at)
     }
 
     /// Returns where what is shown for a span ends: at the next byte with a place behind that of the span's last one.
     fn shown_end(&self, span: Span) -> usize {
         let last = self.shown_at(span.end().saturating_sub(1));
-        match self.original.places.get(span.end()..) {
+        match self.places.get(span.end()..) {
             Some(rest) if !span.is_empty() => first_past(rest, last).unwrap_or(
                 self.shown_text().len(),
             ),
@@ -224,11 +220,7 @@ impl<'a> Source<'a> {
     pub(crate) fn place(&self, span: Span) -> (usize, usize)
         ensures { result ≡ place_of self.now span.start }
     {
-        let first = self.shown_span(span).start();
-        let place = self
-            .newlines
-            .byte_to_line_num_and_col_num(self.original.text, first);
-        place.unwrap_or((0, 0))
+        self.shown.line_col(self.shown_span(span).start())
     }
 
     /// Returns the first byte of the line that a span begins on.
@@ -236,8 +228,7 @@ impl<'a> Source<'a> {
         ensures value { result ≡ line_start self.now.shown (shown_at self.now span.start) }
         ensures inside { result ≤ length self.now.shown }
     {
-        let (first, _) = self.newlines.span_line_bytes(self.shown_span(span));
-        first
+        self.shown.line_start(self.shown_span(span))
     }
 
     /// Returns the place of an offset, in the text shown. One past the text's end counts as the end, and one inside a character

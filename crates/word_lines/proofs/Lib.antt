@@ -3,7 +3,6 @@ mod LexedParts
 mod SaidEdits
 mod ReadLines
 mod TakenLexemes
-mod LineCuts
 mod FittedWords
 mod ShownNames
 mod Spaces

@@ -1,9 +1,7 @@
 //! The words of a line as the list of a lexer.
 
-ghost use Rattle.std.specs.Prelude.{◌≡◌, ◌+◌, ◌<◌, ◌≤◌, ◌^◌, List, [], ◌∷◌, ◌++◌, IfOk, OnOk, length, slice_range};
+ghost use Rattle.std.specs.Prelude.{◌≡◌, ◌+◌, ◌<◌, ◌≤◌, ◌^◌, List, [], ◌∷◌, ◌++◌, IfOk, OnOk, length};
 ghost use Rattle.std.specs.List.{AllByRecursion};
-ghost use Rattle.cfg_base.specs.Newlines.{newlines_of, line_of, line_start, column_of};
-ghost use Rattle.cfg_base.specs.Text.{line_end};
 ghost use Rattle.parse_trees.specs.Lexemes.{AreItems, Misfit, AreLexemes};
 ghost use Rattle.parse_trees.specs.Refusals.{HasMisfit};
 ghost use Rattle.word_lines.specs.Lexing.{IsInside, items_of, items_in, item_of, lex_of};
@@ -12,8 +10,8 @@ ghost use Rattle.word_lines.specs.declared.lexeme.WordLexeme.{WordLexeme};
 use crate::lexeme::{WordLexError, WordLexeme, WordLexerTypes};
 use crate::names::find_token;
 use cfg_base::index::{IndexOrder, IndexStorage, each_number_is_of_one_value};
-use cfg_base::newlinecache::NewlineCache;
 use cfg_base::span::Span;
+use cfg_base::text_lines::TextLines;
 use cfg_numbered::yacc::grammar::NumberedGrammar;
 use lrpar::{Lexer, NonStreamingLexer};
 use std::alloc::{AllocError, Global};
@@ -52,21 +50,16 @@ impl<S: IndexStorage> LexerRoom<S> {
 /// The lexemes and lexing errors of a line of words. Contracts see the line and this list.
 #[derive(Drop)]
 pub struct WordLexer<'input, S: IndexStorage> {
-    line: &'input str,
+    line: TextLines<'input>,
     items: Vec<Result<WordLexeme<S>, WordLexError>>,
-    newlines: NewlineCache,
 }
 
 impl<'input, S: IndexStorage> Model for WordLexer<'input, S> {
-    ghost use Rattle.std.specs.Prelude.{◌≡◌};
-    ghost use Rattle.cfg_base.specs.Newlines.{newlines_of};
     ghost use Rattle.word_lines.specs.Lexing.{LexedLine};
 
     ghost Value = { LexedLine S };
 
-    ghost view = { λ l. record { text = l.line.now; items = l.items.items } };
-
-    ghost invariant = { λ l. l.newlines ≡ newlines_of l.line.now };
+    ghost view = { λ l. record { text = l.line; items = l.items.items } };
 }
 
 impl<'input, S: IndexStorage> WordLexer<'input, S> {
@@ -100,12 +93,8 @@ impl<'input, S: IndexStorage> WordLexer<'input, S> {
         let LexerRoom { items: mut room } = room;
         room.clear();
         let items = lex_line(room, grm, line)?;
-        let newlines = NewlineCache::from_str(alloc, line)?;
-        Ok(WordLexer {
-            line,
-            items,
-            newlines,
-        })
+        let line = TextLines::new(alloc, line)?;
+        Ok(WordLexer { line, items })
     }
 
     /// Lets the line go, and keeps the room of the list.
@@ -197,38 +186,17 @@ impl<'input, S: IndexOrder> NonStreamingLexer<'input, WordLexerTypes<S>> for Wor
     ghost text = { λ l. l.text };
 
     fn span_str(&self, span: Span) -> &'input str {
-        &self.line[span.start()..span.end()]
+        &self.line.text()[span.start()..span.end()]
     }
 
     fn span_lines_str(&self, span: Span) -> &'input str {
-        lines_part(&self.newlines, self.line, span)
+        self.line.lines_of(span)
     }
 
     fn line_col(&self, span: Span) -> ((usize, usize), (usize, usize)) {
         (
-            place_of(&self.newlines, self.line, span.start()),
-            place_of(&self.newlines, self.line, span.end()),
+            self.line.line_col(span.start()),
+            self.line.line_col(span.end()),
         )
     }
-}
-
-/// The line and the column of an offset.
-fn place_of(newlines: &NewlineCache, line: &str, offset: usize) -> (usize, usize)
-    requires cache { newlines.now ≡ newlines_of line.now }
-    requires within { offset ≤ length line.now }
-    ensures { result ≡ (line_of line.now offset, column_of line.now line.now offset) }
-{
-    newlines.byte_to_line_num_and_col_num(line, offset).unwrap()
-}
-
-/// The lines that a span is on.
-fn lines_part<'a>(newlines: &NewlineCache, line: &'a str, span: Span) -> &'a str
-    requires cache { newlines.now ≡ newlines_of line.now }
-    requires within { span.end ≤ length line.now }
-    ensures { result.now ≡ slice_range line.now (line_start line.now span.start) (line_end line.now span.end) }
-{
-    // Read, so that the proof may use that it ends behind its start.
-    span.start();
-    let (start, end) = newlines.span_line_bytes(span);
-    &line[start..end]
 }

@@ -1,7 +1,7 @@
 use Rattle.std.proofs.Common.{◌≤◌, sym, subst, arith, length}
 use Rattle.std.specs.Str.{IsCharBoundary}
-use Rattle.lrpar.proofs.LineCuts.{ordered, start_cut, end_cut}
-use Rattle.lrpar.proofs.list_lexer.lines_part.Goals as goal
+use Rattle.cfg_base.proofs.LineCuts.{ordered, start_cut, end_cut}
+use Rattle.cfg_base.proofs.text_lines.lines_part.Goals as goal
 
 pub range-requires-clause-start_le_end : goal.range-requires-clause-start_le_end
 range-requires-clause-start_le_end c =

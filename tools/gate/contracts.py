@@ -103,7 +103,7 @@ def functions_in(crate):
                 of_trait, of_type = sources.without_parameters(head).split(" for ", 1)
                 argument = re.search(r"<(?:'\w+, *)*([^'].*)>", of_trait)
                 own = re.findall(r"\w+", head[: len(head) - len(sources.without_parameters(head))])
-                is_named = argument and argument[1].strip() not in own
+                is_named = argument and any(it.strip() not in own for it in argument[1].split(","))
                 owner = [sources.word_of(of_type) + sources.word_of(of_trait) + (sources.word_of(argument[1]) if is_named else "")]
             elif kind:
                 bare = sources.without_parameters(head)

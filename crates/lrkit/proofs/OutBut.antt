@@ -1,5 +1,6 @@
 -- A text that goes out a part at a time.
-use Rattle.std.proofs.Common.{◌≡◌, ℕ, ◌≤◌, ◌<◌, ◌+◌, Option, List, [], ◌∷◌, ◌++◌, length, take, drop, get_or, refl, sym, ap, ◌∙◌, append_assoc, append-nil, take-append-drop, subst}
+use Rattle.std.proofs.Common.{◌≡◌, ℕ, zero, suc, ◌≤◌, ◌<◌, ◌+◌, arith, Option, Some, List, [], ◌∷◌, ◌++◌, length, take, drop, get_or, refl, sym, ap, ◌∙◌, append_assoc, append-nil, take-append-drop, subst}
+use Rattle.std.specs.Prelude.{slice_get}
 use Rattle.std.specs.List.{flat_map}
 use Rattle.std.proofs.lemmas.Grind.{flat_map-append}
 use Rattle.std.proofs.lemmas.List.{take_more, take_all}
@@ -97,3 +98,26 @@ module _ {X : Type 0} (f : X → List ℕ) (xs : List X) (front : List ℕ) (a :
     all_added le =
         let P : List ℕ → Type 0 = λ t. IsOutBut a b t waits in
         subst P (ap (λ l. front ++ flat_map f l) (take_all i xs le)) o
+
+-- ---- a list that is taken one by one
+
+module _ {X : Type 0} where
+  -- the next one is at i
+  pub next_at : (xs : List X) (i : ℕ) (x : X) (others : List X) → drop i xs ≡ x ∷ others → (i < length xs) × (slice_get xs i ≡ Some x) × (get_or xs i x ≡ x) × (drop (i + 1) xs ≡ others)
+  next_at [] zero x others e = cc
+  next_at [] (suc i) x others e = cc
+  next_at (y ∷ ys) zero x others e =
+      let same : y ≡ x = cc in
+      let rest : ys ≡ others = cc in
+      (omega arith, ap (λ z. Some z) same, same, rest)
+  next_at (y ∷ ys) (suc i) x others e =
+      let h = next_at ys i x others e in
+      let lt = h.0 in
+      let place : suc i + 1 ≡ suc (i + 1) = omega arith in
+      (omega (arith, lt), h.1, h.2, ap (λ j. drop j (y ∷ ys)) place ∙ h.3)
+
+  -- none is left at i
+  pub none_at : (xs : List X) (i : ℕ) → drop i xs ≡ [] → length xs ≤ i
+  none_at [] i e = omega arith
+  none_at (y ∷ ys) zero e = cc
+  none_at (y ∷ ys) (suc i) e = let h = none_at ys i e in omega (arith, h)

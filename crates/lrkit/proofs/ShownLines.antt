@@ -58,33 +58,34 @@ HandsIn repairs state index lexeme offered = offered ≡ repairs
 abbrev pub IsLineParse : ParserValue → List (List Edit) → List ℕ → Option (FlatValue Word) → List (ParseError Word ℕ) → Type 0
 IsLineParse k repairs line value errors = IsKitParse id (lex_of id) made_up k (HandsIn repairs) (items_of id k.grammar line) (HasFlat (span_by (lex_of id)) value) errors
 
+-- the greatest number of a token that is made up
+abbrev pub top_of : ParserValue → List (List Edit) → ℕ
+top_of k repairs = end_token k.grammar.grammar + sum_all repairs
+
+pub within : (k : ParserValue) (repairs : List (List Edit)) (line : List ℕ) → WellFormed k.grammar.grammar → IsUtf8 line → MakesWithin (top_of k repairs) k.grammar (lex_of id) made_up (HandsIn repairs) line
+within k repairs line well_formed utf8 = record {
+  text = utf8;
+  well_formed = well_formed;
+  end = omega arith;
+  makes = λ t start len le. refl;
+  inserts = λ state index x offered e. subst (AllByRecursion (InsertsWithin (top_of k repairs))) (sym e) (all_within (top_of k repairs) repairs (omega arith));
+}
+
 module _ (k : ParserValue) (repairs : List (List Edit)) (line : List ℕ) (well_formed : WellFormed k.grammar.grammar) (utf8 : IsUtf8 line)
     (law : FlatParsesCanBeShown ℕ Word WordLexError (HandsIn repairs))
     (fit : (g : GrammarValue) (text : List ℕ) (lexemes : List Word) → IsUtf8 text → AreItems (items_of id g text) lexemes → AllByRecursion (FitsText text (lex_of id)) lexemes) where
-  abbrev top : ℕ
-  top = end_token k.grammar.grammar + sum_all repairs
-
-  within : MakesWithin top k.grammar (lex_of id) made_up (HandsIn repairs) line
-  within = record {
-    text = utf8;
-    well_formed = well_formed;
-    end = omega arith;
-    makes = λ t start len le. refl;
-    inserts = λ state index x offered e. subst (AllByRecursion (InsertsWithin top)) (sym e) (all_within top repairs (omega arith));
-  }
-
   flat_parse : (value : Option (FlatValue Word)) (errors : List (ParseError Word ℕ)) → IsLineParse k repairs line value errors →
       IsFlatParse id (lex_of id) made_up k.grammar.grammar k.graph k.table (HandsIn repairs) (items_of id k.grammar line) value errors
   flat_parse value errors q = record { lexemes = q.lexemes; are_items = q.are_items; are_lexemes = q.are_lexemes; found = q.found; parse = q.exact.parse; told = q.told }
 
   pub errors_can_be_shown : (value : Option (FlatValue Word)) (errors : List (ParseError Word ℕ)) → IsLineParse k repairs line value errors → AllByRecursion (ErrorCanBeShown id k.grammar line) errors
   errors_can_be_shown value errors q =
-      law.errors top id k.grammar k.graph k.table (lex_of id) made_up line (items_of id k.grammar line) value errors within (λ lexemes items. fit k.grammar line lexemes utf8 items) (flat_parse value errors q)
+      law.errors (top_of k repairs) id k.grammar k.graph k.table (lex_of id) made_up line (items_of id k.grammar line) value errors (within k repairs line well_formed utf8) (λ lexemes items. fit k.grammar line lexemes utf8 items) (flat_parse value errors q)
 
   pub tree_can_be_shown : (value : Option (FlatValue Word)) (errors : List (ParseError Word ℕ)) → IsLineParse k repairs line value errors → TreeCanBeShown id k.grammar line value
   tree_can_be_shown None errors q = tt
   tree_can_be_shown (Some v) errors q =
-      law.tree top id k.grammar k.graph k.table (lex_of id) made_up line (items_of id k.grammar line) v errors within (λ lexemes items. fit k.grammar line lexemes utf8 items) (flat_parse (Some v) errors q)
+      law.tree (top_of k repairs) id k.grammar k.graph k.table (lex_of id) made_up line (items_of id k.grammar line) v errors (within k repairs line well_formed utf8) (λ lexemes items. fit k.grammar line lexemes utf8 items) (flat_parse (Some v) errors q)
 
 -- ---- what is written of it
 

@@ -1,8 +1,9 @@
 //! The answer to a line.
 
-ghost use Rattle.std.specs.Prelude.{◌≡◌, ◌≤◌, Option, IfOk, IfErr, OnOk, OnErr, length, true};
+ghost use Rattle.std.specs.Prelude.{◌≡◌, ◌≤◌, Option, IfOk, IfErr, IfSome, OnOk, OnErr, length, true};
 ghost use Rattle.std.specs.Io.KnownBytes.{Appends};
 ghost use Rattle.std.specs.List.{AllByRecursion};
+ghost use Rattle.std.specs.Str.{IsUtf8};
 ghost use Rattle.byte_streams.specs.Sink.{BeginningWritten};
 ghost use Rattle.cfg_theory.specs.Tree.{Tree};
 ghost use Rattle.lrpar.specs.FlatParses.{HasFlat};
@@ -11,22 +12,26 @@ ghost use Rattle.parse_trees.specs.Refusals.{HasMisfit};
 ghost use Rattle.parse_trees.specs.Lex.{span_by};
 ghost use Rattle.word_lines.specs.Lexing.{items_of, lex_of};
 ghost use Rattle.word_lines.specs.LineTexts.{ErrorCanBeShown, TreeCanBeShown, fault_line};
-ghost use Rattle.lrkit.specs.LineSteps.{WritesParsed};
+ghost use Rattle.lrkit.specs.LineSteps.{IsFaultless, WritesParsed};
 ghost use Rattle.lrkit.specs.Output.{Word, id, parsed_text};
 ghost use Rattle.lrkit.specs.Run.{IsLate, IsWriteCause};
 ghost use Rattle.lrkit.specs.Writing.{BeginsLine, WritesLine};
 
 use crate::fault::RunFault;
-use crate::trees::write_tree;
+use crate::trees::{write_outline, write_tree};
 use byte_streams::{Sink, write_all};
-use lrpar::{FlatTree, ParseError, ParseRefusal};
+use lrpar::{FlatTree, Lexer, Outline, ParseError, ParseRefusal};
 use parser_kit::GrammarKit;
-use std::alloc::Global;
-use word_lines::laws::{flat_parses_can_be_shown, items_are_parts_of_their_line};
+use std::alloc::{AllocError, Global};
+use word_lines::laws::{
+    flat_parses_can_be_shown, items_are_parts_of_their_line, parses_can_be_shown,
+};
 use word_lines::shown::{push_errors, push_fault};
 use word_lines::{LexerRoom, RepairLines, WordLexError, WordLexeme, WordLexer, WordLexerTypes};
 
 type LineTree = FlatTree<u32, WordLexeme<u32>>;
+
+type LineOutline = Outline<u32, WordLexeme<u32>>;
 
 type LineError = ParseError<WordLexeme<u32>, u32>;
 
@@ -49,8 +54,90 @@ pub(crate) fn write_line<W: Sink>(
     ensures kept { OnOk result (W.faults out.new ≡ W.faults out.old) }
 {
     let lexer = WordLexer::in_room(alloc, room, kit.grm(), &*line)?;
-    match write_lexed(alloc, &*kit, repairs, &*line, &lexer, out) {
+    match write_read(alloc, &*kit, repairs, &*line, &lexer, out) {
         Ok(wrong) => Ok((wrong, lexer.into_room())),
+        Err(e) => Err(e),
+    }
+}
+
+// Writes the text of a line whose items are at hand. A line without errors has an outline.
+fn write_read<'a, W: Sink>(
+    alloc: Global,
+    kit: &'a GrammarKit<u32>,
+    repairs: &RepairLines<u32>,
+    line: &'a str,
+    lexer: &LineLexer<'a>,
+    out: &mut W,
+) -> Result<bool, RunFault>
+    requires line { lexer.now.text ≡ line.now }
+    requires items { lexer.now.items ≡ items_of id kit.now.grammar line.now }
+    requires not_refused { (m : Misfit) → HasMisfit kit.now.grammar.grammar (lex_of id) lexer.now.items m → ⊥ }
+    ensures ok { IfOk result (WritesLine kit.now repairs.now line.now (W.known out.old) (W.known out.new)) }
+    ensures late { IfErr result IsLate }
+    ensures begins { IfErr result (BeginsLine kit.now repairs.now line.now (W.known out.old) (W.known out.new)) }
+    ensures cause { IfErr result (IsWriteCause (W.faults out.old) (W.faults out.new)) }
+    ensures kept { OnOk result (W.faults out.new ≡ W.faults out.old) }
+{
+    match outline_of(alloc, kit, repairs, lexer)? {
+        Some(outline) => {
+            let lexed = ReadLine { line, lexer };
+            write_faultless(alloc, kit, repairs, &lexed, &outline, out)
+        }
+        None => write_lexed(alloc, kit, repairs, line, lexer, out),
+    }
+}
+
+// Returns the outline of the tree of a line without errors, if it is not too large.
+fn outline_of<'a>(
+    alloc: Global,
+    kit: &'a GrammarKit<u32>,
+    repairs: &RepairLines<u32>,
+    lexer: &LineLexer<'a>,
+) -> Result<Option<LineOutline>, AllocError>
+    ensures { IfOk result (λ o. IfSome o (IsFaultless kit.now repairs.now lexer.now.items)) }
+{
+    let parsed = kit.parse_outline::<WordLexerTypes<u32>, LineLexer<'_>, RepairLines<u32>>(
+        alloc, lexer, repairs,
+    );
+    match parsed {
+        Ok(Ok((outline, errors))) => {
+            if errors.is_empty() {
+                Ok(outline)
+            } else {
+                Ok(None)
+            }
+        }
+        Ok(Err(_)) => Ok(None),
+        Err(ParseRefusal::Memory(e)) => Err(e),
+        Err(ParseRefusal::LexemeOutside(_)) => Ok(None),
+        Err(ParseRefusal::StartDecreases(_)) => Ok(None),
+    }
+}
+
+// Writes the tree of a line without errors, by its outline.
+fn write_faultless<'a, W: Sink>(
+    alloc: Global,
+    kit: &'a GrammarKit<u32>,
+    repairs: &RepairLines<u32>,
+    lexed: &ReadLine<'_, 'a>,
+    outline: &LineOutline,
+    out: &mut W,
+) -> Result<bool, RunFault>
+    requires items { lexed.now.lexer.now.items ≡ items_of id kit.now.grammar lexed.now.line.now }
+    requires text { IsUtf8 lexed.now.line.now }
+    requires faultless { IsFaultless kit.now repairs.now lexed.now.lexer.now.items outline.now }
+    ensures ok { IfOk result (WritesLine kit.now repairs.now lexed.now.line.now (W.known out.old) (W.known out.new)) }
+    ensures late { IfErr result IsLate }
+    ensures begins { IfErr result (BeginsLine kit.now repairs.now lexed.now.line.now (W.known out.old) (W.known out.new)) }
+    ensures cause { IfErr result (IsWriteCause (W.faults out.old) (W.faults out.new)) }
+    ensures kept { OnOk result (W.faults out.new ≡ W.faults out.old) }
+{
+    parses_can_be_shown::<WordLexerTypes<u32>, RepairLines<u32>>();
+    items_are_parts_of_their_line::<u32>();
+    kit.stays_tabled();
+    let items = lexed.lexer.iter().as_slice();
+    match write_outline(alloc, kit.grm(), lexed.line, items, outline, out) {
+        Ok(()) => Ok(false),
         Err(e) => Err(e),
     }
 }

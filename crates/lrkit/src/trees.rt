@@ -1,14 +1,17 @@
 //! The text of a tree, which goes out as it is made.
 
-ghost use Rattle.std.specs.Prelude.{◌≡◌, ◌++◌, Option, IfErr, OnOk, OnErr};
+ghost use Rattle.std.specs.Prelude.{◌≡◌, ◌++◌, List, Option, IfErr, OnOk, OnErr};
 ghost use Rattle.std.specs.Io.KnownBytes.{Appends};
 ghost use Rattle.std.specs.List.{flat_map};
 ghost use Rattle.byte_streams.specs.Sink.{BeginningWritten, IsOutBut};
-ghost use Rattle.cfg_theory.specs.Tree.{Tree};
-ghost use Rattle.parse_trees.specs.FlatLines.{CanVisit, visit_line};
+ghost use Rattle.cfg_theory.specs.Tree.{Tree, yield};
+ghost use Rattle.parse_trees.specs.FlatLines.{CanShowTree, CanVisit, visit_line};
 ghost use Rattle.lrpar.specs.FlatParses.{HasFlat};
 ghost use Rattle.parse_trees.specs.FlatTrees.{IsFlat, pieces_of};
 ghost use Rattle.parse_trees.specs.Lex.{span_by};
+ghost use Rattle.parse_trees.specs.Lexemes.{AreItems};
+ghost use Rattle.parse_trees.specs.OutlineLines.{CanShowSymbols, symbol_visit_line};
+ghost use Rattle.parse_trees.specs.Outlines.{IsLeft, IsOutline, SymbolVisit};
 ghost use Rattle.word_lines.specs.Lexing.{lex_of};
 ghost use Rattle.word_lines.specs.LineTexts.{TreeCanBeShown, value_text};
 ghost use Rattle.lrkit.specs.Output.{Word, id};
@@ -17,11 +20,13 @@ ghost use Rattle.lrkit.specs.Run.{IsLate, IsWriteCause};
 use crate::fault::RunFault;
 use byte_streams::{Sink, write_all, write_long};
 use cfg_numbered::yacc::NumberedGrammar;
-use lrpar::FlatTree;
 use lrpar::flat::{FlatNode, Visit};
+use lrpar::outline::OutlineWalk;
+use lrpar::{FlatTree, Outline};
 use std::alloc::Global;
-use word_lines::WordLexeme;
+use word_lines::outlines::{push_symbol, shown_symbols};
 use word_lines::trees::{push_node, shown_nodes};
+use word_lines::{WordLexError, WordLexeme};
 
 type LineTree = FlatTree<u32, WordLexeme<u32>>;
 
@@ -45,6 +50,58 @@ pub(crate) fn write_tree<W: Sink>(
         Some(tree) => write_nodes(alloc, grm, line, tree, text, out),
         None => write_rest(text.as_slice(), out),
     }
+}
+
+/// Writes the text of a tree by its outline and the items of its line. Little of it waits at any time.
+pub(crate) fn write_outline<W: Sink>(
+    alloc: Global,
+    grm: &NumberedGrammar<u32>,
+    line: &str,
+    items: &[Result<WordLexeme<u32>, WordLexError>],
+    outline: &Outline<u32, WordLexeme<u32>>,
+    out: &mut W,
+) -> Result<(), RunFault>
+    requires { (t : Tree Word) × AreItems items.now (yield t) × IsOutline t outline.now × CanShowTree grm.now (lex_of id) line.now t }
+    ensures ok { (t : Tree Word) → AreItems items.now (yield t) → IsOutline t outline.now → OnOk result (Appends (W.known out.old) (W.known out.new) (value_text id grm.now line.now (Option.Some t))) }
+    ensures late { IfErr result IsLate }
+    ensures begins { (t : Tree Word) → AreItems items.now (yield t) → IsOutline t outline.now → OnErr result (BeginningWritten (W.known out.old) (W.known out.new) (value_text id grm.now line.now (Option.Some t))) }
+    ensures cause { IfErr result (IsWriteCause (W.faults out.old) (W.faults out.new)) }
+    ensures kept { OnOk result (W.faults out.new ≡ W.faults out.old) }
+{
+    let mut text = Vec::new(alloc);
+    let mut walk = shown_symbols(alloc, grm, line, outline)?;
+    write_symbols(grm, line, items, &mut walk, &mut text, out)?;
+    write_rest(text.as_slice(), out)
+}
+
+// Adds the lines of the nodes of a walk to what waits, and writes it whenever it is long.
+fn write_symbols<W: Sink>(
+    grm: &NumberedGrammar<u32>,
+    line: &str,
+    items: &[Result<WordLexeme<u32>, WordLexError>],
+    walk: &mut OutlineWalk<'_, u32, WordLexeme<u32>>,
+    text: &mut Vec<u8>,
+    out: &mut W,
+) -> Result<(), RunFault>
+    requires { (lexemes : List Word) × (rest : List SymbolVisit) × AreItems items.now lexemes × IsLeft Word id walk.old.nodes.now walk.old.waiting.items walk.old.seen rest × CanShowSymbols grm.now (lex_of id) line.now lexemes rest }
+    ensures ok { (lexemes : List Word) (rest : List SymbolVisit) → AreItems items.now lexemes → IsLeft Word id walk.old.nodes.now walk.old.waiting.items walk.old.seen rest →
+        OnOk result (IsOutBut (W.known out.old) (W.known out.new) (text.old.items ++ flat_map (symbol_visit_line grm.now (lex_of id) line.now lexemes) rest) text.new.items) }
+    ensures late { IfErr result IsLate }
+    ensures begins { (lexemes : List Word) (rest : List SymbolVisit) → AreItems items.now lexemes → IsLeft Word id walk.old.nodes.now walk.old.waiting.items walk.old.seen rest →
+        OnErr result (BeginningWritten (W.known out.old) (W.known out.new) (text.old.items ++ flat_map (symbol_visit_line grm.now (lex_of id) line.now lexemes) rest)) }
+    ensures cause { IfErr result (IsWriteCause (W.faults out.old) (W.faults out.new)) }
+    ensures kept { OnOk result (W.faults out.new ≡ W.faults out.old) }
+{
+    'nodes: for _ in 0..walk.nodes.len() {
+        match walk.step()? {
+            Some(visit) => {
+                push_symbol(grm, line, items, visit, text)?;
+                give_out(text, out)?;
+            }
+            None => return Ok(()),
+        }
+    }
+    Ok(())
 }
 
 // Writes what waits, and then the text of the tree.

@@ -19,6 +19,7 @@ pub mod Fitting
 pub mod ErrorTexts
 pub mod Completing
 pub mod FlatParses
+pub mod OutlineParses
 pub mod Acting
 pub mod NextTokens
 pub mod NextStates

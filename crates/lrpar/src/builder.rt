@@ -3,6 +3,7 @@
 ghost use Rattle.std.specs.Prelude.{◌≡◌, Option, IfOk, IfErr, IfSome};
 ghost use Rattle.lrpar.specs.Acting.{HasAction};
 ghost use Rattle.lrpar.specs.FlatParses.{IsFlatParse};
+ghost use Rattle.lrpar.specs.OutlineParses.{IsOutlineParse};
 ghost use Rattle.parse_trees.specs.FlatTrees.{IsFlatTree};
 ghost use Rattle.parse_trees.specs.Lexemes.{IsFirstLexError};
 ghost use Rattle.parse_trees.specs.NodeValues.{HasNode};
@@ -13,7 +14,6 @@ ghost use Rattle.parse_trees.specs.Stacks.{mapped_by, values_by};
 ghost use Rattle.lrpar.specs.Told.{IsFoldedOutcome, IsHandedOut};
 ghost use Rattle.lrpar.specs.declared.parse_error.LexParseError.TheVariants as errors;
 
-use crate::flat_parse;
 use crate::folded_parse::{FoldedOutcome, parse_folded};
 use crate::handed_out::hand_out;
 use crate::parse_actions::{Actions, parse_acted};
@@ -23,6 +23,7 @@ use crate::parse_map::parse_mapped;
 use crate::parse_noaction::parse_unvalued;
 use crate::parserdata::ParserData;
 use crate::recoverer::{NoRecovery, Recoverer};
+use crate::{flat_parse, outline_parse};
 use cfg_base::span::Span;
 use cfg_base::symbol::{PIdx, RIdx};
 use cfg_numbered::yacc::grammar::NumberedGrammar;
@@ -30,6 +31,7 @@ use parse_trees::flat::FlatTree;
 use parse_trees::lex_api::{Lexer, LexerTypes};
 use parse_trees::lexemes::ParseRefusal;
 use parse_trees::node::Node;
+use parse_trees::outline::Outline;
 use std::alloc::{AllocError, Global};
 use std::marker::PhantomData;
 
@@ -139,6 +141,30 @@ impl<'a, T: LexerTypes, R: Recoverer<T::StorageT, T::LexemeT>> RTParserBuilder<'
     {
         let items = lexer.iter().as_slice();
         flat_parse::parse_flat(alloc, &self.checked.machine(), items, self.recoverer)
+    }
+
+    /// Parses, and makes an outline of the tree, which has no lexemes. Returns the lexer's first error; or the outline, if there is a
+    /// tree and no node has too many below it, and the parse errors. Fails as `parse_fold` does.
+    pub fn parse_outline<X: Lexer<T>>(
+        &self,
+        alloc: Global,
+        lexer: &X,
+    ) -> Result<
+        Result<
+            (
+                Option<Outline<T::StorageT, T::LexemeT>>,
+                Vec<ParseError<T::LexemeT, T::StorageT>>,
+            ),
+            T::LexErrorT,
+        >,
+        ParseRefusal,
+    >
+        ensures fault { IfOk result (λ r. IfErr r (IsFirstLexError (X.lexed lexer.now))) }
+        ensures parsed { IfOk result (λ r. IfOk r (λ p. IsOutlineParse T.StorageT.number T.LexemeT.lex T.LexemeT.faulty_of self.now.checked.now.grammar.grammar self.now.checked.now.graph self.now.checked.now.table (R.answers self.now.recoverer.now) (X.lexed lexer.now) p.0 p.1.items)) }
+        ensures refused { IfErr result (IsParseRefusal self.now.checked.now.grammar.grammar T.LexemeT.lex (X.lexed lexer.now)) }
+    {
+        let items = lexer.iter().as_slice();
+        outline_parse::parse_outline(alloc, &self.checked.machine(), items, self.recoverer)
     }
 
     /// Parses, and makes the value by two functions: `fterm` for each lexeme that is shifted, `fnonterm` for each

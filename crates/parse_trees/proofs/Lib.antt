@@ -12,6 +12,9 @@ pub mod NodeLines
 pub mod NodeLists
 pub mod NodeStacks
 pub mod OnlyTree
+pub mod Outlines
+pub mod OutlineLines
+pub mod OutlineWalks
 pub mod FlatReading
 pub mod FlatLines
 pub mod ErrorParts

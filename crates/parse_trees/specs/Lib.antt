@@ -6,11 +6,13 @@ pub mod Refusals
 pub mod Edits
 pub mod Shown
 pub mod FlatTrees
+pub mod Outlines
 pub mod FlatReading
 pub mod FlatValues
 pub mod Shapes
 pub mod NodeLists
 pub mod FlatLines
+pub mod OutlineLines
 pub mod NodeValues
 pub mod ErrorTexts
 pub mod RepairParts

@@ -34,6 +34,7 @@ pub mod lexemes;
 pub mod node;
 mod node_lists;
 pub mod node_values;
+pub mod outline;
 pub mod parse_repair;
 pub mod values;
 pub mod vec_stack;

@@ -20,6 +20,8 @@ use Rattle.table_theory.specs.Cells.{Conflicts, NoPrecedences}
 use Rattle.table_theory.proofs.TableCells.{built_law, list_law}
 use Rattle.lrpar.specs.Checked.{ParserValue}
 use Rattle.lrpar.specs.FlatParses.{HasFlat, IsFlatParse}
+use Rattle.lrpar.specs.OutlineParses.{HasOutline, IsOutlineParse}
+use Rattle.parse_trees.specs.Outlines.{OutlineValue}
 use Rattle.parse_trees.specs.FlatTrees.{FlatValue}
 use Rattle.parse_trees.specs.Lex.{Lex, span_by, token_by}
 use Rattle.parse_trees.specs.Lexemes.{AreItems, AreLexemes}
@@ -239,3 +241,10 @@ module _ (d : ParserValue) (good : WellFormed d.grammar.grammar) (is : IsTableOf
     flat_traceless (Ok (Ok p)) h none unlisted productive = no_trace number lex faulty answers items (HasFlat (span_by lex) p.0) p.1.items none unlisted productive (flat_parse number lex faulty answers items p.0 p.1.items h)
     flat_traceless (Ok (Err e)) h none unlisted productive = tt
     flat_traceless (Err e) h none unlisted productive = tt
+
+    pub outline_ok : (r : Result (Result (Option OutlineValue × Vec (ParseError L S) Global) E) F) →
+        IfOk r (λ s. IfOk s (λ p. IsOutlineParse number lex faulty d.grammar.grammar d.graph d.table answers items p.0 p.1.items)) →
+        IfOk r (λ s. IfOk s (λ p. IsKitParse number lex faulty d answers items (HasOutline p.0) p.1.items))
+    outline_ok (Ok (Ok p)) h = kit_parse number lex faulty answers items (HasOutline p.0) p.1.items h.lexemes h.found h.are_items h.are_lexemes h.parse h.told
+    outline_ok (Ok (Err e)) h = tt
+    outline_ok (Err e) h = tt

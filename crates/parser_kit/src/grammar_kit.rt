@@ -4,6 +4,7 @@ ghost use Rattle.std.specs.Prelude.{◌≡◌, ◌↔◌, IfOk, IfErr, IfSome, I
 ghost use Rattle.cfg_theory.specs.Derivation.{AllProductive};
 ghost use Rattle.lr_theory.specs.Automaton.{Complete};
 ghost use Rattle.lrpar.specs.FlatParses.{HasFlat};
+ghost use Rattle.lrpar.specs.OutlineParses.{HasOutline};
 ghost use Rattle.parse_trees.specs.Lexemes.{IsFirstLexError};
 ghost use Rattle.lrpar.specs.Parses.{HasValue};
 ghost use Rattle.parse_trees.specs.Refusals.{IsParseRefusal};
@@ -27,7 +28,7 @@ use cfg_base::symbol::{PIdx, RIdx};
 use cfg_numbered::yacc::NumberedGrammar;
 use cfg_sets::all_productive;
 use lrpar::{
-    FlatTree, FoldedOutcome, LexParseError, Lexer, LexerTypes, ParseError, ParseRefusal,
+    FlatTree, FoldedOutcome, LexParseError, Lexer, LexerTypes, Outline, ParseError, ParseRefusal,
     ParserData, RTParserBuilder, Recoverer,
 };
 use lrtable::laws::conflicts_are_canonical;
@@ -223,6 +224,32 @@ impl<S: IndexStorage> GrammarKit<S> {
         self.stays_tabled();
         let parser = RTParserBuilder::<T, _>::new(self.parser_data()).recoverer(recoverer);
         parser.parse_flat(alloc, lexer)
+    }
+
+    /// Parses, and makes an outline of the tree, which has no lexemes. Returns the lexer's first error; or the outline, if there is a
+    /// tree and no node has too many below it, and the parse errors. Fails as `parse_fold` does.
+    pub fn parse_outline<T: LexerTypes<StorageT = S>, X: Lexer<T>, R: Recoverer<S, T::LexemeT>>(
+        &self,
+        alloc: Global,
+        lexer: &X,
+        recoverer: &R,
+    ) -> Result<
+        Result<
+            (
+                Option<Outline<S, T::LexemeT>>,
+                Vec<ParseError<T::LexemeT, S>>,
+            ),
+            T::LexErrorT,
+        >,
+        ParseRefusal,
+    >
+        ensures fault { IfOk result (λ r. IfErr r (IsFirstLexError (X.lexed lexer.now))) }
+        ensures parsed { IfOk result (λ r. IfOk r (λ p. IsKitParse S.number T.LexemeT.lex T.LexemeT.faulty_of self.now (R.answers recoverer.now) (X.lexed lexer.now) (HasOutline p.0) p.1.items)) }
+        ensures refused { IfErr result (IsParseRefusal self.now.grammar.grammar T.LexemeT.lex (X.lexed lexer.now)) }
+    {
+        self.stays_tabled();
+        let parser = RTParserBuilder::<T, _>::new(self.parser_data()).recoverer(recoverer);
+        parser.parse_outline(alloc, lexer)
     }
 
     /// Parses, and makes the value by two functions: `fterm` for each lexeme that is shifted, `fnonterm` for each

@@ -5,6 +5,7 @@ ghost use Rattle.cfg_theory.specs.Derivation.{AllProductive};
 ghost use Rattle.lr_theory.specs.Automaton.{Complete};
 ghost use Rattle.cfg_read.specs.declared.yacc.YaccKind.{YaccKind};
 ghost use Rattle.lrpar.specs.FlatParses.{HasFlat};
+ghost use Rattle.lrpar.specs.OutlineParses.{HasOutline};
 ghost use Rattle.parse_trees.specs.Lexemes.{IsFirstLexError};
 ghost use Rattle.lrpar.specs.Parses.{HasValue};
 ghost use Rattle.parse_trees.specs.Refusals.{IsParseRefusal};
@@ -34,7 +35,7 @@ use cfg_read::yacc::ast::GrammarAST;
 use cfg_read::yacc::{ASTWithValidityInfo, YaccKind, one_answer};
 use cfgrammar::yacc::from_ast::trees_without_precedences_make_grammars_without;
 use lrpar::{
-    FlatTree, FoldedOutcome, LexParseError, Lexer, LexerTypes, ParseError, ParseRefusal,
+    FlatTree, FoldedOutcome, LexParseError, Lexer, LexerTypes, Outline, ParseError, ParseRefusal,
     ParserData, Recoverer,
 };
 use lrtable::laws::precedences_are_kept;
@@ -256,6 +257,30 @@ impl<S: IndexStorage> ParserKit<S> {
     {
         self.stays_without_precedences();
         self.kit().parse_flat::<T, X, R>(alloc, lexer, recoverer)
+    }
+
+    /// Parses, and makes an outline of the tree, which has no lexemes. Returns the lexer's first error; or the outline, if there is a
+    /// tree and no node has too many below it, and the parse errors. Fails as `parse_fold` does.
+    pub fn parse_outline<T: LexerTypes<StorageT = S>, X: Lexer<T>, R: Recoverer<S, T::LexemeT>>(
+        &self,
+        alloc: Global,
+        lexer: &X,
+        recoverer: &R,
+    ) -> Result<
+        Result<
+            (
+                Option<Outline<S, T::LexemeT>>,
+                Vec<ParseError<T::LexemeT, S>>,
+            ),
+            T::LexErrorT,
+        >,
+        ParseRefusal,
+    >
+        ensures fault { IfOk result (λ r. IfErr r (IsFirstLexError (X.lexed lexer.now))) }
+        ensures parsed { IfOk result (λ r. IfOk r (λ p. IsKitParse S.number T.LexemeT.lex T.LexemeT.faulty_of self.now.parser (R.answers recoverer.now) (X.lexed lexer.now) (HasOutline p.0) p.1.items)) }
+        ensures refused { IfErr result (IsParseRefusal self.now.parser.grammar.grammar T.LexemeT.lex (X.lexed lexer.now)) }
+    {
+        self.kit().parse_outline::<T, X, R>(alloc, lexer, recoverer)
     }
 
     /// Parses, and makes the value by two functions: `fterm` for each lexeme that is shifted, `fnonterm` for each

@@ -39,6 +39,7 @@ pub mod laws;
 pub mod lexeme;
 pub mod lexer;
 mod names;
+pub mod outlines;
 pub mod repairs;
 pub mod shown;
 pub mod trees;

@@ -80,7 +80,7 @@ fn node_at<S: IndexStorage>(
 
 // Adds a rule's line.
 #[tactic(auto, unfolding(parse_trees::specs::Shapes::rule_line))]
-fn push_rule<S: IndexStorage>(
+pub(crate) fn push_rule<S: IndexStorage>(
     grm: &NumberedGrammar<S>,
     depth: usize,
     ridx: RIdx<S>,
@@ -97,7 +97,7 @@ fn push_rule<S: IndexStorage>(
 
 // Adds a lexeme's line.
 #[tactic(auto, unfolding(parse_trees::specs::Shapes::lexeme_line))]
-fn push_lexeme<S: IndexStorage>(
+pub(crate) fn push_lexeme<S: IndexStorage>(
     grm: &NumberedGrammar<S>,
     line: &str,
     depth: usize,

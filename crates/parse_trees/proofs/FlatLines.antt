@@ -21,10 +21,10 @@ pub piece_is : {S L : Type 0} (number : S → ℕ) (nodes : List (FlatNode S L))
 piece_is number nodes i n m e is = slice_get-map (piece_of number) nodes i ∙ ap (option_map (piece_of number)) e ∙ ap (λ k. Some (piece_of number k)) is
 
 module _ {L : Type 0} (at : L → Span) (pieces : List (Piece L)) where
-  leaf_at : (k : ℕ) (x : L) → StandsAt at pieces k (leaf x) → slice_get pieces k ≡ Some (term x)
+  pub leaf_at : (k : ℕ) (x : L) → StandsAt at pieces k (leaf x) → slice_get pieces k ≡ Some (term x)
   leaf_at k x s = (get_from_drop pieces k (term x) s.behind s.is).0
 
-  node_at : (k p : ℕ) (f : Forest L) → StandsAt at pieces k (node p f) → (span : Span) × (n : ℕ) × (slice_get pieces (k + sizes f) ≡ Some (nonterm p span n))
+  pub node_at : (k p : ℕ) (f : Forest L) → StandsAt at pieces k (node p f) → (span : Span) × (n : ℕ) × (slice_get pieces (k + sizes f) ≡ Some (nonterm p span n))
   node_at k p f s =
       let span = span_over at s.left f in
       let n = length (flats at s.left f) in

@@ -42,7 +42,7 @@ no_end_of tok e [] h = tt
 no_end_of tok e (x ∷ xs) h = let lt = h 0 x refl in (λ same. omega (arith, lt, same), no_end_of tok e xs (λ k y s. h (suc k) y s))
 
 -- no errors, no places
-no_places : {A B C : Type 0} (P : A → B → C → Type 0) (xs : List A) (ys : List B) (zs : List C) → AllThree P xs ys zs → zs ≡ [] → xs ≡ []
+pub no_places : {A B C : Type 0} (P : A → B → C → Type 0) (xs : List A) (ys : List B) (zs : List C) → AllThree P xs ys zs → zs ≡ [] → xs ≡ []
 no_places P [] ys zs h e = refl
 no_places P (x ∷ xs) [] zs h e = absurd h
 no_places P (x ∷ xs) (y ∷ ys) [] h e = absurd h
@@ -56,7 +56,7 @@ accepts_at_once G a tok make c handed r places repaired (ParsesWith.gives_up n d
 accepts_at_once G a tok make c handed r places repaired (ParsesWith.repairs n d offered es further more e first h w p) none = cc
 
 -- what is told of errors is told of as many as were found
-told_none : {A B C : Type 0} (f : A → C) (g : B → C) (xs : List A) (ys : List B) → map f xs ≡ map g ys → xs ≡ [] → ys ≡ []
+pub told_none : {A B C : Type 0} (f : A → C) (g : B → C) (xs : List A) (ys : List B) → map f xs ≡ map g ys → xs ≡ [] → ys ≡ []
 told_none f g xs [] e none = refl
 told_none f g [] (y ∷ ys) e none = cc
 told_none f g (x ∷ xs) (y ∷ ys) e none = cc

@@ -8,3 +8,4 @@ pub mod Tabled
 mod HandedOut
 mod Undeclared
 pub mod TextKinds
+pub mod Outlined

@@ -4,3 +4,4 @@ pub mod NoErrors
 pub mod ErrorsTold
 pub mod Begun
 pub mod GoingOn
+mod OutlineTexts

@@ -4,6 +4,7 @@ pub mod AskedTexts
 pub mod LineItems
 pub mod NextTokens
 pub mod NodeValues
+pub mod OutlineTexts
 pub mod ParseObjects
 pub mod Parses
 pub mod Quoted

@@ -4,9 +4,11 @@ use Rattle.std.specs.Fmt.{decimal}
 use Rattle.std.specs.Io.KnownBytes.{Appends}
 use Rattle.cfg_base.specs.SpanModel.{SpanModel}
 use Rattle.lr_theory.specs.Repair.{Edit}
+use Rattle.cfg_theory.specs.Tree.{Tree, yield}
 use Rattle.parse_trees.specs.FlatTrees.{FlatValue}
+use Rattle.parse_trees.specs.Outlines.{OutlineValue, IsOutline}
 use Rattle.parse_trees.specs.Lex.{Lex, span_by}
-use Rattle.parse_trees.specs.Lexemes.{IsFirstLexError}
+use Rattle.parse_trees.specs.Lexemes.{AreItems, IsFirstLexError}
 use Rattle.lrpar.specs.Checked.{ParserValue}
 use Rattle.lrpar.specs.FlatParses.{HasFlat}
 use Rattle.lrpar.specs.Lexers.{lex_of}
@@ -46,6 +48,13 @@ HasParse d items edits tree errors = IsKitParse itself lexeme_lex inserted d (Of
 -- the parse has some tree, and no error
 abbrev pub HasTree : ParserValue → List (Result TextLexeme LRLexError) → ℕ → Type 0
 HasTree d items edits = (t : FlatValue TextLexeme) × HasParse d items edits (Some t) []
+
+-- the parse has a tree whose outline this is, with the lexemes as its leaves, and no error
+pub record IsFaultless (d : ParserValue) (items : List (Result TextLexeme LRLexError)) (edits : ℕ) (v : OutlineValue) : Type 0 where
+  pub tree : Tree TextLexeme
+  pub parse : IsKitParse itself lexeme_lex inserted d (Offers edits) items (λ t. t ≡ Some tree) []
+  pub outline : IsOutline tree v
+  pub leaves : AreItems items (yield tree)
 
 -- the tree, where the parse has no error; the list's first error, of the lexer; or those of the parser
 abbrev pub IsParsed : ParserValue → List (Result TextLexeme LRLexError) → ℕ → Parsed → Type 0

@@ -3,7 +3,11 @@
 ghost use Rattle.std.specs.Prelude.{◌≡◌, None, Some, IfOk, OnOk};
 ghost use Rattle.lrlex.specs.Lexing.{bound_meanings, bound_rules};
 ghost use Rattle.text_parses.specs.Answers.{Answers, AnswersIn, AnswersItems, AnswersLine, AnswersObject, AnswersText, TellsNextIf, WritesTree, is_noted};
-ghost use Rattle.text_parses.specs.Parses.{IsParsed, title_of};
+ghost use Rattle.cfg_theory.specs.Tree.{Tree, yield};
+ghost use Rattle.parse_trees.specs.Lexemes.{AreItems};
+ghost use Rattle.parse_trees.specs.Outlines.{IsOutline};
+ghost use Rattle.text_parses.specs.OutlineTexts.{IsWalked, flat_tree};
+ghost use Rattle.text_parses.specs.Parses.{IsParsed, TextLexeme, title_of};
 ghost use Rattle.text_parses.specs.AskedTexts.{asked_in, asked_of, asked_of_line};
 ghost use Rattle.text_parses.specs.declared.form.Form.TheVariants.{Quiet};
 
@@ -13,11 +17,13 @@ use crate::form::{FileLine, Form, Input, Shown};
 use crate::names::Grammar;
 use crate::next::write_next;
 use crate::objects::write_object;
-use crate::parsing::{Parsed, WordLexer, WordTree, has_tree, parse_lexed};
+use crate::outlines::{Outlined, write_outline_lines, write_outline_sexp};
+use crate::parsing::{Parsed, WordLexer, WordTree, has_tree, outline_of, parse_lexed};
 use crate::trees::{write_dot, write_lines, write_sexp};
 use crate::words::lex_line;
 use byte_streams::Sink;
 use lrlex::BoundRules;
+use lrpar::Lexer;
 use parser_kit::ParserKit;
 use std::alloc::{AllocError, Global};
 use text_messages::Source;
@@ -196,6 +202,59 @@ fn answer_quietly<W: Sink>(
     answer_parsed(alloc, kit, shown, lexer, out)
 }
 
+/// Writes a tree by its outline, as lines or as an expression, below the path if it is to be named.
+fn write_outlined<W: Sink>(
+    alloc: Global,
+    shown: Shown<'_>,
+    outlined: Outlined<'_>,
+    out: &mut W,
+) -> Result<(), AnswerFault>
+    requires form { IsWalked shown.input.form }
+    requires outline { (t : Tree TextLexeme) × IsOutline t outlined.outline.now }
+    requires input { outlined.input.now ≡ shown.input.text.now }
+    ensures { OnOk result ((t : Tree TextLexeme) → AreItems outlined.entry.items.now (yield t) → IsOutline t outlined.entry.outline.now →
+        WritesTree shown.entry.input.form outlined.entry.grm.now (asked_in shown.entry) (flat_tree t) (W.known out.old) (W.known out.new)) }
+{
+    let mut text = title_of(alloc, shown)?;
+    match shown.input.form {
+        Form::Tree => {
+            write_outline_lines(alloc, outlined, &mut text, out)?;
+            Ok(())
+        }
+        Form::Sexp => {
+            write_outline_sexp(alloc, outlined, &mut text, out)?;
+            Ok(())
+        }
+        Form::Dot | Form::Json | Form::Quiet => Ok(()),
+    }
+}
+
+/// Answers the lexemes of a text whose tree is written as lines or as an expression: where they have one, by its outline.
+fn answer_outlined<W: Sink>(
+    alloc: Global,
+    kit: &ParserKit<u32>,
+    shown: Shown<'_>,
+    lexer: &WordLexer<'_>,
+    out: &mut W,
+) -> Result<bool, AnswerFault>
+    requires { IsWalked shown.input.form }
+    ensures { IfOk result (AnswersIn shown.entry.input.form kit.now.parser lexer.now.items (asked_in shown.entry) (W.known out.old) (W.known out.new)) }
+{
+    match outline_of(alloc, kit, lexer, shown.input.edits)? {
+        Some(outline) => {
+            let outlined = Outlined {
+                grm: kit.grm(),
+                input: shown.input.text,
+                items: lexer.iter().as_slice(),
+                outline: &outline,
+            };
+            write_outlined(alloc, shown, outlined, out)?;
+            Ok(true)
+        }
+        None => answer_parsed(alloc, kit, shown, lexer, out),
+    }
+}
+
 /// Parses the lexemes of a text, writes its tree or its errors, and returns whether it has a tree.
 fn answer_lexed<W: Sink>(
     alloc: Global,
@@ -208,9 +267,8 @@ fn answer_lexed<W: Sink>(
 {
     match shown.input.form {
         Form::Quiet => answer_quietly(alloc, kit, shown, lexer, out),
-        Form::Tree | Form::Sexp | Form::Dot | Form::Json => {
-            answer_parsed(alloc, kit, shown, lexer, out)
-        }
+        Form::Tree | Form::Sexp => answer_outlined(alloc, kit, shown, lexer, out),
+        Form::Dot | Form::Json => { answer_parsed(alloc, kit, shown, lexer, out) }
     }
 }
 

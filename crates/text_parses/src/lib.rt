@@ -36,6 +36,7 @@ mod names;
 mod next;
 mod nodes;
 mod objects;
+mod outlines;
 mod parsing;
 mod repeated;
 mod sexps;

@@ -20,7 +20,7 @@ pub type WordNode = FlatNode<u32, DefaultLexeme<u32>>;
 
 /// Adds the line of a production's node.
 #[tactic(auto, unfolding(parse_trees::specs::Shapes::rule_line))]
-fn push_rule_line(
+pub(crate) fn push_rule_line(
     grm: &Grammar,
     pidx: PIdx<u32>,
     depth: usize,
@@ -36,7 +36,7 @@ fn push_rule_line(
 
 /// Adds the line of a lexeme.
 #[tactic(auto, unfolding(parse_trees::specs::Shapes::lexeme_line))]
-fn push_lexeme_line(
+pub(crate) fn push_lexeme_line(
     grm: &Grammar,
     input: &str,
     lexeme: DefaultLexeme<u32>,

@@ -1,14 +1,14 @@
 //! The parse of a text's lexemes.
 
-ghost use Rattle.std.specs.Prelude.{◌≡◌, IfErr, IfOk, IsTrue};
+ghost use Rattle.std.specs.Prelude.{◌≡◌, IfErr, IfOk, IfSome, IsTrue};
 ghost use Rattle.parse_trees.specs.Refusals.{IsParseRefusal};
 ghost use Rattle.repair_search.specs.FewEdits.{most_edits};
 ghost use Rattle.text_parses.specs.ParseObjects.{is_tree};
-ghost use Rattle.text_parses.specs.Parses.{HasTree, IsParsed, lexeme_lex};
+ghost use Rattle.text_parses.specs.Parses.{HasTree, IsFaultless, IsParsed, lexeme_lex};
 
 use cfg_base::symbol::TIdx;
 use lrlex::{DefaultLexeme, DefaultLexerTypes, LRLexError, LRNonStreamingLexer};
-use lrpar::{FlatTree, Lexer, ParseError, ParseRefusal, RTParserBuilder};
+use lrpar::{FlatTree, Lexer, Outline, ParseError, ParseRefusal, RTParserBuilder};
 use parser_kit::ParserKit;
 use repair_search::{Limits, Repairs, find_repairs};
 use std::alloc::{AllocError, Global};
@@ -111,6 +111,38 @@ pub(crate) fn has_tree(
 {
     let repairs = Repairs::none(alloc, edits);
     has_no_error(alloc, kit, lexer, &repairs)
+}
+
+/// Returns the outline of the tree of a text's lexemes, where they have a tree whose outline is not too large.
+///
+/// # Errors
+///
+/// As `parse_lexed`.
+pub(crate) fn outline_of(
+    alloc: Global,
+    kit: &ParserKit<u32>,
+    lexer: &WordLexer<'_>,
+    edits: usize,
+) -> Result<Option<Outline<u32, DefaultLexeme<u32>>>, ParseRefusal>
+    ensures parsed { IfOk result (λ o. IfSome o (IsFaultless kit.now.parser lexer.now.items edits)) }
+    ensures refused { IfErr result (IsParseRefusal kit.now.parser.grammar.grammar lexeme_lex lexer.now.items) }
+{
+    let repairs = Repairs::none(alloc, edits);
+    let parsed = kit.parse_outline::<DefaultLexerTypes<u32>, WordLexer<'_>, Repairs<u32>>(
+        alloc, lexer, &repairs,
+    );
+    drop(repairs);
+    match parsed {
+        Ok(Ok((outline, errors))) => {
+            if errors.is_empty() {
+                Ok(outline)
+            } else {
+                Ok(None)
+            }
+        }
+        Ok(Err(_)) => Ok(None),
+        Err(refusal) => Err(refusal),
+    }
 }
 
 /// Returns the tokens of the lexemes.

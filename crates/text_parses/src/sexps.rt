@@ -67,7 +67,11 @@ fn push_quoted(inner: &str, text: &mut Vec<u8>) -> Result<(), AllocError>
 }
 
 /// Adds the beginning of a production's node.
-fn push_rule_head(grm: &Grammar, pidx: PIdx<u32>, text: &mut Vec<u8>) -> Result<(), AllocError>
+pub(crate) fn push_rule_head(
+    grm: &Grammar,
+    pidx: PIdx<u32>,
+    text: &mut Vec<u8>,
+) -> Result<(), AllocError>
     ensures { pidx.0 < length grm.now.grammar.productions → OnOk result (text.new.items ≡ text.old.items ++ rule_head grm.now pidx.0) }
 {
     text.push(b'(')?;
@@ -75,7 +79,7 @@ fn push_rule_head(grm: &Grammar, pidx: PIdx<u32>, text: &mut Vec<u8>) -> Result<
 }
 
 /// Adds the beginning of a lexeme's node.
-fn push_lexeme_head(
+pub(crate) fn push_lexeme_head(
     grm: &Grammar,
     input: &str,
     lexeme: DefaultLexeme<u32>,
@@ -91,7 +95,7 @@ fn push_lexeme_head(
 }
 
 /// Adds a space before each node but the root.
-fn push_space(depth: usize, text: &mut Vec<u8>) -> Result<(), AllocError>
+pub(crate) fn push_space(depth: usize, text: &mut Vec<u8>) -> Result<(), AllocError>
     ensures { OnOk result (text.new.items ≡ text.old.items ++ space_at depth) }
 {
     if depth > 0 {
@@ -120,7 +124,11 @@ fn push_node_head(
 }
 
 /// Closes the nodes that are open from a depth on, behind a node of this depth, if there is one.
-fn push_closing(last: Option<usize>, depth: usize, text: &mut Vec<u8>) -> Result<(), AllocError>
+pub(crate) fn push_closing(
+    last: Option<usize>,
+    depth: usize,
+    text: &mut Vec<u8>,
+) -> Result<(), AllocError>
     ensures { OnOk result (text.new.items ≡ text.old.items ++ closed_from last depth) }
 {
     match last {

@@ -13,6 +13,9 @@ const MOST_COLUMNS: usize = 160;
 /// How many columns are shown before the place in a line that is cut.
 const COLUMNS_BEFORE: usize = 60;
 
+/// How many bytes a character takes at most.
+const CHARACTER_BYTES: usize = 4;
+
 /// How many columns the number of a line takes at least.
 const NUMBER_COLUMNS: usize = 5;
 
@@ -37,15 +40,6 @@ fn push_repeated(
 ) -> Result<(), AllocError> {
     let all = one.repeat(alloc, count)?;
     text.push_str(all.as_str())
-}
-
-/// Returns the line that begins at an offset, without its LF and a CR before that.
-fn line_at(text: &str, start: usize) -> &str {
-    let rest = part(text, start, text.len());
-    match rest.split_once('\n') {
-        Some((line, _)) => line.strip_suffix('\r').unwrap_or(line),
-        None => rest,
-    }
 }
 
 /// Returns how many columns a character takes. A tab and other control characters count as one.
@@ -81,13 +75,18 @@ fn last_shown(line: &str, first: usize) -> usize {
     line.len()
 }
 
-/// Returns the offsets between which a line is shown, with an offset that is to be among them.
+/// Returns the offsets between which a line is shown, with an offset that is to be among them. Of a long line it looks at no more
+/// bytes than the characters of the columns that are shown may have.
 fn shown_between(line: &str, at: usize) -> (usize, usize) {
-    if line.width() <= MOST_COLUMNS {
+    if line.len() <= MOST_COLUMNS * CHARACTER_BYTES && line.width() <= MOST_COLUMNS {
         return (0, line.len());
     }
-    let first = first_shown(line, at);
-    (first, last_shown(line, first))
+    let front = line.floor_char_boundary(at.saturating_sub(COLUMNS_BEFORE * CHARACTER_BYTES));
+    let back = at.saturating_add(MOST_COLUMNS * CHARACTER_BYTES);
+    let near = part(line, front, back);
+    let first = first_shown(near, at.saturating_sub(front));
+    let last = last_shown(near, first);
+    (front.saturating_add(first), front.saturating_add(last))
 }
 
 /// Adds what stands below a part of a line: a tab below each tab, and else a mark below each column.
@@ -173,7 +172,7 @@ fn push_excerpt(
 ) -> Result<(), AllocError> {
     let inside = source.shown_span(span);
     let start = source.line_start(span);
-    let line = line_at(source.shown_text(), start);
+    let line = source.line(span);
     let from = inside.start().saturating_sub(start).min(line.len());
     let to = inside.end().saturating_sub(start).min(line.len());
     let shown = shown_between(line, from);

@@ -231,6 +231,16 @@ impl<'a> Source<'a> {
         self.shown.line_start(self.shown_span(span))
     }
 
+    /// Returns the line that a span begins on, without its LF and a CR before that.
+    pub(crate) fn line(&self, span: Span) -> &str {
+        let first = self.shown_span(span).start();
+        let line = self.shown.lines_of(Span::new(first, first));
+        if self.line_start(span).saturating_add(line.len()) == self.shown_text().len() {
+            return line;
+        }
+        line.strip_suffix('\r').unwrap_or(line)
+    }
+
     /// Returns the place of an offset, in the text shown. One past the text's end counts as the end, and one inside a character
     /// has the columns of that character.
     pub fn position(&self, offset: usize) -> Position

@@ -49,7 +49,7 @@ module _ (g : GrammarValue) (input : List ℕ) (lexemes : List TextLexeme) where
   abbrev pub CanShowVisit : SymbolVisit → Type 0
   CanShowVisit v = CanShowSymbol g lexeme_lex input lexemes v.symbol
 
-  -- the lexemes of the others stand behind those of the first tree
+  -- the lexemes of the others come after those of the first tree
   others_behind : (k : ℕ) (t : Tree TextLexeme) (f : Forest TextLexeme) (behind : List TextLexeme) → drop k lexemes ≡ yields (before t f) ++ behind → drop (k + leaves t) lexemes ≡ yields f ++ behind
   others_behind k t f behind is =
       ap (λ j. drop (k + j) lexemes) (sym (yield_length t)) ∙ drop_past lexemes (yield t) (yields f ++ behind) k (is ∙ append_assoc (yield t) (yields f) behind)
@@ -102,7 +102,7 @@ module _ (g : GrammarValue) (input : List ℕ) (lexemes : List TextLexeme) where
 
 -- ---- a walk on the way
 
--- so many nodes were visited of so many, and these are left
+-- `done` nodes of `count` were visited, and these are left
 pub record WalksOn (nodes : List (OutlineNode ℕ)) (waiting : List Visit) (seen count done : ℕ) (rest : List SymbolVisit) : Type 0 where
   pub left : IsLeft TextLexeme itself nodes waiting seen rest
   pub count_is : done + length rest ≡ count
@@ -120,7 +120,7 @@ begins nodes waiting seen count t v is count_is left = record { left = left; cou
 pub nothing_out : (can : SymbolVisit → Type 0) (text_of : List SymbolVisit → List ℕ) (a : Option (List ℕ)) (text : List ℕ) (rest : List SymbolVisit) → AllByRecursion can rest → IsOutTo can text_of a a (text ++ text_of rest) text rest
 nothing_out can text_of a text rest shows = record { made = text; out = all_waits a text; whole_is = refl; can_show = shows }
 
--- a step comes to a node, whose text is added to what waits, of which a part goes out
+-- a step returns a node, whose text is added to what waits, of which a part goes out
 pub steps : (nodes nodes' : List (OutlineNode ℕ)) (waiting waiting' : List Visit) (seen seen' count done : ℕ) (rest others : List SymbolVisit) (v : SymbolVisit) → WalksOn nodes waiting seen count done rest → rest ≡ v ∷ others → IsLeft TextLexeme itself nodes' waiting' seen' others → WalksOn nodes' waiting' seen' count (done + 1) others
 steps nodes nodes' waiting waiting' seen seen' count done rest others v on is left = let long = ap length is in record { left = left; count_is = omega (arith, on.count_is, long) }
 

@@ -1,5 +1,5 @@
 -- The messages of a report.
-use Rattle.std.specs.Prelude.{◌≡◌, ℕ, ◌≤◌, Bool, true, false, List, [], ◌∷◌, ◌++◌, Option, None, Some, IfSome, codes, drop, length, map, slice_get, slice_range, IsCharBoundary, ⊤}
+use Rattle.std.specs.Prelude.{◌≡◌, ℕ, ◌≤◌, Bool, true, false, List, [], ◌∷◌, ◌++◌, Option, None, Some, IfSome, codes, cond, drop, length, map, nat_le, slice_get, slice_range, take, IsCharBoundary, ⊤}
 use Rattle.std.specs.List.{All}
 use Rattle.std.specs.Str.{bytes_eq}
 use Rattle.cfg_base.specs.SpanModel.{SpanModel}
@@ -147,10 +147,22 @@ conflict_severity Invalid = Warning
 abbrev pub IsConflictSeverity : KitValue → Severity → Type 0
 IsConflictSeverity k severity = (o : Outcome) × TellsExpected k o × (severity ≡ conflict_severity o)
 
+-- how many blocks are shown
+abbrev pub most_blocks : ℕ
+most_blocks = 100
+
+-- a note how many blocks there are, if not all are shown
+abbrev pub count_told : List ℕ → ℕ → List Said
+count_told text n = cond (nat_le n most_blocks) [] (said_in text Note None (codes "100 of " ++ (decimal n ++ codes " groups of conflicts are shown")) ∷ [])
+
+-- those of the first blocks, as many as are shown, and then how many there are
+abbrev pub AreOfBlocks : List ℕ → Ast → Severity → List (List Listed) → List Said → Type 0
+AreOfBlocks text ast severity blocks these = (shown : List Said) × AreOfEach (AreOfBlock text ast severity) (take most_blocks blocks) shown × (these ≡ shown ++ count_told text (length blocks))
+
 -- those of the blocks of the conflicts that a kit lists
 abbrev pub AreOfConflicts : (Listed → Listed → Ordering) → Bool → List ℕ → KitValue → List Said → Type 0
 AreOfConflicts cmp each text k these =
-    (severity : Severity) × (blocks : List (List Listed)) × IsConflictSeverity k severity × AreBlocks cmp each k.parser.table.conflicts blocks × AreOfEach (AreOfBlock text k.kept.ast severity) blocks these
+    (severity : Severity) × (blocks : List (List Listed)) × IsConflictSeverity k severity × AreBlocks cmp each k.parser.table.conflicts blocks × AreOfBlocks text k.kept.ast severity blocks these
 
 -- warnings, rules that derive no list of tokens, and conflicts
 abbrev pub AreOfKit : (Listed → Listed → Ordering) → Bool → List ℕ → KitValue → List Said → Type 0

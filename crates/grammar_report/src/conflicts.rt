@@ -1,8 +1,8 @@
 //! Conflicts that no precedence settles, each with its example.
 
-ghost use Rattle.std.specs.Prelude.{◌≡◌, IfOk, IfSome, OnOk, map, string_bytes};
-ghost use Rattle.grammar_report.specs.Messages.{AreOfBlock, AreOfConflict, AreOfConflicts, AreOfEach, AreWithNote, IsConflictSeverity, kind_text};
-ghost use Rattle.text_messages.specs.Added.{AddsSome, said_in};
+ghost use Rattle.std.specs.Prelude.{◌≡◌, IfOk, IfSome, OnOk, map, string_bytes, take};
+ghost use Rattle.grammar_report.specs.Messages.{AreOfBlock, AreOfBlocks, AreOfConflict, AreOfConflicts, AreOfEach, AreWithNote, IsConflictSeverity, count_told, kind_text, most_blocks};
+ghost use Rattle.text_messages.specs.Added.{AddsSaid, AddsSome, said_in};
 ghost use Rattle.text_messages.specs.Places.{BeginsWith};
 ghost use Rattle.text_messages.specs.declared.source.Severity.TheVariants.{Note};
 
@@ -17,6 +17,9 @@ use parser_kit::ParserKit;
 use refused_tables::{Listed, nearest, push_example};
 use std::alloc::{AllocError, Global};
 use text_messages::{Message, Messages, Severity};
+
+/// How many blocks are shown.
+const MOST_BLOCKS: usize = 100;
 
 /// What blocks are made of.
 #[derive(Clone, Copy)]
@@ -239,7 +242,44 @@ fn push_of_blocks(
     pushed
 }
 
-/// Adds the messages of the conflicts that no precedence settles, in blocks, each with its example.
+/// Returns the blocks that are shown: the first ones.
+fn shown_blocks(blocks: &[Vec<Listed>]) -> &[Vec<Listed>]
+    ensures { result.now ≡ take most_blocks blocks.now }
+{
+    if blocks.len() <= MOST_BLOCKS {
+        return blocks;
+    }
+    &blocks[..MOST_BLOCKS]
+}
+
+/// Adds how many blocks there are, and an empty line, if not all are shown.
+fn push_count(alloc: Global, messages: &mut Messages<'_>, count: usize) -> Result<(), AllocError>
+    ensures { OnOk result (AddsSaid (count_told messages.old.text count) messages.old messages.new) }
+{
+    if count <= MOST_BLOCKS {
+        return Ok(());
+    }
+    let words = format!(in alloc; "100 of {count} groups of conflicts are shown")?;
+    let mut message = Message::new(Severity::Note, None, words);
+    message.example = Some(String::from_str(alloc, "\n")?);
+    messages.push(message)
+}
+
+/// Adds the messages of the first blocks, and then how many there are, if not all are shown.
+fn push_first(
+    alloc: Global,
+    messages: &mut Messages<'_>,
+    view: &View<'_>,
+    blocks: &[Vec<Listed>],
+) -> Result<(), AllocError>
+    ensures { OnOk result (AddsSome (AreOfBlocks messages.old.text view.now.kit.now.kept.ast view.now.severity (map (λ b. b.items) blocks.now)) messages.old messages.new) }
+{
+    push_of_blocks(alloc, messages, view, shown_blocks(blocks))?;
+    push_count(alloc, messages, blocks.len())
+}
+
+/// Adds the messages of the conflicts that no precedence settles, in blocks, each with its example. Of many blocks it adds the
+/// first hundred, and then how many there are.
 pub(crate) fn push_conflicts(
     alloc: Global,
     messages: &mut Messages<'_>,
@@ -257,5 +297,5 @@ pub(crate) fn push_conflicts(
         each,
         full,
     };
-    push_of_blocks(alloc, messages, &view, blocks.as_slice())
+    push_first(alloc, messages, &view, blocks.as_slice())
 }

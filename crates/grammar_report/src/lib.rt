@@ -22,8 +22,8 @@
 //!
 //! For `%start E %% E: E '+' 'n' | 'n';` it answers 0, for `%start E %% E: E '+' E | 'n';` 1, and for `%start E %% E: E '+'`
 //! 2. By the contract of `report` its outcome holds for the text (`specs/Outcomes`), and it shows, in order, the messages of the text
-//! (`specs/Messages`): errors, or warnings, rules without sentences and a message for each block of conflicts, each at a place
-//! within the text. The lines between these are tested. Other forms may take the messages, counts and blocks too.
+//! (`specs/Messages`): errors, or warnings, rules without sentences and a message for each of the first hundred blocks of
+//! conflicts, each at a place within the text. The lines between these are tested. Other forms may take the messages, counts and blocks too.
 #![tactic(auto)]
 
 mod accept_reduce;

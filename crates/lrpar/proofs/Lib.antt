@@ -39,6 +39,7 @@ pub mod SentenceTokens
 pub mod NextFacts
 pub mod NextTold
 pub mod StacksAhead
+pub mod EndingSteps
 pub mod Prefixes
 pub mod FullSteps
 pub mod NodesLeft

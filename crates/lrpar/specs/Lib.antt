@@ -27,3 +27,4 @@ pub mod Branching
 pub mod Prefixes
 pub mod FullTables
 pub mod Lexers
+pub mod Endings

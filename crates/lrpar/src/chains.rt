@@ -5,9 +5,11 @@ ghost use Rattle.lr_theory.specs.Automaton.{reduce};
 ghost use Rattle.state_table.specs.Tables.{automaton_of};
 ghost use Rattle.lrpar.specs.Reducing.{states_of, stack_of, AreStates, ReducesTo, TellsLong, TellsToken, TellsAbove, TellsOf, TellsChain, AreShorts, BeginsNone, token_number, chain_states, chain_top, chain_depth};
 ghost use Rattle.lrpar.specs.Branching.{AreAllReducers};
+ghost use Rattle.lrpar.specs.Endings.{IsCell, AreEndings};
 ghost use Rattle.state_table.specs.Graphs.{GraphValue};
 ghost use Rattle.state_table.specs.CellViews.{action_of, state_of};
 
+use crate::endings::{Ending, Link, ends_within, no_endings};
 use crate::machine::Chains;
 use crate::numbers::index_below;
 use crate::reducers::all_reducers;
@@ -106,6 +108,38 @@ pub(crate) fn is_long<S: IndexStorage>(
     Ok(true)
 }
 
+/// The buffers of a search, and the endings that it found.
+#[derive(Drop)]
+pub(crate) struct Search<S: IndexStorage> {
+    pub rooms: Rooms<S>,
+    /// The endings of each state, by its cells.
+    pub endings: Vec<Vec<Option<Ending<S>>>>,
+    /// Links whose upper states have no ending yet.
+    pub waiting: Vec<Link<S>>,
+}
+
+/// Returns whether a chain on the token passes the limit. Its reductions are run only if the endings of its states leave
+/// that open.
+fn passes<S: IndexStorage>(
+    chains: &Chains<'_, S>,
+    search: &mut Search<S>,
+    state: StIdx<S>,
+    above: Option<StIdx<S>>,
+    tidx: TIdx<S>,
+) -> Result<bool, AllocError>
+    requires cell { IsCell chains.now.stable.now (S.number state.0) (S.number tidx.0) }
+    requires above { (q : ℕ) → state_of S.number above ≡ Some q → q < chains.now.stable.now.states }
+    requires endings { AreEndings S.number chains.now.grm.now.grammar chains.now.stable.now search.old.endings.items }
+    ensures endings { OnOk result (AreEndings S.number chains.now.grm.now.grammar chains.now.stable.now search.new.endings.items) }
+    ensures long { IfOk result (λ long. (g : GraphValue) → TellsLong chains.now.grm.now.grammar (automaton_of g chains.now.stable.now) chains.now.limit (S.number state.0) (state_of S.number above) (S.number tidx.0) long) }
+{
+    let endings = &mut search.endings;
+    if ends_within(chains, endings, &mut search.waiting, state, above, tidx)? {
+        return Ok(false);
+    }
+    is_long(chains, &mut search.rooms.stack, state, above, tidx)
+}
+
 /// Returns the state on top of a chain's first stack.
 fn top_of<S: IndexStorage>(state: StIdx<S>, above: Option<StIdx<S>>) -> StIdx<S>
     ensures { S.number result.0 ≡ chain_top (S.number state.0) (state_of S.number above) }
@@ -141,13 +175,15 @@ fn may_begin<S: IndexStorage>(grm: &NumberedGrammar<S>, depth: usize, action: Ac
 /// Returns the least token on which more reductions than the limit come.
 pub(crate) fn long_token<S: IndexStorage>(
     chains: &Chains<'_, S>,
-    stack: &mut Vec<StIdx<S>>,
+    search: &mut Search<S>,
     state: StIdx<S>,
     above: Option<StIdx<S>>,
 ) -> Result<Option<TIdx<S>>, AllocError>
     requires state { S.number state.0 < chains.now.stable.now.states }
     requires above { (q : ℕ) → state_of S.number above ≡ Some q → q < chains.now.stable.now.states }
-    ensures { IfOk result (λ found. (g : GraphValue) → TellsToken chains.now.grm.now.grammar (automaton_of g chains.now.stable.now) chains.now.limit chains.now.stable.now.tokens (S.number state.0) (state_of S.number above) (token_number S.number found)) }
+    requires endings { AreEndings S.number chains.now.grm.now.grammar chains.now.stable.now search.old.endings.items }
+    ensures endings { OnOk result (AreEndings S.number chains.now.grm.now.grammar chains.now.stable.now search.new.endings.items) }
+    ensures found { IfOk result (λ found. (g : GraphValue) → TellsToken chains.now.grm.now.grammar (automaton_of g chains.now.stable.now) chains.now.limit chains.now.stable.now.tokens (S.number state.0) (state_of S.number above) (token_number S.number found)) }
 {
     let tokens = chains.stable.tokens_len().0;
     let depth = depth_of(above);
@@ -158,7 +194,7 @@ pub(crate) fn long_token<S: IndexStorage>(
             continue;
         }
         let tidx = TIdx(index_below(number, tokens));
-        if is_long(chains, stack, state, above, tidx)? {
+        if passes(chains, search, state, above, tidx)? {
             return Ok(Some(tidx));
         }
     }
@@ -171,20 +207,21 @@ fn least_long<S: IndexStorage>(
     alloc: Global,
     chains: &Chains<'_, S>,
     reducers: &[Vec<PIdx<S>>],
-    rooms: &mut Rooms<S>,
+    search: &mut Search<S>,
     state: StIdx<S>,
     above: Option<StIdx<S>>,
 ) -> Result<Option<TIdx<S>>, AllocError>
     requires reducers { AreAllReducers S.number chains.now.grm.now.grammar chains.now.stable.now reducers.now }
     requires state { S.number state.0 < chains.now.stable.now.states }
     requires above { (q : ℕ) → state_of S.number above ≡ Some q → q < chains.now.stable.now.states }
-    ensures { IfOk result (λ found. (g : GraphValue) → TellsToken chains.now.grm.now.grammar (automaton_of g chains.now.stable.now) chains.now.limit chains.now.stable.now.tokens (S.number state.0) (state_of S.number above) (token_number S.number found)) }
+    requires endings { AreEndings S.number chains.now.grm.now.grammar chains.now.stable.now search.old.endings.items }
+    ensures endings { OnOk result (AreEndings S.number chains.now.grm.now.grammar chains.now.stable.now search.new.endings.items) }
+    ensures found { IfOk result (λ found. (g : GraphValue) → TellsToken chains.now.grm.now.grammar (automaton_of g chains.now.stable.now) chains.now.limit chains.now.stable.now.tokens (S.number state.0) (state_of S.number above) (token_number S.number found)) }
 {
-    if ends_soon(alloc, chains, reducers, rooms, state, above)? {
+    if ends_soon(alloc, chains, reducers, &mut search.rooms, state, above)? {
         return Ok(None);
     }
-    let found = long_token(chains, &mut rooms.stack, state, above)?;
-    Ok(found)
+    long_token(chains, search, state, above)
 }
 
 /// Returns the least token on which a chain of the state alone passes the limit. Such a chain begins with an empty
@@ -194,19 +231,21 @@ fn long_alone<S: IndexStorage>(
     chains: &Chains<'_, S>,
     shorts: &[Short<S>],
     reducers: &[Vec<PIdx<S>>],
-    rooms: &mut Rooms<S>,
+    search: &mut Search<S>,
     state: StIdx<S>,
 ) -> Result<Option<TIdx<S>>, AllocError>
     requires shorts { AreShorts S.number chains.now.grm.now.grammar chains.now.stable.now shorts.now }
     requires reducers { AreAllReducers S.number chains.now.grm.now.grammar chains.now.stable.now reducers.now }
     requires state { S.number state.0 < chains.now.stable.now.states }
-    ensures { IfOk result (λ found. (g : GraphValue) → TellsToken chains.now.grm.now.grammar (automaton_of g chains.now.stable.now) chains.now.limit chains.now.stable.now.tokens (S.number state.0) None (token_number S.number found)) }
+    requires endings { AreEndings S.number chains.now.grm.now.grammar chains.now.stable.now search.old.endings.items }
+    ensures endings { OnOk result (AreEndings S.number chains.now.grm.now.grammar chains.now.stable.now search.new.endings.items) }
+    ensures found { IfOk result (λ found. (g : GraphValue) → TellsToken chains.now.grm.now.grammar (automaton_of g chains.now.stable.now) chains.now.limit chains.now.stable.now.tokens (S.number state.0) None (token_number S.number found)) }
 {
     match short_at(shorts, state) {
         Short::Nothing => Ok(None),
         Short::Unit(_) => Ok(None),
         Short::Other => {
-            let found = least_long(alloc, chains, reducers, rooms, state, None)?;
+            let found = least_long(alloc, chains, reducers, search, state, None)?;
             Ok(found)
         }
     }
@@ -218,13 +257,15 @@ fn long_above<S: IndexStorage>(
     chains: &Chains<'_, S>,
     shorts: &[Short<S>],
     reducers: &[Vec<PIdx<S>>],
-    rooms: &mut Rooms<S>,
+    search: &mut Search<S>,
     state: StIdx<S>,
 ) -> Result<Option<LongChain<S>>, AllocError>
     requires shorts { AreShorts S.number chains.now.grm.now.grammar chains.now.stable.now shorts.now }
     requires reducers { AreAllReducers S.number chains.now.grm.now.grammar chains.now.stable.now reducers.now }
     requires state { S.number state.0 < chains.now.stable.now.states }
-    ensures { IfOk result (λ found. (g : GraphValue) → TellsAbove S.number chains.now.grm.now.grammar (automaton_of g chains.now.stable.now) chains.now.limit (S.number state.0) found) }
+    requires endings { AreEndings S.number chains.now.grm.now.grammar chains.now.stable.now search.old.endings.items }
+    ensures endings { OnOk result (AreEndings S.number chains.now.grm.now.grammar chains.now.stable.now search.new.endings.items) }
+    ensures found { IfOk result (λ found. (g : GraphValue) → TellsAbove S.number chains.now.grm.now.grammar (automaton_of g chains.now.stable.now) chains.now.limit (S.number state.0) found) }
 {
     let rules = chains.stable.rules_len().0;
     let row = chains.stable.state_gotos(state);
@@ -234,7 +275,7 @@ fn long_above<S: IndexStorage>(
             continue;
         }
         let onto = Some(above);
-        if let Some(tidx) = least_long(alloc, chains, reducers, rooms, state, onto)? {
+        if let Some(tidx) = least_long(alloc, chains, reducers, search, state, onto)? {
             let ridx = RIdx(index_below(number, rules));
             return Ok(Some(LongChain {
                 state,
@@ -252,22 +293,24 @@ fn long_of<S: IndexStorage>(
     chains: &Chains<'_, S>,
     shorts: &[Short<S>],
     reducers: &[Vec<PIdx<S>>],
-    rooms: &mut Rooms<S>,
+    search: &mut Search<S>,
     state: StIdx<S>,
 ) -> Result<Option<LongChain<S>>, AllocError>
     requires shorts { AreShorts S.number chains.now.grm.now.grammar chains.now.stable.now shorts.now }
     requires reducers { AreAllReducers S.number chains.now.grm.now.grammar chains.now.stable.now reducers.now }
     requires state { S.number state.0 < chains.now.stable.now.states }
-    ensures { IfOk result (λ found. (g : GraphValue) → TellsOf S.number chains.now.grm.now.grammar (automaton_of g chains.now.stable.now) chains.now.limit (S.number state.0) found) }
+    requires endings { AreEndings S.number chains.now.grm.now.grammar chains.now.stable.now search.old.endings.items }
+    ensures endings { OnOk result (AreEndings S.number chains.now.grm.now.grammar chains.now.stable.now search.new.endings.items) }
+    ensures found { IfOk result (λ found. (g : GraphValue) → TellsOf S.number chains.now.grm.now.grammar (automaton_of g chains.now.stable.now) chains.now.limit (S.number state.0) found) }
 {
-    if let Some(tidx) = long_alone(alloc, chains, shorts, reducers, rooms, state)? {
+    if let Some(tidx) = long_alone(alloc, chains, shorts, reducers, search, state)? {
         return Ok(Some(LongChain {
             state,
             ridx: None,
             tidx,
         }));
     }
-    let found = long_above(alloc, chains, shorts, reducers, rooms, state)?;
+    let found = long_above(alloc, chains, shorts, reducers, search, state)?;
     Ok(found)
 }
 
@@ -277,16 +320,17 @@ fn long_among<S: IndexStorage>(
     chains: &Chains<'_, S>,
     shorts: &[Short<S>],
     reducers: &[Vec<PIdx<S>>],
-    rooms: &mut Rooms<S>,
+    search: &mut Search<S>,
 ) -> Result<Option<LongChain<S>>, AllocError>
     requires shorts { AreShorts S.number chains.now.grm.now.grammar chains.now.stable.now shorts.now }
     requires reducers { AreAllReducers S.number chains.now.grm.now.grammar chains.now.stable.now reducers.now }
+    requires endings { AreEndings S.number chains.now.grm.now.grammar chains.now.stable.now search.old.endings.items }
     ensures { IfOk result (λ found. (g : GraphValue) → TellsChain S.number chains.now.grm.now.grammar (automaton_of g chains.now.stable.now) chains.now.limit found) }
 {
     let states = chains.stable.states_len().0;
     'states: for number in 0..states.to_usize() {
         let state = StIdx(index_below(number, states));
-        if let Some(found) = long_of(alloc, chains, shorts, reducers, rooms, state)? {
+        if let Some(found) = long_of(alloc, chains, shorts, reducers, search, state)? {
             return Ok(Some(found));
         }
     }
@@ -302,16 +346,21 @@ pub(crate) fn long_chain<S: IndexStorage>(
 {
     let reducers = all_reducers(alloc, chains)?;
     let shorts = all_shorts(alloc, chains, reducers.as_slice())?;
-    let mut rooms = Rooms {
-        stack: Vec::new(alloc),
-        stacks: Vec::new(alloc),
-        spare: Vec::new(alloc),
+    let endings = no_endings(alloc, chains)?;
+    let mut search = Search {
+        rooms: Rooms {
+            stack: Vec::new(alloc),
+            stacks: Vec::new(alloc),
+            spare: Vec::new(alloc),
+        },
+        endings,
+        waiting: Vec::new(alloc),
     };
     long_among(
         alloc,
         chains,
         shorts.as_slice(),
         reducers.as_slice(),
-        &mut rooms,
+        &mut search,
     )
 }

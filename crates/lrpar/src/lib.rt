@@ -41,6 +41,7 @@ mod apply;
 pub mod builder;
 mod chains;
 pub mod default_lexeme;
+mod endings;
 mod flat_parse;
 pub mod folded_parse;
 mod full_table;

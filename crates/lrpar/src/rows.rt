@@ -1,6 +1,6 @@
 //! Reads entries of a state's rows of a table.
 
-ghost use Rattle.std.specs.Prelude.{◌≡◌, ◌<◌, Some, length, slice_get};
+ghost use Rattle.std.specs.Prelude.{◌≡◌, ◌<◌, Some, IfSome, length, slice_get};
 ghost use Rattle.state_table.specs.CellViews.{action_of, cells_of, targets_of};
 
 use cfg_base::index::IndexStorage;
@@ -28,4 +28,25 @@ pub(crate) fn goto_of_row<S: IndexStorage>(
 {
     let (number, target) = row[index];
     (number as usize, target)
+}
+
+/// Returns the index of the entry with a number in a row that ascends, by halving.
+pub(crate) fn index_of<V>(row: &[(u32, V)], number: usize) -> Option<usize>
+    ensures { IfSome result (λ i. i < length row.now) }
+{
+    let mut low = 0;
+    let mut high = row.len();
+    'halves: while low < high {
+        let middle = low + (high - low) / 2;
+        let here = row[middle].0 as usize;
+        if here == number {
+            return Some(middle);
+        }
+        if here < number {
+            low = middle + 1;
+        } else {
+            high = middle;
+        }
+    }
+    None
 }

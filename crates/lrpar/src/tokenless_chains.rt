@@ -137,15 +137,14 @@ fn first_stack<S: IndexStorage>(
     }
 }
 
-/// Returns how many stacks are followed: as many as a chain may have, and no more than 256, so that little memory is
-/// asked for.
+/// Returns how many stacks are followed: as many as a chain may have, and no more than 32, since each is a copy.
 fn most_stacks(limit: u16) -> usize
     ensures { result ≤ limit + 1 }
 {
-    if limit < 256 {
+    if limit < 32 {
         return limit as usize + 1;
     }
-    256
+    32
 }
 
 /// Returns whether it is known, without looking at tokens, that no chain of the state passes the limit: alone, or

@@ -13,7 +13,7 @@ use Rattle.lrpar.proofs.chains.long_token.Goals as goal
 use Rattle.lrpar.proofs.chains.long_token.Goals.{After-action-1}
 
 pub cells-init : goal.cells-init
-cells-init g c = λ x. row_none _ _
+cells-init g c = record { endings = c.requires.endings; before = λ x. row_none _ _ }
 
 -- the cell that was read
 there : (g : _) (c : After-action-1 g) → action_at c.args.chains.now.stable.now (chain_top (g.S.IndexStorage.number c.args.state.0) (state_of g.S.IndexStorage.number c.args.above)) c.cell_of_row-number.result.0 ≡ action_of g.S.IndexStorage.number c.cell_of_row-number.result.1
@@ -36,19 +36,22 @@ index_below-requires g c =
     omega (arith, lt, c.tokens_len.ensures)
 
 pub cells-preserved-then-not-may_begin : goal.cells-preserved-then-not-may_begin
-cells-preserved-then-not-may_begin g c = λ x.
+cells-preserved-then-not-may_begin g c =
     let number = g.S.IndexStorage.number in
     let a = action_of number c.cell_of_row-number.result.1 in
     let none : BeginsNone c.args.chains.now.grm.now.grammar _ a = rw c.depth_of-depth.ensures at (c.may_begin.ensures c.if-not-may_begin.true) in
-    row_more (cells_of number c.state_cells-row.result.now) _ c.cells.index c.cell_of_row-number.result.0 a (c.cells.invariant x) c.cell_of_row-number.ensures
-    (begins_none c.args.chains.now.grm.now.grammar x c.args.chains.now.stable.now c.args.chains.now.limit (number c.args.state.0) c.cell_of_row-number.result.0 (state_of number c.args.above) a (there g (goal.at.cells-preserved-then-not-may_begin g c).After-action-1) none)
+    record {
+      endings = c.cells.invariant.endings;
+      before = λ x. row_more (cells_of number c.state_cells-row.result.now) _ c.cells.index c.cell_of_row-number.result.0 a (c.cells.invariant.before x) c.cell_of_row-number.ensures
+          (begins_none c.args.chains.now.grm.now.grammar x c.args.chains.now.stable.now c.args.chains.now.limit (number c.args.state.0) c.cell_of_row-number.result.0 (state_of number c.args.above) a (there g (goal.at.cells-preserved-then-not-may_begin g c).After-action-1) none);
+    }
 
 pub cells-preserved : goal.cells-preserved
-cells-preserved g c = λ x.
+cells-preserved g c =
     let number = g.S.IndexStorage.number in
     let a = action_of number c.cell_of_row-number.result.1 in
-    let here = subst (λ u. IsLong c.args.chains.now.grm.now.grammar (automaton_of x c.args.chains.now.stable.now) c.args.chains.now.limit (number c.args.state.0) (state_of number c.args.above) u → ⊥) c.index_below.ensures (rw c.if-branch.false at (c.in_ok-is_long.ensures x)) in
-    row_more (cells_of number c.state_cells-row.result.now) _ c.cells.index c.cell_of_row-number.result.0 a (c.cells.invariant x) c.cell_of_row-number.ensures here
+    let here = λ (x : GraphValue). subst (λ u. IsLong c.args.chains.now.grm.now.grammar (automaton_of x c.args.chains.now.stable.now) c.args.chains.now.limit (number c.args.state.0) (state_of number c.args.above) u → ⊥) c.index_below.ensures (rw c.if-branch.false at (c.in_ok-passes.ensures.long x)) in
+    record { endings = c.in_ok-passes.ensures.endings; before = λ x. row_more (cells_of number c.state_cells-row.result.now) _ c.cells.index c.cell_of_row-number.result.0 a (c.cells.invariant.before x) c.cell_of_row-number.ensures (here x) }
 
 -- an error cell begins no chain
 errors : (g : _) (c : After-action-1 g) (x : GraphValue) (t : ℕ) → action_at c.args.chains.now.stable.now (g.S.IndexStorage.number c.top_of.result.0) t ≡ error → IsLong c.args.chains.now.grm.now.grammar (automaton_of x c.args.chains.now.stable.now) c.args.chains.now.limit (g.S.IndexStorage.number c.args.state.0) (state_of g.S.IndexStorage.number c.args.above) t → ⊥
@@ -56,20 +59,20 @@ errors g c x t e =
     let number = g.S.IndexStorage.number in
     error_begins_none c.args.chains.now.grm.now.grammar x c.args.chains.now.stable.now c.args.chains.now.limit (number c.args.state.0) t (state_of number c.args.above) (subst (λ s. action_at c.args.chains.now.stable.now s t ≡ error) c.top_of.ensures e)
 
-pub returns-then-branch : goal.returns-then-branch
-returns-then-branch g c = λ x.
+pub returns-then-branch-clause-found : goal.returns-then-branch-clause-found
+returns-then-branch-clause-found g c = λ x.
     let number = g.S.IndexStorage.number in
     let a = action_of number c.cell_of_row-number.result.1 in
-    let before = before_cell c.args.chains.now.stable.now (number c.top_of.result.0) (cells_of number c.state_cells-row.result.now) c.state_cells-row.ensures.whole c.state_cells-row.ensures.cells _ (errors g (goal.at.returns-then-branch g c).After-action-1 x) c.cells.index c.cell_of_row-number.result.0 a (c.cells.invariant x) c.cell_of_row-number.ensures in
+    let before = before_cell c.args.chains.now.stable.now (number c.top_of.result.0) (cells_of number c.state_cells-row.result.now) c.state_cells-row.ensures.whole c.state_cells-row.ensures.cells _ (errors g (goal.at.returns-then-branch-clause-found g c).After-action-1 x) c.cells.index c.cell_of_row-number.result.0 a (c.cells.invariant.before x) c.cell_of_row-number.ensures in
     let inside = cell_inside c.args.chains.now.stable.now (number c.top_of.result.0) (cells_of number c.state_cells-row.result.now) c.state_cells-row.ensures.whole c.state_cells-row.ensures.cells c.cells.index c.cell_of_row-number.result.0 a c.cell_of_row-number.ensures in
-    (omega (arith, inside, c.index_below.ensures), rw c.if-branch.true at (c.in_ok-is_long.ensures x), λ t lt. before t (omega (arith, lt, c.index_below.ensures)))
+    (omega (arith, inside, c.index_below.ensures), rw c.if-branch.true at (c.in_ok-passes.ensures.long x), λ t lt. before t (omega (arith, lt, c.index_below.ensures)))
 
-pub returns : goal.returns
-returns g c = λ x t lt.
+pub returns-clause-found : goal.returns-clause-found
+returns-clause-found g c = λ x t lt.
     let number = g.S.IndexStorage.number in
     let f : ℕ × TableAction g.row.S.Denot → ℕ × Action = λ e. (e.0, action_of number e.1) in
     let n = length-map c.state_cells-row.result.now f in
     let all : length (cells_of number c.state_cells-row.result.now) ≤ c.cells.index = omega (arith, n) in
     all_cells c.args.chains.now.stable.now (number c.top_of.result.0) (cells_of number c.state_cells-row.result.now) c.state_cells-row.ensures.whole c.state_cells-row.ensures.cells _
     (λ u e. error_begins_none c.args.chains.now.grm.now.grammar x c.args.chains.now.stable.now c.args.chains.now.limit (number c.args.state.0) u (state_of number c.args.above) (subst (λ s. action_at c.args.chains.now.stable.now s u ≡ error) c.top_of.ensures e))
-    c.cells.index (c.cells.invariant x) all t
+    c.cells.index (c.cells.invariant.before x) all t

@@ -1,12 +1,9 @@
 -- A list of symbols from its end.
-use Rattle.std.proofs.Common.{◌≡◌, ℕ, zero, suc, ◌+◌, ◌-◌, ◌<◌, ◌↔◌, Bool, ◌&&◌, List, [], ◌∷◌, length, get_or, drop, Some, slice_get, sym, ap, ◌∙◌, subst, arith}
-use Rattle.std.specs.Prelude.{map, IsTrue}
+use Rattle.std.proofs.Common.{◌≡◌, ℕ, zero, suc, ◌+◌, ◌-◌, ◌<◌, List, [], ◌∷◌, length, get_or, drop, Some, slice_get, sym, ap, ◌∙◌, arith}
+use Rattle.std.specs.Prelude.{map}
 use Rattle.std.proofs.lemmas.List.{length-map, get_or-map}
 use Rattle.cfg_theory.specs.Grammar.{Sym}
-use Rattle.cfg_theory.specs.First.{AllOf}
-use Rattle.vob.specs.Sets.{is_set}
-use Rattle.cfg_sets.specs.Firsts.{FirstSets, HasEpsilon, IsNullableIn, FirstBefore, FirstsOf}
-use Rattle.cfg_sets.proofs.FirstSteps.{drop_here, first_cons, null_cons}
+use Rattle.cfg_sets.proofs.FirstSteps.{drop_here}
 
 module _ {X : Type 0} (f : X → Sym) (xs : List X) (index at : ℕ) (x : X) (e : at + 1 + index ≡ length xs) (is : x ≡ get_or xs at x) where
   -- the rest from the next symbol on
@@ -27,13 +24,3 @@ module _ {X : Type 0} (f : X → Sym) (xs : List X) (index at : ℕ) (x : X) (e 
       get_here [] i y lt q = absurd (omega (arith, lt))
       get_here (z ∷ l) zero y lt q = ap (λ u. Some (f u)) (sym q)
       get_here (z ∷ l) (suc i) y lt q = get_here l i y (omega (arith, lt)) q
-
-  module _ (s : FirstSets) (old new : List Bool) (b c : Bool) (null : IsTrue b ↔ AllOf (HasEpsilon s) (drop (length xs - index) (map f xs))) (first : (t : ℕ) → IsTrue (is_set old t) ↔ FirstsOf s (drop (length xs - index) (map f xs)) t)
-      (told : IsTrue c ↔ IsNullableIn s (f x)) (made : (t : ℕ) → IsTrue (is_set new t) ↔ FirstBefore s (f x) (λ u. IsTrue (is_set old u)) t) where
-    pub null_next : IsTrue (b && c) ↔ AllOf (HasEpsilon s) (drop (length xs - (index + 1)) (map f xs))
-    null_next = subst (λ l. IsTrue (b && c) ↔ AllOf (HasEpsilon s) l) (sym rest_next) (null_cons s (f x) (drop (length xs - index) (map f xs)) b c null told)
-
-    pub first_next : (t : ℕ) → IsTrue (is_set new t) ↔ FirstsOf s (drop (length xs - (index + 1)) (map f xs)) t
-    first_next t =
-        let h = first_cons s (f x) (drop (length xs - index) (map f xs)) (λ u. IsTrue (is_set old u)) first t in
-        subst (λ l. IsTrue (is_set new t) ↔ FirstsOf s l t) (sym rest_next) ((λ y. h.0 ((made t).0 y)), (λ y. (made t).1 (h.1 y)))

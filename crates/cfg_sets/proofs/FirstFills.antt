@@ -167,6 +167,36 @@ take_suc [] i X e = cc
 take_suc (Y ∷ a) zero X e = let same : Y ≡ X = cc in ap (λ Z. Z ∷ []) same
 take_suc (Y ∷ a) (suc i) X e = ap (λ l. Y ∷ l) (take_suc a i X e)
 
+-- the front of a list with one symbol more
+module _ (s : FirstSets) (a : List Sym) (i : ℕ) (X : Sym) (at : slice_get a i ≡ Some X) (all : AllOf (HasEpsilon s) (take i a)) where
+  front_suc : take (i + 1) a ≡ take i a ++ X ∷ []
+  front_suc = let e : i + 1 ≡ suc i = omega arith in ap (λ n. take n a) e ∙ take_suc a i X at
+
+  front_whole : (take i a ++ X ∷ []) ++ drop (i + 1) a ≡ a
+  front_whole = ap (λ l. l ++ drop (i + 1) a) (sym front_suc) ∙ take-append-drop (i + 1) a
+
+  pub front_all : IsNullableIn s X → AllOf (HasEpsilon s) (take (i + 1) a)
+  front_all n = subst (AllOf (HasEpsilon s)) (sym front_suc) ((all_snoc s (take i a) X).1 (all, n))
+
+  pub front_null : AllOf (HasEpsilon s) a → IsNullableIn s X
+  front_null h = all_stop s (take i a) (drop (i + 1) a) X (subst (AllOf (HasEpsilon s)) (sym front_whole) h)
+
+  pub front_more : (P : ℕ → Type 0) → ((t : ℕ) → P t ↔ FirstsOf s (take i a) t) → (Q : ℕ → Type 0) → ((t : ℕ) → Q t ↔ (P t ⊎ SymbolFirst s X t)) → (t : ℕ) → Q t ↔ FirstsOf s (take (i + 1) a) t
+  front_more P was Q put t =
+      let h = firsts_snoc s (take i a) X t in
+      let both : Q t ↔ FirstsOf s (take i a ++ X ∷ []) t = (
+        λ q. h.1 (elim ((put t).0 q) [ inl p ↦ inl ((was t).0 p) | inr f ↦ inr (all, f) ]),
+        λ f. (put t).1 (elim (h.0 f) [ inl p ↦ inl ((was t).1 p) | inr n ↦ inr n.1 ]),
+      ) in
+      subst (λ l. Q t ↔ FirstsOf s l t) (sym front_suc) both
+
+  -- where that symbol is the last that counts
+  pub front_first : {Q : Type 0} → (IsNullableIn s X → ⊥) → (t : ℕ) → Q ↔ FirstsOf s (take (i + 1) a) t → Q ↔ FirstsOf s a t
+  front_first stops t h = (
+    λ q. subst (λ l. FirstsOf s l t) front_whole (firsts_front s (take i a ++ X ∷ []) (drop (i + 1) a) t (subst (λ l. FirstsOf s l t) front_suc (h.0 q))),
+    λ f. h.1 (subst (λ l. FirstsOf s l t) (sym front_suc) (firsts_stop s (take i a) (drop (i + 1) a) X t stops (subst (λ l. FirstsOf s l t) (sym front_whole) f))),
+  )
+
 pub within_still : (A : ℕ) (P : ℕ → Type 0) (N : Type 0) (old new : FirstSets) → Adds A P N old new → (X : Sym) → IsWithin old X → IsWithin new X
 within_still A P N old new h (rule B) lt = subst (λ n. B < n) (sym h.count) lt
 within_still A P N old new h (token t) lt = subst (λ n. t < n) (sym h.tokens) lt

@@ -1,13 +1,12 @@
 -- How passes fill FIRST sets.
-use Rattle.std.proofs.Common.{◌≡◌, ℕ, zero, suc, ◌<◌, ◌⊎◌, inl, inr, ◌↔◌, Bool, true, false, ◌&&◌, ◌||◌, List, [], ◌∷◌, length, get_or, drop, replicate, refl, sym, ap, ◌∙◌, subst, arith}
+use Rattle.std.proofs.Common.{◌≡◌, ℕ, zero, suc, ◌<◌, ◌⊎◌, inl, inr, ◌↔◌, Bool, true, false, ◌||◌, List, [], ◌∷◌, length, get_or, drop, replicate, refl, sym, ap, ◌∙◌, subst, arith}
 use Rattle.std.specs.Prelude.{map, IsTrue, if◌then◌else◌}
 use Rattle.std.proofs.lemmas.List.{length-replicate}
-use Rattle.std.proofs.lemmas.Bool.{and_parts, and_from}
 use Rattle.cfg_theory.specs.Grammar.{Sym, rule, token, Grammar, WellFormed, InRange, body_of}
-use Rattle.cfg_theory.specs.First.{AllOf, IsFirstTable, FirstTablesAreExact}
+use Rattle.cfg_theory.specs.First.{IsFirstTable, FirstTablesAreExact}
 use Rattle.cfg_theory.proofs.Derivation.{derives_rule, nullable_of, first_of_list}
 use Rattle.vob.specs.Sets.{is_set, is_set_in, missing, missing_in, AreRows}
-use Rattle.cfg_sets.specs.Firsts.{FirstSets, HasEpsilon, HasFirst, AreOf, AreFirsts, AreSound, IsClosedAt, IsWithin, AllWithin, IsNullableIn, FirstBefore, FirstsOf, first_room}
+use Rattle.cfg_sets.specs.Firsts.{FirstSets, HasEpsilon, HasFirst, AreOf, AreFirsts, AreSound, IsClosedAt, IsWithin, AllWithin, FirstBefore, first_room}
 use Rattle.vob.specs.Passes.{PassStep}
 use Rattle.vob.proofs.Bits.{join, length-bitwise, joined, none_set, none_in, empty_sized}
 use Rattle.cfg_theory.proofs.Lists.{get_from_drop}
@@ -41,6 +40,12 @@ kept_width keep old mid row new len m e =
     by true = refl
     by false = length-replicate (length old) false
 
+-- a set joined to that of a rule
+pub joined_first : (s : FirstSets) (A : ℕ) (old row new : List Bool) → row ≡ get_or s.rows A [] → length old ≡ length row → new ≡ join old row → (t : ℕ) → IsTrue (is_set new t) ↔ (IsTrue (is_set old t) ⊎ HasFirst s A t)
+joined_first s A old row new r len e t =
+    let at : IsTrue (is_set new t) ↔ (IsTrue (is_set old t) ⊎ IsTrue (is_set row t)) = subst (λ l. IsTrue (is_set l t) ↔ (IsTrue (is_set old t) ⊎ IsTrue (is_set row t))) (sym e) (joined old row t len) in
+    subst (λ l. IsTrue (is_set new t) ↔ (IsTrue (is_set old t) ⊎ IsTrue (is_set l t))) r at
+
 -- a set that was emptied and joined to another
 pub copied : (old mid row new : List Bool) → length old ≡ length row → mid ≡ replicate (length old) false → new ≡ join mid row → (length new ≡ length row) × ((t : ℕ) → IsTrue (is_set new t) ↔ IsTrue (is_set row t))
 copied old mid row new len m e =
@@ -53,17 +58,6 @@ copied old mid row new len m e =
           λ h. elim (j.0 (subst (λ l. IsTrue (is_set l t)) e h)) [ inl x ↦ absurd (none_set (length old) t (subst (λ l. IsTrue (is_set l t)) m x)) | inr y ↦ y ],
           λ h. subst (λ l. IsTrue (is_set l t)) (sym e) (j.1 (inr h)),
         )
-
--- one symbol more in front
-pub first_cons : (s : FirstSets) (X : Sym) (a : List Sym) (P : ℕ → Type 0) → ((t : ℕ) → P t ↔ FirstsOf s a t) → (t : ℕ) → FirstBefore s X P t ↔ FirstsOf s (X ∷ a) t
-first_cons s (rule A) a P h t =
-    (λ x. elim x [ inl f ↦ inl f | inr n ↦ inr (n.0, (h t).0 n.1) ], λ x. elim x [ inl f ↦ inl f | inr n ↦ inr (n.0, (h t).1 n.1) ])
-first_cons s (token u) a P h t = (λ e. e, λ e. e)
-
-pub null_cons : (s : FirstSets) (X : Sym) (a : List Sym) (b c : Bool) → IsTrue b ↔ AllOf (HasEpsilon s) a → IsTrue c ↔ IsNullableIn s X → IsTrue (b && c) ↔ AllOf (HasEpsilon s) (X ∷ a)
-null_cons s (rule A) a b c h k =
-    (λ e. let p = and_parts b c e in (k.0 p.1, h.0 p.0), λ n. and_from b c (h.1 n.1) (k.1 n.0))
-null_cons s (token t) a b c h k = (λ e. absurd (k.0 (and_parts b c e).1), λ n. absurd n)
 
 pub drop_here : {X : Type 0} (l : List X) (i : ℕ) (x d : X) → i < length l → x ≡ get_or l i d → drop i l ≡ x ∷ drop (suc i) l
 drop_here [] i x d lt e = absurd (omega arith)

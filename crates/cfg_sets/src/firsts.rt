@@ -1,6 +1,6 @@
 //! FIRST sets: the tokens with which a rule's lists begin, and whether it derives the empty list.
 
-ghost use Rattle.std.specs.Prelude.{◌≡◌, ℕ, ◌+◌, ◌*◌, ◌<◌, ◌≤◌, ◌↔◌, Bool, true, false, IsTrue, IfOk, OnOk, [], length, get_or, replicate, slice_set};
+ghost use Rattle.std.specs.Prelude.{◌≡◌, ℕ, ◌+◌, ◌*◌, ◌<◌, ◌≤◌, ◌↔◌, ◌⊎◌, Bool, true, false, IsTrue, IfOk, OnOk, [], length, get_or, replicate, slice_set};
 ghost use Rattle.cfg_theory.specs.Grammar.{rule, Grammar};
 ghost use Rattle.cfg_theory.specs.First.{AllOf};
 ghost use Rattle.cfg_numbered.specs.Symbols.{sym_of, syms_of};
@@ -101,13 +101,32 @@ impl<S: IndexStorage> YaccFirsts<S> {
         ensures first { (t : ℕ) → IsTrue (is_set begins.new.bits t) ↔ FirstsOf self.now (syms_of S.number symbols.now) t }
     {
         begins.set_all(false);
-        let mut nullable = true;
-        'back: for index in 0..symbols.len() {
-            let symbol = symbols[symbols.len() - 1 - index];
-            self.put_before(symbol, begins);
-            nullable &= self.is_nullable(symbol);
+        'prefix: for index in 0..symbols.len() {
+            let symbol = symbols[index];
+            self.put_first(symbol, begins);
+            if !self.is_nullable(symbol) {
+                return false;
+            }
         }
-        nullable
+        true
+    }
+
+    /// Adds the tokens that a symbol begins with to a set.
+    fn put_first(&self, symbol: Symbol<S>, begins: &mut Vob)
+        requires within { IsWithin self.now (sym_of S.number symbol) }
+        requires width { length begins.old.bits ≡ self.now.tokens }
+        ensures width { length begins.new.bits ≡ self.now.tokens }
+        ensures bits { (t : ℕ) → IsTrue (is_set begins.new.bits t) ↔ (IsTrue (is_set begins.old.bits t) ⊎ SymbolFirst self.now (sym_of S.number symbol) t) }
+    {
+        match symbol {
+            Symbol::Rule(rule) => {
+                let number = rule.0.to_usize();
+                begins.or(self.firsts.row(number));
+            }
+            Symbol::Token(token) => {
+                begins.set(token.0.to_usize(), true);
+            }
+        }
     }
 
     /// Adds the tokens to the set of a rule, and returns whether that changed it.

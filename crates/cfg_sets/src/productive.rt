@@ -98,7 +98,7 @@ impl Search {
         })
     }
 
-    /// Looks at a production: it is held up, or its rule is found.
+    /// Looks at a production: its rule was found before, or it is held up, or its rule is found.
     fn look_at<S: IndexStorage>(
         &mut self,
         grm: &NumberedGrammar<S>,
@@ -108,7 +108,12 @@ impl Search {
         requires search { IsSearch grm.now.grammar self.old }
         ensures { OnOk result (LooksAt grm.now.grammar number self.old self.new) }
     {
+        grm.start_prod();
         let pidx = grm.prod_at(number);
+        let head = grm.prod_to_rule(pidx).0.to_usize();
+        if self.found.get_unchecked(head) {
+            return Ok(());
+        }
         if let Some(index) = held_up(grm, pidx, self.hints[number], &self.found) {
             self.hints[number] = index;
             return Ok(());

@@ -1,5 +1,5 @@
 -- The messages of a report.
-use Rattle.std.specs.Prelude.{◌≡◌, ℕ, ◌≤◌, Bool, true, false, List, [], ◌∷◌, ◌++◌, Option, None, Some, IfSome, codes, cond, drop, length, map, nat_le, slice_get, slice_range, take, IsCharBoundary, ⊤}
+use Rattle.std.specs.Prelude.{◌≡◌, ℕ, ◌≤◌, Bool, true, false, List, [], ◌∷◌, ◌++◌, ◌&&◌, Option, None, Some, IfSome, codes, cond, drop, length, map, nat_le, not, slice_get, slice_range, take, IsCharBoundary, ⊤}
 use Rattle.std.specs.List.{All}
 use Rattle.std.specs.Str.{bytes_eq}
 use Rattle.cfg_base.specs.SpanModel.{SpanModel}
@@ -9,7 +9,7 @@ use Rattle.cfg_read.specs.Asts.{Ast, RuleAst}
 use Rattle.cfg_read.specs.ErrorModels.{failure_of}
 use Rattle.cfg_read.specs.ErrorTexts.{failure_text}
 use Rattle.cfg_read.specs.SyntaxTexts.{WordText}
-use Rattle.cfg_read.specs.ValidityInfo.{CheckedAst, IsChecked}
+use Rattle.cfg_read.specs.ValidityInfo.{CheckedAst, IsChecked, is_valid}
 use Rattle.cfg_read.specs.WarningModels.{warning_text}
 use Rattle.cfg_read.specs.Warnings as unused
 use Rattle.cfg_read.specs.Warnings.{WarningText}
@@ -23,7 +23,7 @@ use Rattle.std.specs.declared.cmp.Ordering.{Ordering}
 use Rattle.parser_kit.specs.Kit.{KitValue}
 use Rattle.refused_tables.specs.Blocks.{AreBlocks}
 use Rattle.refused_tables.specs.declared.listed.Listed.{Listed}
-use Rattle.text_messages.specs.Added.{AreWarnings, IsPartOf, OneForEach, Said, said_in}
+use Rattle.text_messages.specs.Added.{AddsSome, AreWarnings, IsPartOf, MessagesValue, OneForEach, Said, said_in}
 use Rattle.text_messages.specs.Places.{BeginsWith, SourceValue, heading_if}
 use Rattle.text_messages.specs.declared.source.Severity.{Severity}
 use Rattle.text_messages.specs.declared.source.Severity.TheVariants.{Error, Note, Warning}
@@ -115,6 +115,26 @@ AreOfUnused text ast these = (ws : List WarningText) × unused.AreWarnings ast w
 -- those of unused names, and further warnings
 abbrev pub AreOfWarnings : List ℕ → Ast → List Said → Type 0
 AreOfWarnings text ast these = (names more : List Said) × AreOfUnused text ast names × AreWarnings more × (these ≡ names ++ more)
+
+-- a text in which nothing is wrong, with more productions than this
+abbrev pub is_large : ℕ → CheckedAst → Bool
+is_large most k = is_valid k.errors && not (nat_le (length k.ast.productions) most)
+
+-- the warnings of a large one, and nothing of another
+abbrev pub AreOfLarge : List ℕ → Ast → Bool → List Said → Type 0
+AreOfLarge text ast true these = AreOfWarnings text ast these
+AreOfLarge text ast false these = these ≡ []
+
+-- whether a text is large
+abbrev pub DecidesLarge : ℕ → List ℕ → Bool → Type 0
+DecidesLarge most text large = (k : CheckedAst) × IsKeptOf text k × (large ≡ is_large most k)
+
+-- the same of what is kept of it, and what is added
+abbrev pub AddsOfChecked : ℕ → CheckedAst → Bool → MessagesValue → MessagesValue → Type 0
+AddsOfChecked most k large old new = (large ≡ is_large most k) × AddsSome (AreOfLarge old.text k.ast large) old new
+
+abbrev pub AddsOfLarge : ℕ → Bool → MessagesValue → MessagesValue → Type 0
+AddsOfLarge most large old new = (k : CheckedAst) × IsKeptOf old.text k × AddsOfChecked most k large old new
 
 -- what a conflict begins with in words
 abbrev pub kind_text : Option (PIdx ℕ) → List ℕ

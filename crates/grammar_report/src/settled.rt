@@ -56,12 +56,21 @@ fn first_looking(items: &Itemset<u32>, indexes: &[usize], token: usize) -> Optio
     None
 }
 
-/// Whether a token and a production have precedences. Where either has none, a conflict of the two is listed.
-fn have_precedences(grm: &Grammar, tidx: TIdx<u32>, pidx: PIdx<u32>) -> bool {
-    if !grm.has_token(tidx) || !grm.has_prod(pidx) {
-        return false;
+/// The tokens that have a precedence. Where a token or the production has none, a conflict of the two is listed.
+fn ranked_tokens(alloc: Global, grm: &Grammar) -> Result<Vec<TIdx<u32>>, AllocError> {
+    let mut ranked = Vec::new(alloc);
+    'tokens: for token in 0..grm.tokens_len().0.to_usize() {
+        let tidx = grm.token_at(token);
+        if grm.token_precedence(tidx).is_some() {
+            ranked.push(tidx)?;
+        }
     }
-    grm.token_precedence(tidx).is_some() && grm.prod_precedence(pidx).is_some()
+    Ok(ranked)
+}
+
+/// Whether a production has a precedence.
+fn is_ranked(grm: &Grammar, pidx: PIdx<u32>) -> bool {
+    grm.has_prod(pidx) && grm.prod_precedence(pidx).is_some()
 }
 
 /// What a state does on a token.
@@ -76,7 +85,7 @@ fn choice_on(table: &StateTable<u32>, stidx: StIdx<u32>, tidx: TIdx<u32>) -> Cho
     }
 }
 
-/// What is chosen in a state on a token, if precedences choose there: a shift against the first reduction.
+/// What is chosen in a state on a token with a precedence, if precedences choose there: a shift against the first reduction.
 fn pair_on(
     kit: &ParserKit<u32>,
     stidx: StIdx<u32>,
@@ -86,27 +95,28 @@ fn pair_on(
 ) -> Option<Pair> {
     let pidx = first_looking(items, ended, tidx.0.to_usize())?;
     kit.sgraph().edge(stidx, Symbol::Token(tidx))?;
-    if !have_precedences(kit.grm(), tidx, pidx) {
+    if !is_ranked(kit.grm(), pidx) {
         return None;
     }
     let choice = choice_on(kit.stable(), stidx, tidx);
     Some(Pair { pidx, choice, tidx })
 }
 
-/// Adds what is chosen in a state.
+/// Adds what is chosen in a state on tokens with a precedence.
 fn add_pairs(
     alloc: Global,
     pairs: &mut Vec<Pair>,
     kit: &ParserKit<u32>,
     stidx: StIdx<u32>,
     items: &Itemset<u32>,
+    ranked: &[TIdx<u32>],
 ) -> Result<(), AllocError> {
     let ended = ended_items(alloc, kit.grm(), items)?;
     if ended.is_empty() {
         return Ok(());
     }
-    'tokens: for token in 0..kit.grm().tokens_len().0.to_usize() {
-        let tidx = kit.grm().token_at(token);
+    'tokens: for token in ranked {
+        let tidx = *token;
         if let Some(pair) = pair_on(kit, stidx, items, ended.as_slice(), tidx) {
             pairs.push(pair)?;
         }
@@ -117,15 +127,11 @@ fn add_pairs(
 /// What is chosen in all states, ordered by production, choice and token.
 pub(crate) fn all_pairs(alloc: Global, kit: &ParserKit<u32>) -> Result<Vec<Pair>, AllocError> {
     let mut pairs = Vec::new(alloc);
+    let ranked = ranked_tokens(alloc, kit.grm())?;
     'states: for state in 0..kit.sgraph().all_states_len().0.to_usize() {
         let stidx = kit.sgraph().state_at(state);
-        add_pairs(
-            alloc,
-            &mut pairs,
-            kit,
-            stidx,
-            kit.sgraph().closed_state(stidx),
-        )?;
+        let items = kit.sgraph().closed_state(stidx);
+        add_pairs(alloc, &mut pairs, kit, stidx, items, ranked.as_slice())?;
     }
     pairs.sort()?;
     Ok(pairs)

@@ -1,7 +1,8 @@
 //! From a grammar's text to the plain values of its report.
 
-ghost use Rattle.std.specs.Prelude.{◌≡◌, ◌+◌, length, None, IsSomeAnd, IfOk, OnOk, IfErr};
+ghost use Rattle.std.specs.Prelude.{◌≡◌, ◌+◌, length, None, IsSomeAnd, IfOk, OnOk, IfErr, is_some};
 ghost use Rattle.grammar_report.specs.declared.outcome.Outcome.TheVariants.{Invalid};
+ghost use Rattle.grammar_report.specs.Messages.{DecidesLarge};
 ghost use Rattle.grammar_report.specs.Outcomes.{IsOutcome, status_of};
 ghost use Rattle.report_values.specs.Drawn.{Draws, Fits, IsTooMany, drawn_len, state_count};
 
@@ -11,11 +12,11 @@ use crate::ranges::push_messages;
 use crate::rules::push_rules;
 use crate::states::{push_states, states_len};
 use grammar_report::{
-    Outcome, Reading, counts_of, push_kit_warnings, push_refusal, push_unproductive, read_grammar,
-    status,
+    Outcome, Reading, counts_of, push_kit_warnings, push_large, push_refusal, push_unproductive,
+    read_grammar, status,
 };
 use parser_kit::{KitError, ParserKit};
-use report_forms::{Counts, Findings, Object, said_of};
+use report_forms::{Counts, Findings, Object, Said, said_of};
 use std::alloc::{AllocError, Global};
 use text_messages::{Message, Messages, Source};
 
@@ -271,6 +272,42 @@ pub fn findings_of_error(
         Ok(()) => Ok(Found { outcome, findings }),
         Err(e) => {
             drop(findings);
+            Err(e)
+        }
+    }
+}
+
+/// Returns messages about a source's text as values.
+fn said_in(
+    alloc: Global,
+    source: &Source<'_>,
+    messages: Vec<Message>,
+) -> Result<Vec<Said>, AllocError> {
+    let mut list = Vec::new(alloc);
+    'messages: for message in messages {
+        list.push(said_of(source, message))?;
+    }
+    Ok(list)
+}
+
+/// Returns the warnings about a source's text with more than `most` productions in which nothing is wrong; `None` of another. No
+/// table is made.
+pub fn warnings_of_large(
+    alloc: Global,
+    source: &Source<'_>,
+    most: usize,
+) -> Result<Option<Vec<Said>>, AllocError>
+    ensures { IfOk result (λ o. DecidesLarge most source.now.text (is_some o)) }
+{
+    let mut messages = Messages::new(alloc, source.text());
+    match push_large(alloc, &mut messages, most) {
+        Ok(true) => Ok(Some(said_in(alloc, source, messages.into_vec())?)),
+        Ok(false) => {
+            drop(messages);
+            Ok(None)
+        }
+        Err(e) => {
+            drop(messages);
             Err(e)
         }
     }

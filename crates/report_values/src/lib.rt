@@ -32,5 +32,5 @@ mod ranges;
 mod rules;
 mod states;
 
-pub use findings::{Found, Wanted, findings_of_error, findings_on};
+pub use findings::{Found, Wanted, findings_of_error, findings_on, warnings_of_large};
 pub use findings_error::FindingsError;

@@ -1,7 +1,7 @@
 //! What a query is about: a document, and places in it.
 
 use crate::answers::{Location, Range};
-use crate::places::{Encoding, Position, offset_at, position_at};
+use crate::places::{Encoding, Lines, Position, offset_at, position_at};
 use grammar_index::{GrammarIndex, Occurrence};
 use std::alloc::{AllocError, Global};
 
@@ -14,8 +14,8 @@ pub struct Asked<'a> {
     pub text: &'a str,
     /// Where the text names its rules and tokens.
     pub index: &'a GrammarIndex,
-    /// Where its lines begin.
-    pub starts: &'a [usize],
+    /// Its lines.
+    pub lines: &'a Lines,
     /// In what columns count.
     pub encoding: Encoding,
 }
@@ -24,8 +24,8 @@ impl<'a> Asked<'a> {
     /// Returns the range between two offsets.
     pub fn range(&self, start: usize, end: usize) -> Range {
         Range {
-            start: position_at(self.text, self.starts, start, self.encoding),
-            end: position_at(self.text, self.starts, end, self.encoding),
+            start: position_at(self.text, self.lines, start, self.encoding),
+            end: position_at(self.text, self.lines, end, self.encoding),
         }
     }
 
@@ -41,7 +41,7 @@ impl<'a> Asked<'a> {
 
     /// Returns the offset of a place.
     pub fn offset(&self, place: Position) -> usize {
-        offset_at(self.text, self.starts, place, self.encoding)
+        offset_at(self.text, self.lines, place, self.encoding)
     }
 
     /// Returns the name at a place, if there is one.

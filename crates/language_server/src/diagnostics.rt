@@ -3,10 +3,10 @@
 use crate::answers::{Diagnostic, Location, Range, Related};
 use crate::bison::push_bison;
 use crate::fault::{ServeFault, fault_of};
-use crate::places::{Encoding, Position, line_starts, position_at};
+use crate::places::{Encoding, Lines, Position, position_at};
 use bison_sources::bison_file;
 use report_forms::{Conflict, Findings, Range as Reported, Said};
-use report_values::{Wanted, findings_on};
+use report_values::{Wanted, findings_on, warnings_of_large};
 use std::alloc::{AllocError, Global};
 use text_messages::Source;
 
@@ -19,6 +19,9 @@ const ERROR: u8 = 1;
 const WARNING: u8 = 2;
 
 const INFORMATION: u8 = 3;
+
+/// A table is made of no grammar with more productions than these.
+const MOST_PRODUCTIONS: usize = 4096;
 
 /// The beginning of a document, where what has no place is shown.
 const BEGINNING: Position = Position {
@@ -49,11 +52,11 @@ const WANTED: Wanted = Wanted {
 };
 
 /// Returns a range of the report as one of the document.
-fn range_in(view: &View<'_>, starts: &[usize], range: &Option<Reported>) -> Range {
+fn range_in(view: &View<'_>, lines: &Lines, range: &Option<Reported>) -> Range {
     match range {
         Some(range) => Range {
-            start: position_at(view.text, starts, range.start.byte, view.encoding),
-            end: position_at(view.text, starts, range.end.byte, view.encoding),
+            start: position_at(view.text, lines, range.start.byte, view.encoding),
+            end: position_at(view.text, lines, range.end.byte, view.encoding),
         },
         None => Range {
             start: BEGINNING,
@@ -116,12 +119,12 @@ fn words_of(alloc: Global, said: &Said) -> Result<String, AllocError> {
 fn push_said(
     alloc: Global,
     view: &View<'_>,
-    starts: &[usize],
+    lines: &Lines,
     found: &mut Vec<Diagnostic>,
     said: &Said,
 ) -> Result<(), AllocError> {
     let words = words_of(alloc, said)?;
-    let range = range_in(view, starts, &said.range);
+    let range = range_in(view, lines, &said.range);
     if said.severity == "note" {
         if let Some(last) = found.last_mut() {
             return push_related(alloc, view, last, range, words.as_str());
@@ -140,12 +143,12 @@ fn push_said(
 fn push_all_said(
     alloc: Global,
     view: &View<'_>,
-    starts: &[usize],
+    lines: &Lines,
     found: &mut Vec<Diagnostic>,
     list: &[Said],
 ) -> Result<(), AllocError> {
     'messages: for index in 0..list.len() {
-        push_said(alloc, view, starts, found, &list[index])?;
+        push_said(alloc, view, lines, found, &list[index])?;
     }
     Ok(())
 }
@@ -176,7 +179,7 @@ fn conflict_words(alloc: Global, conflict: &Conflict) -> Result<String, AllocErr
 fn push_shown(
     alloc: Global,
     view: &View<'_>,
-    starts: &[usize],
+    lines: &Lines,
     found: &mut Diagnostic,
     conflict: &Conflict,
 ) -> Result<(), AllocError> {
@@ -185,11 +188,11 @@ fn push_shown(
         push_related(alloc, view, found, here, example.lines.as_str())?;
     }
     if conflict.shift.is_some() {
-        let range = range_in(view, starts, &conflict.shift);
+        let range = range_in(view, lines, &conflict.shift);
         push_related(alloc, view, found, range, "the token is shifted here")?;
     }
     if let Some(other) = conflict.productions.get(1) {
-        let range = range_in(view, starts, &other.range);
+        let range = range_in(view, lines, &other.range);
         return push_related(alloc, view, found, range, "the other production");
     }
     Ok(())
@@ -199,19 +202,19 @@ fn push_shown(
 fn push_conflict(
     alloc: Global,
     view: &View<'_>,
-    starts: &[usize],
+    lines: &Lines,
     found: &mut Vec<Diagnostic>,
     conflict: &Conflict,
     severity: u8,
 ) -> Result<(), AllocError> {
     let words = conflict_words(alloc, conflict)?;
     let range = match conflict.productions.first() {
-        Some(first) => range_in(view, starts, &first.range),
-        None => range_in(view, starts, &None),
+        Some(first) => range_in(view, lines, &first.range),
+        None => range_in(view, lines, &None),
     };
     found.push(diagnostic(alloc, range, severity, words))?;
     match found.last_mut() {
-        Some(last) => push_shown(alloc, view, starts, last, conflict),
+        Some(last) => push_shown(alloc, view, lines, last, conflict),
         None => Ok(()),
     }
 }
@@ -223,11 +226,11 @@ pub(crate) fn push_findings(
     found: &mut Vec<Diagnostic>,
     findings: &Findings,
 ) -> Result<(), AllocError> {
-    let starts = line_starts(alloc, view.text)?;
-    let starts = starts.as_slice();
+    let lines = Lines::of_text(alloc, view.text)?;
+    let lines = &lines;
     let object = &findings.object;
-    push_all_said(alloc, view, starts, found, object.errors.as_slice())?;
-    push_all_said(alloc, view, starts, found, object.warnings.as_slice())?;
+    push_all_said(alloc, view, lines, found, object.errors.as_slice())?;
+    push_all_said(alloc, view, lines, found, object.warnings.as_slice())?;
     let severity = if object.status == 0 {
         INFORMATION
     } else {
@@ -237,7 +240,7 @@ pub(crate) fn push_findings(
         push_conflict(
             alloc,
             view,
-            starts,
+            lines,
             found,
             &object.conflicts[index],
             severity,
@@ -246,8 +249,49 @@ pub(crate) fn push_findings(
     Ok(())
 }
 
-/// Adds what is found of a source.
-pub(crate) fn push_source(
+/// Adds that no table is made of a grammar.
+fn push_no_table(alloc: Global, found: &mut Vec<Diagnostic>) -> Result<(), AllocError> {
+    let message = format!(in alloc;
+        "more than {MOST_PRODUCTIONS} productions: lrkit-check lists the conflicts"
+    )?;
+    let range = Range {
+        start: BEGINNING,
+        end: BEGINNING,
+    };
+    found.push(diagnostic(alloc, range, INFORMATION, message))?;
+    Ok(())
+}
+
+/// Adds the warnings about a grammar that no table is made of.
+fn push_warnings(
+    alloc: Global,
+    view: &View<'_>,
+    found: &mut Vec<Diagnostic>,
+    warnings: &[Said],
+) -> Result<(), AllocError> {
+    let lines = Lines::of_text(alloc, view.text)?;
+    push_all_said(alloc, view, &lines, found, warnings)?;
+    push_no_table(alloc, found)
+}
+
+/// Adds what is found of a source without its table, if that isn't made, and returns whether it isn't.
+fn push_large(
+    alloc: Global,
+    view: &View<'_>,
+    found: &mut Vec<Diagnostic>,
+    source: &Source<'_>,
+) -> Result<bool, AllocError> {
+    let Some(warnings) = warnings_of_large(alloc, source, MOST_PRODUCTIONS)? else {
+        return Ok(false);
+    };
+    let pushed = push_warnings(alloc, view, found, warnings.as_slice());
+    drop(warnings);
+    pushed?;
+    Ok(true)
+}
+
+/// Adds what is found of a source by its table.
+fn push_tabled(
     alloc: Global,
     view: &View<'_>,
     found: &mut Vec<Diagnostic>,
@@ -264,7 +308,21 @@ pub(crate) fn push_source(
     }
 }
 
-/// Adds the diagnostics of a document.
+/// Adds what is found of a source.
+pub(crate) fn push_source(
+    alloc: Global,
+    view: &View<'_>,
+    found: &mut Vec<Diagnostic>,
+    source: &Source<'_>,
+) -> Result<(), ServeFault> {
+    if push_large(alloc, view, found, source)? {
+        return Ok(());
+    }
+    push_tabled(alloc, view, found, source)
+}
+
+/// Adds the diagnostics of a document. Of a grammar of more than 4096 productions these are its errors, else the warnings that need no
+/// table, and a note that says so: a table may take seconds, and a change comes with each key.
 pub fn push_diagnostics(
     alloc: Global,
     view: &View<'_>,

@@ -2,7 +2,7 @@
 
 use crate::languages::Language;
 use crate::messages::Change;
-use crate::places::{Encoding, line_starts, offset_at};
+use crate::places::{Encoding, Lines, offset_at};
 use byte_streams::MOST_BYTES;
 use grammar_index::GrammarIndex;
 use std::alloc::{AllocError, Global};
@@ -58,9 +58,9 @@ fn with_change(
     let Some((start, end)) = change.range else {
         return Ok(change.text);
     };
-    let starts = line_starts(alloc, text.as_str())?;
-    let first = offset_at(text.as_str(), starts.as_slice(), start, encoding);
-    let past = offset_at(text.as_str(), starts.as_slice(), end, encoding).max(first);
+    let lines = Lines::of_text(alloc, text.as_str())?;
+    let first = offset_at(text.as_str(), &lines, start, encoding);
+    let past = offset_at(text.as_str(), &lines, end, encoding).max(first);
     with_part(alloc, text, first, past, change.text.as_str())
 }
 

@@ -1,5 +1,7 @@
 //! Frames: the bytes of each message behind a heading with their count.
 
+ghost use Rattle.std.specs.Prelude.{◌≤◌, length, IfOk};
+
 use std::alloc::{AllocError, Global};
 use std::mem;
 
@@ -126,6 +128,22 @@ impl Frames {
             return Ok(None);
         }
         Ok(Some(self.finish()))
+    }
+
+    /// Takes the bytes of a message that are there, without its last one, and returns how many it took: none of a heading.
+    pub fn take_inner(&mut self, bytes: &[u8]) -> Result<usize, AllocError>
+        ensures { IfOk result (λ count. count ≤ length bytes.now) }
+    {
+        let left = self.left.unwrap_or(0);
+        let inner = bytes.get(..left.saturating_sub(1)).unwrap_or(bytes);
+        if left <= 1 {
+            return Ok(0);
+        }
+        if self.count <= Some(MOST_BYTES) {
+            self.body.extend_from_slice(inner)?;
+        }
+        self.left = Some(left.saturating_sub(inner.len()));
+        Ok(inner.len())
     }
 
     /// Takes a byte, and returns the frame that it ends, if it ends one.

@@ -11,7 +11,7 @@ use crate::documents::{Document, document_of, with_changes};
 use crate::fault::ServeFault;
 use crate::languages::Language;
 use crate::messages::{Change, ErrorCode, Id, Message, Method, Notice, Params, Query};
-use crate::places::{Encoding, line_starts};
+use crate::places::{Encoding, Lines};
 use byte_streams::MOST_BYTES;
 use std::alloc::Global;
 use std::collections::BTreeMap;
@@ -157,12 +157,12 @@ impl Server {
             return Ok(Answer::Done);
         };
         let text = document.text.as_str();
-        let starts = line_starts(alloc, text)?;
+        let lines = Lines::of_text(alloc, text)?;
         let asked = Asked {
             uri: uri.as_str(),
             text,
             index: &document.index,
-            starts: starts.as_slice(),
+            lines: &lines,
             encoding: self.encoding,
         };
         language.answer(alloc, &asked, query, params)

@@ -75,7 +75,14 @@ fn take_bytes<W: Sink, L: Language>(
 ) -> Result<Option<u8>, ProgramFault>
     ensures { IfOk result (λ o. IfSome o IsStatus) }
 {
-    'bytes: for byte in bytes {
+    let mut at: usize = 0;
+    'bytes: for _ in 0..bytes.len() {
+        let inner = frames.take_inner(bytes.get(at..).unwrap_or(&[]))?;
+        at = at.saturating_add(inner);
+        let Some(byte) = bytes.get(at) else {
+            return Ok(None);
+        };
+        at = at.saturating_add(1);
         if let Some(frame) = frames.take(*byte)? {
             let status = take_frame(alloc, language, out, server, frame)?;
             if status.is_some() {

@@ -5,7 +5,7 @@ ghost use Rattle.std.specs.String.{string_bytes};
 ghost use Rattle.cfg_base.specs.Newlines.{line_start};
 ghost use Rattle.text_messages.specs.Places.{offset_by, shown_at, place_of, place_text, severity_text, colored_severity_text, word_text, heading, heading_without_place, heading_if, BeginsWith};
 
-use crate::excerpt::{excerpt, part};
+use crate::excerpt::excerpt;
 use cfg_base::span::Span;
 use cfg_base::text_lines::TextLines;
 use std::alloc::{AllocError, Global};
@@ -118,6 +118,7 @@ pub struct Source<'a> {
     places: &'a [usize],
     path: &'a str,
     color: bool,
+    wide: Vec<usize>,
 }
 
 impl<'a> Model for Source<'a> {
@@ -148,6 +149,7 @@ impl<'a> Source<'a> {
         ensures { IfOk result (λ s. s ≡ record { text = text.entry.now; shown = original.entry.text.now; places = original.entry.places.now; path = path.entry.now; color = false }) }
     {
         let shown = TextLines::new(alloc, original.text)?;
+        let wide = wide_of(alloc, original.text)?;
         let color = false;
         Ok(Source {
             text,
@@ -155,6 +157,7 @@ impl<'a> Source<'a> {
             places: original.places,
             path,
             color,
+            wide,
         })
     }
 
@@ -251,13 +254,19 @@ impl<'a> Source<'a> {
         let span = Span::new(offset, offset);
         let byte = self.shown_span(span).start();
         let (line, column) = self.place(span);
-        let ahead = part(self.shown_text(), self.line_start(span), byte);
+        let begin = self.wide_before(self.line_start(span));
+        let end = self.wide_before(self.shown_text().floor_char_boundary(byte));
         Position {
             byte,
             line,
             column,
-            utf16_column: column.saturating_add(wide_len(ahead)),
+            utf16_column: column.saturating_add(end.saturating_sub(begin)),
         }
+    }
+
+    /// Returns how many characters that take two units of UTF-16 begin before an offset in the text shown.
+    fn wide_before(&self, at: usize) -> usize {
+        self.wide.as_slice().partition_point(|begin| *begin < at)
     }
 
     /// Returns the word of a severity, in color if messages are.
@@ -402,15 +411,16 @@ fn first_past(places: &[usize], last: usize) -> Option<usize> {
     None
 }
 
-/// Returns how many of the characters of a text take two units of UTF-16.
-fn wide_len(text: &str) -> usize {
-    let mut count: usize = 0;
-    'bytes: for byte in text.as_bytes() {
-        if *byte >= 0xf0 {
-            count = count.saturating_add(1);
+/// Returns where the characters of a text begin that take two units of UTF-16.
+fn wide_of(alloc: Global, text: &str) -> Result<Vec<usize>, AllocError> {
+    let mut wide = Vec::new(alloc);
+    let bytes = text.as_bytes();
+    'bytes: for index in 0..bytes.len() {
+        if bytes[index] >= 0xf0 {
+            wide.push(index)?;
         }
     }
-    count
+    Ok(wide)
 }
 
 /// Returns the lines below a message: its help, and what shows it.

@@ -10,6 +10,8 @@ use Rattle.parse_trees.specs.Shapes.{rule_text, token_text}
 use Rattle.parse_trees.specs.declared.flat.Visit.{Visit}
 use Rattle.report_forms.specs.declared.parse_values.TreeNode.{TreeNode}
 use Rattle.text_parses.specs.Parses.{TextLexeme, lexeme_lex}
+use Rattle.text_parses.specs.declared.parsing.Parsed.{Parsed}
+use Rattle.text_parses.specs.declared.parsing.Parsed.TheVariants as found
 
 -- a node as it is shown: its kind and name, where it begins and ends, the number of the node above, and the text of a token
 pub record ShownNode : Type 0 where
@@ -58,3 +60,10 @@ module _ (g : GrammarValue) (input : List ℕ) where
   abbrev pub ShowsNodes : FlatValue TextLexeme → List TreeNode → Type 0
   ShowsNodes v nodes =
       (t : Tree TextLexeme) → IsFlat (span_by lexeme_lex) t v.pieces → CanShowTree g lexeme_lex input t → map shown_of nodes ≡ nodes_from v.pieces [] 0 (preorder 0 0 t)
+
+  -- the nodes of the tree that was found, and none where none was
+  abbrev pub HasNodes : Parsed → Option (List TreeNode) → Type 0
+  HasNodes (found.Tree v) None = ⊥
+  HasNodes (found.Tree v) (Some nodes) = ShowsNodes v nodes
+  HasNodes (found.Unlexed e) nodes = nodes ≡ None
+  HasNodes (found.Unparsed es) nodes = nodes ≡ None

@@ -47,5 +47,6 @@ pub use answer_fault::AnswerFault;
 pub use answering::{answer_line, answer_text};
 pub use form::{FileLine, Form, Input};
 pub use names::{Grammar, shown_name, token_name};
+pub use nodes::tree_nodes;
 pub use objects::{object_text, parse_value};
 pub use parsing::{Parsed, WordError, WordLexer, WordTree, parse_lexed};

@@ -1,16 +1,17 @@
 //! The nodes of a tree as plain values.
 
-ghost use Rattle.std.specs.Prelude.{◌≡◌, ◌++◌, ◌∷◌, [], map, slice_get, Some, IfOk, OnOk};
+ghost use Rattle.std.specs.Prelude.{◌≡◌, ◌++◌, ◌∷◌, [], map, option_map, slice_get, Some, IfOk, OnOk};
 ghost use Rattle.parse_trees.specs.FlatLines.{CanShowPiece, CanVisit};
 ghost use Rattle.parse_trees.specs.FlatTrees.{piece_of, pieces_of};
 ghost use Rattle.text_parses.specs.Parses.{itself, lexeme_lex};
-ghost use Rattle.text_parses.specs.NodeValues.{ShowsNodes, node_of, nodes_from, shown_of};
+ghost use Rattle.text_parses.specs.NodeValues.{HasNodes, ShowsNodes, node_of, nodes_from, shown_of};
 
 use crate::lines::{WordNode, node_at};
 use crate::names::{Grammar, rule_name, token_name};
-use crate::parsing::WordTree;
+use crate::parsing::{Parsed, WordTree};
 use cfg_base::symbol::TIdx;
 use lrpar::flat::{FlatNode, Visit};
+use parser_kit::ParserKit;
 use report_forms::TreeNode;
 use std::alloc::{AllocError, Global};
 use text_messages::part;
@@ -106,4 +107,20 @@ pub(crate) fn nodes_of<'a>(
 {
     let visits = tree.preorder(alloc)?;
     visited_nodes(alloc, grm, input, tree.nodes(), visits.as_slice())
+}
+
+/// Returns the nodes of the tree that `parse_lexed` found of a text, each before those below it; none where it found errors.
+pub fn tree_nodes<'a>(
+    alloc: Global,
+    kit: &'a ParserKit<u32>,
+    text: &'a str,
+    parsed: &Parsed,
+) -> Result<Option<Vec<TreeNode<'a>>>, AllocError>
+    ensures { IfOk result (λ nodes. HasNodes kit.entry.now.parser.grammar text.entry.now parsed.now (option_map (λ v. v.items) nodes)) }
+{
+    match parsed {
+        Parsed::Tree(tree) => Ok(Some(nodes_of(alloc, kit.grm(), text, tree)?)),
+        Parsed::Unlexed(_) => Ok(None),
+        Parsed::Unparsed(_) => Ok(None),
+    }
 }

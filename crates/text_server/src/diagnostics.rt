@@ -5,7 +5,7 @@ ghost use Rattle.lrlex.specs.Lexing.{bound_meanings, bound_rules};
 ghost use Rattle.text_parses.specs.Parses.{IsParsed};
 ghost use Rattle.text_server.specs.Found.{Finds, FindsIn, edits, error_count};
 
-use language_server::{Diagnostic, ServeFault, View, diagnostic, line_starts, position_at};
+use language_server::{Diagnostic, Lines, ServeFault, View, diagnostic, position_at};
 use lrlex::BoundRules;
 use lrpar::ParseRefusal;
 use parser_kit::ParserKit;
@@ -20,8 +20,8 @@ const EDITS: usize = 3;
 /// The protocol's number for an error.
 const ERROR: u8 = 1;
 
-/// Returns what is asked of a text: that which errors and the outline need.
-pub fn input_of<'a>(uri: &'a str, text: &'a str) -> Input<'a> {
+/// Returns what is asked of a text: that which its errors need.
+fn input_of<'a>(uri: &'a str, text: &'a str) -> Input<'a> {
     Input {
         path: uri,
         text,
@@ -53,7 +53,7 @@ pub fn parse_of(
 fn push_error(
     alloc: Global,
     view: &View<'_>,
-    starts: &[usize],
+    lines: &Lines,
     error: &TextError<'_>,
     found: &mut Vec<Diagnostic>,
 ) -> Result<(), AllocError>
@@ -61,8 +61,8 @@ fn push_error(
 {
     let message = String::from_str(alloc, error.message.as_str())?;
     let range = language_server::Range {
-        start: position_at(view.text, starts, error.range.start.byte, view.encoding),
-        end: position_at(view.text, starts, error.range.end.byte, view.encoding),
+        start: position_at(view.text, lines, error.range.start.byte, view.encoding),
+        end: position_at(view.text, lines, error.range.end.byte, view.encoding),
     };
     found.push(diagnostic(alloc, range, ERROR, message))?;
     Ok(())
@@ -77,15 +77,15 @@ fn push_each(
 ) -> Result<(), AllocError>
     ensures { OnOk result (length found.new.items ≡ length found.old.items + length errors.now) }
 {
-    let starts = line_starts(alloc, view.text)?;
+    let lines = Lines::of_text(alloc, view.text)?;
     'errors: for index in 0..errors.len() {
-        push_error(alloc, view, starts.as_slice(), &errors[index], found)?;
+        push_error(alloc, view, &lines, &errors[index], found)?;
     }
     Ok(())
 }
 
-/// Adds the errors of a parse, if it has some.
-fn push_parsed(
+/// Adds the errors of a parse that found no tree.
+fn push_unparsed(
     alloc: Global,
     kit: &ParserKit<u32>,
     lexer: &WordLexer<'_>,
@@ -102,6 +102,24 @@ fn push_parsed(
     drop(value);
     drop(source);
     pushed
+}
+
+/// Adds the errors of a parse, if it has some.
+fn push_parsed(
+    alloc: Global,
+    kit: &ParserKit<u32>,
+    lexer: &WordLexer<'_>,
+    parsed: &Parsed,
+    view: &View<'_>,
+    found: &mut Vec<Diagnostic>,
+) -> Result<(), AllocError>
+    ensures { OnOk result (length found.new.items ≡ length found.old.items + error_count parsed.now) }
+{
+    match parsed {
+        Parsed::Tree(_) => Ok(()),
+        Parsed::Unlexed(_) => push_unparsed(alloc, kit, lexer, parsed, view, found),
+        Parsed::Unparsed(_) => push_unparsed(alloc, kit, lexer, parsed, view, found),
+    }
 }
 
 /// Adds the errors of a text's lexemes, if they have some.

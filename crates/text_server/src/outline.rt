@@ -4,14 +4,13 @@ ghost use Rattle.std.specs.Prelude.{◌≡◌, IfOk, None, OnOk, length};
 ghost use Rattle.language_server.specs.Protocol.{error_in};
 ghost use Rattle.text_server.specs.Outlines.{IsBounded, IsOutline};
 
-use crate::diagnostics::{input_of, parse_of};
+use crate::diagnostics::parse_of;
 use language_server::{Answer, Asked, Nested, Outline, ServeFault, Symbol};
 use lrlex::BoundRules;
 use parser_kit::ParserKit;
 use report_forms::TreeNode;
 use std::alloc::{AllocError, Global};
-use text_messages::Source;
-use text_parses::{Parsed, WordLexer, parse_value};
+use text_parses::{Parsed, WordLexer, tree_nodes};
 
 /// The most symbols of an outline.
 const MOST_SYMBOLS: usize = 4096;
@@ -91,12 +90,12 @@ fn extents_of(alloc: Global, nodes: &[TreeNode<'_>]) -> Result<Vec<Extent>, Allo
     Ok(extents)
 }
 
-/// Returns the nearest symbol above a node.
-fn nearest_above<'a>(nearest: &[Nearest<'a>], parent: Option<usize>) -> Nearest<'a> {
+/// Returns the nearest symbol above the node of a rule; none of a lexeme, which has no symbol and no node below it.
+fn nearest_above<'a>(nearest: &[Nearest<'a>], node: &TreeNode<'_>) -> Nearest<'a> {
     let none = Nearest { depth: 0, name: "" };
-    match parent {
-        Some(parent) => nearest.get(parent).copied().unwrap_or(none),
-        None => none,
+    match node.parent {
+        Some(parent) if node.text.is_none() => nearest.get(parent).copied().unwrap_or(none),
+        _ => none,
     }
 }
 
@@ -143,7 +142,7 @@ fn push_symbols(
     'nodes: for index in 0..nodes.len() {
         let node = nodes[index];
         let extent = extents[index];
-        let mut near = nearest_above(nearest.as_slice(), node.parent);
+        let mut near = nearest_above(nearest.as_slice(), &node);
         if extent.parts > 1 && near.name != node.name {
             push_symbol(alloc, asked, node.name, extent, near.depth, symbols)?;
             near = Nearest {
@@ -160,7 +159,6 @@ fn push_symbols(
 fn push_parsed(
     alloc: Global,
     kit: &ParserKit<u32>,
-    lexer: &WordLexer<'_>,
     parsed: &Parsed,
     asked: &Asked<'_>,
     symbols: &mut Vec<Nested>,
@@ -168,16 +166,10 @@ fn push_parsed(
     requires { IsBounded symbols.old.items }
     ensures { OnOk result (IsBounded symbols.new.items) }
 {
-    let source = Source::new(alloc, asked.text, asked.uri)?;
-    let input = input_of(asked.uri, asked.text);
-    let value = parse_value(alloc, kit, lexer, parsed, &source, input)?;
-    let pushed = match &value.tree {
+    match tree_nodes(alloc, kit, asked.text, parsed)? {
         Some(nodes) => push_symbols(alloc, asked, nodes.as_slice(), symbols),
         None => Ok(()),
-    };
-    drop(value);
-    drop(source);
-    pushed
+    }
 }
 
 /// Returns the symbols of a text's lexemes.
@@ -191,7 +183,7 @@ fn symbols_of(
 {
     let parsed = parse_of(alloc, kit, lexer)?;
     let mut symbols = Vec::new(alloc);
-    let pushed = push_parsed(alloc, kit, lexer, &parsed, asked, &mut symbols);
+    let pushed = push_parsed(alloc, kit, &parsed, asked, &mut symbols);
     drop(parsed);
     match pushed {
         Ok(()) => Ok(symbols),

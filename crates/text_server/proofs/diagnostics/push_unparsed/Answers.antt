@@ -3,7 +3,7 @@ use Rattle.std.proofs.lemmas.Result.{on_ok_weaker}
 use Rattle.text_parses.specs.AskedTexts.{asked_of, shown_in}
 use Rattle.text_server.specs.Found.{error_count}
 use Rattle.text_server.proofs.Counts.{counted}
-use Rattle.text_server.proofs.diagnostics.push_parsed.Goals as goal
+use Rattle.text_server.proofs.diagnostics.push_unparsed.Goals as goal
 
 pub returns : goal.returns
 returns c =

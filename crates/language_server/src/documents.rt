@@ -12,6 +12,8 @@ use std::alloc::{AllocError, Global};
 pub struct Document {
     /// Its text.
     pub text: String,
+    /// Its lines.
+    pub lines: Lines,
     /// Where the text names its rules and tokens; nothing of one that is too long, in Bison's syntax, or no grammar.
     pub index: GrammarIndex,
 }
@@ -22,12 +24,18 @@ pub fn document_of<L: Language>(
     language: &L,
     text: String,
 ) -> Result<Document, AllocError> {
+    let lines = Lines::of_text(alloc, text.as_str())?;
     if text.len() > MOST_BYTES {
         let index = GrammarIndex::empty(alloc);
-        return Ok(Document { text, index });
+        return Ok(Document { text, lines, index });
     }
-    let index = language.index(alloc, text.as_str())?;
-    Ok(Document { text, index })
+    match language.index(alloc, text.as_str()) {
+        Ok(index) => Ok(Document { text, lines, index }),
+        Err(e) => {
+            drop(lines);
+            Err(e)
+        }
+    }
 }
 
 /// Returns a text with the bytes between two offsets replaced; the text itself where an offset is within a character.

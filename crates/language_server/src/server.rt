@@ -11,7 +11,7 @@ use crate::documents::{Document, document_of, with_changes};
 use crate::fault::ServeFault;
 use crate::languages::Language;
 use crate::messages::{Change, ErrorCode, Id, Message, Method, Notice, Params, Query};
-use crate::places::{Encoding, Lines};
+use crate::places::Encoding;
 use byte_streams::MOST_BYTES;
 use std::alloc::Global;
 use std::collections::BTreeMap;
@@ -156,13 +156,11 @@ impl Server {
         let Some(document) = self.documents.get(uri.as_str()) else {
             return Ok(Answer::Done);
         };
-        let text = document.text.as_str();
-        let lines = Lines::of_text(alloc, text)?;
         let asked = Asked {
             uri: uri.as_str(),
-            text,
+            text: document.text.as_str(),
             index: &document.index,
-            lines: &lines,
+            lines: &document.lines,
             encoding: self.encoding,
         };
         language.answer(alloc, &asked, query, params)
@@ -319,7 +317,8 @@ impl Server {
         let Some(document) = self.documents.remove(uri.as_str()) else {
             return Ok(with_published(None));
         };
-        let Document { text, index } = document;
+        let Document { text, lines, index } = document;
+        drop(lines);
         drop(index);
         let text = with_changes(alloc, text, changes, self.encoding)?;
         self.store(alloc, language, uri, version, text)

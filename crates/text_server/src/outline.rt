@@ -90,12 +90,12 @@ fn extents_of(alloc: Global, nodes: &[TreeNode<'_>]) -> Result<Vec<Extent>, Allo
     Ok(extents)
 }
 
-/// Returns the nearest symbol above the node of a rule; none of a lexeme, which has no symbol and no node below it.
-fn nearest_above<'a>(nearest: &[Nearest<'a>], node: &TreeNode<'_>) -> Nearest<'a> {
+/// Returns the nearest symbol above a node.
+fn nearest_above<'a>(nearest: &[Nearest<'a>], parent: Option<usize>) -> Nearest<'a> {
     let none = Nearest { depth: 0, name: "" };
-    match node.parent {
-        Some(parent) if node.text.is_none() => nearest.get(parent).copied().unwrap_or(none),
-        _ => none,
+    match parent {
+        Some(parent) => nearest.get(parent).copied().unwrap_or(none),
+        None => none,
     }
 }
 
@@ -142,7 +142,7 @@ fn push_symbols(
     'nodes: for index in 0..nodes.len() {
         let node = nodes[index];
         let extent = extents[index];
-        let mut near = nearest_above(nearest.as_slice(), &node);
+        let mut near = nearest_above(nearest.as_slice(), node.parent);
         if extent.parts > 1 && near.name != node.name {
             push_symbol(alloc, asked, node.name, extent, near.depth, symbols)?;
             near = Nearest {

@@ -1,7 +1,9 @@
 -- What contracts see of the program's values.
-use Rattle.std.specs.Prelude.{ℕ, List, map, option_map}
+use Rattle.std.specs.Prelude.{ℕ, List, [], ◌∷◌, ◌++◌, map, option_map}
 use Rattle.std.specs.declared.alloc.Global.{Global}
 use Rattle.std.specs.declared.vec.Vec.{Vec}
+use Rattle.bison_rules.specs.declared.pieces.Symbol.{Symbol}
+use Rattle.bison_rules.specs.declared.pieces.Symbol.TheVariants as symbols
 use Rattle.bison_rules.specs.declared.pieces.Token.{Token}
 use Rattle.bison_rules.specs.declared.pieces.Token.TheVariants as tokens
 use Rattle.bison_rules.specs.declared.pieces.Piece.{Piece}
@@ -16,10 +18,17 @@ use Rattle.bison_rules.specs.Rules as rules
 abbrev pub bytes_of : Vec ℕ Global → pieces.Symbol
 bytes_of v = v.items
 
+-- a string has its quotes, a character is `'` and its code
+abbrev pub symbol_of : Symbol → pieces.Symbol
+symbol_of (symbols.Name s) = s.now
+symbol_of (symbols.Quoted s) = 34 ∷ s.now ++ 34 ∷ []
+symbol_of (symbols.Character c) = 39 ∷ c ∷ []
+symbol_of (symbols.Action n) = rules.action_name n
+
 abbrev pub token_of : Token → pieces.Token
-token_of (tokens.Word v) = pieces.Word v.items
-token_of (tokens.Head v) = pieces.Head v.items
-token_of (tokens.Mark v) = pieces.Mark v.items
+token_of (tokens.Word s) = pieces.Word (symbol_of s)
+token_of (tokens.Head s) = pieces.Head (symbol_of s)
+token_of (tokens.Mark m) = pieces.Mark m.now
 token_of tokens.Code = pieces.Code
 
 abbrev pub tokens_of : List Token → List pieces.Token

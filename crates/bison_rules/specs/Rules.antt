@@ -133,8 +133,11 @@ text_of ts = record { rules = rules ts; aliases = aliases ts; starts = starts ts
 abbrev pub is_whole : List Token → Bool
 is_whole ts = list_any (is (codes "%%")) ts && not (list_any (is []) ts)
 
+abbrev pub file_by : List Token → Option BisonText
+file_by ts = if is_whole ts then Some (text_of (with_actions false 0 (with_heads ts))) else None
+
 abbrev pub file_in : List ℕ → Option BisonText
-file_in file = let ts = tokens_of file in if is_whole ts then Some (text_of (with_actions false 0 (with_heads ts))) else None
+file_in file = file_by (tokens_of file)
 
 -- the token that a symbol stands for: that of its first alias, or itself
 abbrev pub alias_of : List (Symbol × Symbol) → Symbol → Symbol

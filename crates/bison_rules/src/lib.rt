@@ -26,5 +26,5 @@ mod sizes;
 mod tokens;
 
 pub use characters::code_of;
-pub use pieces::{Piece, Token};
+pub use pieces::{Piece, Symbol, Token};
 pub use reading::{Alias, BisonFile, Body, Level, Rule, read_rules};

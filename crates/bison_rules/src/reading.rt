@@ -2,11 +2,12 @@
 
 ghost use Rattle.std.specs.Prelude.{◌≡◌, ◌++◌, ◌∷◌, [], Some, take, false, OnOk, IfOk, map, option_map};
 ghost use Rattle.bison_rules.specs.Rules as spec;
-ghost use Rattle.bison_rules.specs.Models.{bytes_of, token_of, tokens_of, body_of, rule_of, level_of, alias_pair, file_of};
+ghost use Rattle.bison_rules.specs.Pieces.{tokens_from};
+ghost use Rattle.bison_rules.specs.Models.{bytes_of, symbol_of, token_of, tokens_of, body_of, rule_of, level_of, alias_pair, file_of};
 
-use crate::pieces::Token;
+use crate::pieces::{Symbol, Token};
 use crate::sizes::behind;
-use crate::tokens::{is_whole, push_tokens_of};
+use crate::tokens::{is_whole, push_tokens};
 use std::alloc::{AllocError, Global};
 
 /// An alternative of a rule.
@@ -65,20 +66,31 @@ fn copy_of(alloc: Global, bytes: &[u8]) -> Result<Vec<u8>, AllocError>
     Vec::from_slice(alloc, bytes)
 }
 
-/// Returns a copy of a token.
-fn copy_of_token(alloc: Global, token: &Token) -> Result<Token, AllocError>
-    ensures { IfOk result (λ t. token_of t ≡ token_of token.now) }
+/// Returns a string with its quotes.
+fn with_quotes(alloc: Global, inner: &[u8]) -> Result<Vec<u8>, AllocError>
+    ensures { IfOk result (λ v. v.items ≡ 34 ∷ inner.now ++ 34 ∷ []) }
 {
-    match token {
-        Token::Word(text) => Ok(Token::Word(copy_of(alloc, text.as_slice())?)),
-        Token::Head(text) => Ok(Token::Head(copy_of(alloc, text.as_slice())?)),
-        Token::Mark(text) => Ok(Token::Mark(copy_of(alloc, text.as_slice())?)),
-        Token::Code => Ok(Token::Code),
+    let mut text = Vec::new(alloc);
+    text.push(b'"')?;
+    text.extend_from_slice(inner)?;
+    text.push(b'"')?;
+    Ok(text)
+}
+
+/// Returns the text of a symbol.
+fn text_of(alloc: Global, symbol: Symbol<'_>) -> Result<Vec<u8>, AllocError>
+    ensures { IfOk result (λ v. v.items ≡ symbol_of symbol.entry) }
+{
+    match symbol {
+        Symbol::Name(name) => copy_of(alloc, name),
+        Symbol::Quoted(inner) => with_quotes(alloc, inner),
+        Symbol::Character(code) => copy_of(alloc, &[b'\'', code]),
+        Symbol::Action(number) => action_name(alloc, number),
     }
 }
 
 /// Returns whether a colon comes first.
-fn has_colon(tokens: &[Token]) -> bool
+fn has_colon(tokens: &[Token<'_>]) -> bool
     ensures { result ≡ spec.has_colon (tokens_of tokens.now) }
 {
     match tokens {
@@ -88,34 +100,31 @@ fn has_colon(tokens: &[Token]) -> bool
 }
 
 /// Adds a token, as a head where it is a name before a colon; a colon is left out.
-fn push_headed(
-    alloc: Global,
-    out: &mut Vec<Token>,
-    token: &Token,
+fn push_headed<'a>(
+    out: &mut Vec<Token<'a>>,
+    token: Token<'a>,
     before_colon: bool,
 ) -> Result<(), AllocError>
-    ensures { OnOk result (tokens_of out.new.items ≡ tokens_of out.old.items ++ spec.headed (token_of token.now) before_colon) }
+    ensures { OnOk result (tokens_of out.new.items ≡ tokens_of out.old.items ++ spec.headed (token_of token.entry) before_colon) }
 {
-    if let Token::Word(text) = token
+    if let Token::Word(symbol) = token
         && before_colon
     {
-        let text = copy_of(alloc, text.as_slice())?;
-        out.push(Token::Head(text))?;
+        out.push(Token::Head(symbol))?;
         return Ok(());
     }
-    if token.is(b":") {
-        return Ok(());
+    if !token.is(b":") {
+        out.push(token)?;
     }
-    out.push(copy_of_token(alloc, token)?)?;
     Ok(())
 }
 
 /// Adds tokens, with heads.
-fn push_heads(alloc: Global, out: &mut Vec<Token>, tokens: &[Token]) -> Result<(), AllocError>
+fn push_heads<'a>(out: &mut Vec<Token<'a>>, tokens: &[Token<'a>]) -> Result<(), AllocError>
     ensures { OnOk result (tokens_of out.new.items ≡ tokens_of out.old.items ++ spec.with_heads (tokens_of tokens.now)) }
 {
     'tokens: for (i, token) in tokens.iter().enumerate() {
-        push_headed(alloc, out, token, has_colon(behind(tokens, i + 1)))?;
+        push_headed(out, *token, has_colon(behind(tokens, i + 1)))?;
     }
     Ok(())
 }
@@ -128,7 +137,7 @@ fn is_prec(mark: &[u8]) -> bool
 }
 
 /// Returns whether a symbol or an action comes in the same alternative.
-fn goes_on(tokens: &[Token]) -> bool
+fn goes_on(tokens: &[Token<'_>]) -> bool
     ensures { result ≡ spec.goes_on false (tokens_of tokens.now) }
 {
     let mut after_prec = false;
@@ -136,7 +145,7 @@ fn goes_on(tokens: &[Token]) -> bool
         match token {
             Token::Head(_) => return false,
             Token::Mark(mark) => {
-                if !is_prec(mark.as_slice()) {
+                if !is_prec(mark) {
                     return false;
                 }
                 after_prec = true;
@@ -153,13 +162,12 @@ fn goes_on(tokens: &[Token]) -> bool
 }
 
 /// Returns whether what comes behind a token is part of an alternative.
-fn in_rule(before: bool, token: &Token) -> bool
+fn in_rule(before: bool, token: &Token<'_>) -> bool
     ensures { result ≡ spec.in_rule before (token_of token.now) }
 {
     match token {
         Token::Head(_) => true,
-        Token::Mark(mark) => mark.as_slice() == b"|".as_slice()
-            || (before && is_prec(mark.as_slice())),
+        Token::Mark(mark) => *mark == b"|".as_slice() || (before && is_prec(mark)),
         _ => before,
     }
 }
@@ -173,19 +181,18 @@ pub fn action_name(alloc: Global, number: usize) -> Result<Vec<u8>, AllocError>
 }
 
 /// Adds a rule for each action in the middle.
-fn push_action_rules(alloc: Global, out: &mut Vec<Token>, count: usize) -> Result<(), AllocError>
+fn push_action_rules(out: &mut Vec<Token<'_>>, count: usize) -> Result<(), AllocError>
     ensures { OnOk result (tokens_of out.new.items ≡ tokens_of out.old.items ++ spec.action_rules count) }
 {
     'actions: for before in 0..count {
         let number = before + 1;
-        let name = action_name(alloc, number)?;
-        out.push(Token::Head(name))?;
+        out.push(Token::Head(Symbol::Action(number)))?;
     }
     Ok(())
 }
 
 /// Adds tokens, with names for actions in the middle of alternatives, and with the rules of these.
-fn push_actions(alloc: Global, out: &mut Vec<Token>, tokens: &[Token]) -> Result<(), AllocError>
+fn push_actions<'a>(out: &mut Vec<Token<'a>>, tokens: &[Token<'a>]) -> Result<(), AllocError>
     ensures { OnOk result (tokens_of out.new.items ≡ tokens_of out.old.items ++ spec.with_actions false 0 (tokens_of tokens.now)) }
 {
     let mut is_rule = false;
@@ -194,33 +201,32 @@ fn push_actions(alloc: Global, out: &mut Vec<Token>, tokens: &[Token]) -> Result
         if let Token::Code = token {
             if is_rule && goes_on(behind(tokens, i + 1)) {
                 count += 1;
-                let name = action_name(alloc, count)?;
-                out.push(Token::Word(name))?;
+                out.push(Token::Word(Symbol::Action(count)))?;
             }
             continue;
         }
         is_rule = in_rule(is_rule, token);
-        out.push(copy_of_token(alloc, token)?)?;
+        out.push(*token)?;
     }
-    push_action_rules(alloc, out, count)
+    push_action_rules(out, count)
 }
 
 /// Returns the symbols up to the next alternative or declaration.
-fn symbols_of(alloc: Global, tokens: &[Token]) -> Result<Vec<Vec<u8>>, AllocError>
+fn symbols_of(alloc: Global, tokens: &[Token<'_>]) -> Result<Vec<Vec<u8>>, AllocError>
     ensures { IfOk result (λ v. map bytes_of v.items ≡ spec.symbols false (tokens_of tokens.now)) }
 {
     let mut out = Vec::new(alloc);
     let mut after_prec = false;
     'tokens: for token in tokens {
         match token {
-            Token::Word(text) => {
+            Token::Word(symbol) => {
                 if !after_prec {
-                    out.push(copy_of(alloc, text.as_slice())?)?;
+                    out.push(text_of(alloc, *symbol)?)?;
                 }
                 after_prec = false;
             }
             Token::Mark(mark) => {
-                if !is_prec(mark.as_slice()) {
+                if !is_prec(mark) {
                     return Ok(out);
                 }
                 after_prec = true;
@@ -232,19 +238,19 @@ fn symbols_of(alloc: Global, tokens: &[Token]) -> Result<Vec<Vec<u8>>, AllocErro
 }
 
 /// Returns the token of the `%prec` up to the next alternative or declaration.
-fn prec_of(alloc: Global, tokens: &[Token]) -> Result<Option<Vec<u8>>, AllocError>
+fn prec_of(alloc: Global, tokens: &[Token<'_>]) -> Result<Option<Vec<u8>>, AllocError>
     ensures { IfOk result (λ v. option_map bytes_of v ≡ spec.prec false (tokens_of tokens.now)) }
 {
     let mut after_prec = false;
     'tokens: for token in tokens {
         match token {
-            Token::Word(text) => {
+            Token::Word(symbol) => {
                 if after_prec {
-                    return Ok(Some(copy_of(alloc, text.as_slice())?));
+                    return Ok(Some(text_of(alloc, *symbol)?));
                 }
             }
             Token::Mark(mark) => {
-                if !is_prec(mark.as_slice()) {
+                if !is_prec(mark) {
                     return Ok(None);
                 }
                 after_prec = true;
@@ -256,7 +262,7 @@ fn prec_of(alloc: Global, tokens: &[Token]) -> Result<Option<Vec<u8>>, AllocErro
 }
 
 /// Returns the alternative that begins with these tokens.
-fn body_at(alloc: Global, tokens: &[Token]) -> Result<Body, AllocError>
+fn body_at(alloc: Global, tokens: &[Token<'_>]) -> Result<Body, AllocError>
     ensures { IfOk result (λ b. body_of b ≡ spec.body (tokens_of tokens.now)) }
 {
     let prec = prec_of(alloc, tokens)?;
@@ -265,7 +271,11 @@ fn body_at(alloc: Global, tokens: &[Token]) -> Result<Body, AllocError>
 }
 
 /// Adds the alternatives behind the first of a rule, up to the next rule.
-fn push_bodies(alloc: Global, bodies: &mut Vec<Body>, tokens: &[Token]) -> Result<(), AllocError>
+fn push_bodies(
+    alloc: Global,
+    bodies: &mut Vec<Body>,
+    tokens: &[Token<'_>],
+) -> Result<(), AllocError>
     ensures { OnOk result (map body_of bodies.new.items ≡ map body_of bodies.old.items ++ spec.more_bodies (tokens_of tokens.now)) }
 {
     'tokens: for (i, token) in tokens.iter().enumerate() {
@@ -280,10 +290,10 @@ fn push_bodies(alloc: Global, bodies: &mut Vec<Body>, tokens: &[Token]) -> Resul
 }
 
 /// Returns the rule of a head.
-fn rule_at(alloc: Global, head: &[u8], tokens: &[Token]) -> Result<Rule, AllocError>
-    ensures { IfOk result (λ r. rule_of r ≡ record { head = head.now; bodies = spec.body (tokens_of tokens.now) ∷ spec.more_bodies (tokens_of tokens.now) }) }
+fn rule_at(alloc: Global, head: Symbol<'_>, tokens: &[Token<'_>]) -> Result<Rule, AllocError>
+    ensures { IfOk result (λ r. rule_of r ≡ record { head = symbol_of head.entry; bodies = spec.body (tokens_of tokens.now) ∷ spec.more_bodies (tokens_of tokens.now) }) }
 {
-    let head = copy_of(alloc, head)?;
+    let head = text_of(alloc, head)?;
     let mut bodies = Vec::new(alloc);
     bodies.push(body_at(alloc, tokens)?)?;
     push_bodies(alloc, &mut bodies, tokens)?;
@@ -291,12 +301,12 @@ fn rule_at(alloc: Global, head: &[u8], tokens: &[Token]) -> Result<Rule, AllocEr
 }
 
 /// Adds the rules of tokens.
-fn push_rules(alloc: Global, rules: &mut Vec<Rule>, tokens: &[Token]) -> Result<(), AllocError>
+fn push_rules(alloc: Global, rules: &mut Vec<Rule>, tokens: &[Token<'_>]) -> Result<(), AllocError>
     ensures { OnOk result (map rule_of rules.new.items ≡ map rule_of rules.old.items ++ spec.rules (tokens_of tokens.now)) }
 {
     'tokens: for (i, token) in tokens.iter().enumerate() {
         if let Token::Head(head) = token {
-            rules.push(rule_at(alloc, head.as_slice(), behind(tokens, i + 1))?)?;
+            rules.push(rule_at(alloc, *head, behind(tokens, i + 1))?)?;
         }
     }
     Ok(())
@@ -340,12 +350,16 @@ fn declares_tokens(word: &[u8]) -> bool
 }
 
 /// Adds the aliases of declarations.
-fn push_aliases(alloc: Global, aliases: &mut Vec<Alias>, tokens: &[Token]) -> Result<(), AllocError>
+fn push_aliases(
+    alloc: Global,
+    aliases: &mut Vec<Alias>,
+    tokens: &[Token<'_>],
+) -> Result<(), AllocError>
     ensures { OnOk result (map alias_pair aliases.new.items ≡ map alias_pair aliases.old.items ++ spec.aliases (tokens_of tokens.now)) }
 {
     'tokens: for (i, token) in tokens.iter().enumerate() {
         if let Token::Mark(mark) = token
-            && declares_tokens(mark.as_slice())
+            && declares_tokens(mark)
         {
             let symbols = symbols_of(alloc, behind(tokens, i + 1))?;
             push_pairs(alloc, aliases, symbols.as_slice())?;
@@ -369,12 +383,16 @@ fn push_first(
 }
 
 /// Adds the start rules of declarations.
-fn push_starts(alloc: Global, starts: &mut Vec<Vec<u8>>, tokens: &[Token]) -> Result<(), AllocError>
+fn push_starts(
+    alloc: Global,
+    starts: &mut Vec<Vec<u8>>,
+    tokens: &[Token<'_>],
+) -> Result<(), AllocError>
     ensures { OnOk result (map bytes_of starts.new.items ≡ map bytes_of starts.old.items ++ spec.starts (tokens_of tokens.now)) }
 {
     'tokens: for (i, token) in tokens.iter().enumerate() {
         if let Token::Mark(mark) = token
-            && mark.as_slice() == b"%start".as_slice()
+            && *mark == b"%start".as_slice()
         {
             let symbols = symbols_of(alloc, behind(tokens, i + 1))?;
             push_first(alloc, starts, symbols.as_slice())?;
@@ -395,14 +413,18 @@ fn is_level(word: &[u8]) -> bool
 }
 
 /// Adds the precedence levels of declarations.
-fn push_levels(alloc: Global, levels: &mut Vec<Level>, tokens: &[Token]) -> Result<(), AllocError>
+fn push_levels(
+    alloc: Global,
+    levels: &mut Vec<Level>,
+    tokens: &[Token<'_>],
+) -> Result<(), AllocError>
     ensures { OnOk result (map level_of levels.new.items ≡ map level_of levels.old.items ++ spec.levels (tokens_of tokens.now)) }
 {
     'tokens: for (i, token) in tokens.iter().enumerate() {
         if let Token::Mark(mark) = token
-            && is_level(mark.as_slice())
+            && is_level(mark)
         {
-            let word = copy_of(alloc, mark.as_slice())?;
+            let word = copy_of(alloc, mark)?;
             let symbols = symbols_of(alloc, behind(tokens, i + 1))?;
             levels.push(Level { word, symbols })?;
         }
@@ -424,7 +446,7 @@ impl BisonFile {
     }
 
     /// Adds what tokens say.
-    fn fill(&mut self, alloc: Global, tokens: &[Token]) -> Result<(), AllocError>
+    fn fill(&mut self, alloc: Global, tokens: &[Token<'_>]) -> Result<(), AllocError>
         requires { file_of self.old ≡ record { rules = []; aliases = []; starts = []; levels = [] } }
         ensures { OnOk result (file_of self.new ≡ spec.text_of (tokens_of tokens.now)) }
     {
@@ -436,7 +458,7 @@ impl BisonFile {
 }
 
 /// Returns what tokens say.
-fn file_with(alloc: Global, tokens: &[Token]) -> Result<BisonFile, AllocError>
+fn file_with(alloc: Global, tokens: &[Token<'_>]) -> Result<BisonFile, AllocError>
     ensures { IfOk result (λ file. file_of file ≡ spec.text_of (tokens_of tokens.now)) }
 {
     let mut file = BisonFile::new(alloc);
@@ -450,26 +472,35 @@ fn file_with(alloc: Global, tokens: &[Token]) -> Result<BisonFile, AllocError>
 }
 
 /// Returns what the tokens of a text say.
-fn file_with_actions(alloc: Global, tokens: &[Token]) -> Result<BisonFile, AllocError>
+fn file_with_actions(alloc: Global, tokens: &[Token<'_>]) -> Result<BisonFile, AllocError>
     ensures { IfOk result (λ file. file_of file ≡ spec.text_of (spec.with_actions false 0 (spec.with_heads (tokens_of tokens.now)))) }
 {
     let mut headed = Vec::new(alloc);
-    push_heads(alloc, &mut headed, tokens)?;
+    push_heads(&mut headed, tokens)?;
     let mut named = Vec::new(alloc);
-    push_actions(alloc, &mut named, headed.as_slice())?;
+    push_actions(&mut named, headed.as_slice())?;
     drop(headed);
     file_with(alloc, named.as_slice())
+}
+
+/// Returns what a text says, whose last line ends with a line feed.
+fn file_of_lines(alloc: Global, text: &[u8]) -> Result<Option<BisonFile>, AllocError>
+    ensures { IfOk result (λ file. option_map file_of file ≡ spec.file_by (tokens_from 0 false text.now)) }
+{
+    let mut tokens = Vec::new(alloc);
+    push_tokens(&mut tokens, text)?;
+    if !is_whole(tokens.as_slice()) {
+        return Ok(None);
+    }
+    let file = file_with_actions(alloc, tokens.as_slice())?;
+    Ok(Some(file))
 }
 
 /// Reads what a file says; none where it has no rules, or ends within one of its tokens.
 pub fn read_rules(alloc: Global, text: &[u8]) -> Result<Option<BisonFile>, AllocError>
     ensures { IfOk result (λ file. option_map file_of file ≡ spec.file_in text.now) }
 {
-    let mut tokens = Vec::new(alloc);
-    push_tokens_of(alloc, &mut tokens, text)?;
-    if !is_whole(tokens.as_slice()) {
-        return Ok(None);
-    }
-    let file = file_with_actions(alloc, tokens.as_slice())?;
-    Ok(Some(file))
+    let mut lines = Vec::from_slice(alloc, text)?;
+    lines.push(b'\n')?;
+    file_of_lines(alloc, lines.as_slice())
 }

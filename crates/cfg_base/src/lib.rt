@@ -18,13 +18,15 @@
 //!
 //! Contracts see an index as its number, and a symbol as its kind and number, so a theory of grammars over numbers
 //! holds for every index type. A span is a pair of byte offsets; lines count LFs and columns count characters. Module
-//! `text` has what all readers of texts share: classes of bytes, runs and gaps. The contracts that matter most are
-//! those of `index::IndexStorage` (`from_usize` takes exactly the numbers up to `MAX`) with the laws
-//! `index::each_number_is_of_one_value`, `symbol::symbol_is_its_kind_and_number` and `span::span_is_its_offsets`; and of
-//! `newlinecache::NewlineCache`, whose answers are those of the fed text (`newlinecache::pieces_make_the_whole`).
+//! `text` has what all readers of texts share: classes of bytes, runs and gaps; `name_hasher` how their maps hash
+//! names. The contracts that matter most are those of `index::IndexStorage` (`from_usize` takes exactly the numbers up
+//! to `MAX`) with the laws `index::each_number_is_of_one_value`, `symbol::symbol_is_its_kind_and_number` and
+//! `span::span_is_its_offsets`; and of `newlinecache::NewlineCache`, whose answers are those of the fed text
+//! (`newlinecache::pieces_make_the_whole`).
 #![tactic(auto)]
 
 pub mod index;
+pub mod name_hasher;
 pub mod newlinecache;
 pub mod precedence;
 pub mod span;

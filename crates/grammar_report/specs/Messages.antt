@@ -1,11 +1,11 @@
 -- The messages of a report.
-use Rattle.std.specs.Prelude.{◌≡◌, ℕ, ◌≤◌, Bool, true, false, List, [], ◌∷◌, ◌++◌, ◌&&◌, Option, None, Some, IfSome, codes, cond, drop, length, map, nat_le, not, slice_get, slice_range, take, IsCharBoundary, ⊤}
+use Rattle.std.specs.Prelude.{◌≡◌, ℕ, suc, ◌+◌, ◌≤◌, Bool, true, false, List, [], ◌∷◌, ◌++◌, ◌&&◌, Option, None, Some, IfSome, codes, cond, drop, length, map, nat_le, not, slice_get, slice_range, take, IsCharBoundary, ⊤}
 use Rattle.std.specs.List.{All}
 use Rattle.std.specs.Str.{bytes_eq}
 use Rattle.cfg_base.specs.SpanModel.{SpanModel}
 use Rattle.cfg_base.specs.declared.symbol.PIdx.{PIdx}
 use Rattle.cfg_theory.specs.Derivation.{IsProductive}
-use Rattle.cfg_read.specs.Asts.{Ast, RuleAst}
+use Rattle.cfg_read.specs.Asts.{Ast, ProductionAst, RuleAst}
 use Rattle.cfg_read.specs.ErrorModels.{failure_of}
 use Rattle.cfg_read.specs.ErrorTexts.{failure_text}
 use Rattle.cfg_read.specs.SyntaxTexts.{WordText}
@@ -116,9 +116,14 @@ AreOfUnused text ast these = (ws : List WarningText) × unused.AreWarnings ast w
 abbrev pub AreOfWarnings : List ℕ → Ast → List Said → Type 0
 AreOfWarnings text ast these = (names more : List Said) × AreOfUnused text ast names × AreWarnings more × (these ≡ names ++ more)
 
--- a text in which nothing is wrong, with more productions than this
+-- how many productions there are, and symbols in them
+abbrev pub size_of : List ProductionAst → ℕ
+size_of [] = 0
+size_of (p ∷ ps) = suc (length p.symbols) + size_of ps
+
+-- a text in which nothing is wrong, with more productions and symbols in them than this
 abbrev pub is_large : ℕ → CheckedAst → Bool
-is_large most k = is_valid k.errors && not (nat_le (length k.ast.productions) most)
+is_large most k = is_valid k.errors && not (nat_le (size_of k.ast.productions) most)
 
 -- the warnings of a large one, and nothing of another
 abbrev pub AreOfLarge : List ℕ → Ast → Bool → List Said → Type 0

@@ -17,6 +17,9 @@ use refused_tables::Beginning;
 use std::alloc::{AllocError, Global};
 use text_messages::{Message, Messages, Severity, part};
 
+/// Each unknown name is compared with all others, up to this number of names.
+const MOST_COMPARED: usize = 100_000;
+
 /// Adds a note at each further place of an error.
 fn push_again(alloc: Global, messages: &mut Messages<'_>, spans: &[Span]) -> Result<(), AllocError>
     ensures { OnOk result (AddsSaid (map (again_at messages.old.text) spans.now) messages.old messages.new) }
@@ -76,7 +79,24 @@ fn push_error(
     }
 }
 
-/// Adds errors, each with its notes.
+/// Adds an error as `push_error` does, or without what may help.
+fn push_hinted(
+    alloc: Global,
+    messages: &mut Messages<'_>,
+    ast: &GrammarAST,
+    error: &YaccGrammarError,
+    wants_hint: bool,
+) -> Result<(), AllocError>
+    ensures { OnOk result (AddsSome (AreOfError messages.old.text error.now) messages.old messages.new) }
+{
+    if wants_hint {
+        push_error(alloc, messages, ast, error)
+    } else {
+        push_at_places(alloc, messages, error, None)
+    }
+}
+
+/// Adds errors, each with its notes; the first with what may help, until too many names were compared for that.
 fn push_errors(
     alloc: Global,
     messages: &mut Messages<'_>,
@@ -85,8 +105,11 @@ fn push_errors(
 ) -> Result<(), AllocError>
     ensures { OnOk result (AddsSome (AreOfErrors messages.old.text errors.now) messages.old messages.new) }
 {
+    let names = ast.rules().len().saturating_add(ast.tokens().len());
+    let mut compared: usize = 0;
     'errors: for error in errors {
-        push_error(alloc, messages, ast, error)?;
+        push_hinted(alloc, messages, ast, error, compared < MOST_COMPARED)?;
+        compared = compared.saturating_add(names);
     }
     Ok(())
 }

@@ -1,3 +1,4 @@
+pub mod Counts
 pub mod Frames
 pub mod Lines
 pub mod Protocol

@@ -1,5 +1,7 @@
 //! The diagnostics of Bison files, at their own places.
 
+ghost use Rattle.std.specs.Prelude.{◌≤◌, ◌+◌, OnOk, length};
+
 use crate::answers::Diagnostic;
 use crate::diagnostics::{View, push_findings, push_source};
 use crate::fault::ServeFault;
@@ -16,7 +18,9 @@ fn push_import(
     found: &mut Vec<Diagnostic>,
     file: BisonFile<'_>,
     import: &BisonImport,
-) -> Result<(), ServeFault> {
+) -> Result<(), ServeFault>
+    ensures { OnOk result (length found.new.items ≤ length found.old.items + 3003) }
+{
     let source = import.source(alloc, file)?;
     let pushed = push_source(alloc, view, found, &source);
     drop(source);
@@ -28,11 +32,14 @@ fn push_refusal(
     alloc: Global,
     view: &View<'_>,
     found: &mut Vec<Diagnostic>,
-    shown: &Source<'_>,
     error: CheckedError,
-) -> Result<(), ServeFault> {
+) -> Result<(), ServeFault>
+    ensures { OnOk result (length found.new.items ≤ length found.old.items + 3003) }
+{
     let message = refusal_message(alloc, error)?;
-    let read = findings_of_error(alloc, shown, message)?;
+    let source = Source::new(alloc, view.text, view.uri)?;
+    let read = findings_of_error(alloc, &source, message)?;
+    drop(source);
     let pushed = push_findings(alloc, view, found, &read.findings);
     drop(read);
     pushed?;
@@ -45,14 +52,15 @@ pub fn push_bison(
     view: &View<'_>,
     found: &mut Vec<Diagnostic>,
     file: BisonFile<'_>,
-    shown: &Source<'_>,
-) -> Result<(), ServeFault> {
+) -> Result<(), ServeFault>
+    ensures { OnOk result (length found.new.items ≤ length found.old.items + 3003) }
+{
     match import_file(alloc, file) {
         Ok(import) => {
             let pushed = push_import(alloc, view, found, file, &import);
             drop(import);
             pushed
         }
-        Err(error) => push_refusal(alloc, view, found, shown, error),
+        Err(error) => push_refusal(alloc, view, found, error),
     }
 }

@@ -1,5 +1,8 @@
 //! From a document's text to its diagnostics.
 
+ghost use Rattle.std.specs.Prelude.{◌≡◌, ◌≤◌, ◌+◌, IfOk, OnOk, false, length};
+ghost use Rattle.language_server.specs.Counts.{count_notes};
+
 use crate::answers::{Diagnostic, Location, Range, Related};
 use crate::bison::push_bison;
 use crate::fault::{ServeFault, fault_of};
@@ -20,8 +23,11 @@ const WARNING: u8 = 2;
 
 const INFORMATION: u8 = 3;
 
-/// A table is made of no grammar with more productions than these.
-const MOST_PRODUCTIONS: usize = 4096;
+/// A table is made of no grammar that has more productions, and symbols in them, than these.
+const MOST_SYMBOLS: usize = 12000;
+
+/// Of each list of messages, and of conflicts, not more than these are shown.
+const MOST_SHOWN: usize = 1000;
 
 /// The beginning of a document, where what has no place is shown.
 const BEGINNING: Position = Position {
@@ -36,6 +42,8 @@ pub struct View<'a> {
     pub uri: &'a str,
     /// Its text.
     pub text: &'a str,
+    /// The lines of the text.
+    pub lines: &'a Lines,
     /// In what columns count.
     pub encoding: Encoding,
     /// Whether places are shown beside a diagnostic; else they are left out, and what they say is behind its message.
@@ -52,11 +60,11 @@ const WANTED: Wanted = Wanted {
 };
 
 /// Returns a range of the report as one of the document.
-fn range_in(view: &View<'_>, lines: &Lines, range: &Option<Reported>) -> Range {
+fn range_in(view: &View<'_>, range: &Option<Reported>) -> Range {
     match range {
         Some(range) => Range {
-            start: position_at(view.text, lines, range.start.byte, view.encoding),
-            end: position_at(view.text, lines, range.end.byte, view.encoding),
+            start: position_at(view.text, view.lines, range.start.byte, view.encoding),
+            end: position_at(view.text, view.lines, range.end.byte, view.encoding),
         },
         None => Range {
             start: BEGINNING,
@@ -119,12 +127,13 @@ fn words_of(alloc: Global, said: &Said) -> Result<String, AllocError> {
 fn push_said(
     alloc: Global,
     view: &View<'_>,
-    lines: &Lines,
     found: &mut Vec<Diagnostic>,
     said: &Said,
-) -> Result<(), AllocError> {
+) -> Result<(), AllocError>
+    ensures { OnOk result (length found.new.items ≤ length found.old.items + 1) }
+{
     let words = words_of(alloc, said)?;
-    let range = range_in(view, lines, &said.range);
+    let range = range_in(view, &said.range);
     if said.severity == "note" {
         if let Some(last) = found.last_mut() {
             return push_related(alloc, view, last, range, words.as_str());
@@ -139,18 +148,47 @@ fn push_said(
     Ok(())
 }
 
-/// Adds messages.
+/// Adds information that has no place.
+fn push_note(alloc: Global, found: &mut Vec<Diagnostic>, message: String) -> Result<(), AllocError>
+    ensures { OnOk result (length found.new.items ≡ length found.old.items + 1) }
+{
+    let range = Range {
+        start: BEGINNING,
+        end: BEGINNING,
+    };
+    found.push(diagnostic(alloc, range, INFORMATION, message))?;
+    Ok(())
+}
+
+/// Adds how many there are, where not all of them are shown.
+fn push_count(
+    alloc: Global,
+    found: &mut Vec<Diagnostic>,
+    len: usize,
+    what: &str,
+) -> Result<(), AllocError>
+    ensures { OnOk result (length found.new.items ≡ length found.old.items + count_notes len) }
+{
+    if len <= MOST_SHOWN {
+        return Ok(());
+    }
+    let message = format!(in alloc; "the first {MOST_SHOWN} of {len} {what}")?;
+    push_note(alloc, found, message)
+}
+
+/// Adds the first messages, and how many there are.
 fn push_all_said(
     alloc: Global,
     view: &View<'_>,
-    lines: &Lines,
     found: &mut Vec<Diagnostic>,
     list: &[Said],
-) -> Result<(), AllocError> {
-    'messages: for index in 0..list.len() {
-        push_said(alloc, view, lines, found, &list[index])?;
+) -> Result<(), AllocError>
+    ensures { OnOk result (length found.new.items ≤ length found.old.items + 1001) }
+{
+    'messages: for index in 0..list.len().min(MOST_SHOWN) {
+        push_said(alloc, view, found, &list[index])?;
     }
-    Ok(())
+    push_count(alloc, found, list.len(), "messages")
 }
 
 /// Returns what a conflict is, in words.
@@ -179,7 +217,6 @@ fn conflict_words(alloc: Global, conflict: &Conflict) -> Result<String, AllocErr
 fn push_shown(
     alloc: Global,
     view: &View<'_>,
-    lines: &Lines,
     found: &mut Diagnostic,
     conflict: &Conflict,
 ) -> Result<(), AllocError> {
@@ -188,11 +225,11 @@ fn push_shown(
         push_related(alloc, view, found, here, example.lines.as_str())?;
     }
     if conflict.shift.is_some() {
-        let range = range_in(view, lines, &conflict.shift);
+        let range = range_in(view, &conflict.shift);
         push_related(alloc, view, found, range, "the token is shifted here")?;
     }
     if let Some(other) = conflict.productions.get(1) {
-        let range = range_in(view, lines, &other.range);
+        let range = range_in(view, &other.range);
         return push_related(alloc, view, found, range, "the other production");
     }
     Ok(())
@@ -202,21 +239,38 @@ fn push_shown(
 fn push_conflict(
     alloc: Global,
     view: &View<'_>,
-    lines: &Lines,
     found: &mut Vec<Diagnostic>,
     conflict: &Conflict,
     severity: u8,
-) -> Result<(), AllocError> {
+) -> Result<(), AllocError>
+    ensures { OnOk result (length found.new.items ≡ length found.old.items + 1) }
+{
     let words = conflict_words(alloc, conflict)?;
     let range = match conflict.productions.first() {
-        Some(first) => range_in(view, lines, &first.range),
-        None => range_in(view, lines, &None),
+        Some(first) => range_in(view, &first.range),
+        None => range_in(view, &None),
     };
     found.push(diagnostic(alloc, range, severity, words))?;
     match found.last_mut() {
-        Some(last) => push_shown(alloc, view, lines, last, conflict),
+        Some(last) => push_shown(alloc, view, last, conflict),
         None => Ok(()),
     }
+}
+
+/// Adds the first conflicts, and how many there are.
+fn push_conflicts(
+    alloc: Global,
+    view: &View<'_>,
+    found: &mut Vec<Diagnostic>,
+    conflicts: &[Conflict],
+    severity: u8,
+) -> Result<(), AllocError>
+    ensures { OnOk result (length found.new.items ≤ length found.old.items + 1001) }
+{
+    'conflicts: for index in 0..conflicts.len().min(MOST_SHOWN) {
+        push_conflict(alloc, view, found, &conflicts[index], severity)?;
+    }
+    push_count(alloc, found, conflicts.len(), "conflicts")
 }
 
 /// Adds what is found of a document. Conflicts that are expected are no warnings.
@@ -225,41 +279,18 @@ pub(crate) fn push_findings(
     view: &View<'_>,
     found: &mut Vec<Diagnostic>,
     findings: &Findings,
-) -> Result<(), AllocError> {
-    let lines = Lines::of_text(alloc, view.text)?;
-    let lines = &lines;
+) -> Result<(), AllocError>
+    ensures { OnOk result (length found.new.items ≤ length found.old.items + 3003) }
+{
     let object = &findings.object;
-    push_all_said(alloc, view, lines, found, object.errors.as_slice())?;
-    push_all_said(alloc, view, lines, found, object.warnings.as_slice())?;
+    push_all_said(alloc, view, found, object.errors.as_slice())?;
+    push_all_said(alloc, view, found, object.warnings.as_slice())?;
     let severity = if object.status == 0 {
         INFORMATION
     } else {
         WARNING
     };
-    'conflicts: for index in 0..object.conflicts.len() {
-        push_conflict(
-            alloc,
-            view,
-            lines,
-            found,
-            &object.conflicts[index],
-            severity,
-        )?;
-    }
-    Ok(())
-}
-
-/// Adds that no table is made of a grammar.
-fn push_no_table(alloc: Global, found: &mut Vec<Diagnostic>) -> Result<(), AllocError> {
-    let message = format!(in alloc;
-        "more than {MOST_PRODUCTIONS} productions: lrkit-check lists the conflicts"
-    )?;
-    let range = Range {
-        start: BEGINNING,
-        end: BEGINNING,
-    };
-    found.push(diagnostic(alloc, range, INFORMATION, message))?;
-    Ok(())
+    push_conflicts(alloc, view, found, object.conflicts.as_slice(), severity)
 }
 
 /// Adds the warnings about a grammar that no table is made of.
@@ -268,10 +299,14 @@ fn push_warnings(
     view: &View<'_>,
     found: &mut Vec<Diagnostic>,
     warnings: &[Said],
-) -> Result<(), AllocError> {
-    let lines = Lines::of_text(alloc, view.text)?;
-    push_all_said(alloc, view, &lines, found, warnings)?;
-    push_no_table(alloc, found)
+) -> Result<(), AllocError>
+    ensures { OnOk result (length found.new.items ≤ length found.old.items + 1002) }
+{
+    push_all_said(alloc, view, found, warnings)?;
+    let message = format!(in alloc;
+        "more than {MOST_SYMBOLS} productions and symbols in them: lrkit-check lists the conflicts"
+    )?;
+    push_note(alloc, found, message)
 }
 
 /// Adds what is found of a source without its table, if that isn't made, and returns whether it isn't.
@@ -280,8 +315,11 @@ fn push_large(
     view: &View<'_>,
     found: &mut Vec<Diagnostic>,
     source: &Source<'_>,
-) -> Result<bool, AllocError> {
-    let Some(warnings) = warnings_of_large(alloc, source, MOST_PRODUCTIONS)? else {
+) -> Result<bool, AllocError>
+    ensures count { OnOk result (length found.new.items ≤ length found.old.items + 1002) }
+    ensures rest { IfOk result (λ large. large ≡ false → found.new ≡ found.old) }
+{
+    let Some(warnings) = warnings_of_large(alloc, source, MOST_SYMBOLS)? else {
         return Ok(false);
     };
     let pushed = push_warnings(alloc, view, found, warnings.as_slice());
@@ -296,7 +334,9 @@ fn push_tabled(
     view: &View<'_>,
     found: &mut Vec<Diagnostic>,
     source: &Source<'_>,
-) -> Result<(), ServeFault> {
+) -> Result<(), ServeFault>
+    ensures { OnOk result (length found.new.items ≤ length found.old.items + 3003) }
+{
     match findings_on(alloc, source, WANTED) {
         Ok(read) => {
             let pushed = push_findings(alloc, view, found, &read.findings);
@@ -314,31 +354,44 @@ pub(crate) fn push_source(
     view: &View<'_>,
     found: &mut Vec<Diagnostic>,
     source: &Source<'_>,
-) -> Result<(), ServeFault> {
+) -> Result<(), ServeFault>
+    ensures { OnOk result (length found.new.items ≤ length found.old.items + 3003) }
+{
     if push_large(alloc, view, found, source)? {
         return Ok(());
     }
     push_tabled(alloc, view, found, source)
 }
 
-/// Adds the diagnostics of a document. Of a grammar of more than 4096 productions these are its errors, else the warnings that need no
-/// table, and a note that says so: a table may take seconds, and a change comes with each key.
-pub fn push_diagnostics(
-    alloc: Global,
-    view: &View<'_>,
-    found: &mut Vec<Diagnostic>,
-) -> Result<(), ServeFault> {
+/// Adds the diagnostics of a document's text as it is.
+fn push_plain(alloc: Global, view: &View<'_>, found: &mut Vec<Diagnostic>) -> Result<(), ServeFault>
+    ensures { OnOk result (length found.new.items ≤ length found.old.items + 3003) }
+{
     let source = Source::new(alloc, view.text, view.uri)?;
-    let pushed = match bison_file(view.text, view.uri, false) {
-        Some(file) => push_bison(alloc, view, found, file, &source),
-        None => push_source(alloc, view, found, &source),
-    };
+    let pushed = push_source(alloc, view, found, &source);
     drop(source);
     pushed
 }
 
+/// Adds the diagnostics of a document. Of a grammar of more than 12000 productions and symbols in them these are its errors, else the
+/// warnings that need no table, and a note that says so: a table may take seconds, and a change comes with each key.
+pub fn push_diagnostics(
+    alloc: Global,
+    view: &View<'_>,
+    found: &mut Vec<Diagnostic>,
+) -> Result<(), ServeFault>
+    ensures { OnOk result (length found.new.items ≤ length found.old.items + 3003) }
+{
+    match bison_file(view.text, view.uri, false) {
+        Some(file) => push_bison(alloc, view, found, file),
+        None => push_plain(alloc, view, found),
+    }
+}
+
 /// Adds the diagnostic of a document that is too long to be read.
-pub fn push_too_long(alloc: Global, found: &mut Vec<Diagnostic>) -> Result<(), AllocError> {
+pub fn push_too_long(alloc: Global, found: &mut Vec<Diagnostic>) -> Result<(), AllocError>
+    ensures { OnOk result (length found.new.items ≡ length found.old.items + 1) }
+{
     let message = String::from_str(alloc, "more than 67108864 bytes")?;
     let range = Range {
         start: BEGINNING,

@@ -18,13 +18,13 @@ pub struct Document {
     pub index: GrammarIndex,
 }
 
-/// Returns the document of a text.
+/// Returns the document of a text with these lines.
 pub fn document_of<L: Language>(
     alloc: Global,
     language: &L,
     text: String,
+    lines: Lines,
 ) -> Result<Document, AllocError> {
-    let lines = Lines::of_text(alloc, text.as_str())?;
     if text.len() > MOST_BYTES {
         let index = GrammarIndex::empty(alloc);
         return Ok(Document { text, lines, index });

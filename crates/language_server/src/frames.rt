@@ -1,6 +1,6 @@
 //! Frames: the bytes of each message behind a heading with their count.
 
-ghost use Rattle.std.specs.Prelude.{◌≤◌, length, IfOk};
+ghost use Rattle.std.specs.Prelude.{◌≡◌, ◌≤◌, ◌-◌, length, take, unwrap_or, IfOk};
 
 use std::alloc::{AllocError, Global};
 use std::mem;
@@ -56,6 +56,16 @@ fn number_of(text: &[u8]) -> Option<usize> {
         number = number.saturating_mul(10).saturating_add(digit);
     }
     Some(number)
+}
+
+/// Returns the first bytes, or all.
+fn front_of(bytes: &[u8], count: usize) -> &[u8]
+    ensures { result.now ≡ take count bytes.now }
+{
+    match bytes.get(..count) {
+        Some(front) => front,
+        None => bytes,
+    }
 }
 
 impl Frames {
@@ -132,11 +142,12 @@ impl Frames {
 
     /// Takes the bytes of a message that are there, without its last one, and returns how many it took: none of a heading.
     pub fn take_inner(&mut self, bytes: &[u8]) -> Result<usize, AllocError>
-        ensures { IfOk result (λ count. count ≤ length bytes.now) }
+        ensures within { IfOk result (λ count. count ≤ length bytes.now) }
+        ensures count { IfOk result (λ count. count ≡ length (take (unwrap_or self.old.left 0 - 1) bytes.now)) }
     {
         let left = self.left.unwrap_or(0);
-        let inner = bytes.get(..left.saturating_sub(1)).unwrap_or(bytes);
-        if left <= 1 {
+        let inner = front_of(bytes, left.saturating_sub(1));
+        if inner.is_empty() {
             return Ok(0);
         }
         if self.count <= Some(MOST_BYTES) {

@@ -11,7 +11,7 @@ use crate::documents::{Document, document_of, with_changes};
 use crate::fault::ServeFault;
 use crate::languages::Language;
 use crate::messages::{Change, ErrorCode, Id, Message, Method, Notice, Params, Query};
-use crate::places::Encoding;
+use crate::places::{Encoding, Lines};
 use byte_streams::MOST_BYTES;
 use std::alloc::Global;
 use std::collections::BTreeMap;
@@ -236,6 +236,7 @@ impl Server {
         language: &L,
         published: &mut Published,
         text: &str,
+        lines: &Lines,
     ) -> Result<(), ServeFault> {
         if text.len() > MOST_BYTES {
             push_too_long(alloc, &mut published.diagnostics)?;
@@ -244,6 +245,7 @@ impl Server {
         let view = View {
             uri: published.uri.as_str(),
             text,
+            lines,
             encoding: self.encoding,
             has_related: self.has_related,
         };
@@ -263,6 +265,7 @@ impl Server {
         ensures status { IfOk result (λ t. t.status ≡ None) }
         ensures phase { OnOk result (self.new.phase ≡ self.old.phase) }
     {
+        let lines = Lines::of_text(alloc, text.as_str())?;
         let diagnostics = Vec::new(alloc);
         let name = String::from_str(alloc, uri.as_str())?;
         let mut published = Published {
@@ -270,11 +273,11 @@ impl Server {
             version,
             diagnostics,
         };
-        if let Err(e) = self.fill(alloc, language, &mut published, text.as_str()) {
+        if let Err(e) = self.fill(alloc, language, &mut published, text.as_str(), &lines) {
             drop(published);
             return Err(e);
         }
-        if let Err(e) = self.put(alloc, language, uri, text) {
+        if let Err(e) = self.put(alloc, language, uri, text, lines) {
             drop(published);
             return Err(e);
         }
@@ -288,10 +291,11 @@ impl Server {
         language: &L,
         uri: String,
         text: String,
+        lines: Lines,
     ) -> Result<(), ServeFault>
         ensures { OnOk result (self.new.phase ≡ self.old.phase) }
     {
-        let document = document_of(alloc, language, text)?;
+        let document = document_of(alloc, language, text, lines)?;
         match self.documents.insert(uri, document) {
             Ok(old) => {
                 drop(old);

@@ -75,5 +75,8 @@ module _ (k : ParserValue) (rs : List (List Edit)) (all : List (List ℕ)) (i : 
 pub WritesLines-start : (k : ParserValue) (rs : List (List Edit)) (all : List (List ℕ)) (a : Option (List ℕ)) → WritesLines k rs (take 0 all) a a false
 WritesLines-start k rs all a = record { text = []; texts = (refl, refl); written = Appends-nil a }
 
+pub BeginsTexts-start : (k : ParserValue) (rs : List (List Edit)) (all : List (List ℕ)) (a : Option (List ℕ)) → BeginsTexts k rs all a a
+BeginsTexts-start k rs all a = record { count = 0; text = []; faulty = false; texts = (refl, refl); written = beginning a a [] [] [] refl (Appends-nil a) }
+
 pub WritesLines-end : (k : ParserValue) (rs : List (List Edit)) (all : List (List ℕ)) (i : ℕ) (a b : Option (List ℕ)) (f : Bool) → WritesLines k rs (take i all) a b f → length all ≤ i → WritesLines k rs all a b f
 WritesLines-end k rs all i a b f s h = rw (take_all i all h) at s

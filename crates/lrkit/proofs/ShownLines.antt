@@ -151,6 +151,6 @@ module _ (k : ParserValue) (repairs : List (List Edit)) (line : List ℕ) where
     begins_line (Read i) late l = absurd late
     begins_line (TooLong i) late l = absurd late
 
-    pub begins_late : (r : Result Bool RunFault) → IfErr r IsLate → OnErr r (BeginsLineText k repairs line a b) → IfErr r (BeginsLine k repairs line a b)
+    pub begins_late : {A : Type 0} (r : Result A RunFault) → IfErr r IsLate → OnErr r (BeginsLineText k repairs line a b) → IfErr r (BeginsLine k repairs line a b)
     begins_late (Ok faulty) late l = tt
     begins_late (Err e) late l = begins_line e late l

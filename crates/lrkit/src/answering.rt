@@ -1,6 +1,6 @@
 //! The answer to a line.
 
-ghost use Rattle.std.specs.Prelude.{◌≡◌, ◌≤◌, Option, IfOk, IfErr, IfSome, OnOk, OnErr, length, true};
+ghost use Rattle.std.specs.Prelude.{◌≡◌, ◌≤◌, Option, IfOk, IfErr, IfSome, OnOk, OnErr, length, false, true};
 ghost use Rattle.std.specs.Io.KnownBytes.{Appends};
 ghost use Rattle.std.specs.List.{AllByRecursion};
 ghost use Rattle.std.specs.Str.{IsUtf8};
@@ -18,7 +18,7 @@ ghost use Rattle.lrkit.specs.Run.{IsLate, IsWriteCause};
 ghost use Rattle.lrkit.specs.Writing.{BeginsLine, WritesLine};
 
 use crate::fault::RunFault;
-use crate::trees::{write_outline, write_tree};
+use crate::trees::{Answers, write_outline, write_tree};
 use byte_streams::{Sink, write_all};
 use lrpar::{FlatTree, Lexer, Outline, ParseError, ParseRefusal};
 use parser_kit::GrammarKit;
@@ -38,66 +38,66 @@ type LineError = ParseError<WordLexeme<u32>, u32>;
 type LineLexer<'a> = WordLexer<'a, u32>;
 
 /// Writes the text of a line: its errors, and then its tree, if it has a value. It answers whether there was an error, and the
-/// room of its lexer's list, which serves the next line.
+/// room of its lexer's list, which serves the next line. What `text` holds is let go.
 pub(crate) fn write_line<W: Sink>(
+    answers: &Answers<'_>,
+    room: LexerRoom<u32>,
+    line: &str,
+    text: &mut Vec<u8>,
+    out: &mut W,
+) -> Result<(bool, LexerRoom<u32>), RunFault>
+    ensures ok { IfOk result (λ r. WritesLine answers.now.kit.now answers.now.repairs.now line.now (W.known out.old) (W.known out.new) r.0) }
+    ensures late { IfErr result IsLate }
+    ensures begins { IfErr result (BeginsLine answers.now.kit.now answers.now.repairs.now line.now (W.known out.old) (W.known out.new)) }
+    ensures cause { IfErr result (IsWriteCause (W.faults out.old) (W.faults out.new)) }
+    ensures kept { OnOk result (W.faults out.new ≡ W.faults out.old) }
+{
+    let alloc = answers.alloc;
+    let read = room.read(answers.kit.grm(), line)?;
+    match outline_of(alloc, answers.kit, answers.repairs, &read)? {
+        Some(outline) => {
+            write_faultless(answers, line, &read, &outline, text, out)?;
+            Ok((false, read))
+        }
+        None => write_read(alloc, answers.kit, answers.repairs, read, line, out),
+    }
+}
+
+// Writes the text of a line whose items are at hand.
+fn write_read<W: Sink>(
     alloc: Global,
     kit: &GrammarKit<u32>,
     repairs: &RepairLines<u32>,
-    room: LexerRoom<u32>,
+    read: LexerRoom<u32>,
     line: &str,
     out: &mut W,
 ) -> Result<(bool, LexerRoom<u32>), RunFault>
+    requires items { read ≡ items_of id kit.now.grammar line.now }
+    requires not_refused { (m : Misfit) → HasMisfit kit.now.grammar.grammar (lex_of id) read m → ⊥ }
     ensures ok { IfOk result (λ r. WritesLine kit.now repairs.now line.now (W.known out.old) (W.known out.new) r.0) }
     ensures late { IfErr result IsLate }
     ensures begins { IfErr result (BeginsLine kit.now repairs.now line.now (W.known out.old) (W.known out.new)) }
     ensures cause { IfErr result (IsWriteCause (W.faults out.old) (W.faults out.new)) }
     ensures kept { OnOk result (W.faults out.new ≡ W.faults out.old) }
 {
-    let lexer = WordLexer::in_room(alloc, room, kit.grm(), &*line)?;
-    match write_read(alloc, &*kit, repairs, &*line, &lexer, out) {
+    let lexer = WordLexer::of_read(alloc, read, &*line)?;
+    match write_lexed(alloc, &*kit, repairs, &*line, &lexer, out) {
         Ok(wrong) => Ok((wrong, lexer.into_room())),
         Err(e) => Err(e),
     }
 }
 
-// Writes the text of a line whose items are at hand. A line without errors has an outline.
-fn write_read<'a, W: Sink>(
-    alloc: Global,
-    kit: &'a GrammarKit<u32>,
-    repairs: &RepairLines<u32>,
-    line: &'a str,
-    lexer: &LineLexer<'a>,
-    out: &mut W,
-) -> Result<bool, RunFault>
-    requires line { lexer.now.text ≡ line.now }
-    requires items { lexer.now.items ≡ items_of id kit.now.grammar line.now }
-    requires not_refused { (m : Misfit) → HasMisfit kit.now.grammar.grammar (lex_of id) lexer.now.items m → ⊥ }
-    ensures ok { IfOk result (WritesLine kit.now repairs.now line.now (W.known out.old) (W.known out.new)) }
-    ensures late { IfErr result IsLate }
-    ensures begins { IfErr result (BeginsLine kit.now repairs.now line.now (W.known out.old) (W.known out.new)) }
-    ensures cause { IfErr result (IsWriteCause (W.faults out.old) (W.faults out.new)) }
-    ensures kept { OnOk result (W.faults out.new ≡ W.faults out.old) }
-{
-    match outline_of(alloc, kit, repairs, lexer)? {
-        Some(outline) => {
-            let lexed = ReadLine { line, lexer };
-            write_faultless(alloc, kit, repairs, &lexed, &outline, out)
-        }
-        None => write_lexed(alloc, kit, repairs, line, lexer, out),
-    }
-}
-
 // Returns the outline of the tree of a line without errors, if it is not too large.
-fn outline_of<'a>(
+fn outline_of(
     alloc: Global,
-    kit: &'a GrammarKit<u32>,
+    kit: &GrammarKit<u32>,
     repairs: &RepairLines<u32>,
-    lexer: &LineLexer<'a>,
+    read: &LexerRoom<u32>,
 ) -> Result<Option<LineOutline>, AllocError>
-    ensures { IfOk result (λ o. IfSome o (IsFaultless kit.now repairs.now lexer.now.items)) }
+    ensures { IfOk result (λ o. IfSome o (IsFaultless kit.now repairs.now read.now)) }
 {
-    let parsed = kit.parse_outline::<WordLexerTypes<u32>, LineLexer<'_>, RepairLines<u32>>(
-        alloc, lexer, repairs,
+    let parsed = kit.parse_outline::<WordLexerTypes<u32>, LexerRoom<u32>, RepairLines<u32>>(
+        alloc, read, repairs,
     );
     match parsed {
         Ok(Ok((outline, errors))) => {
@@ -115,31 +115,26 @@ fn outline_of<'a>(
 }
 
 // Writes the tree of a line without errors, by its outline.
-fn write_faultless<'a, W: Sink>(
-    alloc: Global,
-    kit: &'a GrammarKit<u32>,
-    repairs: &RepairLines<u32>,
-    lexed: &ReadLine<'_, 'a>,
+fn write_faultless<W: Sink>(
+    answers: &Answers<'_>,
+    line: &str,
+    read: &LexerRoom<u32>,
     outline: &LineOutline,
+    text: &mut Vec<u8>,
     out: &mut W,
-) -> Result<bool, RunFault>
-    requires items { lexed.now.lexer.now.items ≡ items_of id kit.now.grammar lexed.now.line.now }
-    requires text { IsUtf8 lexed.now.line.now }
-    requires faultless { IsFaultless kit.now repairs.now lexed.now.lexer.now.items outline.now }
-    ensures ok { IfOk result (WritesLine kit.now repairs.now lexed.now.line.now (W.known out.old) (W.known out.new)) }
+) -> Result<(), RunFault>
+    requires items { read.now ≡ items_of id answers.now.kit.now.grammar line.now }
+    requires faultless { IsFaultless answers.now.kit.now answers.now.repairs.now read.now outline.now }
+    ensures ok { OnOk result (WritesLine answers.now.kit.now answers.now.repairs.now line.now (W.known out.old) (W.known out.new) false) }
     ensures late { IfErr result IsLate }
-    ensures begins { IfErr result (BeginsLine kit.now repairs.now lexed.now.line.now (W.known out.old) (W.known out.new)) }
+    ensures begins { IfErr result (BeginsLine answers.now.kit.now answers.now.repairs.now line.now (W.known out.old) (W.known out.new)) }
     ensures cause { IfErr result (IsWriteCause (W.faults out.old) (W.faults out.new)) }
     ensures kept { OnOk result (W.faults out.new ≡ W.faults out.old) }
 {
     parses_can_be_shown::<WordLexerTypes<u32>, RepairLines<u32>>();
     items_are_parts_of_their_line::<u32>();
-    kit.stays_tabled();
-    let items = lexed.lexer.iter().as_slice();
-    match write_outline(alloc, kit.grm(), lexed.line, items, outline, out) {
-        Ok(()) => Ok(false),
-        Err(e) => Err(e),
-    }
+    answers.kit.stays_tabled();
+    write_outline(answers, line, read.iter().as_slice(), outline, text, out)
 }
 
 // Writes the text of a line whose items are at hand.

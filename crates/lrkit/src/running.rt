@@ -11,10 +11,11 @@ ghost use Rattle.lrkit.specs.Writing.{WritesLines};
 use crate::answering::write_line;
 use crate::counts::check_counts;
 use crate::fault::{Input, RunFault, run_fault};
+use crate::trees::Answers;
 use byte_streams::{Sink, Source, read_text};
 use parser_kit::{GrammarKit, KitError, ParserKit};
 use std::alloc::Global;
-use word_lines::{LexerRoom, RepairLines, RepairsError, read_repairs};
+use word_lines::{LexerRoom, NodeLines, RepairLines, RepairsError, read_repairs};
 
 // No chain of reductions on one token goes past this.
 const CAP: u16 = 1000;
@@ -159,10 +160,18 @@ fn write_lines<W: Sink>(
     ensures cause { IfErr result (IsWriteCause (W.faults out.old) (W.faults out.new)) }
     ensures kept { OnOk result (W.faults out.new ≡ W.faults out.old) }
 {
+    let shown = NodeLines::new(alloc, kit.grm())?;
+    let answers = Answers {
+        alloc,
+        kit,
+        repairs,
+        shown: &shown,
+    };
     let mut faulty = false;
     let mut room = LexerRoom::new(alloc);
+    let mut text = Vec::new(alloc);
     'lines: for line in line_text.lines() {
-        let (wrong, left) = write_line(alloc, kit, repairs, room, line, out)?;
+        let (wrong, left) = write_line(&answers, room, line, &mut text, out)?;
         faulty = either(faulty, wrong);
         room = left;
     }

@@ -23,12 +23,23 @@ use cfg_numbered::yacc::NumberedGrammar;
 use lrpar::flat::{FlatNode, Visit};
 use lrpar::outline::OutlineWalk;
 use lrpar::{FlatTree, Outline};
+use parser_kit::GrammarKit;
 use std::alloc::Global;
 use word_lines::outlines::{push_symbol, shown_symbols};
 use word_lines::trees::{push_node, shown_nodes};
-use word_lines::{WordLexError, WordLexeme};
+use word_lines::{NodeLines, RepairLines, WordLexError, WordLexeme};
 
 type LineTree = FlatTree<u32, WordLexeme<u32>>;
+
+/// What each line is answered by: a parser, the repairs, and the names of the parser's grammar in lines of nodes.
+#[derive(Drop)]
+pub(crate) struct Answers<'a> {
+    pub alloc: Global,
+    pub kit: &'a GrammarKit<u32>,
+    pub repairs: &'a RepairLines<u32>,
+    pub shown: &'a NodeLines<'a, u32>,
+    ghost same: { shown.now ≡ kit.now.grammar },
+}
 
 /// Writes the text that waits, and then that of the tree, if there is one. Little of it waits at any time.
 pub(crate) fn write_tree<W: Sink>(
@@ -52,50 +63,50 @@ pub(crate) fn write_tree<W: Sink>(
     }
 }
 
-/// Writes the text of a tree by its outline and the items of its line. Little of it waits at any time.
+/// Writes the text of a tree by its outline and the items of its line. What `text` holds is let go. Little of it waits at any time.
 pub(crate) fn write_outline<W: Sink>(
-    alloc: Global,
-    grm: &NumberedGrammar<u32>,
+    answers: &Answers<'_>,
     line: &str,
     items: &[Result<WordLexeme<u32>, WordLexError>],
     outline: &Outline<u32, WordLexeme<u32>>,
+    text: &mut Vec<u8>,
     out: &mut W,
 ) -> Result<(), RunFault>
-    requires { (t : Tree Word) × AreItems items.now (yield t) × IsOutline t outline.now × CanShowTree grm.now (lex_of id) line.now t }
-    ensures ok { (t : Tree Word) → AreItems items.now (yield t) → IsOutline t outline.now → OnOk result (Appends (W.known out.old) (W.known out.new) (value_text id grm.now line.now (Option.Some t))) }
+    requires { (t : Tree Word) × AreItems items.now (yield t) × IsOutline t outline.now × CanShowTree answers.now.shown.now (lex_of id) line.now t }
+    ensures ok { (t : Tree Word) → AreItems items.now (yield t) → IsOutline t outline.now → OnOk result (Appends (W.known out.old) (W.known out.new) (value_text id answers.now.shown.now line.now (Option.Some t))) }
     ensures late { IfErr result IsLate }
-    ensures begins { (t : Tree Word) → AreItems items.now (yield t) → IsOutline t outline.now → OnErr result (BeginningWritten (W.known out.old) (W.known out.new) (value_text id grm.now line.now (Option.Some t))) }
+    ensures begins { (t : Tree Word) → AreItems items.now (yield t) → IsOutline t outline.now → OnErr result (BeginningWritten (W.known out.old) (W.known out.new) (value_text id answers.now.shown.now line.now (Option.Some t))) }
     ensures cause { IfErr result (IsWriteCause (W.faults out.old) (W.faults out.new)) }
     ensures kept { OnOk result (W.faults out.new ≡ W.faults out.old) }
 {
-    let mut text = Vec::new(alloc);
-    let mut walk = shown_symbols(alloc, grm, line, outline)?;
-    write_symbols(grm, line, items, &mut walk, &mut text, out)?;
+    text.clear();
+    let mut walk = shown_symbols(answers.alloc, answers.shown, line, outline)?;
+    write_symbols(answers.shown, line, items, &mut walk, text, out)?;
     write_rest(text.as_slice(), out)
 }
 
 // Adds the lines of the nodes of a walk to what waits, and writes it whenever it is long.
 fn write_symbols<W: Sink>(
-    grm: &NumberedGrammar<u32>,
+    shown: &NodeLines<'_, u32>,
     line: &str,
     items: &[Result<WordLexeme<u32>, WordLexError>],
     walk: &mut OutlineWalk<'_, u32, WordLexeme<u32>>,
     text: &mut Vec<u8>,
     out: &mut W,
 ) -> Result<(), RunFault>
-    requires { (lexemes : List Word) × (rest : List SymbolVisit) × AreItems items.now lexemes × IsLeft Word id walk.old.nodes.now walk.old.waiting.items walk.old.seen rest × CanShowSymbols grm.now (lex_of id) line.now lexemes rest }
+    requires { (lexemes : List Word) × (rest : List SymbolVisit) × AreItems items.now lexemes × IsLeft Word id walk.old.nodes.now walk.old.waiting.items walk.old.seen rest × CanShowSymbols shown.now (lex_of id) line.now lexemes rest }
     ensures ok { (lexemes : List Word) (rest : List SymbolVisit) → AreItems items.now lexemes → IsLeft Word id walk.old.nodes.now walk.old.waiting.items walk.old.seen rest →
-        OnOk result (IsOutBut (W.known out.old) (W.known out.new) (text.old.items ++ flat_map (symbol_visit_line grm.now (lex_of id) line.now lexemes) rest) text.new.items) }
+        OnOk result (IsOutBut (W.known out.old) (W.known out.new) (text.old.items ++ flat_map (symbol_visit_line shown.now (lex_of id) line.now lexemes) rest) text.new.items) }
     ensures late { IfErr result IsLate }
     ensures begins { (lexemes : List Word) (rest : List SymbolVisit) → AreItems items.now lexemes → IsLeft Word id walk.old.nodes.now walk.old.waiting.items walk.old.seen rest →
-        OnErr result (BeginningWritten (W.known out.old) (W.known out.new) (text.old.items ++ flat_map (symbol_visit_line grm.now (lex_of id) line.now lexemes) rest)) }
+        OnErr result (BeginningWritten (W.known out.old) (W.known out.new) (text.old.items ++ flat_map (symbol_visit_line shown.now (lex_of id) line.now lexemes) rest)) }
     ensures cause { IfErr result (IsWriteCause (W.faults out.old) (W.faults out.new)) }
     ensures kept { OnOk result (W.faults out.new ≡ W.faults out.old) }
 {
     'nodes: for _ in 0..walk.nodes.len() {
         match walk.step()? {
             Some(visit) => {
-                push_symbol(grm, line, items, visit, text)?;
+                push_symbol(shown, line, items, visit, text)?;
                 give_out(text, out)?;
             }
             None => return Ok(()),

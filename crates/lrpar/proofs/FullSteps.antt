@@ -107,17 +107,34 @@ module _ {S : Type 0} (number : S → ℕ) (v : TableValue) (s : ℕ) where
   target_read empty q y None e same = cc
   target_read empty q y (Some x) e same = ap (λ (z : StIdx S). number z.0) (same_Some y x same) ∙ same_Some (number x.0) q e
 
+  own_read : (empty y : StIdx S) (o : Option (StIdx S)) → option_map (λ (x : StIdx S). number x.0) o ≡ None → Some y ≡ Some (or_else empty o) → number y.0 ≡ number empty.0
+  own_read empty y None e same = ap (λ (z : StIdx S). number z.0) (same_Some y empty same)
+  own_read empty y (Some x) e same = cc
+
   pub goto_below : (row : List (ℕ × ℕ)) → get_or v.gotos s [] ≡ full_targets v.rules row → IsTargetRow v.rules row → (A q : ℕ) → goto_at v s A ≡ Some q → A < v.rules
   goto_below row whole is A q e = elim (cases_lt A v.rules) [
     | inl lt ↦ lt
     | inr le ↦ (let none = past_gotos v s row whole is A le in cc (sym e ∙ none))
   ]
 
-  pub are_targets : (row : List (ℕ × StIdx S)) (empty : StIdx S) (full : List (StIdx S)) → get_or v.gotos s [] ≡ full_targets v.rules (targets_of number row) → IsTargetRow v.rules (targets_of number row) → IsFull v.rules row empty full → AreTargets number v s full
-  are_targets row empty full whole is h = λ A q x e at.
-      let lt = goto_below (targets_of number row) whole is A q e in
-      let there : option_map (λ (y : StIdx S). number y.0) (at_of row A) ≡ Some q = sym (goto_of_row v s (targets_of number row) whole is A lt ∙ at_over (λ (y : StIdx S). number y.0) row A) ∙ e in
-      target_read empty q x (at_of row A) there (sym at ∙ h A lt)
+  pub are_targets : (row : List (ℕ × StIdx S)) (empty : StIdx S) (full : List (StIdx S)) → get_or v.gotos s [] ≡ full_targets v.rules (targets_of number row) → IsTargetRow v.rules (targets_of number row) → number empty.0 ≡ s → IsFull v.rules row empty full → AreTargets number v s full
+  are_targets row empty full whole is self h = record {
+    there = λ A q x e at.
+        let lt = goto_below (targets_of number row) whole is A q e in
+        target_read empty q x (at_of row A) (read A lt ∙ e) (sym at ∙ h A lt);
+    own = λ A x lt e at. own_read empty x (at_of row A) (read A lt ∙ e) (sym at ∙ h A lt) ∙ self;
+  }
+    where
+      read : (A : ℕ) → A < v.rules → option_map (λ (y : StIdx S). number y.0) (at_of row A) ≡ goto_at v s A
+      read A lt = sym (goto_of_row v s (targets_of number row) whole is A lt ∙ at_over (λ (y : StIdx S). number y.0) row A)
+
+  -- what a full row has at a rule is its goto, unless it is the state itself
+  pub found_goto : (row : List (StIdx S)) (A : ℕ) (x : StIdx S) → AreTargets number v s row → A < v.rules → slice_get row A ≡ Some x → (number x.0 ≡ s → ⊥) → goto_at v s A ≡ Some (number x.0)
+  found_goto row A x h lt at other = by_case (goto_at v s A) refl
+    where
+      by_case : (o : Option ℕ) → goto_at v s A ≡ o → goto_at v s A ≡ Some (number x.0)
+      by_case None e = absurd (other (h.own A x lt e at))
+      by_case (Some q) e = e ∙ ap (λ k. Some k) (sym (h.there A q x e at))
 
 -- ---- rows
 

@@ -1,7 +1,6 @@
 -- The checked data of a parser, and the refusals.
 use Rattle.std.specs.Prelude.{◌≡◌, ℕ}
 use Rattle.cfg_theory.specs.Grammar.{Grammar}
-use Rattle.lr_theory.specs.Automaton.{Complete}
 use Rattle.lr_theory.specs.Chains.{ChainsWithin}
 use Rattle.lr_theory.specs.LongChains.{IsLeastChain}
 use Rattle.cfg_numbered.specs.Value.{GrammarValue}
@@ -12,7 +11,6 @@ use Rattle.lrpar.specs.Pair.{IsSafePair}
 use Rattle.lrpar.specs.Reducing.{IsTableFor, chain_of, rule_number}
 use Rattle.lrpar.specs.Safety.{IsLeastMisfit}
 use Rattle.lrpar.specs.Fitting.{cell_of}
-use Rattle.cfg_theory.specs.Decides.{Decides}
 use Rattle.lrpar.specs.declared.parserdata.Verdict.{Verdict}
 use Rattle.lrpar.specs.declared.parserdata.Verdict.TheVariants as verdicts
 use Rattle.lrpar.specs.declared.parserdata.Parts.{Parts}
@@ -36,7 +34,7 @@ pub record IsData (G : Grammar) (g : GraphValue) (v : TableValue) (cap : ℕ) : 
 
 -- what a check of the three comes to
 abbrev pub TellsVerdict : {S : Type 0} → (S → ℕ) → Grammar → GraphValue → TableValue → ℕ → Verdict S → Type 0
-TellsVerdict number G g v cap (verdicts.Checked complete) = IsData G g v cap × Decides (Complete G (automaton_of g v)) complete
+TellsVerdict number G g v cap verdicts.Checked = IsData G g v cap
 TellsVerdict number G g v cap (verdicts.Unsafe m) = IsLeastMisfit (CountsAgree G g v) G (automaton_of g v) (number m.state.0) (cell_of number m.cell)
 TellsVerdict number G g v cap (verdicts.Long c) = IsSafePair G g v × IsLeastChain G (automaton_of g v) cap (chain_of number c)
 

@@ -20,9 +20,10 @@ IsFull n row empty full = (k : ℕ) → k < n → slice_get full k ≡ Some (or_
 abbrev pub AreCells : {S : Type 0} → (S → ℕ) → TableValue → ℕ → List (Action S) → Type 0
 AreCells {S} number v s row = (t : ℕ) (a : Action S) → t < v.tokens → slice_get row t ≡ Some a → action_of number a ≡ action_at v s t
 
--- the gotos of the state s that the row is long enough for, each at its rule
-abbrev pub AreTargets : {S : Type 0} → (S → ℕ) → TableValue → ℕ → List (StIdx S) → Type 0
-AreTargets {S} number v s row = (A q : ℕ) (x : StIdx S) → goto_at v s A ≡ Some q → slice_get row A ≡ Some x → number x.0 ≡ q
+-- the gotos of the state s that the row is long enough for, each at its rule; at a rule without one it has the state itself
+pub record AreTargets {S : Type 0} (number : S → ℕ) (v : TableValue) (s : ℕ) (row : List (StIdx S)) : Type 0 where
+  pub there : (A q : ℕ) (x : StIdx S) → goto_at v s A ≡ Some q → slice_get row A ≡ Some x → number x.0 ≡ q
+  pub own : (A : ℕ) (x : StIdx S) → A < v.rules → goto_at v s A ≡ None → slice_get row A ≡ Some x → number x.0 ≡ s
 
 -- each of n numbers has a row of which P holds
 abbrev pub AreRows : {X : Type 0} → ℕ → (ℕ → List X → Type 0) → List (Vec X Global) → Type 0

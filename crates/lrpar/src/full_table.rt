@@ -1,7 +1,9 @@
 //! A table beside full rows, in which its cells and its gotos are read at once.
 
-ghost use Rattle.std.specs.Prelude.{◌≡◌, ◌<◌, ℕ, Some, length, replicate, slice_get, slice_set, IfOk};
-ghost use Rattle.state_table.specs.CellViews.{action_of, state_of};
+ghost use Rattle.std.specs.Prelude.{◌≡◌, ◌<◌, ℕ, Some, [], length, replicate, slice_get, slice_index_or, slice_set, IfOk};
+ghost use Rattle.state_table.specs.CellViews.{action_of, cells_of, state_of, targets_of};
+ghost use Rattle.state_table.specs.SparseRows.{IsCellRow, IsTargetRow, full_cells, full_targets};
+ghost use Rattle.state_table.specs.Tables.{HasFullRows};
 ghost use Rattle.state_table.specs.Rows.{Rises, Below};
 ghost use Rattle.state_table.specs.TableValues.{action_at, goto_at};
 ghost use Rattle.lrpar.specs.FullTables.{IsFull, AreCells, AreTargets, AreRows};
@@ -207,11 +209,44 @@ impl<S: IndexStorage> FullTable<S> {
         self.stable.start_state()
     }
 
+    /// Counts the states.
+    pub(crate) fn states_len(&self) -> StIdx<S>
+        ensures value { S.number result.0 ≡ self.now.states }
+        ensures rows { HasFullRows self.now }
+    {
+        self.stable.states_len()
+    }
+
     /// Counts the tokens, the end token among them.
     pub(crate) fn tokens_len(&self) -> TIdx<S>
         ensures { S.number result.0 ≡ self.now.tokens }
     {
         self.stable.tokens_len()
+    }
+
+    /// Counts the rules.
+    pub(crate) fn rules_len(&self) -> RIdx<S>
+        ensures { S.number result.0 ≡ self.now.rules }
+    {
+        self.stable.rules_len()
+    }
+
+    /// Lends the cells of a state that aren't errors, each beside its token's number, ascending.
+    pub(crate) fn state_cells(&self, stidx: StIdx<S>) -> &[(u32, Action<S>)]
+        requires { S.number stidx.0 < self.now.states }
+        ensures cells { IsCellRow self.now.tokens (cells_of S.number result.now) }
+        ensures whole { slice_index_or self.now.actions (S.number stidx.0) [] ≡ full_cells self.now.tokens (cells_of S.number result.now) }
+    {
+        self.stable.state_cells(stidx)
+    }
+
+    /// Lends the gotos of a state, each beside its rule's number, ascending.
+    pub(crate) fn state_gotos(&self, stidx: StIdx<S>) -> &[(u32, StIdx<S>)]
+        requires { S.number stidx.0 < self.now.states }
+        ensures targets { IsTargetRow self.now.rules (targets_of S.number result.now) }
+        ensures whole { slice_index_or self.now.gotos (S.number stidx.0) [] ≡ full_targets self.now.rules (targets_of S.number result.now) }
+    {
+        self.stable.state_gotos(stidx)
     }
 
     /// Returns the action of the state on the token.
@@ -256,12 +291,19 @@ impl<S: IndexStorage> FullTable<S> {
         }
     }
 
-    /// Returns the state after the rule.
+    /// Returns the state after the rule, if there is one.
     pub(crate) fn goto(&self, stidx: StIdx<S>, ridx: RIdx<S>) -> Option<StIdx<S>>
         requires state { S.number stidx.0 < self.now.states }
         requires rule { S.number ridx.0 < self.now.rules }
         ensures { state_of S.number result ≡ goto_at self.now (S.number stidx.0) (S.number ridx.0) }
     {
+        let row = row_at(self.targets.as_slice(), stidx.0.to_usize());
+        if let Some(target) = place_at(row.as_slice(), ridx.0.to_usize()) {
+            // A full row has the state itself at a rule without a goto.
+            if target.0.to_usize() != stidx.0.to_usize() {
+                return Some(target);
+            }
+        }
         self.stable.goto(stidx, ridx)
     }
 }

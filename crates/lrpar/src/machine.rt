@@ -10,7 +10,7 @@ ghost use Rattle.state_table.specs.Tables.{automaton_of};
 use crate::full_table::FullTable;
 use cfg_base::index::IndexStorage;
 use cfg_numbered::yacc::grammar::NumberedGrammar;
-use state_table::{StateGraph, StateTable};
+use state_table::StateGraph;
 
 /// The machine of a run: a grammar, a graph and a table that are safe for it, and the cap that its chains of
 /// reductions are within.
@@ -30,7 +30,7 @@ pub(crate) struct Machine<'a, S: IndexStorage> {
 #[derive(Drop)]
 pub(crate) struct Chains<'a, S: IndexStorage> {
     pub grm: &'a NumberedGrammar<S>,
-    pub stable: &'a StateTable<S>,
+    pub stable: &'a FullTable<S>,
     /// A chain of more reductions is long.
     pub limit: u16,
     ghost table: { IsTableFor grm.now.grammar stable.now } by { one_fit grm.now.grammar stable.now },

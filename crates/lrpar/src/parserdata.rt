@@ -10,7 +10,6 @@ ghost use Rattle.table_theory.specs.Cells.{NoPrecedences};
 ghost use Rattle.lrpar.specs.Pair.{IsSafePair};
 ghost use Rattle.lrpar.specs.Reducing.{IsTableFor};
 ghost use Rattle.lrpar.specs.Checked.{IsBuiltRefusal, IsData, IsDataRefusal, IsUnsafeTable, TellsVerdict};
-ghost use Rattle.cfg_theory.specs.Decides.{Decides};
 ghost use Rattle.lrpar.specs.declared.parserdata.BuiltDataError.TheVariants as built_errors;
 ghost use Rattle.lrpar.specs.declared.parserdata.ParserDataError.TheVariants as errors;
 
@@ -49,21 +48,16 @@ pub struct ParserData<S: IndexStorage> {
     stable: FullTable<S>,
     /// The greatest number of reductions allowed one after another on a token.
     cap: u16,
-    /// Whether each item's action is in its cell.
-    complete: bool,
 }
 
 impl<S: IndexStorage> Model for ParserData<S> {
-    ghost use Rattle.lr_theory.specs.Automaton.{Complete};
-    ghost use Rattle.state_table.specs.Tables.{automaton_of};
     ghost use Rattle.lrpar.specs.Checked.{ParserValue, IsData};
-    ghost use Rattle.cfg_theory.specs.Decides.{Decides};
 
     ghost Value = { ParserValue };
 
     ghost view = { λ d. record { grammar = d.grm; graph = d.sgraph; table = d.stable; cap = d.cap } };
 
-    ghost invariant = { λ d. IsData d.grm.grammar d.sgraph d.stable d.cap × Decides (Complete d.grm.grammar (automaton_of d.sgraph d.stable)) d.complete };
+    ghost invariant = { λ d. IsData d.grm.grammar d.sgraph d.stable d.cap };
 }
 
 /// The parts of data that were refused.
@@ -178,43 +172,36 @@ impl<S: IndexStorage> Error for BuiltDataError<S> {}
 /// The result of a check.
 #[derive(Clone, Copy, PartialEq, Eq)]
 enum Verdict<S> {
-    Checked(bool),
+    Checked,
     Unsafe(Misfit<S>),
     Long(LongChain<S>),
 }
 
-/// Checks the chains of a pair that is safe, and returns whether it is complete.
+/// Checks the chains of a pair that is safe.
 fn judge_chains<S: IndexStorage>(
     alloc: Global,
     grm: &NumberedGrammar<S>,
     sgraph: &StateGraph<S>,
     stable: &FullTable<S>,
     cap: u16,
-) -> Result<bool, BuiltDataError<S>>
+) -> Result<(), BuiltDataError<S>>
     requires { IsSafePair grm.now.grammar sgraph.now stable.now }
-    ensures checked { IfOk result (λ complete. IsData grm.now.grammar sgraph.now stable.now cap × Decides (Complete grm.now.grammar (automaton_of sgraph.now stable.now)) complete) }
+    ensures checked { OnOk result (IsData grm.now.grammar sgraph.now stable.now cap) }
     ensures refused { IfErr result (IsBuiltRefusal S.number grm.now.grammar sgraph.now stable.now cap) }
 {
     // For the proof alone: this read gives it the invariant of each grammar, graph and table.
     grm.start_prod();
     sgraph.all_states_len();
-    let rows = stable.stable();
-    rows.states_len();
+    stable.states_len();
     let chains = Chains {
         grm,
-        stable: rows,
+        stable,
         limit: cap,
     };
     if let Some(chain) = long_chain(alloc, &chains)? {
         return Err(BuiltDataError::TooManyReductions(chain));
     }
-    let machine = Machine {
-        grm,
-        sgraph,
-        stable,
-        limit: cap,
-    };
-    Ok(is_complete(&machine))
+    Ok(())
 }
 
 /// Checks the pair, and then the chains.
@@ -231,7 +218,7 @@ fn judge<S: IndexStorage>(
         return Ok(Verdict::Unsafe(misfit));
     }
     match judge_chains(alloc, grm, sgraph, stable, cap) {
-        Ok(complete) => Ok(Verdict::Checked(complete)),
+        Ok(()) => Ok(Verdict::Checked),
         Err(BuiltDataError::TooManyReductions(chain)) => Ok(Verdict::Long(chain)),
         Err(BuiltDataError::Memory(e)) => Err(e),
     }
@@ -291,12 +278,11 @@ impl<S: IndexStorage> ParserData<S> {
         grm.start_prod();
         let full = FullTable::new(alloc, stable)?;
         match judge_chains(alloc, &grm, &sgraph, &full, cap) {
-            Ok(complete) => Ok(ParserData {
+            Ok(()) => Ok(ParserData {
                 grm,
                 sgraph,
                 stable: full,
                 cap,
-                complete,
             }),
             Err(e) => {
                 drop(grm);
@@ -333,12 +319,11 @@ impl<S: IndexStorage> ParserData<S> {
             }
         };
         match verdict {
-            Verdict::Checked(complete) => Ok(ParserData {
+            Verdict::Checked => Ok(ParserData {
                 grm,
                 sgraph,
                 stable,
                 cap,
-                complete,
             }),
             Verdict::Unsafe(misfit) => Err(ParserDataError::UnsafeTable {
                 state: misfit.state,
@@ -407,20 +392,13 @@ impl<S: IndexStorage> ParserData<S> {
     }
 
     /// Returns whether each item's action is in its cell, so that a run accepts each sentence. For data that the
-    /// builder made of a grammar without precedences this holds if and only if no conflict is listed.
+    /// builder made of a grammar without precedences this holds if and only if no conflict is listed. All items are looked at.
     pub fn complete(&self) -> bool
         ensures value { IsTrue result ↔ Complete self.now.grammar.grammar (automaton_of self.now.graph self.now.table) }
         ensures listed { IsTableOf self.now.grammar self.now.graph self.now.table → NoPrecedences (precedences_of self.now.grammar) → IsTrue result ↔ IsNone self.now.table.conflicts }
     {
         self.facts();
-        self.is_complete()
-    }
-
-    /// Returns whether the data are complete.
-    fn is_complete(&self) -> bool
-        ensures { Decides (Complete self.now.grammar.grammar (automaton_of self.now.graph self.now.table)) result }
-    {
-        self.complete
+        is_complete(&self.machine())
     }
 
     /// Proves the facts that a run relies on.

@@ -1,9 +1,10 @@
 //! Whether the lookaheads of a set are all held, and Pager's test of weak compatibility.
 
-ghost use Rattle.std.specs.Prelude.{◌≡◌, ◌<◌, ◌↔◌, ◌⊎◌, false, true, [], ℕ, length, map, get_or, IsTrue};
+ghost use Rattle.std.specs.Prelude.{◌≡◌, ◌<◌, ◌↔◌, ◌⊎◌, false, true, [], ℕ, length, map, get_or, slice_index_or, IsTrue};
 ghost use Rattle.vob.specs.Bits.{Meets};
 ghost use Rattle.state_table.specs.ItemRows.{CoversRows, LacksRows};
 ghost use Rattle.state_table.specs.Meeting.{PairFits, PairApart, RowsFit, RowsApart, AreAlike, row, rows_in};
+ghost use Rattle.lrtable.specs.LookRows.{IsInEach};
 ghost use Rattle.lrtable.specs.MovedItems.{AreWide, rows_from};
 
 use crate::moved_items::{MovedItem, Rows};
@@ -54,6 +55,43 @@ fn fits_below<S: IndexStorage>(a: &[Vob], b: &[MovedItem<S>], rows: &Rows<'_>, j
     true
 }
 
+// Of so few items each pair is compared at once.
+const FEW_ITEMS: usize = 4;
+
+/// Returns whether a token is in a set.
+fn is_in(looks: &Vob, token: usize) -> bool
+    ensures { result ≡ true → IsTrue (slice_index_or looks.now.bits token false) }
+{
+    looks.get(token).unwrap_or(false)
+}
+
+/// Returns whether a token is in each set.
+fn is_in_each(looks: &[Vob], token: usize) -> bool
+    ensures { result ≡ true → IsInEach (rows_in looks.now) token }
+{
+    'each: for i in 0..looks.len() {
+        if !is_in(&looks[i], token) {
+            return false;
+        }
+    }
+    true
+}
+
+/// Returns whether a token is found that is in each set.
+fn share_token(looks: &[Vob]) -> bool
+    ensures { result ≡ true → (t : ℕ) × IsInEach (rows_in looks.now) t }
+{
+    if looks.is_empty() {
+        return false;
+    }
+    'tokens: for token in looks[0].iter_set_bits(..) {
+        if is_in_each(looks, token) {
+            return true;
+        }
+    }
+    false
+}
+
 /// Returns whether two sets of one core are weakly compatible (Pager 1977), by their items' lookaheads. For each two
 /// items `i` and `j`, those of `i` in one set and of `j` in the other share no token, both ways around; or those of
 /// `i` and `j` share one within one of the sets.
@@ -67,6 +105,9 @@ pub(crate) fn weakly_compatible<S: IndexStorage>(
     ensures fits { result ≡ true → RowsFit (rows_in a.now) (rows_from rows.now b.now) }
     ensures apart { result ≡ false → RowsApart (rows_in a.now) (rows_from rows.now b.now) }
 {
+    if a.len() > FEW_ITEMS && share_token(a) {
+        return true;
+    }
     'each: for j in 0..a.len() {
         if !fits_below(a, b, rows, j) {
             return false;

@@ -256,7 +256,7 @@ impl<S: IndexStorage, L: Lexeme<S>> Outline<S, L> {
     pub fn walk(&self, alloc: Global) -> Result<OutlineWalk<'_, S, L>, AllocError>
         ensures { (t : Tree L) → IsOutline t self.now → IfOk result (λ w. IsLeft L S.number w.nodes.now w.waiting.items w.seen (symbols 0 0 t)) }
     {
-        let mut waiting = Vec::new(alloc);
+        let mut waiting = Vec::with_capacity(alloc, 64)?;
         waiting.push(Visit {
             index: self.nodes.len() - 1,
             depth: 0,

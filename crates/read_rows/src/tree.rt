@@ -1,5 +1,6 @@
 //! Syntax trees, a line for each part.
 
+use cfg_base::name_hasher::NameHasher;
 use cfg_base::span::Span;
 use cfg_read::yacc::ast::{GrammarAST, Production, Rule, Symbol};
 use indexmap::IndexMap;
@@ -98,7 +99,7 @@ fn push_names(
     alloc: Global,
     out: &mut String,
     label: &str,
-    names: &IndexMap<String, Span>,
+    names: &IndexMap<String, Span, NameHasher>,
 ) -> Result<(), AllocError> {
     for (name, span) in names {
         out.push_str(label)?;

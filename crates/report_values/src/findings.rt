@@ -290,8 +290,8 @@ fn said_in(
     Ok(list)
 }
 
-/// Returns the warnings about a source's text with more than `most` productions in which nothing is wrong; `None` of another. No
-/// table is made.
+/// Returns the warnings about a source's text with more than `most` productions and symbols in them in which nothing is wrong; `None`
+/// of another. No table is made.
 pub fn warnings_of_large(
     alloc: Global,
     source: &Source<'_>,

@@ -5,7 +5,7 @@ ghost use Rattle.lrlex.specs.Lexing.{bound_meanings, bound_rules};
 ghost use Rattle.text_parses.specs.Parses.{IsParsed};
 ghost use Rattle.text_server.specs.Found.{Finds, FindsIn, edits, error_count};
 
-use language_server::{Diagnostic, Lines, ServeFault, View, diagnostic, position_at};
+use language_server::{Diagnostic, ServeFault, View, diagnostic, position_at};
 use lrlex::BoundRules;
 use lrpar::ParseRefusal;
 use parser_kit::ParserKit;
@@ -53,7 +53,6 @@ pub fn parse_of(
 fn push_error(
     alloc: Global,
     view: &View<'_>,
-    lines: &Lines,
     error: &TextError<'_>,
     found: &mut Vec<Diagnostic>,
 ) -> Result<(), AllocError>
@@ -61,8 +60,8 @@ fn push_error(
 {
     let message = String::from_str(alloc, error.message.as_str())?;
     let range = language_server::Range {
-        start: position_at(view.text, lines, error.range.start.byte, view.encoding),
-        end: position_at(view.text, lines, error.range.end.byte, view.encoding),
+        start: position_at(view.text, view.lines, error.range.start.byte, view.encoding),
+        end: position_at(view.text, view.lines, error.range.end.byte, view.encoding),
     };
     found.push(diagnostic(alloc, range, ERROR, message))?;
     Ok(())
@@ -77,9 +76,8 @@ fn push_each(
 ) -> Result<(), AllocError>
     ensures { OnOk result (length found.new.items ≡ length found.old.items + length errors.now) }
 {
-    let lines = Lines::of_text(alloc, view.text)?;
     'errors: for index in 0..errors.len() {
-        push_error(alloc, view, &lines, &errors[index], found)?;
+        push_error(alloc, view, &errors[index], found)?;
     }
     Ok(())
 }

@@ -1,5 +1,5 @@
 -- Whether two lists are true at one index.
-use Rattle.std.proofs.Common.{◌≡◌, ℕ, zero, suc, ◌+◌, ◌-◌, ◌*◌, ◌<◌, ◌≤◌, ◌⊎◌, inl, inr, ◌↔◌, Bool, true, false, not, cond, ◌&&◌, List, [], ◌∷◌, ◌++◌, length, get_or, take, drop, replicate, map, refl, sym, ap, ◌∙◌, subst, subst₂, arith}
+use Rattle.std.proofs.Common.{◌≡◌, ℕ, zero, suc, ◌+◌, ◌-◌, ◌*◌, ◌<◌, ◌≤◌, ◌⊎◌, inl, inr, ◌↔◌, Bool, true, false, not, cond, ◌&&◌, ◌||◌, List, [], ◌∷◌, ◌++◌, length, get_or, take, drop, replicate, map, refl, sym, ap, ◌∙◌, subst, subst₂, arith}
 use Rattle.std.specs.Prelude.{IsTrue}
 use Rattle.std.specs.List.{flat_map}
 use Rattle.std.proofs.lemmas.List.{length-map, get_or-map, map-append, take-append-drop, get_or_past}
@@ -28,6 +28,20 @@ anded (x ∷ xs) [] t = (λ h. absurd (never h), λ h. absurd (never h.1))
 anded (true ∷ xs) (y ∷ ys) zero = (λ h. (refl, h), λ h. h.1)
 anded (false ∷ xs) (y ∷ ys) zero = (λ h. absurd (never h), λ h. absurd (never h.0))
 anded (x ∷ xs) (y ∷ ys) (suc t) = anded xs ys t
+
+-- a bit of either
+ored : (xs ys : List Bool) (t : ℕ) → length xs ≡ length ys → IsTrue (get_or (bitwise (λ x y. x || y) xs ys) t false) ↔ (IsTrue (get_or xs t false) ⊎ IsTrue (get_or ys t false))
+ored [] [] t e = (λ h. absurd (never h), λ h. elim h [ inl x ↦ absurd (never x) | inr y ↦ absurd (never y) ])
+ored [] (y ∷ ys) t e = absurd (omega (arith, e))
+ored (x ∷ xs) [] t e = absurd (omega (arith, e))
+ored (true ∷ xs) (y ∷ ys) zero e = (λ h. inl refl, λ h. refl)
+ored (false ∷ xs) (true ∷ ys) zero e = (λ h. inr refl, λ h. refl)
+ored (false ∷ xs) (false ∷ ys) zero e = (λ h. absurd (never h), λ h. elim h [ inl x ↦ absurd (never x) | inr y ↦ absurd (never y) ])
+ored (x ∷ xs) (y ∷ ys) (suc t) e = ored xs ys t (omega (arith, e))
+
+-- some bit is set
+abbrev pub HasOne : List Bool → Type 0
+HasOne xs = (t : ℕ) × IsTrue (get_or xs t false)
 
 meets_cons : (x y : Bool) (a c : List Bool) → Meets (x ∷ a) (y ∷ c) → (IsTrue x × IsTrue y) ⊎ Meets a c
 meets_cons x y a c (t, h, k) = at t h k
@@ -91,6 +105,17 @@ module _ {X : Type 0} (bits : X → List Bool) (w : ℕ) (each : (x : X) → len
           let set : IsTrue (get_or (bits z) t false) = subst (λ l. IsTrue (get_or l t false)) (sym made) ((anded (bits x) other t).1 (h, k)) in
           elim (cases_lt t zeros) [ inl lt ↦ never (sym (before t lt) ∙ set) | inr ge ↦ never (sym (get_or_past (bits z) t false (let n = each z in omega (arith, n, le, ge))) ∙ set) ]
 
+  -- no block has been read
+  pub sees_none : (xs ys : List X) (z : X) (v : Bool) (n : ℕ) → bits z ≡ replicate n false → HasOne (bits z) ↔ Meets (flat_map bits (take 0 xs)) (turned v (flat_map bits (take 0 ys)))
+  sees_none xs ys z v n e = (λ h. absurd (none_set n h.0 (subst (λ l. IsTrue (get_or l h.0 false)) e h.1)), λ m. absurd (never m.1))
+
+  -- the bits below the lowest one tell whether there is one
+  pub has_one : (z : X) (zeros : ℕ) → (zeros < w → get_or (bits z) zeros false ≡ true) → ((i : ℕ) → i < zeros → get_or (bits z) i false ≡ false) → (zeros < w → HasOne (bits z)) × (w ≤ zeros → HasOne (bits z) → ⊥)
+  has_one z zeros found before = (
+    λ lt. (zeros, found lt),
+    λ le h. elim (cases_lt h.0 zeros) [ inl lt ↦ never (sym (before h.0 lt) ∙ h.1) | inr ge ↦ never (sym (get_or_past (bits z) h.0 false (let n = each z in omega (arith, n, le, ge))) ∙ h.1) ],
+  )
+
   -- lists of as many bits are kept in as many blocks
   pub as_many : (a b : List Bool) (xs ys : List X) → 0 < w → length a ≡ length b → flat_map bits xs ≡ a ++ replicate (blocks_for w (length a) * w - length a) false →
       flat_map bits ys ≡ b ++ replicate (blocks_for w (length b) * w - length b) false → length xs ≡ length ys
@@ -113,6 +138,32 @@ module _ {X : Type 0} (bits : X → List Bool) (w : ℕ) (each : (x : X) → len
     pub none_more : (Meets (flat_map bits (take k xs)) (turned v (flat_map bits (take k ys))) → ⊥) → (Meets (bits x) (turned v (bits y)) → ⊥) → Meets (flat_map bits (take (k + 1) xs)) (turned v (flat_map bits (take (k + 1) ys))) → ⊥
     none_more before here m =
         elim ((meets_append (flat_map bits (take k xs)) (bits x) (turned v (flat_map bits (take k ys))) (turned v (bits y)) (same_front k)).0 (subst₂ (λ p q. Meets p q) more_x more_y m)) [ inl u ↦ before u | inr u ↦ here u ]
+
+    -- bits that are set where the blocks so far meet, and those of one block more
+    pub sees_more : (seen new next : X) → bits new ≡ bitwise (λ p q. p && q) (bits x) (turned v (bits y)) → bits next ≡ bitwise (λ p q. p || q) (bits seen) (bits new) → HasOne (bits seen) ↔ Meets (flat_map bits (take k xs)) (turned v (flat_map bits (take k ys))) →
+        HasOne (bits next) ↔ Meets (flat_map bits (take (k + 1) xs)) (turned v (flat_map bits (take (k + 1) ys)))
+    sees_more seen new next made joined before = (
+      λ h. elim ((either h.0).0 (subst (λ l. IsTrue (get_or l h.0 false)) joined h.1)) [
+        | inl s ↦ back (inl (before.0 (h.0, s)))
+        | inr n ↦ (let p = (anded (bits x) (turned v (bits y)) h.0).0 (subst (λ l. IsTrue (get_or l h.0 false)) made n) in back (inr (h.0, p.0, p.1)))
+      ],
+      λ m. elim (both.0 (subst₂ (λ p q. Meets p q) more_x more_y m)) [
+        | inl u ↦ (let s = before.1 u in on s.0 (inl s.1))
+        | inr u ↦ on u.0 (inr (subst (λ l. IsTrue (get_or l u.0 false)) (sym made) ((anded (bits x) (turned v (bits y)) u.0).1 (u.1, u.2))))
+      ],
+    )
+      where
+        both : Meets (flat_map bits (take k xs) ++ bits x) (turned v (flat_map bits (take k ys)) ++ turned v (bits y)) ↔ (Meets (flat_map bits (take k xs)) (turned v (flat_map bits (take k ys))) ⊎ Meets (bits x) (turned v (bits y)))
+        both = meets_append (flat_map bits (take k xs)) (bits x) (turned v (flat_map bits (take k ys))) (turned v (bits y)) (same_front k)
+
+        back : Meets (flat_map bits (take k xs)) (turned v (flat_map bits (take k ys))) ⊎ Meets (bits x) (turned v (bits y)) → Meets (flat_map bits (take (k + 1) xs)) (turned v (flat_map bits (take (k + 1) ys)))
+        back u = subst₂ (λ p q. Meets p q) (sym more_x) (sym more_y) (both.1 u)
+
+        either : (t : ℕ) → IsTrue (get_or (bitwise (λ p q. p || q) (bits seen) (bits new)) t false) ↔ (IsTrue (get_or (bits seen) t false) ⊎ IsTrue (get_or (bits new) t false))
+        either t = ored (bits seen) (bits new) t (each seen ∙ sym (each new))
+
+        on : (t : ℕ) → IsTrue (get_or (bits seen) t false) ⊎ IsTrue (get_or (bits new) t false) → HasOne (bits next)
+        on t o = (t, subst (λ l. IsTrue (get_or l t false)) (sym joined) ((either t).1 o))
 
     split : (zs : List X) → flat_map bits (take (k + 1) zs) ++ flat_map bits (drop (k + 1) zs) ≡ flat_map bits zs
     split zs = sym (flat_map-append bits (take (k + 1) zs) (drop (k + 1) zs)) ∙ ap (flat_map bits) (take-append-drop (k + 1) zs)

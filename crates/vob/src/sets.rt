@@ -10,6 +10,9 @@ use crate::find::matching;
 use crate::word::Word;
 use crate::{Vob, packed};
 
+// Of lists of this many blocks several are read at once.
+const MANY_BLOCKS: usize = 4;
+
 /// An operation on two lists of one length, item by item.
 #[derive(Clone, Copy)]
 enum Pointwise {
@@ -74,7 +77,7 @@ impl<T: Word> Vob<T> {
         ensures holds { IsTrue result ↔ HoldsAll self.now.bits other.now.bits }
         ensures lacks { result ≡ false → LacksSome self.now.bits other.now.bits }
     {
-        !blocks_meet(other.get_storage(), self.get_storage(), false)
+        !blocks_lack(other.get_storage(), self.get_storage())
     }
 
     /// Turns every item.
@@ -170,6 +173,26 @@ fn blocks_meet<T: Word>(blocks: &[T], others: &[T], value: bool) -> bool
         if common.clear_below() < T::BITS {
             return true;
         }
+    }
+    false
+}
+
+/// Returns whether at some index a bit is set in one list of blocks and not in another. Of many blocks all are read, since it takes
+/// longer to end at the first.
+fn blocks_lack<T: Word>(blocks: &[T], others: &[T]) -> bool
+    requires { length blocks.now ≡ length others.now }
+    ensures { IsTrue result ↔ Meets (flat_map T.bits blocks.now) (map not (flat_map T.bits others.now)) }
+{
+    if blocks.len() < MANY_BLOCKS {
+        return blocks_meet(blocks, others, false);
+    }
+    let mut lacking = T::all(false);
+    'each: for k in 0..blocks.len() {
+        let alone = blocks[k].in_both(others[k].turn_bits());
+        lacking = lacking.in_either(alone);
+    }
+    if lacking.clear_below() < T::BITS {
+        return true;
     }
     false
 }

@@ -6,4 +6,5 @@ mod TakenLexemes
 mod FittedWords
 mod ShownNames
 mod Spaces
+mod NodeRows
 pub mod ShownTexts

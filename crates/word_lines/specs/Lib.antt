@@ -1,5 +1,6 @@
 pub mod Words
 pub mod Lexing
+pub mod NodeRows
 pub mod Repairs
 pub mod RepairReading
 pub mod LineTexts

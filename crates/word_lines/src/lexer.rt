@@ -18,9 +18,10 @@ use std::alloc::{AllocError, Global};
 use std::marker::Model;
 use std::slice::Iter;
 
-/// Room for the list of a lexer. A program that parses line after line hands it on from lexer to lexer (`WordLexer::in_room`,
-/// `WordLexer::into_room`), and so asks for a list only where a line has more words than each one before it. Contracts see the
-/// items that it held last.
+/// Room for the list of a lexer. A program that parses line after line hands it on from line to line (`LexerRoom::read`,
+/// `WordLexer::into_room`), and so asks for a list only where a line has more words than each one before it. It is a lexer for
+/// parses itself; what counts lines and columns too is made of it (`WordLexer::of_read`), for a line with errors alone. Contracts
+/// see the items that it holds.
 #[derive(Drop)]
 pub struct LexerRoom<S: IndexStorage> {
     items: Vec<Result<WordLexeme<S>, WordLexError>>,
@@ -44,6 +45,26 @@ impl<S: IndexStorage> LexerRoom<S> {
         LexerRoom {
             items: Vec::new(alloc),
         }
+    }
+
+    /// Reads the words of a line in place of the items that it held, as `WordLexer::new` does.
+    pub fn read(self, grm: &NumberedGrammar<S>, line: &str) -> Result<LexerRoom<S>, AllocError>
+        ensures items { IfOk result (λ r. r ≡ items_of S.of_number grm.now line.now) }
+        ensures taken { IfOk result (λ r. (lexemes : List (WordLexeme S)) → AreItems r lexemes → AreLexemes grm.now.grammar (lex_of S.number) lexemes) }
+        ensures not_refused { IfOk result (λ r. (m : Misfit) → HasMisfit grm.now.grammar (lex_of S.number) r m → ⊥) }
+    {
+        let LexerRoom { items: mut room } = self;
+        room.clear();
+        let items = lex_line(room, grm, line)?;
+        Ok(LexerRoom { items })
+    }
+}
+
+impl<S: IndexOrder> Lexer<WordLexerTypes<S>> for LexerRoom<S> {
+    ghost lexed = { λ r. r };
+
+    fn iter<'a>(&'a self) -> Iter<'a, Result<WordLexeme<S>, WordLexError>> {
+        self.items.as_slice().iter()
     }
 }
 
@@ -90,10 +111,21 @@ impl<'input, S: IndexStorage> WordLexer<'input, S> {
         ensures taken { IfOk result (λ l. (lexemes : List (WordLexeme S)) → AreItems l.items lexemes → AreLexemes grm.now.grammar (lex_of S.number) lexemes) }
         ensures not_refused { IfOk result (λ l. (m : Misfit) → HasMisfit grm.now.grammar (lex_of S.number) l.items m → ⊥) }
     {
-        let LexerRoom { items: mut room } = room;
-        room.clear();
-        let items = lex_line(room, grm, line)?;
+        let read = room.read(grm, line)?;
+        WordLexer::of_read(alloc, read, line)
+    }
+
+    /// Makes the lexer of a line whose items are at hand.
+    pub fn of_read(
+        alloc: Global,
+        read: LexerRoom<S>,
+        line: &'input str,
+    ) -> Result<WordLexer<'input, S>, AllocError>
+        ensures text { IfOk result (λ l. l.text ≡ line.entry.now) }
+        ensures items { IfOk result (λ l. l.items ≡ read) }
+    {
         let line = TextLines::new(alloc, line)?;
+        let LexerRoom { items } = read;
         Ok(WordLexer { line, items })
     }
 

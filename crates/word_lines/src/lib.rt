@@ -39,6 +39,7 @@ pub mod laws;
 pub mod lexeme;
 pub mod lexer;
 mod names;
+mod node_lines;
 pub mod outlines;
 pub mod repairs;
 pub mod shown;
@@ -46,4 +47,5 @@ pub mod trees;
 
 pub use lexeme::{WordLexError, WordLexeme, WordLexerTypes};
 pub use lexer::{LexerRoom, WordLexer};
+pub use node_lines::NodeLines;
 pub use repairs::{RepairLines, RepairsError, read_repairs};

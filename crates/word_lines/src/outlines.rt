@@ -11,9 +11,8 @@ ghost use Rattle.word_lines.specs.Lexing.{lex_of};
 ghost use Rattle.word_lines.specs.LineTexts.{value_text};
 
 use crate::lexeme::{WordLexError, WordLexeme};
-use crate::trees::{push_lexeme, push_rule};
+use crate::node_lines::NodeLines;
 use cfg_base::index::{IndexOrder, IndexStorage};
-use cfg_numbered::yacc::grammar::NumberedGrammar;
 use lrpar::Outline;
 use lrpar::outline::{OutlineSymbol, OutlineVisit, OutlineWalk};
 use std::alloc::{AllocError, Global};
@@ -21,13 +20,13 @@ use std::alloc::{AllocError, Global};
 /// Begins a walk over the nodes of a tree in the order in which they are shown.
 pub fn shown_symbols<'t, S: IndexOrder>(
     alloc: Global,
-    grm: &NumberedGrammar<S>,
+    shown: &NodeLines<'_, S>,
     line: &str,
     outline: &'t Outline<S, WordLexeme<S>>,
 ) -> Result<OutlineWalk<'t, S, WordLexeme<S>>, AllocError>
     ensures left { (t : Tree (WordLexeme S)) → IsOutline t outline.now → IfOk result (λ w. IsLeft (WordLexeme S) S.number w.nodes.now w.waiting.items w.seen (symbols 0 0 t)) }
-    ensures can { (t : Tree (WordLexeme S)) → CanShowTree grm.now (lex_of S.number) line.now t → CanShowSymbols grm.now (lex_of S.number) line.now (yield t) (symbols 0 0 t) }
-    ensures text { (t : Tree (WordLexeme S)) → flat_map (symbol_visit_line grm.now (lex_of S.number) line.now (yield t)) (symbols 0 0 t) ≡ value_text S.number grm.now line.now (Some t) }
+    ensures can { (t : Tree (WordLexeme S)) → CanShowTree shown.now (lex_of S.number) line.now t → CanShowSymbols shown.now (lex_of S.number) line.now (yield t) (symbols 0 0 t) }
+    ensures text { (t : Tree (WordLexeme S)) → flat_map (symbol_visit_line shown.now (lex_of S.number) line.now (yield t)) (symbols 0 0 t) ≡ value_text S.number shown.now line.now (Some t) }
 {
     outline.walk(alloc)
 }
@@ -65,29 +64,25 @@ fn symbol_at<S: IndexStorage>(visit: OutlineVisit<S>) -> OutlineSymbol<S>
 }
 
 /// Adds the line of a node of an outline. The lexemes of the line are its leaves.
+#[inline(always)]
 pub fn push_symbol<S: IndexStorage>(
-    grm: &NumberedGrammar<S>,
+    shown: &NodeLines<'_, S>,
     line: &str,
     items: &[Result<WordLexeme<S>, WordLexError>],
     visit: OutlineVisit<S>,
     text: &mut Vec<u8>,
 ) -> Result<(), AllocError>
-    requires { (lexemes : List (WordLexeme S)) × AreItems items.now lexemes × CanShowSymbol grm.now (lex_of S.number) line.now lexemes (symbol_of S.number visit.symbol) }
-    ensures { (lexemes : List (WordLexeme S)) → AreItems items.now lexemes → OnOk result (text.new.items ≡ text.old.items ++ symbol_visit_line grm.now (lex_of S.number) line.now lexemes (visit_of S.number visit)) }
+    requires { (lexemes : List (WordLexeme S)) × AreItems items.now lexemes × CanShowSymbol shown.now (lex_of S.number) line.now lexemes (symbol_of S.number visit.symbol) }
+    ensures { (lexemes : List (WordLexeme S)) → AreItems items.now lexemes → OnOk result (text.new.items ≡ text.old.items ++ symbol_visit_line shown.now (lex_of S.number) line.now lexemes (visit_of S.number visit)) }
 {
     let depth = visit.depth;
     match symbol_at(visit) {
-        OutlineSymbol::Leaf(number) => push_lexeme(
-            grm,
+        OutlineSymbol::Leaf(number) => shown.push_lexeme(
             line,
             depth,
             lexeme_at(items, number),
             text,
         ),
-        OutlineSymbol::Prod(pidx) => {
-            // Read, so that the proof may use that rules are in range.
-            let _start = grm.start_prod();
-            push_rule(grm, depth, grm.prod_to_rule(pidx), text)
-        }
+        OutlineSymbol::Prod(pidx) => shown.push_prod(depth, pidx, text),
     }
 }

@@ -80,7 +80,7 @@ fn node_at<S: IndexStorage>(
 
 // Adds a rule's line.
 #[tactic(auto, unfolding(parse_trees::specs::Shapes::rule_line))]
-pub(crate) fn push_rule<S: IndexStorage>(
+fn push_rule<S: IndexStorage>(
     grm: &NumberedGrammar<S>,
     depth: usize,
     ridx: RIdx<S>,
@@ -97,7 +97,7 @@ pub(crate) fn push_rule<S: IndexStorage>(
 
 // Adds a lexeme's line.
 #[tactic(auto, unfolding(parse_trees::specs::Shapes::lexeme_line))]
-pub(crate) fn push_lexeme<S: IndexStorage>(
+fn push_lexeme<S: IndexStorage>(
     grm: &NumberedGrammar<S>,
     line: &str,
     depth: usize,
@@ -117,7 +117,7 @@ pub(crate) fn push_lexeme<S: IndexStorage>(
 }
 
 // The name of a token that isn't the end token.
-fn token_name<S: IndexStorage>(grm: &NumberedGrammar<S>, tidx: TIdx<S>) -> &str
+pub(crate) fn token_name<S: IndexStorage>(grm: &NumberedGrammar<S>, tidx: TIdx<S>) -> &str
     requires { S.number tidx.0 < end_token grm.now.grammar }
     ensures { result.now ≡ token_text grm.now (S.number tidx.0) }
 {
@@ -130,7 +130,7 @@ fn token_name<S: IndexStorage>(grm: &NumberedGrammar<S>, tidx: TIdx<S>) -> &str
 }
 
 // Adds as many spaces.
-fn push_spaces(count: usize, text: &mut Vec<u8>) -> Result<(), AllocError>
+pub(crate) fn push_spaces(count: usize, text: &mut Vec<u8>) -> Result<(), AllocError>
     ensures { OnOk result (text.new.items ≡ text.old.items ++ replicate count 32) }
 {
     let mut left = count;

@@ -34,6 +34,9 @@ impl<'a> Edits<'a, '_> {
 
     /// Puts a token's spelling in its place, where that differs.
     fn respell(&self, notes: &mut Notes, token: Token) -> Result<(), ImportError> {
+        if self.names.is_plain(token) {
+            return Ok(());
+        }
         let text = self.spelling(token)?;
         if text.as_str() == self.names.raw(token) {
             return Ok(());

@@ -7,6 +7,7 @@ use crate::errors::ImportError;
 use crate::names::Names;
 use crate::roles::{Part, Role};
 use crate::tokens::{Kind, Token};
+use cfg_base::name_hasher::NameHasher;
 use indexmap::IndexMap;
 use std::alloc::Global;
 
@@ -64,7 +65,7 @@ struct Production {
 #[derive(Drop)]
 struct Levels<'a, 'b> {
     names: &'b Names<'a>,
-    numbers: IndexMap<&'a str, usize>,
+    numbers: IndexMap<&'a str, usize, NameHasher>,
     symbols: Vec<Symbol>,
     /// The symbols of all productions.
     bodies: Vec<usize>,
@@ -255,9 +256,12 @@ pub(crate) fn meeting_levels(
     names: &Names<'_>,
     parts: &[Part],
 ) -> Result<u64, ImportError> {
+    if parts.iter().all(|part| part.bit == 0) {
+        return Ok(0);
+    }
     let mut levels = Levels {
         names,
-        numbers: IndexMap::new(alloc),
+        numbers: IndexMap::with_hasher(alloc, names.hasher()),
         symbols: Vec::new(alloc),
         bodies: Vec::new(alloc),
         productions: Vec::new(alloc),

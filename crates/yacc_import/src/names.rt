@@ -5,6 +5,7 @@ use crate::notes::{cut, text_of};
 use crate::roles::{Part, Role};
 use crate::tokens::{Kind, Token};
 use bison_rules::code_of;
+use cfg_base::name_hasher::NameHasher;
 use indexmap::{IndexMap, IndexSet};
 use std::alloc::{AllocError, Global};
 
@@ -13,21 +14,21 @@ use std::alloc::{AllocError, Global};
 pub(crate) struct Names<'a> {
     text: &'a str,
     /// The names of the tokens that strings stand for.
-    aliases: IndexMap<&'a str, &'a str>,
+    aliases: IndexMap<&'a str, &'a str, NameHasher>,
     /// Characters by their codes, each as it is spelled first.
     characters: IndexMap<u8, &'a str>,
     /// All names of the file.
-    names: IndexSet<&'a str>,
+    names: IndexSet<&'a str, NameHasher>,
     /// Names of rules.
-    heads: IndexSet<&'a str>,
+    heads: IndexSet<&'a str, NameHasher>,
     /// Tokens that `%token` declares.
-    declared: IndexSet<&'a str>,
+    declared: IndexSet<&'a str, NameHasher>,
     /// Keys of tokens with a precedence.
-    leveled: IndexSet<&'a str>,
+    leveled: IndexSet<&'a str, NameHasher>,
     /// Tokens that are to be declared.
-    pub late: IndexSet<&'a str>,
+    pub late: IndexSet<&'a str, NameHasher>,
     /// Names with dashes as the profile spells them, and in the file.
-    dashed: IndexMap<String, &'a str>,
+    dashed: IndexMap<String, &'a str, NameHasher>,
 }
 
 /// Returns a string without the `_( .. )` around it.
@@ -53,6 +54,11 @@ fn is_predefined(name: &str) -> bool {
     matches!(name, "error" | "YYEOF" | "YYerror" | "YYUNDEF")
 }
 
+/// Returns whether a name has a dash.
+fn has_dash(name: &str) -> bool {
+    name.as_bytes().contains(&b'-')
+}
+
 /// Returns a name with underscores in place of its dashes.
 pub(crate) fn with_underscores(alloc: Global, name: &str) -> Result<String, AllocError> {
     let mut spelled = String::new(alloc);
@@ -63,6 +69,11 @@ pub(crate) fn with_underscores(alloc: Global, name: &str) -> Result<String, Allo
 }
 
 impl<'a> Names<'a> {
+    /// Returns the hasher of the names of the file.
+    pub(crate) fn hasher(&self) -> NameHasher {
+        *self.names.hasher()
+    }
+
     /// Returns the text of a token.
     pub(crate) fn raw(&self, token: Token) -> &'a str {
         cut(self.text, token.start, token.end)
@@ -82,6 +93,11 @@ impl<'a> Names<'a> {
             },
             _ => raw,
         }
+    }
+
+    /// Returns whether a token is a name that the profile spells as the file does.
+    pub(crate) fn is_plain(&self, token: Token) -> bool {
+        matches!(token.kind, Kind::Name | Kind::Head) && !has_dash(self.raw(token))
     }
 
     /// Returns whether a token has a precedence.
@@ -167,10 +183,11 @@ impl<'a> Names<'a> {
     /// Takes a symbol, and declares it where the file does so by a precedence, or not at all.
     fn take_symbol(&mut self, token: Token) -> Result<(), ImportError> {
         let key = self.key(token);
-        let is_name = !key.starts_with('"') && !key.starts_with('\'');
         let is_token = self.leveled.contains(&key) || is_predefined(key);
-        let is_known = self.declared.contains(&key) || self.heads.contains(&key);
-        if is_name && is_token && !is_known {
+        if !is_token || key.starts_with('"') || key.starts_with('\'') {
+            return Ok(());
+        }
+        if !self.declared.contains(&key) && !self.heads.contains(&key) {
             self.late.insert(key)?;
         }
         Ok(())
@@ -179,7 +196,7 @@ impl<'a> Names<'a> {
     /// Takes the spelling of a name with dashes, which must be that of no other name.
     fn take_dashed(&mut self, alloc: Global, token: Token) -> Result<(), ImportError> {
         let raw = self.raw(token);
-        if !raw.contains('-') {
+        if !has_dash(raw) {
             return Ok(());
         }
         let spelled = with_underscores(alloc, raw)?;
@@ -281,16 +298,17 @@ pub(crate) fn names_of<'a>(
     text: &'a str,
     parts: &[Part],
 ) -> Result<Names<'a>, ImportError> {
+    let hasher = NameHasher::of_text(text);
     let mut names = Names {
         text,
-        aliases: IndexMap::new(alloc),
+        aliases: IndexMap::with_hasher(alloc, hasher),
         characters: IndexMap::new(alloc),
-        names: IndexSet::new(alloc),
-        heads: IndexSet::new(alloc),
-        declared: IndexSet::new(alloc),
-        leveled: IndexSet::new(alloc),
-        late: IndexSet::new(alloc),
-        dashed: IndexMap::new(alloc),
+        names: IndexSet::with_hasher(alloc, hasher),
+        heads: IndexSet::with_hasher(alloc, hasher),
+        declared: IndexSet::with_hasher(alloc, hasher),
+        leveled: IndexSet::with_hasher(alloc, hasher),
+        late: IndexSet::with_hasher(alloc, hasher),
+        dashed: IndexMap::with_hasher(alloc, hasher),
     };
     match names.fill(alloc, parts) {
         Ok(()) => Ok(names),

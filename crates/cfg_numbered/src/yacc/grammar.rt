@@ -19,6 +19,7 @@ mod walks;
 
 use crate::yacc::info::{KeptInfo, ProductionInfo, RuleInfo, TokenInfo};
 use cfg_base::index::IndexStorage;
+use cfg_base::name_hasher::NameHasher;
 use cfg_base::symbol::{PIdx, RIdx, SIdx, Symbol, TIdx};
 use indexmap::IndexMap;
 use std::alloc::{AllocError, Global};
@@ -29,11 +30,11 @@ pub use walks::{PIdxs, RIdxs, TIdxs};
 #[derive(Drop)]
 pub struct NumberedGrammar<S: IndexStorage> {
     /// The rules by name; a rule's number is its index.
-    rules: IndexMap<String, RuleInfo>,
+    rules: IndexMap<String, RuleInfo, NameHasher>,
     /// For each rule the numbers of its productions, ascending.
     rule_prods: Vec<Vec<PIdx<S>>>,
     /// The tokens by name, without the end token, which is the last number.
-    tokens: IndexMap<String, TokenInfo>,
+    tokens: IndexMap<String, TokenInfo, NameHasher>,
     /// The productions; one's number is its index.
     prods: Vec<ProductionInfo<S>>,
     /// The production of the start rule.
@@ -101,8 +102,8 @@ impl<S: IndexStorage> NumberedGrammar<S> {
     /// Makes a grammar of parts that make a well-formed one, whose counts fit the index type.
     pub fn of_parts(
         alloc: Global,
-        rules: IndexMap<String, RuleInfo>,
-        tokens: IndexMap<String, TokenInfo>,
+        rules: IndexMap<String, RuleInfo, NameHasher>,
+        tokens: IndexMap<String, TokenInfo, NameHasher>,
         prods: Vec<ProductionInfo<S>>,
         start: PIdx<S>,
         kept: KeptInfo<S>,

@@ -17,6 +17,7 @@ use crate::yacc::name::Name;
 pub use crate::yacc::parser::syntax::Symbol;
 use crate::yacc::parser::syntax::{Alternative, Body, Word};
 pub use crate::yacc::validity_info::{ASTModificationError, ASTWithValidityInfo};
+use cfg_base::name_hasher::NameHasher;
 use cfg_base::span::Span;
 use indexmap::IndexMap;
 use std::alloc::{AllocError, Global};
@@ -188,16 +189,16 @@ pub struct GrammarAST {
     /// The name of the start rule, with the span where the text names it first.
     start: Option<(String, Span)>,
     /// The rules by name, those of optional symbols last.
-    rules: IndexMap<String, Rule>,
+    rules: IndexMap<String, Rule, NameHasher>,
     prods: Vec<Production>,
     /// The tokens by name, with the span of the first appearance.
-    tokens: IndexMap<String, Span>,
+    tokens: IndexMap<String, Span, NameHasher>,
     /// The precedences of tokens by name, with the token's first span in a precedence line.
-    precs: IndexMap<String, (Precedence, Span)>,
-    avoid_insert: IndexMap<String, Span>,
-    implicit_tokens: IndexMap<String, Span>,
+    precs: IndexMap<String, (Precedence, Span), NameHasher>,
+    avoid_insert: IndexMap<String, Span, NameHasher>,
+    implicit_tokens: IndexMap<String, Span, NameHasher>,
     /// For each token of `%epp` its span, and the printed text with its span.
-    epp: IndexMap<String, (Span, (String, Span))>,
+    epp: IndexMap<String, (Span, (String, Span)), NameHasher>,
     expect: Option<(usize, Span)>,
     expectrr: Option<(usize, Span)>,
     parse_param: Option<(String, String)>,
@@ -237,7 +238,7 @@ impl Model for GrammarAST {
 }
 
 /// Returns the index of a name in a map, trying the index stored in the name first.
-fn number_in<V>(names: &IndexMap<String, V>, name: &Name) -> Option<usize>
+fn number_in<V>(names: &IndexMap<String, V, NameHasher>, name: &Name) -> Option<usize>
     ensures { result ≡ position (bytes_eq (name_text name.now)) (map key_text names.now.entries) }
 {
     let place = name.place();
@@ -255,16 +256,17 @@ impl GrammarAST {
     pub(crate) fn empty(alloc: Global, is_valid: bool) -> GrammarAST
         ensures { result ≡ empty_ast is_valid }
     {
+        let hasher = NameHasher::of_no_text();
         GrammarAST {
             is_valid,
             start: None,
-            rules: IndexMap::new(alloc),
+            rules: IndexMap::with_hasher(alloc, hasher),
             prods: Vec::new(alloc),
-            tokens: IndexMap::new(alloc),
-            precs: IndexMap::new(alloc),
-            avoid_insert: IndexMap::new(alloc),
-            implicit_tokens: IndexMap::new(alloc),
-            epp: IndexMap::new(alloc),
+            tokens: IndexMap::with_hasher(alloc, hasher),
+            precs: IndexMap::with_hasher(alloc, hasher),
+            avoid_insert: IndexMap::with_hasher(alloc, hasher),
+            implicit_tokens: IndexMap::with_hasher(alloc, hasher),
+            epp: IndexMap::with_hasher(alloc, hasher),
             expect: None,
             expectrr: None,
             parse_param: None,
@@ -289,7 +291,7 @@ impl GrammarAST {
     }
 
     /// Returns the rules, in the order of their first headings, and then those that optional symbols mean.
-    pub fn rules(&self) -> &IndexMap<String, Rule>
+    pub fn rules(&self) -> &IndexMap<String, Rule, NameHasher>
         ensures rules { named_rules result.now ≡ self.now.rules }
         ensures names { own_names result.now ≡ rule_keys result.now }
     {
@@ -318,7 +320,7 @@ impl GrammarAST {
     }
 
     /// Returns the tokens, each with the span of its first appearance, in the order of these.
-    pub fn tokens(&self) -> &IndexMap<String, Span>
+    pub fn tokens(&self) -> &IndexMap<String, Span, NameHasher>
         ensures { named_spans result.now ≡ self.now.tokens }
     {
         &self.tokens
@@ -332,28 +334,28 @@ impl GrammarAST {
     }
 
     /// Returns the precedences of tokens, each with the token's first span in a precedence line.
-    pub fn precs(&self) -> &IndexMap<String, (Precedence, Span)>
+    pub fn precs(&self) -> &IndexMap<String, (Precedence, Span), NameHasher>
         ensures { named_precedences result.now ≡ self.now.precedences }
     {
         &self.precs
     }
 
     /// Returns the tokens of `%avoid_insert`, each with its first span there.
-    pub fn avoid_insert(&self) -> &IndexMap<String, Span>
+    pub fn avoid_insert(&self) -> &IndexMap<String, Span, NameHasher>
         ensures { named_spans result.now ≡ self.now.avoid_insert }
     {
         &self.avoid_insert
     }
 
     /// Returns the tokens of `%implicit_tokens`, each with its first span there.
-    pub fn implicit_tokens(&self) -> &IndexMap<String, Span>
+    pub fn implicit_tokens(&self) -> &IndexMap<String, Span, NameHasher>
         ensures { named_spans result.now ≡ self.now.implicit_tokens }
     {
         &self.implicit_tokens
     }
 
     /// Returns the printed texts of tokens: the span of the token, and the text with its span.
-    pub fn epp(&self) -> &IndexMap<String, (Span, (String, Span))>
+    pub fn epp(&self) -> &IndexMap<String, (Span, (String, Span)), NameHasher>
         ensures { named_epps result.now ≡ self.now.epp }
     {
         &self.epp

@@ -7,6 +7,7 @@ ghost use Rattle.std.specs.Str.{bytes_eq};
 ghost use Rattle.cfg_read.specs.NameTexts.{name_text, name_optional};
 ghost use Rattle.cfg_read.specs.Scanning.{FitsPart};
 
+use cfg_base::name_hasher::NameHasher;
 use indexmap::IndexSet;
 use std::alloc::{AllocError, Global};
 use std::fmt;
@@ -223,7 +224,7 @@ impl fmt::Debug for Name {
 /// The names of a text, each once, in the order of their first appearances.
 #[derive(Drop)]
 pub(crate) struct NameSet {
-    names: IndexSet<Name>,
+    names: IndexSet<Name, NameHasher>,
 }
 
 impl Model for NameSet {
@@ -240,20 +241,29 @@ impl Model for NameSet {
 
 impl NameSet {
     /// Creates a set of no names.
-    pub(crate) fn new(alloc: Global) -> NameSet
+    pub(crate) fn new(alloc: Global, hasher: NameHasher) -> NameSet
         ensures { result ≡ [] }
     {
         NameSet {
-            names: IndexSet::new(alloc),
+            names: IndexSet::with_hasher(alloc, hasher),
         }
     }
 
     /// Creates a set of no names, with room for `room` of them.
-    pub(crate) fn with_room(alloc: Global, room: usize) -> Result<NameSet, AllocError>
+    pub(crate) fn with_room(
+        alloc: Global,
+        room: usize,
+        hasher: NameHasher,
+    ) -> Result<NameSet, AllocError>
         ensures { IfOk result (λ n. n ≡ []) }
     {
-        let names = IndexSet::with_capacity(alloc, room)?;
+        let names = IndexSet::with_capacity_and_hasher(alloc, room, hasher)?;
         Ok(NameSet { names })
+    }
+
+    /// Returns the hasher of the names of the text.
+    pub(crate) fn hasher(&self) -> NameHasher {
+        *self.names.hasher()
     }
 
     /// Returns how many there are.

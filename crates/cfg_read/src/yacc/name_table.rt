@@ -11,6 +11,7 @@ ghost use Rattle.cfg_read.specs.declared.yacc.name_table.Entry.{Entry};
 ghost use Rattle.cfg_read.specs.AstModels.{named_spans};
 
 use crate::yacc::name::{Name, NameSet};
+use cfg_base::name_hasher::NameHasher;
 use cfg_base::span::Span;
 use indexmap::IndexMap;
 use std::alloc::{AllocError, Global};
@@ -45,7 +46,7 @@ pub(crate) struct NameTable {
     names: NameSet,
     entries: Vec<Entry>,
     rules_len: u32,
-    tokens: IndexMap<String, Span>,
+    tokens: IndexMap<String, Span, NameHasher>,
 }
 
 impl Model for NameTable {
@@ -90,7 +91,7 @@ fn place_in(names: &mut NameSet, entries: &mut Vec<Entry>, name: &Name) -> Resul
 
 /// Puts a token with its span behind the others, and returns where to look for it.
 fn add_token(
-    tokens: &mut IndexMap<String, Span>,
+    tokens: &mut IndexMap<String, Span, NameHasher>,
     alloc: Global,
     name: &Name,
     span: Span,
@@ -111,7 +112,7 @@ impl NameTable {
         ensures { IfOk result (λ t. known_of t ≡ no_names) }
     {
         let entries = vec![in alloc; NOTHING; names.len()]?;
-        let tokens = IndexMap::with_capacity(alloc, room)?;
+        let tokens = IndexMap::with_capacity_and_hasher(alloc, room, names.hasher())?;
         Ok(NameTable {
             names,
             entries,
@@ -198,14 +199,14 @@ impl NameTable {
     }
 
     /// Returns the tokens, each with its first span.
-    pub(crate) fn tokens(&self) -> &IndexMap<String, Span>
+    pub(crate) fn tokens(&self) -> &IndexMap<String, Span, NameHasher>
         ensures { named_spans result.now ≡ self.now.tokens }
     {
         &self.tokens
     }
 
     /// Returns the tokens, taken over.
-    pub(crate) fn into_tokens(self) -> IndexMap<String, Span>
+    pub(crate) fn into_tokens(self) -> IndexMap<String, Span, NameHasher>
         ensures { named_spans result ≡ self.tokens }
     {
         self.tokens

@@ -12,6 +12,7 @@ ghost use Rattle.cfg_read.specs.NameTables.{known_of, no_names, with_declared, w
 use crate::yacc::name::NameSet;
 use crate::yacc::name_table::NameTable;
 use crate::yacc::parser::syntax::{Alternative, Epp, Level, Line, Rule, Symbol, Syntax, Word};
+use cfg_base::name_hasher::NameHasher;
 use cfg_base::span::Span;
 use indexmap::IndexSet;
 use std::alloc::{AllocError, Global};
@@ -35,11 +36,12 @@ fn push_mention<'a>(
 pub(crate) fn distinct_names<'a>(
     alloc: Global,
     words: &[(&'a str, Span)],
-) -> Result<IndexSet<&'a str>, AllocError>
+    hasher: NameHasher,
+) -> Result<IndexSet<&'a str, NameHasher>, AllocError>
     ensures names { IfOk result (λ s. names_in s ≡ texts (distinct (words_at words.now))) }
     ensures has { IfOk result (λ s. has_name s ≡ is_among (words_at words.now)) }
 {
-    let mut names = IndexSet::with_capacity(alloc, words.len())?;
+    let mut names = IndexSet::with_capacity_and_hasher(alloc, words.len(), hasher)?;
     'words: for word in words {
         names.insert(word.0)?;
     }

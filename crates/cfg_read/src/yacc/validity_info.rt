@@ -26,6 +26,7 @@ use crate::yacc::name::NameSet;
 use crate::yacc::parser::syntax::Syntax;
 use crate::yacc::validity::{YaccGrammarError, copy_errors, failures_by, unknown};
 use crate::yacc::{YaccKind, names};
+use cfg_base::name_hasher::NameHasher;
 use cfg_base::span::Span;
 use indexmap::IndexMap;
 use std::alloc::{AllocError, Global};
@@ -76,7 +77,7 @@ fn none_of(errors: &Vec<YaccGrammarError>) -> bool
 }
 
 /// Returns the span of a rule's first heading.
-fn heading_at(rules: &IndexMap<String, Rule>, name: &str) -> Option<Span>
+fn heading_at(rules: &IndexMap<String, Rule, NameHasher>, name: &str) -> Option<Span>
     ensures { result ≡ heading_at (named_rules rules.now) name.now }
 {
     match rules.get(name) {
@@ -101,13 +102,14 @@ fn uses_before(alloc: Global, x: &mut Syntax) -> Result<Uses, AllocError>
     ensures same { syntax_of x.new ≡ syntax_of x.old }
     ensures known { IfOk result (λ u. uses_of u ≡ record { known = known_before (syntax_of x.old); unknown = []; fresh = [] }) }
 {
-    let names = mem::replace(&mut x.names, NameSet::new(alloc));
+    let hasher = x.names.hasher();
+    let names = mem::replace(&mut x.names, NameSet::new(alloc, hasher));
     let table = names::table_of(alloc, names, x)?;
     Ok(Uses::of(alloc, table))
 }
 
 /// Returns the tokens, taken over.
-fn tokens_in(uses: Uses) -> IndexMap<String, Span>
+fn tokens_in(uses: Uses) -> IndexMap<String, Span, NameHasher>
     ensures { named_spans result ≡ (uses_of uses).known.tokens }
 {
     uses.table.into_tokens()

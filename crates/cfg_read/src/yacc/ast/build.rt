@@ -21,6 +21,7 @@ use super::{GrammarAST, Production, Rule, Symbol, fresh, parts};
 use crate::yacc::name::Name;
 use crate::yacc::names;
 use crate::yacc::parser::syntax::{self, Epp, Number, Param, Syntax, Word};
+use cfg_base::name_hasher::NameHasher;
 use cfg_base::span::Span;
 use indexmap::IndexMap;
 use std::alloc::{AllocError, Global};
@@ -148,7 +149,7 @@ fn to_rule(alloc: Global, rule: &syntax::Rule, shared: Option<&Word>) -> Result<
 /// Puts a heading's rule behind the others, without productions, where it isn't there yet.
 fn insert_heading(
     alloc: Global,
-    rules: &mut IndexMap<String, Rule>,
+    rules: &mut IndexMap<String, Rule, NameHasher>,
     rule: &syntax::Rule,
     shared: Option<&Word>,
 ) -> Result<(), AllocError>
@@ -172,12 +173,13 @@ fn headed_rules(
     headings: &[syntax::Rule],
     shared: Option<&Word>,
     room: usize,
-) -> Result<IndexMap<String, Rule>, AllocError>
+    hasher: NameHasher,
+) -> Result<IndexMap<String, Rule, NameHasher>, AllocError>
     ensures rules { IfOk result (λ rules. named_rules rules
         ≡ fold with_first [] (map (headed (text_of (option_map (λ w. word_of w.now) shared.entry))) (map rule_of headings.now))) }
     ensures names { IfOk result (λ rules. own_names rules ≡ rule_keys rules) }
 {
-    let mut rules = IndexMap::with_capacity(alloc, room)?;
+    let mut rules = IndexMap::with_capacity_and_hasher(alloc, room, hasher)?;
     'headings: for rule in headings {
         insert_heading(alloc, &mut rules, rule, shared)?;
     }
@@ -186,7 +188,7 @@ fn headed_rules(
 
 /// Gives the rule of this name one more production.
 pub(super) fn push_number(
-    rules: &mut IndexMap<String, Rule>,
+    rules: &mut IndexMap<String, Rule, NameHasher>,
     name: &str,
     number: usize,
 ) -> Result<(), AllocError>
@@ -206,7 +208,7 @@ pub(super) fn push_number(
 
 /// Gives the rule of this name `count` productions, with the numbers from `start` on.
 pub(super) fn push_numbers(
-    rules: &mut IndexMap<String, Rule>,
+    rules: &mut IndexMap<String, Rule, NameHasher>,
     name: &str,
     start: usize,
     count: usize,
@@ -261,7 +263,10 @@ pub(crate) fn heads(alloc: Global, rules: &[syntax::Rule]) -> Result<Vec<Head>, 
 }
 
 /// Gives the rules of these headings the numbers of their productions, and returns how many there are.
-fn number_headings(rules: &mut IndexMap<String, Rule>, heads: &[Head]) -> Result<usize, AllocError>
+fn number_headings(
+    rules: &mut IndexMap<String, Rule, NameHasher>,
+    heads: &[Head],
+) -> Result<usize, AllocError>
     requires names { own_names rules.old ≡ rule_keys rules.old }
     requires fits { length (heads_of heads.now) ≤ 2 ^ 64 - 1 }
     ensures count { IfOk result (λ n. n ≡ length (heads_of heads.now)) }
@@ -278,8 +283,8 @@ fn number_headings(rules: &mut IndexMap<String, Rule>, heads: &[Head]) -> Result
 
 /// Gives the fresh rules the numbers of their productions, from one on.
 fn number_fresh(
-    rules: &mut IndexMap<String, Rule>,
-    fresh: &IndexMap<String, Fresh>,
+    rules: &mut IndexMap<String, Rule, NameHasher>,
+    fresh: &IndexMap<String, Fresh, NameHasher>,
     start: usize,
 ) -> Result<(), AllocError>
     requires names { own_names rules.old ≡ rule_keys rules.old }
@@ -310,7 +315,8 @@ impl GrammarAST {
         ensures { OnOk result (self.new ≡ with_headings_of (syntax_of x.now) self.old) }
     {
         self.start = start_word(alloc, x)?;
-        self.rules = headed_rules(alloc, &x.rules, shared_type(&x.action_types), room)?;
+        let hasher = x.names.hasher();
+        self.rules = headed_rules(alloc, &x.rules, shared_type(&x.action_types), room, hasher)?;
         Ok(())
     }
 
@@ -320,7 +326,7 @@ impl GrammarAST {
         alloc: Global,
         prods: Vec<Production>,
         heads: &[Head],
-        fresh: &IndexMap<String, Fresh>,
+        fresh: &IndexMap<String, Fresh, NameHasher>,
     ) -> Result<(), AllocError>
         requires { length (heads_of heads.now) ≡ length prods.items }
         ensures { OnOk result (self.new ≡ with_productions_of (map production_of prods.items) (heads_of heads.now) (named_fresh fresh.now) self.old) }
@@ -335,7 +341,7 @@ impl GrammarAST {
     }
 
     /// Puts in the tokens.
-    pub(crate) fn set_tokens(&mut self, tokens: IndexMap<String, Span>, is_valid: bool)
+    pub(crate) fn set_tokens(&mut self, tokens: IndexMap<String, Span, NameHasher>, is_valid: bool)
         ensures { self.new ≡ with_tokens (named_spans tokens) is_valid self.old }
     {
         self.tokens = tokens;
@@ -353,7 +359,8 @@ impl GrammarAST {
         requires { AreLinesOf (syntax_of x) lines }
         ensures { OnOk result (self.new ≡ with_lines_of (ast_of true (syntax_of x)) self.old) }
     {
-        let epp = match parts::first_epps(alloc, epp_in(alloc, x)) {
+        let hasher = x.names.hasher();
+        let epp = match parts::first_epps(alloc, epp_in(alloc, x), hasher) {
             Ok(epp) => epp,
             Err(e) => {
                 drop(lines);

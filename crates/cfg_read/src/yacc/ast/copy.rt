@@ -9,6 +9,7 @@ ghost use Rattle.cfg_read.specs.AstBuild.{with_rules_of, with_tokens_of, with_te
 use super::{GrammarAST, Production, Rule, Symbol};
 use crate::yacc::Precedence;
 use crate::yacc::parser::syntax::{Alternative, Body, Plain, Single, Word};
+use cfg_base::name_hasher::NameHasher;
 use cfg_base::span::Span;
 use indexmap::IndexMap;
 use std::alloc::{AllocError, Global};
@@ -187,7 +188,9 @@ fn copy_param(param: &Option<(String, String)>) -> Result<Option<(String, String
 }
 
 /// Copies names with their spans.
-fn copy_spans(spans: &IndexMap<String, Span>) -> Result<IndexMap<String, Span>, AllocError>
+fn copy_spans(
+    spans: &IndexMap<String, Span, NameHasher>,
+) -> Result<IndexMap<String, Span, NameHasher>, AllocError>
     ensures { IfOk result (λ copy. named_spans copy ≡ named_spans spans.now) }
 {
     let copy = spans.clone()?;
@@ -196,8 +199,8 @@ fn copy_spans(spans: &IndexMap<String, Span>) -> Result<IndexMap<String, Span>, 
 
 /// Copies the precedences.
 fn copy_precs(
-    precs: &IndexMap<String, (Precedence, Span)>,
-) -> Result<IndexMap<String, (Precedence, Span)>, AllocError>
+    precs: &IndexMap<String, (Precedence, Span), NameHasher>,
+) -> Result<IndexMap<String, (Precedence, Span), NameHasher>, AllocError>
     ensures { IfOk result (λ copy. named_precedences copy ≡ named_precedences precs.now) }
 {
     let copy = precs.clone()?;
@@ -206,8 +209,8 @@ fn copy_precs(
 
 /// Copies the printed texts.
 fn copy_epp(
-    epp: &IndexMap<String, (Span, (String, Span))>,
-) -> Result<IndexMap<String, (Span, (String, Span))>, AllocError>
+    epp: &IndexMap<String, (Span, (String, Span)), NameHasher>,
+) -> Result<IndexMap<String, (Span, (String, Span)), NameHasher>, AllocError>
     ensures { IfOk result (λ copy. named_epps copy ≡ named_epps epp.now) }
 {
     let copy = epp.clone()?;
@@ -215,7 +218,9 @@ fn copy_epp(
 }
 
 /// Copies the rules.
-fn copy_rules(rules: &IndexMap<String, Rule>) -> Result<IndexMap<String, Rule>, AllocError>
+fn copy_rules(
+    rules: &IndexMap<String, Rule, NameHasher>,
+) -> Result<IndexMap<String, Rule, NameHasher>, AllocError>
     requires { own_names rules.now ≡ rule_keys rules.now }
     ensures rules { IfOk result (λ copy. named_rules copy ≡ named_rules rules.now) }
     ensures names { IfOk result (λ copy. own_names copy ≡ rule_keys copy) }

@@ -11,6 +11,7 @@ ghost use Rattle.cfg_read.specs.Judging.{both_at, both_of, words_of_fresh};
 
 use super::settle::Fresh;
 use super::{Production, Rule, Symbol};
+use cfg_base::name_hasher::NameHasher;
 use cfg_base::span::Span;
 use indexmap::IndexMap;
 use std::alloc::{AllocError, Global};
@@ -30,7 +31,7 @@ fn blank_rule(alloc: Global, name: &str, span: Span) -> Result<Rule, AllocError>
 /// Puts a fresh rule behind the others, without productions, where there is none of its name yet.
 fn insert_fresh_rule(
     alloc: Global,
-    rules: &mut IndexMap<String, Rule>,
+    rules: &mut IndexMap<String, Rule, NameHasher>,
     name: &str,
     span: Span,
 ) -> Result<(), AllocError>
@@ -49,8 +50,8 @@ fn insert_fresh_rule(
 /// Puts the fresh rules of these symbols behind the others, without productions.
 pub(super) fn insert_fresh_rules(
     alloc: Global,
-    rules: &mut IndexMap<String, Rule>,
-    fresh: &IndexMap<String, Fresh>,
+    rules: &mut IndexMap<String, Rule, NameHasher>,
+    fresh: &IndexMap<String, Fresh, NameHasher>,
 ) -> Result<(), AllocError>
     requires { own_names rules.old ≡ rule_keys rules.old }
     ensures rules { OnOk result (named_rules rules.new ≡ fold with_first (named_rules rules.old) (map fresh_rule (words_of_fresh (named_fresh fresh.now)))) }
@@ -87,7 +88,7 @@ fn push_both(alloc: Global, made: &mut Vec<Production>, fresh: &Fresh) -> Result
 /// Returns the productions of the fresh rules of these symbols.
 pub(super) fn fresh_productions(
     alloc: Global,
-    fresh: &IndexMap<String, Fresh>,
+    fresh: &IndexMap<String, Fresh, NameHasher>,
 ) -> Result<Vec<Production>, AllocError>
     ensures { IfOk result (λ made. map production_of made.items ≡ flat_map both_of (named_fresh fresh.now)) }
 {

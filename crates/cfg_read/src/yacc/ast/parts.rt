@@ -12,6 +12,7 @@ ghost use Rattle.cfg_read.specs.LinesByName.{AreLinesOf};
 use super::{Production, Symbol};
 use crate::yacc::parser::syntax::{Epp, Level, Line, Syntax, Word};
 use crate::yacc::{Precedence, PrecedenceLevel};
+use cfg_base::name_hasher::NameHasher;
 use cfg_base::span::Span;
 use indexmap::IndexMap;
 use std::alloc::{AllocError, Global};
@@ -43,7 +44,7 @@ pub(super) fn push_all(
 /// Puts a name with its span behind the others, where it isn't there yet.
 fn insert_first(
     alloc: Global,
-    spans: &mut IndexMap<String, Span>,
+    spans: &mut IndexMap<String, Span, NameHasher>,
     name: &str,
     span: Span,
 ) -> Result<(), AllocError>
@@ -60,7 +61,7 @@ fn insert_first(
 /// Puts the names of these symbols with their spans behind the others, where they aren't there yet.
 fn take_all_first(
     alloc: Global,
-    spans: &mut IndexMap<String, Span>,
+    spans: &mut IndexMap<String, Span, NameHasher>,
     symbols: &[Symbol],
 ) -> Result<(), AllocError>
     ensures { OnOk result (named_spans spans.new ≡ fold with_distinct (named_spans spans.old) (words_in (symbols_of symbols.now))) }
@@ -72,10 +73,14 @@ fn take_all_first(
 }
 
 /// Returns each name of these lines with its first span, in the order of these.
-fn first_spans(alloc: Global, lines: &[Line]) -> Result<IndexMap<String, Span>, AllocError>
+fn first_spans(
+    alloc: Global,
+    lines: &[Line],
+    hasher: NameHasher,
+) -> Result<IndexMap<String, Span, NameHasher>, AllocError>
     ensures { IfOk result (λ spans. named_spans spans ≡ distinct (flat_map words_in (map line_of lines.now))) }
 {
-    let mut spans = IndexMap::with_capacity(alloc, lines.len())?;
+    let mut spans = IndexMap::with_capacity_and_hasher(alloc, lines.len(), hasher)?;
     'lines: for line in lines {
         take_all_first(alloc, &mut spans, &line.items)?;
     }
@@ -84,7 +89,7 @@ fn first_spans(alloc: Global, lines: &[Line]) -> Result<IndexMap<String, Span>, 
 
 /// Puts a token's printed text behind the others, where it has none yet.
 fn insert_epp(
-    epps: &mut IndexMap<String, (Span, (String, Span))>,
+    epps: &mut IndexMap<String, (Span, (String, Span)), NameHasher>,
     epp: Epp,
 ) -> Result<(), AllocError>
     ensures { OnOk result (named_epps epps.new ≡ with_epp_of (named_epps epps.old) (epp_of epp)) }
@@ -109,10 +114,11 @@ fn insert_epp(
 pub(super) fn first_epps(
     alloc: Global,
     all: Vec<Epp>,
-) -> Result<IndexMap<String, (Span, (String, Span))>, AllocError>
+    hasher: NameHasher,
+) -> Result<IndexMap<String, (Span, (String, Span)), NameHasher>, AllocError>
     ensures { IfOk result (λ epps. named_epps epps ≡ fold with_epp_of [] (map epp_of all.items)) }
 {
-    let mut epps = IndexMap::with_capacity(alloc, all.len())?;
+    let mut epps = IndexMap::with_capacity_and_hasher(alloc, all.len(), hasher)?;
     'epps: for epp in all {
         insert_epp(&mut epps, epp)?;
     }
@@ -122,7 +128,7 @@ pub(super) fn first_epps(
 /// Puts a token's precedence behind the others, where it has none yet.
 fn insert_precedence(
     alloc: Global,
-    found: &mut IndexMap<String, (Precedence, Span)>,
+    found: &mut IndexMap<String, (Precedence, Span), NameHasher>,
     precedence: Precedence,
     symbol: &Symbol,
 ) -> Result<(), AllocError>
@@ -140,7 +146,7 @@ fn insert_precedence(
 /// Puts this precedence of these tokens behind the others, for those that have none yet.
 fn insert_level(
     alloc: Global,
-    found: &mut IndexMap<String, (Precedence, Span)>,
+    found: &mut IndexMap<String, (Precedence, Span), NameHasher>,
     precedence: Precedence,
     tokens: &[Symbol],
 ) -> Result<(), AllocError>
@@ -157,10 +163,11 @@ fn insert_level(
 fn first_precedences(
     alloc: Global,
     levels: &[Level],
-) -> Result<IndexMap<String, (Precedence, Span)>, AllocError>
+    hasher: NameHasher,
+) -> Result<IndexMap<String, (Precedence, Span), NameHasher>, AllocError>
     ensures { IfOk result (λ found. named_precedences found ≡ precedences_of (map level_of levels.now)) }
 {
-    let mut found = IndexMap::with_capacity(alloc, levels.len())?;
+    let mut found = IndexMap::with_capacity_and_hasher(alloc, levels.len(), hasher)?;
     'levels: for (number, level) in levels.iter().enumerate() {
         let precedence = Precedence {
             level: number as PrecedenceLevel,
@@ -174,24 +181,25 @@ fn first_precedences(
 /// What the lines of a text say by names: precedences, and the tokens of `%avoid_insert` and of `%implicit_tokens`.
 #[derive(Drop)]
 pub(crate) struct Lines {
-    pub(crate) precs: IndexMap<String, (Precedence, Span)>,
-    pub(crate) avoid_insert: IndexMap<String, Span>,
-    pub(crate) implicit_tokens: IndexMap<String, Span>,
+    pub(crate) precs: IndexMap<String, (Precedence, Span), NameHasher>,
+    pub(crate) avoid_insert: IndexMap<String, Span, NameHasher>,
+    pub(crate) implicit_tokens: IndexMap<String, Span, NameHasher>,
 }
 
 /// Returns the lines of a text by names, where the first one of a name counts.
 pub(crate) fn first_lines(alloc: Global, x: &Syntax) -> Result<Lines, AllocError>
     ensures { IfOk result (λ l. AreLinesOf (syntax_of x.now) l) }
 {
-    let precs = first_precedences(alloc, &x.levels)?;
-    let avoid_insert = match first_spans(alloc, &x.avoid_insert) {
+    let hasher = x.names.hasher();
+    let precs = first_precedences(alloc, &x.levels, hasher)?;
+    let avoid_insert = match first_spans(alloc, &x.avoid_insert, hasher) {
         Ok(spans) => spans,
         Err(e) => {
             drop(precs);
             return Err(e);
         }
     };
-    let implicit_tokens = match first_spans(alloc, &x.implicit_tokens) {
+    let implicit_tokens = match first_spans(alloc, &x.implicit_tokens, hasher) {
         Ok(spans) => spans,
         Err(e) => {
             drop(precs);

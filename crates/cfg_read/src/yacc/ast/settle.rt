@@ -18,6 +18,7 @@ use super::{Production, Symbol};
 use crate::yacc::name::Name;
 use crate::yacc::name_table::{Entry, NameTable};
 use crate::yacc::parser::syntax::{self, Alternative};
+use cfg_base::name_hasher::NameHasher;
 use cfg_base::span::Span;
 use indexmap::IndexMap;
 use std::alloc::{AllocError, Global};
@@ -38,7 +39,7 @@ pub(crate) struct Uses {
     /// The names that mean nothing, with their spans.
     pub(crate) unknown: Vec<(Name, Span)>,
     /// The symbols with a `?`, by the names of their fresh rules.
-    pub(crate) fresh: IndexMap<String, Fresh>,
+    pub(crate) fresh: IndexMap<String, Fresh, NameHasher>,
 }
 
 /// Returns the name of the fresh rule of a symbol: `'X'?` of a token X, `X?` of a rule.
@@ -64,7 +65,7 @@ fn fresh_names(alloc: Global, inner: &Symbol) -> Result<(String, Name), AllocErr
 
 /// Notes the symbol of an optional one by this name, where that isn't there yet.
 fn insert_fresh(
-    fresh: &mut IndexMap<String, Fresh>,
+    fresh: &mut IndexMap<String, Fresh, NameHasher>,
     name: String,
     span: Span,
     inner: Symbol,
@@ -85,10 +86,11 @@ impl Uses {
     pub(crate) fn of(alloc: Global, table: NameTable) -> Uses
         ensures { uses_of result ≡ record { known = known_of table; unknown = []; fresh = [] } }
     {
+        let hasher = *table.tokens().hasher();
         Uses {
             table,
             unknown: Vec::new(alloc),
-            fresh: IndexMap::new(alloc),
+            fresh: IndexMap::with_hasher(alloc, hasher),
         }
     }
 

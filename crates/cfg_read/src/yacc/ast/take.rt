@@ -9,6 +9,7 @@ ghost use Rattle.cfg_read.specs.SyntaxModels.{word_of};
 
 use super::{GrammarAST, Production, Rule};
 use crate::yacc::parser::syntax::{Alternative, Word};
+use cfg_base::name_hasher::NameHasher;
 use cfg_base::span::Span;
 use indexmap::IndexMap;
 use std::alloc::Global;
@@ -38,11 +39,12 @@ impl Production {
 
 impl GrammarAST {
     /// Takes the rules out of the tree.
-    pub fn take_rules(&mut self, alloc: Global) -> IndexMap<String, Rule>
+    pub fn take_rules(&mut self, alloc: Global) -> IndexMap<String, Rule, NameHasher>
         ensures rules { named_rules result ≡ self.old.rules }
         ensures rest { self.new ≡ without_rules self.old }
     {
-        mem::replace(&mut self.rules, IndexMap::new(alloc))
+        let hasher = *self.rules.hasher();
+        mem::replace(&mut self.rules, IndexMap::with_hasher(alloc, hasher))
     }
 
     /// Takes the productions out of the tree.
@@ -54,18 +56,23 @@ impl GrammarAST {
     }
 
     /// Takes the tokens out of the tree.
-    pub fn take_tokens(&mut self, alloc: Global) -> IndexMap<String, Span>
+    pub fn take_tokens(&mut self, alloc: Global) -> IndexMap<String, Span, NameHasher>
         ensures tokens { named_spans result ≡ self.old.tokens }
         ensures rest { self.new ≡ without_tokens self.old }
     {
-        mem::replace(&mut self.tokens, IndexMap::new(alloc))
+        let hasher = *self.tokens.hasher();
+        mem::replace(&mut self.tokens, IndexMap::with_hasher(alloc, hasher))
     }
 
     /// Takes the printed texts of tokens out of the tree.
-    pub fn take_epp(&mut self, alloc: Global) -> IndexMap<String, (Span, (String, Span))>
+    pub fn take_epp(
+        &mut self,
+        alloc: Global,
+    ) -> IndexMap<String, (Span, (String, Span)), NameHasher>
         ensures texts { named_epps result ≡ self.old.epp }
         ensures rest { self.new ≡ without_epp self.old }
     {
-        mem::replace(&mut self.epp, IndexMap::new(alloc))
+        let hasher = *self.epp.hasher();
+        mem::replace(&mut self.epp, IndexMap::with_hasher(alloc, hasher))
     }
 }

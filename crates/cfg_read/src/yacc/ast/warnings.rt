@@ -14,6 +14,7 @@ ghost use Rattle.cfg_read.specs.Warnings.{UnusedRule, UnusedToken, AreUnused, Ar
 ghost use Rattle.cfg_read.specs.WarningModels.{warning_kind, warning_of, warnings_in, warning_text, with_symbol_names, is_rule_symbol, is_token_symbol, is_any_symbol, symbols_of_all, symbols_under, rule_names, start_names};
 
 use super::{GrammarAST, Symbol};
+use cfg_base::name_hasher::NameHasher;
 use cfg_base::span::{Span, Spanned, SpansKind};
 use indexmap::{IndexMap, IndexSet};
 use std::alloc::{AllocError, Global};
@@ -80,7 +81,10 @@ impl Spanned for YaccGrammarWarning {
 }
 
 /// Adds the names of the rules among these symbols.
-fn insert_rules<'a>(names: &mut IndexSet<&'a str>, symbols: &'a [Symbol]) -> Result<(), AllocError>
+fn insert_rules<'a>(
+    names: &mut IndexSet<&'a str, NameHasher>,
+    symbols: &'a [Symbol],
+) -> Result<(), AllocError>
     ensures { OnOk result (names_in names.new
         ≡ with_symbol_names is_rule_symbol (names_in names.old) (map ast_symbol_of symbols.now)) }
 {
@@ -93,7 +97,10 @@ fn insert_rules<'a>(names: &mut IndexSet<&'a str>, symbols: &'a [Symbol]) -> Res
 }
 
 /// Adds the names of the tokens among these symbols.
-fn insert_tokens<'a>(names: &mut IndexSet<&'a str>, symbols: &'a [Symbol]) -> Result<(), AllocError>
+fn insert_tokens<'a>(
+    names: &mut IndexSet<&'a str, NameHasher>,
+    symbols: &'a [Symbol],
+) -> Result<(), AllocError>
     ensures { OnOk result (names_in names.new
         ≡ with_symbol_names is_token_symbol (names_in names.old) (map ast_symbol_of symbols.now)) }
 {
@@ -106,10 +113,14 @@ fn insert_tokens<'a>(names: &mut IndexSet<&'a str>, symbols: &'a [Symbol]) -> Re
 }
 
 /// Returns the names of `%expect-unused` without quotes.
-fn expected_rules<'a>(alloc: Global, symbols: &'a [Symbol]) -> Result<IndexSet<&'a str>, AllocError>
+fn expected_rules<'a>(
+    alloc: Global,
+    symbols: &'a [Symbol],
+    hasher: NameHasher,
+) -> Result<IndexSet<&'a str, NameHasher>, AllocError>
     ensures { IfOk result (λ s. (name : List ℕ) → has_name s name ≡ expects_rule (map ast_symbol_of symbols.now) name) }
 {
-    let mut names = IndexSet::new(alloc);
+    let mut names = IndexSet::with_hasher(alloc, hasher);
     insert_rules(&mut names, symbols)?;
     Ok(names)
 }
@@ -118,10 +129,11 @@ fn expected_rules<'a>(alloc: Global, symbols: &'a [Symbol]) -> Result<IndexSet<&
 fn expected_tokens<'a>(
     alloc: Global,
     symbols: &'a [Symbol],
-) -> Result<IndexSet<&'a str>, AllocError>
+    hasher: NameHasher,
+) -> Result<IndexSet<&'a str, NameHasher>, AllocError>
     ensures { IfOk result (λ s. (name : List ℕ) → has_name s name ≡ expects_token (map ast_symbol_of symbols.now) name) }
 {
-    let mut names = IndexSet::new(alloc);
+    let mut names = IndexSet::with_hasher(alloc, hasher);
     'symbols: for symbol in symbols {
         names.insert(symbol.name().as_str())?;
     }
@@ -168,14 +180,18 @@ fn is_fresh_name(name: &str) -> bool
 }
 
 /// Returns whether a rule is fresh, reached or expected to be unused.
-fn is_silent_rule(name: &str, reached: &IndexSet<&str>, expected: &IndexSet<&str>) -> bool
+fn is_silent_rule(
+    name: &str,
+    reached: &IndexSet<&str, NameHasher>,
+    expected: &IndexSet<&str, NameHasher>,
+) -> bool
     ensures { result ≡ (is_fresh_name name.now || (has_name reached.now name.now || has_name expected.now name.now)) }
 {
     is_fresh_name(name) || reached.contains(name) || expected.contains(name)
 }
 
 /// Returns whether this is a name of the map.
-fn is_key(name: &str, spans: &IndexMap<String, Span>) -> bool
+fn is_key(name: &str, spans: &IndexMap<String, Span, NameHasher>) -> bool
     ensures { result ≡ is_among (named_spans spans.now) name.now }
 {
     spans.contains_key(name)
@@ -184,9 +200,9 @@ fn is_key(name: &str, spans: &IndexMap<String, Span>) -> bool
 /// Returns whether a token is used, implicit or expected to be unused.
 fn is_silent(
     name: &str,
-    used: &IndexSet<&str>,
-    implicit: &IndexMap<String, Span>,
-    expected: &IndexSet<&str>,
+    used: &IndexSet<&str, NameHasher>,
+    implicit: &IndexMap<String, Span, NameHasher>,
+    expected: &IndexSet<&str, NameHasher>,
 ) -> bool
     ensures { result ≡ (has_name used.now name.now || (is_among (named_spans implicit.now) name.now || has_name expected.now name.now)) }
 {
@@ -209,7 +225,7 @@ impl GrammarAST {
     /// Adds the rules in these productions.
     fn insert_all_rules<'a>(
         &'a self,
-        names: &mut IndexSet<&'a str>,
+        names: &mut IndexSet<&'a str, NameHasher>,
         numbers: &[usize],
     ) -> Result<(), AllocError>
         ensures { OnOk result (names_in names.new
@@ -226,7 +242,7 @@ impl GrammarAST {
     /// Adds the tokens in these productions.
     fn insert_all_tokens<'a>(
         &'a self,
-        names: &mut IndexSet<&'a str>,
+        names: &mut IndexSet<&'a str, NameHasher>,
         numbers: &[usize],
     ) -> Result<(), AllocError>
         ensures { OnOk result (names_in names.new
@@ -243,7 +259,7 @@ impl GrammarAST {
     /// Adds the rules in the alternatives of the rule of this name.
     fn insert_rules_under<'a>(
         &'a self,
-        names: &mut IndexSet<&'a str>,
+        names: &mut IndexSet<&'a str, NameHasher>,
         name: &str,
     ) -> Result<(), AllocError>
         ensures added { OnOk result (names_in names.new
@@ -259,7 +275,7 @@ impl GrammarAST {
     /// Adds the tokens in the alternatives of the rule of this name.
     fn insert_tokens_under<'a>(
         &'a self,
-        names: &mut IndexSet<&'a str>,
+        names: &mut IndexSet<&'a str, NameHasher>,
         name: &str,
     ) -> Result<(), AllocError>
         ensures added { OnOk result (names_in names.new
@@ -273,10 +289,14 @@ impl GrammarAST {
     }
 
     /// Returns the name of the start rule.
-    fn start_names(&self, alloc: Global) -> Result<IndexSet<&str>, AllocError>
+    fn start_names(&self, alloc: Global) -> Result<IndexSet<&str, NameHasher>, AllocError>
         ensures { IfOk result (λ s. names_in s ≡ start_names self.now) }
     {
-        let mut names = IndexSet::with_capacity(alloc, self.rules.len())?;
+        let mut names = IndexSet::with_capacity_and_hasher(
+            alloc,
+            self.rules.len(),
+            *self.rules.hasher(),
+        )?;
         if let Some((start, _span)) = &self.start {
             names.insert(start.as_str())?;
         }
@@ -285,7 +305,7 @@ impl GrammarAST {
 
     /// Returns the names that the start rule leads to, each once: its own, and those in alternatives of the rules
     /// among them.
-    fn reached_rules(&self, alloc: Global) -> Result<IndexSet<&str>, AllocError>
+    fn reached_rules(&self, alloc: Global) -> Result<IndexSet<&str, NameHasher>, AllocError>
         ensures { IfOk result (λ s. (name : List ℕ) → IsTrue (has_name s name) ↔ IsReached self.now name) }
     {
         let mut names = self.start_names(alloc)?;
@@ -302,12 +322,16 @@ impl GrammarAST {
     fn used_tokens<'a>(
         &'a self,
         alloc: Global,
-        reached: &IndexSet<&'a str>,
-    ) -> Result<IndexSet<&'a str>, AllocError>
+        reached: &IndexSet<&'a str, NameHasher>,
+    ) -> Result<IndexSet<&'a str, NameHasher>, AllocError>
         requires { (name : List ℕ) → IsTrue (has_name reached.now name) ↔ IsReached self.now name }
         ensures { IfOk result (λ s. (token : List ℕ) → IsTrue (has_name s token) ↔ IsUsed self.now token) }
     {
-        let mut names = IndexSet::with_capacity(alloc, self.tokens.len())?;
+        let mut names = IndexSet::with_capacity_and_hasher(
+            alloc,
+            self.tokens.len(),
+            *reached.hasher(),
+        )?;
         'rules: for name in reached.as_slice() {
             self.insert_tokens_under(&mut names, name)?;
         }
@@ -319,12 +343,12 @@ impl GrammarAST {
         &self,
         alloc: Global,
         warnings: &mut Vec<YaccGrammarWarning>,
-        reached: &IndexSet<&str>,
+        reached: &IndexSet<&str, NameHasher>,
     ) -> Result<(), AllocError>
         ensures { OnOk result (warnings_in warnings.new.items
             ≡ warnings_in warnings.old.items ++ warnings_at UnusedRule (unused_rules (has_name reached.now) self.now)) }
     {
-        let expected = expected_rules(alloc, &self.expect_unused)?;
+        let expected = expected_rules(alloc, &self.expect_unused, *reached.hasher())?;
         'rules: for (name, rule) in &self.rules {
             let is_silent = is_silent_rule(name.as_str(), reached, &expected);
             match push_if(
@@ -350,12 +374,12 @@ impl GrammarAST {
         &self,
         alloc: Global,
         warnings: &mut Vec<YaccGrammarWarning>,
-        used: &IndexSet<&str>,
+        used: &IndexSet<&str, NameHasher>,
     ) -> Result<(), AllocError>
         ensures { OnOk result (warnings_in warnings.new.items
             ≡ warnings_in warnings.old.items ++ warnings_at UnusedToken (unused_tokens (has_name used.now) self.now)) }
     {
-        let expected = expected_tokens(alloc, &self.expect_unused)?;
+        let expected = expected_tokens(alloc, &self.expect_unused, *used.hasher())?;
         'tokens: for (name, span) in &self.tokens {
             let is_silent = is_silent(name.as_str(), used, &self.implicit_tokens, &expected);
             match push_if(
@@ -381,8 +405,8 @@ impl GrammarAST {
         &self,
         alloc: Global,
         warnings: &mut Vec<YaccGrammarWarning>,
-        reached: &IndexSet<&str>,
-        used: &IndexSet<&str>,
+        reached: &IndexSet<&str, NameHasher>,
+        used: &IndexSet<&str, NameHasher>,
     ) -> Result<(), AllocError>
         ensures { OnOk result (warnings_in warnings.new.items
             ≡ (warnings_in warnings.old.items ++ warnings_at UnusedRule (unused_rules (has_name reached.now) self.now)) ++ warnings_at UnusedToken (unused_tokens (has_name used.now) self.now)) }

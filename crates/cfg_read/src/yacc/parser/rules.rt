@@ -20,6 +20,7 @@ use crate::yacc::parser::draft::Draft;
 use crate::yacc::parser::error::{ReadError, YaccGrammarErrorKind};
 use crate::yacc::parser::scan::{Scanner, TokenKind};
 use crate::yacc::parser::syntax::{Alternative, Rule, Symbol, Syntax, Word};
+use cfg_base::name_hasher::NameHasher;
 use cfg_base::span::Span;
 use std::alloc::{AllocError, Global};
 use std::rc::RcStr;
@@ -526,7 +527,7 @@ pub fn read_syntax(
         shared: &shared,
         kind,
     };
-    let names = NameSet::with_room(alloc, text.len() / BYTES_A_NAME)?;
+    let names = NameSet::with_room(alloc, text.len() / BYTES_A_NAME, NameHasher::of_text(text))?;
     let mut syntax = Syntax::new(alloc, names);
     match scanner.parse_all(alloc, &mut syntax, start) {
         Ok(()) => Ok(syntax),

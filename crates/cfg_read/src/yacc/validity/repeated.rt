@@ -14,6 +14,7 @@ use crate::yacc::ast::parts::Lines;
 use crate::yacc::names;
 use crate::yacc::parser::error::YaccGrammarErrorKind;
 use crate::yacc::parser::syntax::{Number, Syntax, Word};
+use cfg_base::name_hasher::NameHasher;
 use cfg_base::span::Span;
 use indexmap::IndexSet;
 use std::alloc::{AllocError, Global};
@@ -82,10 +83,14 @@ fn add_span(
 }
 
 /// Lists the spans of each name, in the order of the first ones.
-fn group_spans(alloc: Global, words: &[(&str, Span)]) -> Result<Vec<Vec<Span>>, AllocError>
+fn group_spans(
+    alloc: Global,
+    words: &[(&str, Span)],
+    hasher: NameHasher,
+) -> Result<Vec<Vec<Span>>, AllocError>
     ensures { IfOk result (λ groups. span_lists groups.items ≡ groups_of (words_at words.now)) }
 {
-    let mut names = IndexSet::new(alloc);
+    let mut names = IndexSet::with_hasher(alloc, hasher);
     let mut groups = Vec::new(alloc);
     'words: for word in words {
         let index = match names.insert_full(word.0) {
@@ -108,7 +113,7 @@ fn group_spans(alloc: Global, words: &[(&str, Span)]) -> Result<Vec<Vec<Span>>, 
 }
 
 /// Returns whether these words have as many names, if these are their names, so that none is reported as repeated.
-fn all_differ(words: &[(&str, Span)], names: &IndexSet<&str>) -> bool
+fn all_differ(words: &[(&str, Span)], names: &IndexSet<&str, NameHasher>) -> bool
     ensures { result ≡ true → names_in names.now ≡ texts (distinct (words_at words.now)) → (k : FailureKind) → repeated_names k (words_at words.now) ≡ [] }
 {
     names.len() == words.len()
@@ -136,7 +141,7 @@ fn push_repeated_among(
     errors: &mut Vec<YaccGrammarError>,
     what: Repeated,
     words: &[(&str, Span)],
-    names: &IndexSet<&str>,
+    names: &IndexSet<&str, NameHasher>,
 ) -> Result<(), AllocError>
     ensures { OnOk result (names_in names.now ≡ texts (distinct (words_at words.now)) → failures_in errors.new.items
         ≡ failures_in errors.old.items ++ repeated_names (repeated_failure what) (words_at words.now)) }
@@ -144,7 +149,7 @@ fn push_repeated_among(
     if all_differ(words, names) {
         return Ok(());
     }
-    let groups = group_spans(alloc, words)?;
+    let groups = group_spans(alloc, words, *names.hasher())?;
     push_groups(errors, what, groups)?;
     Ok(())
 }
@@ -155,11 +160,12 @@ fn push_repeated_names(
     errors: &mut Vec<YaccGrammarError>,
     what: Repeated,
     words: &[(&str, Span)],
+    hasher: NameHasher,
 ) -> Result<(), AllocError>
     ensures { OnOk result (failures_in errors.new.items
         ≡ failures_in errors.old.items ++ repeated_names (repeated_failure what) (words_at words.now)) }
 {
-    let names = names::distinct_names(alloc, words)?;
+    let names = names::distinct_names(alloc, words, hasher)?;
     match push_repeated_among(alloc, errors, what, words, &names) {
         Ok(()) => {
             drop(names);
@@ -187,7 +193,13 @@ fn push_repeated_levels(
         return Ok(());
     }
     let words = names::level_words(alloc, &x.levels)?;
-    push_repeated_names(alloc, errors, Repeated::Precedence, &words)?;
+    push_repeated_names(
+        alloc,
+        errors,
+        Repeated::Precedence,
+        &words,
+        x.names.hasher(),
+    )?;
     Ok(())
 }
 
@@ -201,7 +213,7 @@ fn push_repeated_epps(
         ≡ failures_in errors.old.items ++ repeated_names DuplicateEPP (epp_tokens (syntax_of x.now))) }
 {
     let words = names::epp_words(alloc, &x.epp)?;
-    push_repeated_names(alloc, errors, Repeated::Epp, &words)
+    push_repeated_names(alloc, errors, Repeated::Epp, &words, x.names.hasher())
 }
 
 /// Puts a failure for each token that appears more than once in `%avoid_insert` behind the others.
@@ -219,7 +231,13 @@ fn push_repeated_avoided(
         return Ok(());
     }
     let words = names::line_words(alloc, &x.avoid_insert)?;
-    push_repeated_names(alloc, errors, Repeated::AvoidInsert, &words)?;
+    push_repeated_names(
+        alloc,
+        errors,
+        Repeated::AvoidInsert,
+        &words,
+        x.names.hasher(),
+    )?;
     Ok(())
 }
 
@@ -238,7 +256,13 @@ fn push_repeated_implicit(
         return Ok(());
     }
     let words = names::line_words(alloc, &x.implicit_tokens)?;
-    push_repeated_names(alloc, errors, Repeated::ImplicitToken, &words)?;
+    push_repeated_names(
+        alloc,
+        errors,
+        Repeated::ImplicitToken,
+        &words,
+        x.names.hasher(),
+    )?;
     Ok(())
 }
 

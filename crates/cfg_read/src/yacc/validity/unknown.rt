@@ -19,6 +19,7 @@ use crate::yacc::name_table::NameTable;
 use crate::yacc::parser::error::YaccGrammarErrorKind;
 use crate::yacc::parser::syntax::{Symbol, Syntax, Word};
 use crate::yacc::{Precedence, names};
+use cfg_base::name_hasher::NameHasher;
 use cfg_base::span::Span;
 use indexmap::IndexMap;
 use std::alloc::{AllocError, Global};
@@ -85,7 +86,7 @@ fn push_without_precedence(
     alloc: Global,
     errors: &mut Vec<YaccGrammarError>,
     words: &[(&str, Span)],
-    precs: &IndexMap<String, (Precedence, Span)>,
+    precs: &IndexMap<String, (Precedence, Span), NameHasher>,
 ) -> Result<(), AllocError>
     ensures { OnOk result (failures_in errors.new.items
         ≡ failures_in errors.old.items ++ unknown_by NoPrecForToken (has_precedence (named_precedences precs.now)) (words_at words.now)) }
@@ -102,7 +103,7 @@ fn push_unknown(
     alloc: Global,
     errors: &mut Vec<YaccGrammarError>,
     words: &[(&str, Span)],
-    tokens: &IndexMap<String, Span>,
+    tokens: &IndexMap<String, Span, NameHasher>,
     what: Unknown,
 ) -> Result<(), AllocError>
     ensures { OnOk result (failures_in errors.new.items
@@ -142,7 +143,7 @@ fn push_invalid_start(
 }
 
 /// Returns whether a symbol of `%expect-unused` names something.
-fn is_known(symbol: &Symbol, table: &NameTable, tokens: &IndexMap<String, Span>) -> bool
+fn is_known(symbol: &Symbol, table: &NameTable, tokens: &IndexMap<String, Span, NameHasher>) -> bool
     ensures { result ≡ known_by (known_of table.now).rules (is_among (named_spans tokens.now)) (symbol_of symbol.now) }
 {
     let name = symbol.name();
@@ -176,7 +177,7 @@ fn push_unknown_symbols(
     errors: &mut Vec<YaccGrammarError>,
     symbols: &[&Symbol],
     table: &NameTable,
-    tokens: &IndexMap<String, Span>,
+    tokens: &IndexMap<String, Span, NameHasher>,
 ) -> Result<(), AllocError>
     ensures { OnOk result (failures_in errors.new.items
         ≡ failures_in errors.old.items ++ unknown_symbols_by (known_by (known_of table.now).rules (is_among (named_spans tokens.now))) (symbols_at symbols.now)) }
@@ -191,7 +192,7 @@ fn push_unknown_symbols(
 pub(crate) fn unknown_precs(
     alloc: Global,
     x: &Syntax,
-    precs: &IndexMap<String, (Precedence, Span)>,
+    precs: &IndexMap<String, (Precedence, Span), NameHasher>,
 ) -> Result<Vec<YaccGrammarError>, AllocError>
     requires { named_precedences precs.now ≡ precedences_of (syntax_of x.now).levels }
     ensures { IfOk result (λ errors. failures_in errors.items ≡ unknown_precs (syntax_of x.now)) }
@@ -207,7 +208,7 @@ fn push_unknown_epps(
     alloc: Global,
     errors: &mut Vec<YaccGrammarError>,
     x: &Syntax,
-    known: &IndexMap<String, Span>,
+    known: &IndexMap<String, Span, NameHasher>,
 ) -> Result<(), AllocError>
     ensures { OnOk result (failures_in errors.new.items
         ≡ failures_in errors.old.items ++ unknown_by UnknownEPP (is_among (named_spans known.now)) (epp_tokens (syntax_of x.now))) }

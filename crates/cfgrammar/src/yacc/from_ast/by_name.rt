@@ -5,12 +5,13 @@ ghost use Rattle.std.specs.List.{list_any};
 ghost use Rattle.std.specs.Str.{bytes_eq};
 ghost use Rattle.std.specs.String.{string_bytes};
 
+use cfg_base::name_hasher::NameHasher;
 use indexmap::IndexMap;
 use std::alloc::AllocError;
 
 /// Puts a name that isn't there yet behind the others.
 pub(crate) fn put_last<T: Drop>(
-    names: &mut IndexMap<String, T>,
+    names: &mut IndexMap<String, T, NameHasher>,
     name: String,
     beside: T,
 ) -> Result<(), AllocError>

@@ -17,6 +17,7 @@ ghost use Rattle.cfgrammar.specs.FromAst as tree;
 use super::by_name::put_last;
 use super::numbers::tilde;
 use cfg_base::index::IndexStorage;
+use cfg_base::name_hasher::NameHasher;
 use cfg_base::span::Span;
 use cfg_numbered::yacc::info::{KeptInfo, RuleInfo, TokenInfo};
 use cfg_read::yacc::Precedence;
@@ -93,7 +94,7 @@ fn info_of(rule: Rule) -> RuleInfo
 /// Puts a rule that the text doesn't have behind the others.
 fn add_rule(
     alloc: Global,
-    rules: &mut IndexMap<String, RuleInfo>,
+    rules: &mut IndexMap<String, RuleInfo, NameHasher>,
     name: &str,
 ) -> Result<(), AllocError>
     requires { list_any (λ e. bytes_eq name.now (string_bytes e.0)) rules.old.entries ≡ false }
@@ -108,7 +109,10 @@ fn add_rule(
 }
 
 /// Puts the two rules that are added for implicit tokens behind the others.
-fn add_implicit(alloc: Global, rules: &mut IndexMap<String, RuleInfo>) -> Result<(), AllocError>
+fn add_implicit(
+    alloc: Global,
+    rules: &mut IndexMap<String, RuleInfo, NameHasher>,
+) -> Result<(), AllocError>
     requires start { list_any (λ e. bytes_eq tree.implicit_start_name (string_bytes e.0)) rules.old.entries ≡ false }
     requires rule { list_any (λ e. bytes_eq tree.implicit_name (string_bytes e.0)) rules.old.entries ≡ false }
     ensures { OnOk result (map rule_facts rules.new.entries ≡ map rule_facts rules.old.entries ++ tree.added_rule_facts tree.implicit_start_name ∷ tree.added_rule_facts tree.implicit_name ∷ []) }
@@ -122,13 +126,14 @@ pub(crate) fn rules(
     alloc: Global,
     ast: &mut GrammarAST,
     implicit: bool,
-) -> Result<IndexMap<String, RuleInfo>, AllocError>
+) -> Result<IndexMap<String, RuleInfo, NameHasher>, AllocError>
     requires { AreDistinct (map (λ r. r.name) (tree.rules_of implicit ast.old)) }
     ensures rules { IfOk result (λ m. map rule_facts m.entries ≡ tree.rules_of implicit ast.old) }
     ensures rest { ast.new ≡ without_rules ast.old }
 {
     let from = ast.take_rules(alloc);
-    let mut rules = IndexMap::with_capacity(alloc, from.len().saturating_add(3))?;
+    let room = from.len().saturating_add(3);
+    let mut rules = IndexMap::with_capacity_and_hasher(alloc, room, *from.hasher())?;
     add_rule(alloc, &mut rules, "^")?;
     'rules: for (name, rule) in from {
         put_last(&mut rules, name, info_of(rule))?;
@@ -140,7 +145,10 @@ pub(crate) fn rules(
 }
 
 /// Takes out the printed text of a token.
-fn take_epp(epps: &mut IndexMap<String, (Span, (String, Span))>, name: &str) -> Option<String>
+fn take_epp(
+    epps: &mut IndexMap<String, (Span, (String, Span)), NameHasher>,
+    name: &str,
+) -> Option<String>
     ensures text { option_map string_bytes result ≡ tree.epp_in (named_epps epps.old) name.now }
     ensures others { (q : String Global) → bytes_eq name.now (string_bytes q) ≡ false → tree.epp_in (named_epps epps.new) (string_bytes q) ≡ tree.epp_in (named_epps epps.old) (string_bytes q) }
 {
@@ -153,7 +161,7 @@ fn take_epp(epps: &mut IndexMap<String, (Span, (String, Span))>, name: &str) -> 
 /// What stands beside the name of a token of the file, with its printed text taken over.
 fn file_token(
     ast: &GrammarAST,
-    epps: &mut IndexMap<String, (Span, (String, Span))>,
+    epps: &mut IndexMap<String, (Span, (String, Span)), NameHasher>,
     precedence: Option<Precedence>,
     name: &str,
     span: Span,
@@ -176,14 +184,15 @@ pub(crate) fn tokens(
     alloc: Global,
     ast: &mut GrammarAST,
     levels: &[Option<Precedence>],
-) -> Result<IndexMap<String, TokenInfo>, AllocError>
+) -> Result<IndexMap<String, TokenInfo, NameHasher>, AllocError>
     requires apart { AreDistinct (names_of_tokens ast.old) }
     requires told { levels.now ≡ map (tree.precedence_of ast.old) (names_of_tokens ast.old) }
     ensures { IfOk result (λ m. map token_facts m.entries ≡ map (tree.file_token_facts ast.old) ast.old.tokens) }
 {
     let from = ast.take_tokens(alloc);
     let mut epps = ast.take_epp(alloc);
-    let mut tokens = IndexMap::with_capacity(alloc, from.len().saturating_add(1))?;
+    let room = from.len().saturating_add(1);
+    let mut tokens = IndexMap::with_capacity_and_hasher(alloc, room, *from.hasher())?;
     'tokens: for (name, span) in from {
         let precedence = level_of(levels, tokens.len());
         let token = file_token(ast, &mut epps, precedence, name.as_str(), span);

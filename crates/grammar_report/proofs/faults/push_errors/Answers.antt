@@ -15,7 +15,7 @@ errors-preserved c =
     let i = c.errors.error-index in
     let e = c.error-item.result in
     let more = take_more es i e c.errors-test.true ∙ ap (λ x. take i es ++ x ∷ []) (sym c.error-item.is) in
-    subst (λ l. AddsSome (AreOfErrors a.text l) a c.push_error.new.messages) (sym more) (of_one_more AreOfError a c.errors.messages c.push_error.new.messages (take i es) e c.errors.invariant c.in_ok-push_error.ensures)
+    subst (λ l. AddsSome (AreOfErrors a.text l) a c.push_hinted.new.messages) (sym more) (of_one_more AreOfError a c.errors.messages c.push_hinted.new.messages (take i es) e c.errors.invariant c.in_ok-push_hinted.ensures)
 
 pub returns : goal.returns
 returns c =

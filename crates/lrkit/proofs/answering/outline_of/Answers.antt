@@ -8,4 +8,4 @@ returns-then-is_empty c =
     let errors = c.in-Ok-Ok.errors in
     let none = none_of errors.items (omega (arith, errors.ok.0, eqb-true (vec_len errors) 0 (sym c.is_empty.ensures ∙ c.if-is_empty.true))) in
     let parse = rw c.in-Ok-Ok.field-0-is at c.in-Ok-Ok.ensures.parsed in
-    faultless c.args.kit.now c.args.repairs.now c.args.lexer.now.items c.in-Ok-Ok.outline errors.items none parse
+    faultless c.args.kit.now c.args.repairs.now c.args.read.now c.in-Ok-Ok.outline errors.items none parse

@@ -1,4 +1,4 @@
 use Rattle.lrkit.proofs.answering.write_read.Goals as goal
 
-pub write_faultless-requires-clause-text : goal.write_faultless-requires-clause-text
-write_faultless-requires-clause-text g c = c.utf8.line
+pub write_lexed-requires-clause-not_refused : goal.write_lexed-requires-clause-not_refused
+write_lexed-requires-clause-not_refused g c = rw c.in_ok-lexer.ensures.items c.requires.not_refused

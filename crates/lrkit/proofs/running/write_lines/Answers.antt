@@ -3,13 +3,18 @@ use Rattle.std.proofs.lemmas.Iterator.Consumers.{YieldsList-at, YieldsList-turn,
 use Rattle.std.proofs.lemmas.Iterator.Splits.{YieldsList-from_lines}
 use Rattle.std.proofs.lemmas.List.{length_push}
 use Rattle.std.proofs.lemmas.Result.{err_from_is_err_and}
-use Rattle.lrkit.proofs.Lines.{WritesLines-more, WritesLines-end, BeginsTexts-more}
+use Rattle.lrkit.proofs.Lines.{WritesLines-more, WritesLines-end, BeginsTexts-start, BeginsTexts-more}
 use Rattle.lrkit.proofs.running.write_lines.Goals as goal
+
+pub returns-in_err-shown-clause-begins : goal.returns-in_err-shown-clause-begins
+returns-in_err-shown-clause-begins g c =
+    let p = err_from_is_err_and c.from_residual.result c.from_residual.ensures.1 in
+    rw p.1 (BeginsTexts-start _ _ _ _)
 
 pub returns-in_err-wrong-clause-begins : goal.returns-in_err-wrong-clause-begins
 returns-in_err-wrong-clause-begins g c =
     let turn = YieldsList-turn (YieldsList-at c.into_iter-line-iterator.ensures.into_iter_gives (YieldsList-from_lines c.args.line_text.now c.lines-line-items.ensures.rest)) c.lines.yielded _ c.lines.yielded_by _ _ c.in-Some.line c.in-Some.is c.next.ensures.steps in
-    let p = err_from_is_err_and c.from_residual.result c.from_residual.ensures.1 in
+    let p = err_from_is_err_and c.from_residual-in_err-wrong.result c.from_residual-in_err-wrong.ensures.1 in
     rw p.1 (BeginsTexts-more _ _ _ _ _ _ _ _ _ turn c.lines.invariant.0 _ c.in_err-wrong.ensures.begins)
 
 pub lines-preserved : goal.lines-preserved

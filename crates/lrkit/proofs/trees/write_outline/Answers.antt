@@ -19,15 +19,15 @@ write_symbols-requires g c =
 pub returns-in_err-write_symbols-clause-begins : goal.returns-in_err-write_symbols-clause-begins
 returns-in_err-write_symbols-clause-begins g c = λ t are is.
     let p = err_from_is_err_and c.from_residual-in_err-write_symbols.result c.from_residual-in_err-write_symbols.ensures.1 in
-    let f = symbol_visit_line c.args.grm.now (lex_of id) c.args.line.now (yield t) in
-    let same : c.new-text.result.items ++ flat_map f (symbols 0 0 t) ≡ value_text id c.args.grm.now c.args.line.now (Some t) = ap (λ l. l ++ flat_map f (symbols 0 0 t)) c.new-text.ensures.items ∙ c.in_ok-walk.ensures.text t in
+    let f = symbol_visit_line c.args.answers.now.shown.now (lex_of id) c.args.line.now (yield t) in
+    let same : c.clear.new.self.items ++ flat_map f (symbols 0 0 t) ≡ value_text id c.args.answers.now.shown.now c.args.line.now (Some t) = ap (λ l. l ++ flat_map f (symbols 0 0 t)) c.clear.ensures.items ∙ c.in_ok-walk.ensures.text t in
     let begun = c.in_err-write_symbols.ensures.begins (yield t) (symbols 0 0 t) are (c.in_ok-walk.ensures.left t is) in
     rw p.1 (subst (λ (l : List ℕ). BeginningWritten (g.W.Sink.known c.args.out.now) (g.W.Sink.known c.write_symbols.new.out) l) same begun)
 
 pub returns-clause-ok : goal.returns-clause-ok
 returns-clause-ok g c = λ t are is.
-    let f = symbol_visit_line c.args.grm.now (lex_of id) c.args.line.now (yield t) in
-    let same : c.new-text.result.items ++ flat_map f (symbols 0 0 t) ≡ value_text id c.args.grm.now c.args.line.now (Some t) = ap (λ l. l ++ flat_map f (symbols 0 0 t)) c.new-text.ensures.items ∙ c.in_ok-walk.ensures.text t in
+    let f = symbol_visit_line c.args.answers.now.shown.now (lex_of id) c.args.line.now (yield t) in
+    let same : c.clear.new.self.items ++ flat_map f (symbols 0 0 t) ≡ value_text id c.args.answers.now.shown.now c.args.line.now (Some t) = ap (λ l. l ++ flat_map f (symbols 0 0 t)) c.clear.ensures.items ∙ c.in_ok-walk.ensures.text t in
     let known = g.W.Sink.known c.args.out.now in
     let between = g.W.Sink.known c.write_symbols.new.out in
     let waits = subst (λ (l : List ℕ). IsOutBut known between l c.write_symbols.new.text.items) same (c.in_ok-write_symbols.ensures.ok (yield t) (symbols 0 0 t) are (c.in_ok-walk.ensures.left t is)) in
@@ -35,8 +35,8 @@ returns-clause-ok g c = λ t are is.
 
 pub returns-clause-begins : goal.returns-clause-begins
 returns-clause-begins g c = λ t are is.
-    let f = symbol_visit_line c.args.grm.now (lex_of id) c.args.line.now (yield t) in
-    let same : c.new-text.result.items ++ flat_map f (symbols 0 0 t) ≡ value_text id c.args.grm.now c.args.line.now (Some t) = ap (λ l. l ++ flat_map f (symbols 0 0 t)) c.new-text.ensures.items ∙ c.in_ok-walk.ensures.text t in
+    let f = symbol_visit_line c.args.answers.now.shown.now (lex_of id) c.args.line.now (yield t) in
+    let same : c.clear.new.self.items ++ flat_map f (symbols 0 0 t) ≡ value_text id c.args.answers.now.shown.now c.args.line.now (Some t) = ap (λ l. l ++ flat_map f (symbols 0 0 t)) c.clear.ensures.items ∙ c.in_ok-walk.ensures.text t in
     let known = g.W.Sink.known c.args.out.now in
     let between = g.W.Sink.known c.write_symbols.new.out in
     let waits = subst (λ (l : List ℕ). IsOutBut known between l c.write_symbols.new.text.items) same (c.in_ok-write_symbols.ensures.ok (yield t) (symbols 0 0 t) are (c.in_ok-walk.ensures.left t is)) in

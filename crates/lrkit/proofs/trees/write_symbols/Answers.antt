@@ -23,18 +23,18 @@ push_symbol-requires g c =
 pub returns-in_err-visit-clause-begins : goal.returns-in_err-visit-clause-begins
 returns-in_err-visit-clause-begins g c = λ lexemes rest are left.
     let p = err_from_is_err_and c.from_residual.result c.from_residual.ensures.1 in
-    rw p.1 (texts_begin (symbol_visit_line c.args.grm.now (lex_of id) c.args.line.now lexemes) rest c.args.text.now.items (g.W.Sink.known c.args.out.now) c.nodes.counter (record { symbol = at_leaf 0; depth = 0 }) (g.W.Sink.known c.nodes.out) c.nodes.text.items (c.nodes.invariant.0 lexemes rest are left).1)
+    rw p.1 (texts_begin (symbol_visit_line c.args.shown.now (lex_of id) c.args.line.now lexemes) rest c.args.text.now.items (g.W.Sink.known c.args.out.now) c.nodes.counter (record { symbol = at_leaf 0; depth = 0 }) (g.W.Sink.known c.nodes.out) c.nodes.text.items (c.nodes.invariant.0 lexemes rest are left).1)
 
 pub returns-in_err-push_symbol-in-Some-clause-begins : goal.returns-in_err-push_symbol-in-Some-clause-begins
 returns-in_err-push_symbol-in-Some-clause-begins g c = λ lexemes rest are left.
     let p = err_from_is_err_and c.from_residual-in_err-push_symbol-in-Some.result c.from_residual-in_err-push_symbol-in-Some.ensures.1 in
-    rw p.1 (texts_begin (symbol_visit_line c.args.grm.now (lex_of id) c.args.line.now lexemes) rest c.args.text.now.items (g.W.Sink.known c.args.out.now) c.nodes.counter (record { symbol = at_leaf 0; depth = 0 }) (g.W.Sink.known c.nodes.out) c.nodes.text.items (c.nodes.invariant.0 lexemes rest are left).1)
+    rw p.1 (texts_begin (symbol_visit_line c.args.shown.now (lex_of id) c.args.line.now lexemes) rest c.args.text.now.items (g.W.Sink.known c.args.out.now) c.nodes.counter (record { symbol = at_leaf 0; depth = 0 }) (g.W.Sink.known c.nodes.out) c.nodes.text.items (c.nodes.invariant.0 lexemes rest are left).1)
 
 pub returns-in_err-give_out-in-Some-clause-begins : goal.returns-in_err-give_out-in-Some-clause-begins
 returns-in_err-give_out-in-Some-clause-begins g c = λ lexemes rest are left.
     let inv = c.nodes.invariant.0 lexemes rest are left in
     let n = next_symbol rest c.nodes.counter c.in_ok-visit.field-0 (IsLeft Word id c.step.new.self.nodes.now c.step.new.self.waiting.items c.step.new.self.seen) (c.in_ok-visit.ensures (drop c.nodes.counter rest) inv.0) c.in-Some.visit c.in-Some.is in
-    let f = symbol_visit_line c.args.grm.now (lex_of id) c.args.line.now lexemes in
+    let f = symbol_visit_line c.args.shown.now (lex_of id) c.args.line.now lexemes in
     let d = visit_of id c.in-Some.visit in
     let pushed : c.push_symbol.new.text.items ≡ c.nodes.text.items ++ f (get_or rest c.nodes.counter d) = c.in_ok-push_symbol-in-Some.ensures lexemes are ∙ ap (λ x. c.nodes.text.items ++ f x) (sym n.2) in
     let p = err_from_is_err_and c.from_residual-in_err-give_out-in-Some.result c.from_residual-in_err-give_out-in-Some.ensures.1 in
@@ -43,14 +43,14 @@ returns-in_err-give_out-in-Some-clause-begins g c = λ lexemes rest are left.
 pub returns-in-None-clause-ok : goal.returns-in-None-clause-ok
 returns-in-None-clause-ok g c = λ lexemes rest are left.
     let inv = c.nodes.invariant.0 lexemes rest are left in
-    let f = symbol_visit_line c.args.grm.now (lex_of id) c.args.line.now lexemes in
+    let f = symbol_visit_line c.args.shown.now (lex_of id) c.args.line.now lexemes in
     let all = no_symbol rest c.nodes.counter c.in_ok-visit.field-0 (IsLeft Word id c.step.new.self.nodes.now c.step.new.self.waiting.items c.step.new.self.seen) (c.in_ok-visit.ensures (drop c.nodes.counter rest) inv.0) c.in-None.is in
     all_added f rest c.args.text.now.items (g.W.Sink.known c.args.out.now) c.nodes.counter (record { symbol = at_leaf 0; depth = 0 }) (g.W.Sink.known c.nodes.out) c.nodes.text.items inv.1 all
 
 pub returns-clause-ok : goal.returns-clause-ok
 returns-clause-ok g c = λ lexemes rest are left.
     let inv = c.nodes.invariant.0 lexemes rest are left in
-    let f = symbol_visit_line c.args.grm.now (lex_of id) c.args.line.now lexemes in
+    let f = symbol_visit_line c.args.shown.now (lex_of id) c.args.line.now lexemes in
     let within = left.within in
     let done = c.nodes-test.false in
     all_added f rest c.args.text.now.items (g.W.Sink.known c.args.out.now) c.nodes.counter (record { symbol = at_leaf 0; depth = 0 }) (g.W.Sink.known c.nodes.out) c.nodes.text.items inv.1 (omega (arith, within, done))
@@ -60,7 +60,7 @@ nodes-preserved g c = (
   λ lexemes rest are left.
       let inv = c.nodes.invariant.0 lexemes rest are left in
       let n = next_symbol rest c.nodes.counter c.in_ok-visit.field-0 (IsLeft Word id c.step.new.self.nodes.now c.step.new.self.waiting.items c.step.new.self.seen) (c.in_ok-visit.ensures (drop c.nodes.counter rest) inv.0) c.in-Some.visit c.in-Some.is in
-      let f = symbol_visit_line c.args.grm.now (lex_of id) c.args.line.now lexemes in
+      let f = symbol_visit_line c.args.shown.now (lex_of id) c.args.line.now lexemes in
       let d = visit_of id c.in-Some.visit in
       let pushed : c.push_symbol.new.text.items ≡ c.nodes.text.items ++ f (get_or rest c.nodes.counter d) = c.in_ok-push_symbol-in-Some.ensures lexemes are ∙ ap (λ x. c.nodes.text.items ++ f x) (sym n.2) in (
         n.3,

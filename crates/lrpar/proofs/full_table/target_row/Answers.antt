@@ -1,4 +1,4 @@
-use Rattle.std.proofs.Common.{subst, sym, ◌∙◌}
+use Rattle.std.proofs.Common.{refl, subst, sym, ◌∙◌}
 use Rattle.state_table.specs.Rows.{Below}
 use Rattle.state_table.specs.declared.stidx.StIdx.{StIdx}
 use Rattle.state_table.proofs.FullRows.{rises_under}
@@ -18,5 +18,5 @@ pub returns : goal.returns
 returns g c =
     let number = g.S.IndexStorage.number in
     let row = c.state_gotos-gotos.result.now in
-    are_targets number c.args.stable.now (number c.args.stidx.0) row c.args.stidx c.in_ok-row.row.items c.state_gotos-gotos.ensures.whole c.state_gotos-gotos.ensures.targets
+    are_targets number c.args.stable.now (number c.args.stidx.0) row c.args.stidx c.in_ok-row.row.items c.state_gotos-gotos.ensures.whole c.state_gotos-gotos.ensures.targets refl
     (subst (λ k. IsFull k row c.args.stidx c.in_ok-row.row.items) (c.to_usize-count.ensures.value ∙ c.rules_len.ensures) c.in_ok-row.ensures)

@@ -5,7 +5,7 @@ use Rattle.word_lines.specs.Lexing.{lex_of}
 use Rattle.word_lines.proofs.outlines.shown_symbols.Goals as goal
 
 pub returns-clause-can : goal.returns-clause-can
-returns-clause-can g c = λ t can. all_symbols c.args.grm.now (lex_of g.S.IndexStorage.number) c.args.line.now (yield t) t refl can
+returns-clause-can g c = λ t can. all_symbols c.args.shown.now (lex_of g.S.IndexStorage.number) c.args.line.now (yield t) t refl can
 
 pub returns-clause-text : goal.returns-clause-text
-returns-clause-text g c = λ t. all_lines c.args.grm.now (lex_of g.S.IndexStorage.number) c.args.line.now (yield t) t refl
+returns-clause-text g c = λ t. all_lines c.args.shown.now (lex_of g.S.IndexStorage.number) c.args.line.now (yield t) t refl

@@ -37,4 +37,4 @@ returns-in-Some g c =
     let row = c.row_at-row.result.now.items in
     let at : slice_get row (number c.args.ridx.0) ≡ Some c.in-Some.target = ap (slice_get row) (sym c.to_usize-2.ensures.value) ∙ (ap (λ l. slice_get l c.to_usize-2.result) (sym c.as_slice-2.ensures.value) ∙ (sym c.place_at.ensures ∙ c.in-Some.is)) in
     c.requires.there.1
-    ∙ ap (λ k. Some k) (sym (targets g (goal.at.returns-in-Some g c).After-row_at-row (number c.args.ridx.0) c.requires.there.0 c.in-Some.target there at))
+    ∙ ap (λ k. Some k) (sym ((targets g (goal.at.returns-in-Some g c).After-row_at-row).there (number c.args.ridx.0) c.requires.there.0 c.in-Some.target there at))

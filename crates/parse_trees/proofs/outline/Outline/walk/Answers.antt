@@ -22,7 +22,7 @@ returns g c = λ t is.
     let are : marks_of number nodes.items ≡ _ = ap (λ (v : OutlineValue). v.marks) c.self.view_is ∙ is.are in
     let long : c.len.result ≡ length is.pieces = omega (arith, c.len.ensures, nodes.ok.0, ap length are, length-map nodes.items (mark_of number), length-map is.pieces erased) in
     let visit : Visit = record { index = c.len.result - 1; depth = 0 } in
-    let one : c.push.new.self.items ≡ visit ∷ [] = c.in_ok-push.ensures.items ∙ ap (λ (l : List Visit). l ++ visit ∷ []) c.new-waiting.ensures.items in
+    let one : c.push.new.self.items ≡ visit ∷ [] = c.in_ok-push.ensures.items ∙ ap (λ (l : List Visit). l ++ visit ∷ []) c.in_ok-waiting.ensures.items in
     record {
       pieces = is.pieces;
       are = ap (marks_of number) c.as_slice.ensures.value ∙ are;

@@ -8,5 +8,5 @@ pub returns : goal.returns
 returns c = λ name.
     let ss = map ast_symbol_of c.args.symbols.now in
     has_set c.insert_rules.new.names.keys name
-    ∙ ap (λ ns. has ns name) (c.in_ok-insert_rules.ensures ∙ ap (λ (ks : List (Bor (List ℕ))). with_symbol_names is_rule_symbol (map (λ (k : Bor (List ℕ)). k.now) ks) ss) c.new-names.ensures.empty)
+    ∙ ap (λ ns. has ns name) (c.in_ok-insert_rules.ensures ∙ ap (λ (ks : List (Bor (List ℕ))). with_symbol_names is_rule_symbol (map (λ (k : Bor (List ℕ)). k.now) ks) ss) c.with_hasher-names.ensures.empty)
     ∙ has_symbols is_rule_symbol [] ss name

@@ -1,9 +1,8 @@
 -- The tree of a line without errors: its lexemes are the line's, it can be shown, and its text is the line's.
-use Rattle.std.proofs.Common.{◌≡◌, ℕ, ◌++◌, false, Option, Some, None, List, [], ◌∷◌, length, map, refl, sym, ◌∙◌, subst, arith, IsUtf8}
+use Rattle.std.proofs.Common.{◌≡◌, ℕ, ◌++◌, false, Option, Some, None, List, [], ◌∷◌, length, map, refl, sym, ◌∙◌, subst, arith, inr, IsUtf8}
 use Rattle.std.specs.Prelude.{IfSome, Result}
 use Rattle.std.specs.List.{AllByRecursion}
-use Rattle.std.specs.Io.KnownBytes.{Appends}
-use Rattle.byte_streams.specs.Sink.{BeginningWritten}
+use Rattle.byte_streams.specs.Sink.{BeginningWritten, IsOutBut}
 use Rattle.cfg_numbered.specs.Value.{GrammarValue}
 use Rattle.cfg_theory.specs.Grammar.{Grammar, WellFormed}
 use Rattle.cfg_theory.specs.Tree.{Tree, yield}
@@ -30,7 +29,7 @@ use Rattle.word_lines.specs.ShownTexts.{FitsText, ParsesCanBeShown}
 use Rattle.word_lines.specs.declared.lexeme.WordLexError.{WordLexError}
 use Rattle.lrkit.specs.LineSteps.{IsFaultless}
 use Rattle.lrkit.specs.Output.{LineText, Word, id, made_up, parsed_text}
-use Rattle.lrkit.specs.Writing.{BeginsLineText, WritesLine}
+use Rattle.lrkit.specs.Writing.{BeginsLine, LeavesLine}
 use Rattle.lrkit.proofs.ShownLines.{HandsIn, top_of, within}
 
 pub none_of : {A : Type 0} (xs : List A) → length xs ≡ 0 → xs ≡ []
@@ -139,8 +138,9 @@ module _ (k : ParserValue) (repairs : List (List Edit)) where
     text_is : LineText k repairs line (value_text id k.grammar line (Some f.tree)) false
     text_is = LineText.parsed (Some f.tree) [] f.parse refl refl
 
-    pub faultless_writes : (a b : Option (List ℕ)) → Appends a b (value_text id k.grammar line (Some f.tree)) → WritesLine k repairs line a b false
-    faultless_writes a b w = record { text = value_text id k.grammar line (Some f.tree); is_text = text_is; written = w }
+    module _ (a b : Option (List ℕ)) (waits : List ℕ) where
+      pub faultless_writes : (waits' : List ℕ) → IsOutBut a b (waits ++ value_text id k.grammar line (Some f.tree)) waits' → LeavesLine k repairs line a b waits waits' false
+      faultless_writes waits' w = record { text = value_text id k.grammar line (Some f.tree); is_text = text_is; out_but = w }
 
-    pub faultless_begins : (a b : Option (List ℕ)) → BeginningWritten a b (value_text id k.grammar line (Some f.tree)) → BeginsLineText k repairs line a b
-    faultless_begins a b w = record { text = value_text id k.grammar line (Some f.tree); faulty = false; is_text = text_is; written = w }
+      pub faultless_begins : BeginningWritten a b (waits ++ value_text id k.grammar line (Some f.tree)) → BeginsLine k repairs line a b waits
+      faultless_begins w = inr (record { text = value_text id k.grammar line (Some f.tree); faulty = false; is_text = text_is; written = w })

@@ -1,15 +1,15 @@
 -- What is out after each line.
-use Rattle.std.proofs.Common.{◌≡◌, ℕ, ◌≤◌, ◌<◌, ◌+◌, Bool, true, false, Option, List, [], ◌∷◌, ◌++◌, length, take, drop, get_or, refl, sym, ap, ◌∙◌, append_assoc, append-nil, take-append-drop, subst, ⊎_elim}
+use Rattle.std.proofs.Common.{◌≡◌, ℕ, ◌≤◌, ◌<◌, ◌+◌, Bool, true, false, Option, List, [], ◌∷◌, ◌++◌, length, take, get_or, refl, sym, ap, ◌∙◌, append_assoc, append-nil, subst, ⊎_elim}
 use Rattle.std.specs.Prelude.{◌||◌}
-use Rattle.std.specs.Io.KnownBytes.{Keeps}
-use Rattle.std.proofs.KnownBytes.{Appends-nil, Appends-trans, Appends-kept}
+use Rattle.std.specs.Io.KnownBytes.{Appends}
+use Rattle.std.proofs.KnownBytes.{Appends-nil}
 use Rattle.std.proofs.lemmas.List.{take_more, take_all}
+use Rattle.byte_streams.specs.Sink.{BeginningWritten}
 use Rattle.lr_theory.specs.Repair.{Edit}
 use Rattle.lrpar.specs.Checked.{ParserValue}
 use Rattle.lrkit.specs.Output.{LineText, LineTexts, BeginsTexts}
-use Rattle.lrkit.specs.Writing.{WritesLine, BeginsLineText, BeginsLine, WritesLines}
-use Rattle.lrkit.specs.declared.fault.RunFault.{RunFault}
-use Rattle.lrkit.specs.declared.fault.RunFault.TheVariants.{Kit, Conflicts, NotARepair, NotUtf8, Read, TooLong, Write}
+use Rattle.lrkit.specs.Writing.{LeavesLine, BeginsLineText, BeginsLine, LeavesLines, WritesLines}
+use Rattle.lrkit.proofs.OutBut.{all_waits, less_waits, more_waits, none_waits, some_goes}
 use Rattle.lrkit.proofs.Written.{beginning}
 
 or-assoc : (a b c : Bool) → ((a || b) || c) ≡ (a || (b || c))
@@ -42,41 +42,39 @@ LineTexts-push k rs (y ∷ ys) x t u f g e l = record {
   faulty_is = ap (λ b. b || g) e.faulty_is ∙ or-assoc e.first_faulty e.other_faulty g;
 }
 
-module _ (k : ParserValue) (rs : List (List Edit)) (all : List (List ℕ)) (i : ℕ) (x : List ℕ) (a b c : Option (List ℕ)) (f : Bool) (turn : (i < length all) × (x ≡ get_or all i x)) (s : WritesLines k rs (take i all) a b f) where
+-- a beginning of what waits behind the first i lines goes out
+pub BeginsTexts-rest : (k : ParserValue) (rs : List (List Edit)) (all : List (List ℕ)) (i : ℕ) (a b c : Option (List ℕ)) (waits : List ℕ) (f : Bool) → LeavesLines k rs (take i all) a b waits f → BeginningWritten b c waits → BeginsTexts k rs all a c
+BeginsTexts-rest k rs all i a b c waits f s h = record { count = i; text = s.text; faulty = f; texts = s.texts; written = some_goes a b c s.text waits s.out_but h }
+
+module _ (k : ParserValue) (rs : List (List Edit)) (all : List (List ℕ)) (i : ℕ) (x : List ℕ) (a b c : Option (List ℕ)) (waits : List ℕ) (f : Bool) (turn : (i < length all) × (x ≡ get_or all i x)) (s : LeavesLines k rs (take i all) a b waits f) where
   pushed : (u : List ℕ) (g : Bool) → LineText k rs x u g → LineTexts k rs (take (i + 1) all) (s.text ++ u) (f || g)
   pushed u g l =
       let P : List (List ℕ) → Type 0 = λ xs. LineTexts k rs xs (s.text ++ u) (f || g) in
       subst P (ap (λ y. take i all ++ y ∷ []) turn.1 ∙ sym (take_more all i x turn.0)) (LineTexts-push k rs (take i all) x s.text u f g s.texts l)
 
-  pub WritesLines-more : (g r : Bool) → WritesLine k rs x b c g → r ≡ (f || g) → WritesLines k rs (take (i + 1) all) a c r
-  WritesLines-more g r w e = rw e (record { text = s.text ++ w.text; texts = pushed w.text g w.is_text; written = Appends-trans a b c s.text w.text s.written w.written })
+  pub LeavesLines-more : (waits' : List ℕ) (g r : Bool) → LeavesLine k rs x b c waits waits' g → r ≡ (f || g) → LeavesLines k rs (take (i + 1) all) a c waits' r
+  LeavesLines-more waits' g r w e =
+      rw e (record { text = s.text ++ w.text; texts = pushed w.text g w.is_text; out_but = less_waits a b c (s.text ++ w.text) (waits ++ w.text) waits' (more_waits a b s.text waits w.text s.out_but) w.out_but })
 
-  kept : Keeps b c → BeginsTexts k rs all a c
-  kept h = record { count = i; text = s.text; faulty = f; texts = s.texts; written = beginning a c s.text s.text [] (sym (append-nil s.text)) (Appends-kept a b c s.text s.written h) }
-
-  begun : BeginsLineText k rs x b c → BeginsTexts k rs all a c
-  begun l = let (m, within, appended) = l.written in record {
+  begun : BeginsLineText k rs x b c waits → BeginsTexts k rs all a c
+  begun l = record {
     count = i + 1;
     text = s.text ++ l.text;
     faulty = f || l.faulty;
     texts = pushed l.text l.faulty l.is_text;
-    written = beginning a c (s.text ++ l.text) (s.text ++ take m l.text) (drop m l.text) (ap (λ v. s.text ++ v) (sym (take-append-drop m l.text)) ∙ sym (append_assoc s.text (take m l.text) (drop m l.text))) (Appends-trans a b c s.text (take m l.text) s.written appended);
+    written = some_goes a b c (s.text ++ l.text) (waits ++ l.text) (more_waits a b s.text waits l.text s.out_but) l.written;
   }
 
-  pub BeginsTexts-more : (e : RunFault) → BeginsLine k rs x b c e → BeginsTexts k rs all a c
-  BeginsTexts-more Write l = begun l
-  BeginsTexts-more (Kit e) l = ⊎_elim kept begun l
-  BeginsTexts-more (Conflicts p q x y) l = absurd l
-  BeginsTexts-more (NotARepair n) l = absurd l
-  BeginsTexts-more (NotUtf8 input) l = absurd l
-  BeginsTexts-more (Read input) l = absurd l
-  BeginsTexts-more (TooLong input) l = absurd l
+  pub BeginsTexts-more : BeginsLine k rs x b c waits → BeginsTexts k rs all a c
+  BeginsTexts-more l = ⊎_elim (BeginsTexts-rest k rs all i a b c waits f s) begun l
 
-pub WritesLines-start : (k : ParserValue) (rs : List (List Edit)) (all : List (List ℕ)) (a : Option (List ℕ)) → WritesLines k rs (take 0 all) a a false
-WritesLines-start k rs all a = record { text = []; texts = (refl, refl); written = Appends-nil a }
+pub LeavesLines-start : (k : ParserValue) (rs : List (List Edit)) (all : List (List ℕ)) (a : Option (List ℕ)) (waits : List ℕ) → waits ≡ [] → LeavesLines k rs (take 0 all) a a waits false
+LeavesLines-start k rs all a waits e = record { text = []; texts = (refl, refl); out_but = rw e (all_waits a []) }
 
 pub BeginsTexts-start : (k : ParserValue) (rs : List (List Edit)) (all : List (List ℕ)) (a : Option (List ℕ)) → BeginsTexts k rs all a a
 BeginsTexts-start k rs all a = record { count = 0; text = []; faulty = false; texts = (refl, refl); written = beginning a a [] [] [] refl (Appends-nil a) }
 
-pub WritesLines-end : (k : ParserValue) (rs : List (List Edit)) (all : List (List ℕ)) (i : ℕ) (a b : Option (List ℕ)) (f : Bool) → WritesLines k rs (take i all) a b f → length all ≤ i → WritesLines k rs all a b f
-WritesLines-end k rs all i a b f s h = rw (take_all i all h) at s
+pub WritesLines-end : (k : ParserValue) (rs : List (List Edit)) (all : List (List ℕ)) (i : ℕ) (a b c : Option (List ℕ)) (waits : List ℕ) (f : Bool) → LeavesLines k rs (take i all) a b waits f → length all ≤ i → Appends b c waits → WritesLines k rs all a c f
+WritesLines-end k rs all i a b c waits f s h w =
+    let P : List (List ℕ) → Type 0 = λ xs. LineTexts k rs xs s.text f in
+    record { text = s.text; texts = subst P (take_all i all h) s.texts; written = none_waits a b c s.text waits s.out_but w }

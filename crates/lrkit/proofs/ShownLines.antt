@@ -1,9 +1,8 @@
 -- What stands of a line's errors and tree, and that they can be shown.
-use Rattle.std.proofs.Common.{◌≡◌, ℕ, zero, suc, ◌+◌, ◌≤◌, Bool, true, false, not, eqb, Option, Some, None, Result, Ok, Err, IfErr, OnErr, List, [], ◌∷◌, length, refl, sym, ap, ◌∙◌, subst, arith, inr, IsUtf8}
+use Rattle.std.proofs.Common.{◌≡◌, ℕ, zero, suc, ◌+◌, ◌≤◌, Bool, true, false, not, eqb, Option, Some, None, List, [], ◌∷◌, ◌++◌, length, refl, sym, ap, ◌∙◌, subst, arith, inr, IsUtf8}
 use Rattle.std.specs.List.{AllByRecursion}
-use Rattle.std.specs.Io.KnownBytes.{Appends}
 use Rattle.std.proofs.lemmas.Bool.Decides.{nat_tests}
-use Rattle.byte_streams.specs.Sink.{BeginningWritten}
+use Rattle.byte_streams.specs.Sink.{BeginningWritten, IsOutBut}
 use Rattle.cfg_numbered.specs.Value.{GrammarValue}
 use Rattle.cfg_theory.specs.Grammar.{WellFormed, end_token}
 use Rattle.cfg_theory.specs.Tree.{Tree}
@@ -19,12 +18,9 @@ use Rattle.parser_kit.specs.KitParses.{IsExactParse, IsKitParse}
 use Rattle.word_lines.specs.Lexing.{items_of, lex_of}
 use Rattle.word_lines.specs.LineTexts.{ErrorCanBeShown, TreeCanBeShown, fault_line}
 use Rattle.word_lines.specs.declared.lexeme.WordLexError.{WordLexError}
-use Rattle.lrkit.specs.LineSteps.{WritesParsed}
+use Rattle.lrkit.specs.LineSteps.{LeavesParsed}
 use Rattle.lrkit.specs.Output.{LineText, Word, has_some, id, made_up, parsed_text}
-use Rattle.lrkit.specs.Run.{IsLate}
-use Rattle.lrkit.specs.Writing.{BeginsLine, BeginsLineText, WritesLine}
-use Rattle.lrkit.specs.declared.fault.RunFault.{RunFault}
-use Rattle.lrkit.specs.declared.fault.RunFault.TheVariants.{Kit, Conflicts, NotARepair, NotUtf8, Read, TooLong, Write}
+use Rattle.lrkit.specs.Writing.{BeginsLine, LeavesLine}
 
 -- ---- a number that no inserted token passes
 
@@ -126,31 +122,17 @@ module _ (k : ParserValue) (repairs : List (List Edit)) (line : List ℕ) where
         told = q.told;
       }) refl is
 
-  module _ (a b : Option (List ℕ)) where
-    pub writes_parsed : (value : Option (FlatValue Word)) (errors : List (ParseError Word ℕ)) → (q : IsLineParse k repairs line value errors) →
-        (faulty : Bool) → WritesParsed k.grammar line a b q.exact.parse.parsed.tree errors faulty → WritesLine k repairs line a b faulty
-    writes_parsed value errors q faulty w = record { text = parsed_text k.grammar line errors q.exact.parse.parsed.tree; is_text = parsed_is value errors q faulty w.faulty_is; written = w.written }
+  module _ (a b : Option (List ℕ)) (waits : List ℕ) where
+    pub writes_parsed : (waits' : List ℕ) (value : Option (FlatValue Word)) (errors : List (ParseError Word ℕ)) → (q : IsLineParse k repairs line value errors) →
+        (faulty : Bool) → LeavesParsed k.grammar line a b waits waits' q.exact.parse.parsed.tree errors faulty → LeavesLine k repairs line a b waits waits' faulty
+    writes_parsed waits' value errors q faulty w = record { text = parsed_text k.grammar line errors q.exact.parse.parsed.tree; is_text = parsed_is value errors q faulty w.faulty_is; out_but = w.out_but }
 
     pub begins_parsed : (value : Option (FlatValue Word)) (errors : List (ParseError Word ℕ)) → (q : IsLineParse k repairs line value errors) →
-        BeginningWritten a b (parsed_text k.grammar line errors q.exact.parse.parsed.tree) → BeginsLineText k repairs line a b
-    begins_parsed value errors q w = record { text = parsed_text k.grammar line errors q.exact.parse.parsed.tree; faulty = has_some errors; is_text = parsed_is value errors q (has_some errors) refl; written = w }
+        BeginningWritten a b (waits ++ parsed_text k.grammar line errors q.exact.parse.parsed.tree) → BeginsLine k repairs line a b waits
+    begins_parsed value errors q w = inr (record { text = parsed_text k.grammar line errors q.exact.parse.parsed.tree; faulty = has_some errors; is_text = parsed_is value errors q (has_some errors) refl; written = w })
 
-    pub writes_fault : (e : WordLexError) → IsFirstLexError (items_of id k.grammar line) e → (faulty : Bool) → Appends a b (fault_line line e) × (faulty ≡ true) → WritesLine k repairs line a b faulty
-    writes_fault e is faulty (written, wrong) = record { text = fault_line line e; is_text = LineText.lexing_error e is refl wrong; written = written }
+    pub writes_fault : (waits' : List ℕ) (e : WordLexError) → IsFirstLexError (items_of id k.grammar line) e → (faulty : Bool) → IsOutBut a b (waits ++ fault_line line e) waits' × (faulty ≡ true) → LeavesLine k repairs line a b waits waits' faulty
+    writes_fault waits' e is faulty (out_but, wrong) = record { text = fault_line line e; is_text = LineText.lexing_error e is refl wrong; out_but = out_but }
 
-    pub begins_fault : (e : WordLexError) → IsFirstLexError (items_of id k.grammar line) e → BeginningWritten a b (fault_line line e) → BeginsLineText k repairs line a b
-    begins_fault e is w = record { text = fault_line line e; faulty = true; is_text = LineText.lexing_error e is refl refl; written = w }
-
-    -- whatever fault of writing it is
-    begins_line : (e : RunFault) → IsLate e → BeginsLineText k repairs line a b → BeginsLine k repairs line a b e
-    begins_line Write late l = l
-    begins_line (Kit e) late l = inr l
-    begins_line (Conflicts p q x y) late l = absurd late
-    begins_line (NotARepair n) late l = absurd late
-    begins_line (NotUtf8 i) late l = absurd late
-    begins_line (Read i) late l = absurd late
-    begins_line (TooLong i) late l = absurd late
-
-    pub begins_late : {A : Type 0} (r : Result A RunFault) → IfErr r IsLate → OnErr r (BeginsLineText k repairs line a b) → IfErr r (BeginsLine k repairs line a b)
-    begins_late (Ok faulty) late l = tt
-    begins_late (Err e) late l = begins_line e late l
+    pub begins_fault : (e : WordLexError) → IsFirstLexError (items_of id k.grammar line) e → BeginningWritten a b (waits ++ fault_line line e) → BeginsLine k repairs line a b waits
+    begins_fault e is w = inr (record { text = fault_line line e; faulty = true; is_text = LineText.lexing_error e is refl refl; written = w })

@@ -1,6 +1,6 @@
 -- Steps of the answer to a line.
-use Rattle.std.specs.Prelude.{◌≡◌, ℕ, Bool, List, [], Option, Some, Result}
-use Rattle.std.specs.Io.KnownBytes.{Appends}
+use Rattle.std.specs.Prelude.{◌≡◌, ◌++◌, ℕ, Bool, List, [], Option, Some, Result}
+use Rattle.byte_streams.specs.Sink.{IsOutBut}
 use Rattle.cfg_numbered.specs.Value.{GrammarValue}
 use Rattle.cfg_theory.specs.Tree.{Tree}
 use Rattle.lrpar.specs.declared.parse_error.ParseError.{ParseError}
@@ -12,9 +12,9 @@ use Rattle.word_lines.specs.Lexing.{lex_of}
 use Rattle.word_lines.specs.declared.lexeme.WordLexError.{WordLexError}
 use Rattle.lrkit.specs.Output.{Word, id, made_up, parsed_text, has_some}
 
--- the texts of these errors, and that of the tree, are out
-pub record WritesParsed (g : GrammarValue) (line : List ℕ) (known known' : Option (List ℕ)) (tree : Option (Tree Word)) (errors : List (ParseError Word ℕ)) (faulty : Bool) : Type 0 where
-  pub written : Appends known known' (parsed_text g line errors tree)
+-- what waited, the texts of these errors and that of the tree are out, but for what waits now
+pub record LeavesParsed (g : GrammarValue) (line : List ℕ) (known known' : Option (List ℕ)) (waits waits' : List ℕ) (tree : Option (Tree Word)) (errors : List (ParseError Word ℕ)) (faulty : Bool) : Type 0 where
+  pub out_but : IsOutBut known known' (waits ++ parsed_text g line errors tree) waits'
   pub faulty_is : faulty ≡ has_some errors
 
 -- the parse of a line's items has no error, and this is the outline of its tree

@@ -1,10 +1,9 @@
 //! The answer to a line.
 
-ghost use Rattle.std.specs.Prelude.{◌≡◌, ◌≤◌, Option, IfOk, IfErr, IfSome, OnOk, OnErr, length, false, true};
-ghost use Rattle.std.specs.Io.KnownBytes.{Appends};
+ghost use Rattle.std.specs.Prelude.{◌≡◌, ◌≤◌, ◌++◌, Option, IfOk, IfErr, IfSome, OnOk, OnErr, length, false, true};
 ghost use Rattle.std.specs.List.{AllByRecursion};
 ghost use Rattle.std.specs.Str.{IsUtf8};
-ghost use Rattle.byte_streams.specs.Sink.{BeginningWritten};
+ghost use Rattle.byte_streams.specs.Sink.{BeginningWritten, IsOutBut};
 ghost use Rattle.cfg_theory.specs.Tree.{Tree};
 ghost use Rattle.lrpar.specs.FlatParses.{HasFlat};
 ghost use Rattle.parse_trees.specs.Lexemes.{Misfit};
@@ -12,14 +11,14 @@ ghost use Rattle.parse_trees.specs.Refusals.{HasMisfit};
 ghost use Rattle.parse_trees.specs.Lex.{span_by};
 ghost use Rattle.word_lines.specs.Lexing.{items_of, lex_of};
 ghost use Rattle.word_lines.specs.LineTexts.{ErrorCanBeShown, TreeCanBeShown, fault_line};
-ghost use Rattle.lrkit.specs.LineSteps.{IsFaultless, WritesParsed};
+ghost use Rattle.lrkit.specs.LineSteps.{IsFaultless, LeavesParsed};
 ghost use Rattle.lrkit.specs.Output.{Word, id, parsed_text};
 ghost use Rattle.lrkit.specs.Run.{IsLate, IsWriteCause};
-ghost use Rattle.lrkit.specs.Writing.{BeginsLine, WritesLine};
+ghost use Rattle.lrkit.specs.Writing.{BeginsLine, LeavesLine};
 
 use crate::fault::RunFault;
-use crate::trees::{Answers, write_outline, write_tree};
-use byte_streams::{Sink, write_all};
+use crate::trees::{Answers, give_out, write_outline, write_rest, write_tree};
+use byte_streams::Sink;
 use lrpar::{FlatTree, Lexer, Outline, ParseError, ParseRefusal};
 use parser_kit::GrammarKit;
 use std::alloc::{AllocError, Global};
@@ -37,8 +36,9 @@ type LineError = ParseError<WordLexeme<u32>, u32>;
 
 type LineLexer<'a> = WordLexer<'a, u32>;
 
-/// Writes the text of a line: its errors, and then its tree, if it has a value. It answers whether there was an error, and the
-/// room of its lexer's list, which serves the next line. What `text` holds is let go.
+/// Adds the text of a line to what waits: its errors, and then its tree, if it has a value. What waits is written whenever it is
+/// long, and where the line can't be read for want of memory. It answers whether there was an error, and the room of its lexer's
+/// list, which serves the next line.
 pub(crate) fn write_line<W: Sink>(
     answers: &Answers<'_>,
     room: LexerRoom<u32>,
@@ -46,42 +46,56 @@ pub(crate) fn write_line<W: Sink>(
     text: &mut Vec<u8>,
     out: &mut W,
 ) -> Result<(bool, LexerRoom<u32>), RunFault>
-    ensures ok { IfOk result (λ r. WritesLine answers.now.kit.now answers.now.repairs.now line.now (W.known out.old) (W.known out.new) r.0) }
+    ensures ok { IfOk result (λ r. LeavesLine answers.now.kit.now answers.now.repairs.now line.now (W.known out.old) (W.known out.new) text.old.items text.new.items r.0) }
     ensures late { IfErr result IsLate }
-    ensures begins { IfErr result (BeginsLine answers.now.kit.now answers.now.repairs.now line.now (W.known out.old) (W.known out.new)) }
+    ensures begins { OnErr result (BeginsLine answers.now.kit.now answers.now.repairs.now line.now (W.known out.old) (W.known out.new) text.old.items) }
     ensures cause { IfErr result (IsWriteCause (W.faults out.old) (W.faults out.new)) }
     ensures kept { OnOk result (W.faults out.new ≡ W.faults out.old) }
 {
-    let alloc = answers.alloc;
-    let read = room.read(answers.kit.grm(), line)?;
-    match outline_of(alloc, answers.kit, answers.repairs, &read)? {
-        Some(outline) => {
+    let read = match room.read(answers.kit.grm(), line) {
+        Ok(read) => read,
+        Err(e) => return Err(give_up(text.as_slice(), out, e)),
+    };
+    match outline_of(answers.alloc, answers.kit, answers.repairs, &read) {
+        Ok(Some(outline)) => {
             write_faultless(answers, line, &read, &outline, text, out)?;
             Ok((false, read))
         }
-        None => write_read(alloc, answers.kit, answers.repairs, read, line, out),
+        Ok(None) => write_read(answers, read, line, text, out),
+        Err(e) => Err(give_up(text.as_slice(), out, e)),
     }
 }
 
-// Writes the text of a line whose items are at hand.
+// Writes what waits before a line for which there is no memory, and returns why the run stops.
+fn give_up<W: Sink>(text: &[u8], out: &mut W, e: AllocError) -> RunFault
+    ensures late { IsLate result }
+    ensures begins { BeginningWritten (W.known out.old) (W.known out.new) text.now }
+    ensures cause { IsWriteCause (W.faults out.old) (W.faults out.new) result }
+{
+    match write_rest(text, out) {
+        Ok(()) => RunFault::from(e),
+        Err(fault) => fault,
+    }
+}
+
+// Adds the text of a line whose items are at hand.
 fn write_read<W: Sink>(
-    alloc: Global,
-    kit: &GrammarKit<u32>,
-    repairs: &RepairLines<u32>,
+    answers: &Answers<'_>,
     read: LexerRoom<u32>,
     line: &str,
+    text: &mut Vec<u8>,
     out: &mut W,
 ) -> Result<(bool, LexerRoom<u32>), RunFault>
-    requires items { read ≡ items_of id kit.now.grammar line.now }
-    requires not_refused { (m : Misfit) → HasMisfit kit.now.grammar.grammar (lex_of id) read m → ⊥ }
-    ensures ok { IfOk result (λ r. WritesLine kit.now repairs.now line.now (W.known out.old) (W.known out.new) r.0) }
+    requires items { read ≡ items_of id answers.now.kit.now.grammar line.now }
+    requires not_refused { (m : Misfit) → HasMisfit answers.now.kit.now.grammar.grammar (lex_of id) read m → ⊥ }
+    ensures ok { IfOk result (λ r. LeavesLine answers.now.kit.now answers.now.repairs.now line.now (W.known out.old) (W.known out.new) text.old.items text.new.items r.0) }
     ensures late { IfErr result IsLate }
-    ensures begins { IfErr result (BeginsLine kit.now repairs.now line.now (W.known out.old) (W.known out.new)) }
+    ensures begins { OnErr result (BeginsLine answers.now.kit.now answers.now.repairs.now line.now (W.known out.old) (W.known out.new) text.old.items) }
     ensures cause { IfErr result (IsWriteCause (W.faults out.old) (W.faults out.new)) }
     ensures kept { OnOk result (W.faults out.new ≡ W.faults out.old) }
 {
-    let lexer = WordLexer::of_read(alloc, read, &*line)?;
-    match write_lexed(alloc, &*kit, repairs, &*line, &lexer, out) {
+    let lexer = WordLexer::of_read(answers.alloc, read, line)?;
+    match write_lexed(answers, line, &lexer, text, out) {
         Ok(wrong) => Ok((wrong, lexer.into_room())),
         Err(e) => Err(e),
     }
@@ -114,7 +128,8 @@ fn outline_of(
     }
 }
 
-// Writes the tree of a line without errors, by its outline.
+// Adds the tree of a line without errors, by its outline. Out of line, so that its loop has the registers.
+#[inline(never)]
 fn write_faultless<W: Sink>(
     answers: &Answers<'_>,
     line: &str,
@@ -125,9 +140,9 @@ fn write_faultless<W: Sink>(
 ) -> Result<(), RunFault>
     requires items { read.now ≡ items_of id answers.now.kit.now.grammar line.now }
     requires faultless { IsFaultless answers.now.kit.now answers.now.repairs.now read.now outline.now }
-    ensures ok { OnOk result (WritesLine answers.now.kit.now answers.now.repairs.now line.now (W.known out.old) (W.known out.new) false) }
+    ensures ok { OnOk result (LeavesLine answers.now.kit.now answers.now.repairs.now line.now (W.known out.old) (W.known out.new) text.old.items text.new.items false) }
     ensures late { IfErr result IsLate }
-    ensures begins { IfErr result (BeginsLine answers.now.kit.now answers.now.repairs.now line.now (W.known out.old) (W.known out.new)) }
+    ensures begins { OnErr result (BeginsLine answers.now.kit.now answers.now.repairs.now line.now (W.known out.old) (W.known out.new) text.old.items) }
     ensures cause { IfErr result (IsWriteCause (W.faults out.old) (W.faults out.new)) }
     ensures kept { OnOk result (W.faults out.new ≡ W.faults out.old) }
 {
@@ -137,37 +152,40 @@ fn write_faultless<W: Sink>(
     write_outline(answers, line, read.iter().as_slice(), outline, text, out)
 }
 
-// Writes the text of a line whose items are at hand.
+// Adds the text of a line that is lexed.
 fn write_lexed<'a, W: Sink>(
-    alloc: Global,
-    kit: &'a GrammarKit<u32>,
-    repairs: &RepairLines<u32>,
+    answers: &Answers<'a>,
     line: &'a str,
     lexer: &LineLexer<'a>,
+    text: &mut Vec<u8>,
     out: &mut W,
 ) -> Result<bool, RunFault>
     requires line { lexer.now.text ≡ line.now }
-    requires items { lexer.now.items ≡ items_of id kit.now.grammar line.now }
-    requires not_refused { (m : Misfit) → HasMisfit kit.now.grammar.grammar (lex_of id) lexer.now.items m → ⊥ }
-    ensures ok { IfOk result (WritesLine kit.now repairs.now line.now (W.known out.old) (W.known out.new)) }
+    requires items { lexer.now.items ≡ items_of id answers.now.kit.now.grammar line.now }
+    requires not_refused { (m : Misfit) → HasMisfit answers.now.kit.now.grammar.grammar (lex_of id) lexer.now.items m → ⊥ }
+    ensures ok { IfOk result (LeavesLine answers.now.kit.now answers.now.repairs.now line.now (W.known out.old) (W.known out.new) text.old.items text.new.items) }
     ensures late { IfErr result IsLate }
-    ensures begins { IfErr result (BeginsLine kit.now repairs.now line.now (W.known out.old) (W.known out.new)) }
+    ensures begins { OnErr result (BeginsLine answers.now.kit.now answers.now.repairs.now line.now (W.known out.old) (W.known out.new) text.old.items) }
     ensures cause { IfErr result (IsWriteCause (W.faults out.old) (W.faults out.new)) }
     ensures kept { OnOk result (W.faults out.new ≡ W.faults out.old) }
 {
     flat_parses_can_be_shown::<WordLexerTypes<u32>, RepairLines<u32>>();
     items_are_parts_of_their_line::<u32>();
-    kit.stays_tabled();
-    let parsed = kit.parse_flat::<WordLexerTypes<u32>, LineLexer<'_>, RepairLines<u32>>(
-        alloc, lexer, repairs,
-    );
+    answers.kit.stays_tabled();
+    let parsed = answers
+        .kit
+        .parse_flat::<WordLexerTypes<u32>, LineLexer<'_>, RepairLines<u32>>(
+            answers.alloc,
+            lexer,
+            answers.repairs,
+        );
     match parsed {
         Ok(Ok((tree, errors))) => {
             let lexed = ReadLine { line, lexer };
-            write_parsed(alloc, kit, &lexed, &tree, errors, out)
+            write_parsed(answers, &lexed, &tree, errors, text, out)
         }
-        Ok(Err(error)) => write_first_fault(alloc, kit, lexer, error, out),
-        Err(ParseRefusal::Memory(e)) => Err(RunFault::from(e)),
+        Ok(Err(error)) => write_first_fault(answers, lexer, error, text, out),
+        Err(ParseRefusal::Memory(e)) => Err(give_up(text.as_slice(), out, e)),
         Err(ParseRefusal::LexemeOutside(_)) => unreachable!(),
         Err(ParseRefusal::StartDecreases(_)) => unreachable!(),
     }
@@ -180,50 +198,48 @@ struct ReadLine<'r, 'a> {
     lexer: &'r LineLexer<'a>,
 }
 
-// Writes the texts of these errors, and then that of the tree, if there is one.
+// Adds the texts of these errors, and then that of the tree, if there is one.
 fn write_parsed<'a, W: Sink>(
-    alloc: Global,
-    kit: &'a GrammarKit<u32>,
+    answers: &Answers<'a>,
     lexed: &ReadLine<'_, 'a>,
     tree: &Option<LineTree>,
     errors: Vec<LineError>,
+    text: &mut Vec<u8>,
     out: &mut W,
 ) -> Result<bool, RunFault>
     requires line { lexed.now.lexer.now.text ≡ lexed.now.line.now }
-    requires errors { AllByRecursion (ErrorCanBeShown id kit.now.grammar lexed.now.line.now) errors.items }
-    requires tree { TreeCanBeShown id kit.now.grammar lexed.now.line.now tree.now }
-    ensures ok { (t : Option (Tree Word)) → HasFlat (span_by (lex_of id)) tree.now t → IfOk result (WritesParsed kit.now.grammar lexed.now.line.now (W.known out.old) (W.known out.new) t errors.items) }
+    requires errors { AllByRecursion (ErrorCanBeShown id answers.now.kit.now.grammar lexed.now.line.now) errors.items }
+    requires tree { TreeCanBeShown id answers.now.kit.now.grammar lexed.now.line.now tree.now }
+    ensures ok { (t : Option (Tree Word)) → HasFlat (span_by (lex_of id)) tree.now t → IfOk result (LeavesParsed answers.now.kit.now.grammar lexed.now.line.now (W.known out.old) (W.known out.new) text.old.items text.new.items t errors.items) }
     ensures late { IfErr result IsLate }
-    ensures begins { (t : Option (Tree Word)) → HasFlat (span_by (lex_of id)) tree.now t → OnErr result (BeginningWritten (W.known out.old) (W.known out.new) (parsed_text kit.now.grammar lexed.now.line.now errors.items t)) }
+    ensures begins { (t : Option (Tree Word)) → HasFlat (span_by (lex_of id)) tree.now t → OnErr result (BeginningWritten (W.known out.old) (W.known out.new) (text.old.items ++ parsed_text answers.now.kit.now.grammar lexed.now.line.now errors.items t)) }
     ensures cause { IfErr result (IsWriteCause (W.faults out.old) (W.faults out.new)) }
     ensures kept { OnOk result (W.faults out.new ≡ W.faults out.old) }
 {
+    let alloc = answers.alloc;
+    let grm = answers.kit.grm();
     let faulty = !errors.is_empty();
-    let mut text = Vec::new(alloc);
-    push_errors(alloc, kit.grm(), lexed.lexer, errors, &mut text)?;
-    write_tree(alloc, kit.grm(), lexed.line, tree, &mut text, out)?;
+    push_errors(alloc, grm, lexed.lexer, errors, text)?;
+    write_tree(alloc, grm, lexed.line, tree, text, out)?;
     Ok(faulty)
 }
 
-// Writes the text of the line's first word that is no token's name.
+// Adds the text of the line's first word that is no token's name.
 fn write_first_fault<'a, W: Sink>(
-    alloc: Global,
-    kit: &'a GrammarKit<u32>,
+    answers: &Answers<'a>,
     lexer: &LineLexer<'a>,
     error: WordLexError,
+    text: &mut Vec<u8>,
     out: &mut W,
 ) -> Result<bool, RunFault>
     requires within { error.span.end ≤ length lexer.now.text }
-    ensures ok { IfOk result (λ faulty. Appends (W.known out.old) (W.known out.new) (fault_line lexer.now.text error) × (faulty ≡ true)) }
+    ensures ok { IfOk result (λ faulty. IsOutBut (W.known out.old) (W.known out.new) (text.old.items ++ fault_line lexer.now.text error) text.new.items × (faulty ≡ true)) }
     ensures late { IfErr result IsLate }
-    ensures begins { OnErr result (BeginningWritten (W.known out.old) (W.known out.new) (fault_line lexer.now.text error)) }
+    ensures begins { OnErr result (BeginningWritten (W.known out.old) (W.known out.new) (text.old.items ++ fault_line lexer.now.text error)) }
     ensures cause { IfErr result (IsWriteCause (W.faults out.old) (W.faults out.new)) }
     ensures kept { OnOk result (W.faults out.new ≡ W.faults out.old) }
 {
-    let mut text = Vec::new(alloc);
-    push_fault(alloc, kit.grm(), lexer, error, &mut text)?;
-    match write_all(out, text.as_slice()) {
-        Ok(()) => Ok(true),
-        Err(_) => Err(RunFault::Write),
-    }
+    push_fault(answers.alloc, answers.kit.grm(), lexer, error, text)?;
+    give_out(text, out)?;
+    Ok(true)
 }

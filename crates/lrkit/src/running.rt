@@ -11,7 +11,7 @@ ghost use Rattle.lrkit.specs.Writing.{WritesLines};
 use crate::answering::write_line;
 use crate::counts::check_counts;
 use crate::fault::{Input, RunFault, run_fault};
-use crate::trees::Answers;
+use crate::trees::{Answers, write_rest};
 use byte_streams::{Sink, Source, read_text};
 use parser_kit::{GrammarKit, KitError, ParserKit};
 use std::alloc::Global;
@@ -146,7 +146,7 @@ fn read_input<S: Source>(alloc: Global, input: Input, source: &mut S) -> Result<
     }
 }
 
-// Writes the texts of all lines. It answers whether some line has an error.
+// Writes the texts of all lines, as many at once as are long enough. It answers whether some line has an error.
 fn write_lines<W: Sink>(
     alloc: Global,
     kit: &GrammarKit<u32>,
@@ -175,6 +175,7 @@ fn write_lines<W: Sink>(
         faulty = either(faulty, wrong);
         room = left;
     }
+    write_rest(text.as_slice(), out)?;
     Ok(faulty)
 }
 

@@ -1,4 +1,4 @@
-//! The text of a tree, which goes out as it is made.
+//! The text of a tree, which goes out as it is made. What is short waits for that of the next line.
 
 ghost use Rattle.std.specs.Prelude.{◌≡◌, ◌++◌, List, Option, IfErr, OnOk, OnErr};
 ghost use Rattle.std.specs.Io.KnownBytes.{Appends};
@@ -41,7 +41,7 @@ pub(crate) struct Answers<'a> {
     ghost same: { shown.now ≡ kit.now.grammar },
 }
 
-/// Writes the text that waits, and then that of the tree, if there is one. Little of it waits at any time.
+/// Adds the text of the tree, if there is one, to what waits, which is written whenever it is long.
 pub(crate) fn write_tree<W: Sink>(
     alloc: Global,
     grm: &NumberedGrammar<u32>,
@@ -51,7 +51,7 @@ pub(crate) fn write_tree<W: Sink>(
     out: &mut W,
 ) -> Result<(), RunFault>
     requires { TreeCanBeShown id grm.now line.now tree.now }
-    ensures ok { (t : Option (Tree Word)) → HasFlat (span_by (lex_of id)) tree.now t → OnOk result (Appends (W.known out.old) (W.known out.new) (text.old.items ++ value_text id grm.now line.now t)) }
+    ensures ok { (t : Option (Tree Word)) → HasFlat (span_by (lex_of id)) tree.now t → OnOk result (IsOutBut (W.known out.old) (W.known out.new) (text.old.items ++ value_text id grm.now line.now t) text.new.items) }
     ensures late { IfErr result IsLate }
     ensures begins { (t : Option (Tree Word)) → HasFlat (span_by (lex_of id)) tree.now t → OnErr result (BeginningWritten (W.known out.old) (W.known out.new) (text.old.items ++ value_text id grm.now line.now t)) }
     ensures cause { IfErr result (IsWriteCause (W.faults out.old) (W.faults out.new)) }
@@ -59,11 +59,11 @@ pub(crate) fn write_tree<W: Sink>(
 {
     match tree {
         Some(tree) => write_nodes(alloc, grm, line, tree, text, out),
-        None => write_rest(text.as_slice(), out),
+        None => give_out(text, out),
     }
 }
 
-/// Writes the text of a tree by its outline and the items of its line. What `text` holds is let go. Little of it waits at any time.
+/// Adds the text of a tree, by its outline and the items of its line, to what waits, which is written whenever it is long.
 pub(crate) fn write_outline<W: Sink>(
     answers: &Answers<'_>,
     line: &str,
@@ -73,16 +73,14 @@ pub(crate) fn write_outline<W: Sink>(
     out: &mut W,
 ) -> Result<(), RunFault>
     requires { (t : Tree Word) × AreItems items.now (yield t) × IsOutline t outline.now × CanShowTree answers.now.shown.now (lex_of id) line.now t }
-    ensures ok { (t : Tree Word) → AreItems items.now (yield t) → IsOutline t outline.now → OnOk result (Appends (W.known out.old) (W.known out.new) (value_text id answers.now.shown.now line.now (Option.Some t))) }
+    ensures ok { (t : Tree Word) → AreItems items.now (yield t) → IsOutline t outline.now → OnOk result (IsOutBut (W.known out.old) (W.known out.new) (text.old.items ++ value_text id answers.now.shown.now line.now (Option.Some t)) text.new.items) }
     ensures late { IfErr result IsLate }
-    ensures begins { (t : Tree Word) → AreItems items.now (yield t) → IsOutline t outline.now → OnErr result (BeginningWritten (W.known out.old) (W.known out.new) (value_text id answers.now.shown.now line.now (Option.Some t))) }
+    ensures begins { (t : Tree Word) → AreItems items.now (yield t) → IsOutline t outline.now → OnErr result (BeginningWritten (W.known out.old) (W.known out.new) (text.old.items ++ value_text id answers.now.shown.now line.now (Option.Some t))) }
     ensures cause { IfErr result (IsWriteCause (W.faults out.old) (W.faults out.new)) }
     ensures kept { OnOk result (W.faults out.new ≡ W.faults out.old) }
 {
-    text.clear();
     let mut walk = shown_symbols(answers.alloc, answers.shown, line, outline)?;
-    write_symbols(answers.shown, line, items, &mut walk, text, out)?;
-    write_rest(text.as_slice(), out)
+    write_symbols(answers.shown, line, items, &mut walk, text, out)
 }
 
 // Adds the lines of the nodes of a walk to what waits, and writes it whenever it is long.
@@ -115,7 +113,7 @@ fn write_symbols<W: Sink>(
     Ok(())
 }
 
-// Writes what waits, and then the text of the tree.
+// Adds the text of the tree to what waits.
 fn write_nodes<W: Sink>(
     alloc: Global,
     grm: &NumberedGrammar<u32>,
@@ -125,15 +123,14 @@ fn write_nodes<W: Sink>(
     out: &mut W,
 ) -> Result<(), RunFault>
     requires { TreeCanBeShown id grm.now line.now (Option.Some tree.now) }
-    ensures ok { (t : Tree Word) → IsFlat (span_by (lex_of id)) t tree.now.pieces → OnOk result (Appends (W.known out.old) (W.known out.new) (text.old.items ++ value_text id grm.now line.now (Option.Some t))) }
+    ensures ok { (t : Tree Word) → IsFlat (span_by (lex_of id)) t tree.now.pieces → OnOk result (IsOutBut (W.known out.old) (W.known out.new) (text.old.items ++ value_text id grm.now line.now (Option.Some t)) text.new.items) }
     ensures late { IfErr result IsLate }
     ensures begins { (t : Tree Word) → IsFlat (span_by (lex_of id)) t tree.now.pieces → OnErr result (BeginningWritten (W.known out.old) (W.known out.new) (text.old.items ++ value_text id grm.now line.now (Option.Some t))) }
     ensures cause { IfErr result (IsWriteCause (W.faults out.old) (W.faults out.new)) }
     ensures kept { OnOk result (W.faults out.new ≡ W.faults out.old) }
 {
     let visits = shown_nodes(alloc, grm, line, tree)?;
-    write_visits(grm, line, tree.nodes(), visits.as_slice(), text, out)?;
-    write_rest(text.as_slice(), out)
+    write_visits(grm, line, tree.nodes(), visits.as_slice(), text, out)
 }
 
 // Adds the lines of these nodes to what waits, and writes it whenever it is long.
@@ -159,8 +156,8 @@ fn write_visits<W: Sink>(
     Ok(())
 }
 
-// Writes what waits, if it is long.
-fn give_out<W: Sink>(text: &mut Vec<u8>, out: &mut W) -> Result<(), RunFault>
+/// Writes what waits, if it is long.
+pub(crate) fn give_out<W: Sink>(text: &mut Vec<u8>, out: &mut W) -> Result<(), RunFault>
     ensures ok { OnOk result (IsOutBut (W.known out.old) (W.known out.new) text.old.items text.new.items) }
     ensures late { IfErr result IsLate }
     ensures begins { OnErr result (BeginningWritten (W.known out.old) (W.known out.new) text.old.items) }
@@ -173,8 +170,8 @@ fn give_out<W: Sink>(text: &mut Vec<u8>, out: &mut W) -> Result<(), RunFault>
     }
 }
 
-// Writes what waits.
-fn write_rest<W: Sink>(text: &[u8], out: &mut W) -> Result<(), RunFault>
+/// Writes what waits.
+pub(crate) fn write_rest<W: Sink>(text: &[u8], out: &mut W) -> Result<(), RunFault>
     ensures ok { OnOk result (Appends (W.known out.old) (W.known out.new) text.now) }
     ensures late { IfErr result IsLate }
     ensures begins { OnErr result (BeginningWritten (W.known out.old) (W.known out.new) text.now) }

@@ -1,7 +1,6 @@
 use Rattle.std.proofs.Common.{◌∙◌}
 use Rattle.std.proofs.lemmas.Result.{on_err_weaker, on_ok_weaker}
 use Rattle.lrkit.proofs.Faultless.{faultless_items, faultless_shows, faultless_writes, faultless_begins}
-use Rattle.lrkit.proofs.ShownLines.{begins_late}
 use Rattle.lrkit.proofs.answering.write_faultless.Goals as goal
 
 pub write_outline-requires : goal.write_outline-requires
@@ -21,7 +20,7 @@ returns-clause-ok g c =
     let line = c.args.line.now in
     let f = rw c.requires.items at c.requires.faultless in
     let items = c.as_slice.ensures.value ∙ c.iter.ensures ∙ c.requires.items ∙ faultless_items k repairs line c.args.outline.now f in
-    on_ok_weaker c.write_outline.result (faultless_writes k repairs line c.args.outline.now f (g.W.Sink.known c.args.out.now) (g.W.Sink.known c.write_outline.new.out)) (rw c.args.answers.now.same at c.write_outline.ensures.ok f.tree items f.outline)
+    on_ok_weaker c.write_outline.result (faultless_writes k repairs line c.args.outline.now f (g.W.Sink.known c.args.out.now) (g.W.Sink.known c.write_outline.new.out) c.args.text.now.items c.write_outline.new.text.items) (rw c.args.answers.now.same at c.write_outline.ensures.ok f.tree items f.outline)
 
 pub returns-clause-begins : goal.returns-clause-begins
 returns-clause-begins g c =
@@ -30,5 +29,4 @@ returns-clause-begins g c =
     let line = c.args.line.now in
     let f = rw c.requires.items at c.requires.faultless in
     let items = c.as_slice.ensures.value ∙ c.iter.ensures ∙ c.requires.items ∙ faultless_items k repairs line c.args.outline.now f in
-    let begun = on_err_weaker c.write_outline.result (faultless_begins k repairs line c.args.outline.now f (g.W.Sink.known c.args.out.now) (g.W.Sink.known c.write_outline.new.out)) (rw c.args.answers.now.same at c.write_outline.ensures.begins f.tree items f.outline) in
-    begins_late k repairs line (g.W.Sink.known c.args.out.now) (g.W.Sink.known c.write_outline.new.out) c.write_outline.result c.write_outline.ensures.late begun
+    on_err_weaker c.write_outline.result (faultless_begins k repairs line c.args.outline.now f (g.W.Sink.known c.args.out.now) (g.W.Sink.known c.write_outline.new.out) c.args.text.now.items) (rw c.args.answers.now.same at c.write_outline.ensures.begins f.tree items f.outline)

@@ -385,7 +385,8 @@ pub(crate) fn start_states<S: IndexStorage>(
     })?;
     let mut looks = Vec::new(alloc);
     looks.push(end_looks(alloc, grm)?)?;
-    let mut states = Vec::new(alloc);
+    // Grammars mostly have more states than productions.
+    let mut states = Vec::with_capacity(alloc, grm.prods_len().0.to_usize())?;
     states.push(State {
         core: CoreSet { items, looks },
         edges: Vec::new(alloc),

@@ -160,6 +160,10 @@ fn write_lines<W: Sink>(
     ensures cause { IfErr result (IsWriteCause (W.faults out.old) (W.faults out.new)) }
     ensures kept { OnOk result (W.faults out.new ≡ W.faults out.old) }
 {
+    // Rows of names are made for lines alone.
+    if line_text.is_empty() {
+        return Ok(false);
+    }
     let shown = NodeLines::new(alloc, kit.grm())?;
     let answers = Answers {
         alloc,

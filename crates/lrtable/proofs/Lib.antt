@@ -45,3 +45,4 @@ pub mod Passing
 pub mod Copies
 pub mod Builders
 pub mod Gathered
+pub mod Complete

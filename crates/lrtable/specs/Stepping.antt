@@ -1,11 +1,11 @@
 -- A step of the building over the states: the closed state's items, moved into a set for each symbol, and their placing.
-use Rattle.std.specs.Prelude.{◌≡◌, ℕ, ◌+◌, ◌<◌, false, IsTrue, List, length, slice_set}
-use Rattle.cfg_theory.specs.Grammar.{Sym, Grammar, InRange, IsOf, head_of}
+use Rattle.std.specs.Prelude.{◌≡◌, ℕ, ◌+◌, ◌<◌, false, IsTrue, List, length, get_or, slice_set}
+use Rattle.cfg_theory.specs.Grammar.{Sym, Grammar, InRange, IsNext, IsOf, head_of}
 use Rattle.vob.specs.Sets.{is_set}
 use Rattle.lr_theory.specs.Itemset.{Items, Lookaheads, HasItem, HasLook, Closure, ClosureLook, Goto, GotoLook, Is}
 use Rattle.lr_theory.specs.Graph.{core_of}
 use Rattle.lr_theory.specs.Building.{Building, Reached, IsTodo}
-use Rattle.state_table.specs.ItemRows.{IsAt, Core, map_of}
+use Rattle.state_table.specs.ItemRows.{Item, IsAt, Core, map_of}
 use Rattle.state_table.specs.Meeting.{row}
 use Rattle.lrtable.specs.Opening.{RuleSets, IsOpen, HasRuleLook, AreOpened, Front}
 use Rattle.lrtable.specs.Closes.{AreSeeds}
@@ -77,3 +77,7 @@ pub record IsGotoAt (G : Grammar) (before : Building) (s n : ℕ) (c : Core) : T
 -- the states, where s isn't to be taken
 abbrev pub set_off : List StateValue → ℕ → List StateValue
 set_off states s = slice_set states s (record { core = (state_at states s).core; edges = (state_at states s).edges; todo = false })
+
+-- none of the first k items has a symbol behind its dot
+abbrev pub HaveNoNext : Grammar → List Item → ℕ → Type 0
+HaveNoNext G items k = (j : ℕ) → j < k → (d : Item) (X : Sym) → IsNext G (get_or items j d).production (get_or items j d).dot X → ⊥

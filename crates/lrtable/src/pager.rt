@@ -17,7 +17,7 @@ ghost use Rattle.lrtable.specs.Pruning.{AreLinked, graph_of_states};
 ghost use Rattle.lrtable.specs.States.{AreStates, AreQuiet, state_at};
 ghost use Rattle.lrtable.specs.StateViews.{value_of};
 ghost use Rattle.state_table.specs.CoreViews.{core_of_set};
-ghost use Rattle.lrtable.specs.Stepping.{AreGotos, AreGotosOf, IsGotoAt, IsNextTaken, set_off};
+ghost use Rattle.lrtable.specs.Stepping.{AreGotos, AreGotosOf, HaveNoNext, IsGotoAt, IsNextTaken, set_off};
 ghost use Rattle.lrtable.specs.declared.states.BuildError.TheVariants as faults;
 
 use crate::moved_items::{MovedItem, Rows};
@@ -27,6 +27,7 @@ use crate::pruning::prune;
 use crate::revisiting::{Retaken, retake_all};
 use crate::state_lists::put_number;
 use crate::states::{BuildError, Builder, EdgeTo, State, place};
+use crate::tails::any_incomplete;
 use cfg_base::index::IndexStorage;
 use cfg_base::symbol::SIdx;
 use cfg_numbered::yacc::NumberedGrammar;
@@ -295,6 +296,28 @@ fn step_again<S: IndexStorage>(
     Ok(())
 }
 
+/// Notes that a state is taken.
+fn mark_taken<S: IndexStorage>(states: &mut Vec<State<S>>, number: usize)
+    requires { number < length states.old.items }
+    ensures { map (value_of S.number) states.new.items ≡ set_off (map (value_of S.number) states.old.items) number }
+{
+    let taken = &mut states[number];
+    taken.todo = false;
+}
+
+/// Takes a state of complete items, which has no goto sets.
+fn step_complete<S: IndexStorage>(grm: &NumberedGrammar<S>, builder: &mut Builder<S>, number: usize)
+    requires builder { IsUnderWay S.number S.MAX grm.now.grammar builder.old }
+    requires due { IsFirstDue S.number builder.old number }
+    requires none { HaveNoNext grm.now.grammar (state_at (states_in S.number builder.old) number).core.items (length (state_at (states_in S.number builder.old) number).core.items) }
+    ensures { IsStep S.number S.MAX grm.now.grammar builder.old builder.new }
+{
+    grm.start_prod();
+    mark_taken(&mut builder.states, number);
+    builder.cursor = number;
+    builder.from = number;
+}
+
 /// Takes the first state that is to be taken.
 fn step<S: IndexStorage>(
     alloc: Global,
@@ -310,10 +333,16 @@ fn step<S: IndexStorage>(
     ensures step { OnOk result (IsStep S.number S.MAX grm.now.grammar builder.old builder.new) }
     ensures many { IsErrOf result faults.TooManyStates → TooManyStand grm.now.grammar S.MAX }
 {
-    if builder.states[number].edges.is_empty() {
+    grm.start_prod();
+    let state = &builder.states[number];
+    if !state.edges.is_empty() {
+        return step_again(alloc, grm, buffers, builder, number);
+    }
+    if any_incomplete(grm, state.core.items.as_slice()) {
         return step_anew(alloc, grm, buffers, builder, number);
     }
-    step_again(alloc, grm, buffers, builder, number)
+    step_complete(grm, builder, number);
+    Ok(())
 }
 
 /// Returns the first state that is to be taken, if there is one.
@@ -356,7 +385,8 @@ pub(crate) fn start_states<S: IndexStorage>(
     })?;
     let mut looks = Vec::new(alloc);
     looks.push(end_looks(alloc, grm)?)?;
-    let mut states = Vec::new(alloc);
+    // Grammars mostly have more states than productions.
+    let mut states = Vec::with_capacity(alloc, grm.prods_len().0.to_usize())?;
     states.push(State {
         core: CoreSet { items, looks },
         edges: Vec::new(alloc),

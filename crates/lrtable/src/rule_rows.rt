@@ -32,7 +32,7 @@ impl RuleRows {
     pub(crate) fn empty(alloc: Global, count: usize, width: usize) -> Result<RuleRows, AllocError>
         ensures { IfOk result (λ s. s ≡ record { width = width; rows = replicate count (replicate width false) }) }
     {
-        let mut rows = Vec::new(alloc);
+        let mut rows = Vec::with_capacity(alloc, count)?;
         'rows: for _ in 0..count {
             rows.push(Vob::from_elem(alloc, false, width)?)?;
         }

@@ -1,15 +1,19 @@
 //! Tails: what follows a symbol in a production.
 
-ghost use Rattle.std.specs.Prelude.{◌≡◌, ◌<◌, ℕ, length, IfOk, MatchOption};
+ghost use Rattle.std.specs.Prelude.{◌≡◌, ◌<◌, ℕ, false, length, get_or, IfOk, MatchOption};
 ghost use Rattle.cfg_theory.specs.Grammar.{Sym, rule, body_of, IsNext};
 ghost use Rattle.cfg_sets.specs.Firsts.{AreFirsts};
 ghost use Rattle.cfg_numbered.specs.Symbols.{sym_of};
+ghost use Rattle.state_table.specs.CoreViews.{items_of};
+ghost use Rattle.state_table.specs.ItemRows.{Item};
 ghost use Rattle.lrtable.specs.Closes.{IsRest};
+ghost use Rattle.lrtable.specs.Stepping.{HaveNoNext};
 
 use cfg_base::index::IndexStorage;
 use cfg_base::symbol::{PIdx, RIdx, Symbol};
 use cfg_numbered::yacc::NumberedGrammar;
 use cfg_sets::YaccFirsts;
+use state_table::cores::CoreItem;
 use std::alloc::{AllocError, Global};
 use vob::Vob;
 
@@ -65,6 +69,33 @@ pub(crate) fn rule_after<S: IndexStorage>(
         },
         None => None,
     }
+}
+
+/// Returns whether an item isn't complete: it has a symbol behind its dot.
+fn is_incomplete<S: IndexStorage>(grm: &NumberedGrammar<S>, item: &CoreItem<S>) -> bool
+    requires { S.number item.now.pidx.0 < length grm.now.grammar.productions }
+    ensures { result ≡ false → (X : Sym) → IsNext grm.now.grammar (S.number item.now.pidx.0) (S.number item.now.dot.0) X → ⊥ }
+{
+    match symbol_after(grm, item.pidx, item.dot.0.to_usize()) {
+        Some(_) => true,
+        None => false,
+    }
+}
+
+/// Returns whether one of these items isn't complete.
+pub(crate) fn any_incomplete<S: IndexStorage>(
+    grm: &NumberedGrammar<S>,
+    items: &[CoreItem<S>],
+) -> bool
+    requires { (k : ℕ) (d : Item) → k < length items.now → (get_or (items_of S.number items.now) k d).production < length grm.now.grammar.productions }
+    ensures { result ≡ false → HaveNoNext grm.now.grammar (items_of S.number items.now) (length items.now) }
+{
+    'items: for k in 0..items.len() {
+        if is_incomplete(grm, &items[k]) {
+            return true;
+        }
+    }
+    false
 }
 
 /// Writes what follows the symbol behind a dot over what followed another.

@@ -222,9 +222,10 @@ pub(crate) fn rows_of_graph<S: IndexStorage>(
     ensures quiet { IfOk result (λ r. (s p : ℕ) → s < length sg.now.cores → IsContested grm.now.grammar (parts_in grm.now.grammar sg.now s) p → ⊥) }
     ensures refused { IfErr result (λ e. IsTableRefusal grm.now sg.now (table_refusal_of S.number e)) }
 {
-    let mut rows = TableRows::new(alloc);
+    let count = sg.all_states_len().0.to_usize();
+    let mut rows = TableRows::new(alloc, count)?;
     let mut parts = StateParts::new(alloc);
-    'states: for number in 0..sg.all_states_len().0.to_usize() {
+    'states: for number in 0..count {
         let stidx = sg.state_at(number);
         add_row(alloc, grm, sg, stidx, &mut parts, &mut rows)?;
     }

@@ -24,19 +24,21 @@ pub(crate) struct TableRows<S> {
 }
 
 impl<S: IndexStorage> TableRows<S> {
-    /// Makes the rows of no state.
-    pub(crate) fn new(alloc: Global) -> TableRows<S>
-        ensures actions { result.actions.items ≡ [] }
-        ensures gotos { result.gotos.items ≡ [] }
-        ensures pairs { result.pairs.items ≡ [] }
-        ensures shifts { result.shifts.items ≡ [] }
+    /// Makes the rows of no state, with room for those of `states`.
+    pub(crate) fn new(alloc: Global, states: usize) -> Result<TableRows<S>, AllocError>
+        ensures actions { IfOk result (λ r. r.actions.items ≡ []) }
+        ensures gotos { IfOk result (λ r. r.gotos.items ≡ []) }
+        ensures pairs { IfOk result (λ r. r.pairs.items ≡ []) }
+        ensures shifts { IfOk result (λ r. r.shifts.items ≡ []) }
     {
-        TableRows {
-            actions: Vec::new(alloc),
-            gotos: Vec::new(alloc),
+        let actions = Vec::with_capacity(alloc, states)?;
+        let gotos = Vec::with_capacity(alloc, states)?;
+        Ok(TableRows {
+            actions,
+            gotos,
             pairs: Vec::new(alloc),
             shifts: Vec::new(alloc),
-        }
+        })
     }
 
     /// Adds the rows of the next state.

@@ -1,11 +1,15 @@
-use Rattle.std.proofs.Common.{sym, ap, ◌∙◌, subst}
+use Rattle.std.proofs.Common.{List, length, sym, ap, ◌∙◌, subst}
 use Rattle.std.proofs.lemmas.List.{length-map}
+use Rattle.std.proofs.lemmas.Result.{IfOk-weaker}
 use Rattle.vob.specs.Packed.{Contents}
 use Rattle.lr_theory.specs.Itemset.{Closure, ClosureLook, HasItem, HasLook, Is}
 use Rattle.state_table.specs.ItemRows.{Core, IsCoreOf, map_of}
 use Rattle.state_table.specs.Sharing.{shared_map}
-use Rattle.state_table.specs.CoreViews.{item_of, core_of_set}
+use Rattle.state_table.specs.CoreViews.{item_of, items_of, core_of_set}
+use Rattle.state_table.specs.declared.cores.CoreItem.{CoreItem}
+use Rattle.lrtable.specs.Stepping.{HaveNoNext}
 use Rattle.lrtable.proofs.Opened.{closed_is}
+use Rattle.lrtable.proofs.Complete.{own_closure}
 use Rattle.lrtable.proofs.closures.closed_by.Goals as goal
 
 pub of_core-requires : goal.of_core-requires
@@ -32,3 +36,14 @@ returns-clause-core g c = subst (IsCoreOf c.args.grm.now.grammar.tokens) (sym c.
 
 pub returns-clause-within : goal.returns-clause-within
 returns-clause-within g c = c.fit.ensures.within c.in_ok-open_rules.ensures.within
+
+pub returns-then-not-any_incomplete-clause-is : goal.returns-then-not-any_incomplete-clause-is
+returns-then-not-any_incomplete-clause-is g c =
+    let number = g.S.IndexStorage.number in
+    let G = c.args.grm.now.grammar in
+    let core = core_of_set number c.args.core.now in
+    let m = length-map c.args.core.now.items.items (item_of number) in
+    let none = subst (λ (l : List (CoreItem g.row.S.Denot)). HaveNoNext G (items_of number l) (length l)) c.as_slice.ensures.value (c.any_incomplete.ensures c.if-not-any_incomplete.true) in
+    IfOk-weaker c.of_core.result _ _
+    (λ s e. subst (λ (x : Core). Is (map_of x) (Closure G (HasItem (map_of core))) (ClosureLook G (HasItem (map_of core)) (HasLook (map_of core)))) (sym e) (own_closure G core c.requires.fits.good (subst (λ k. HaveNoNext G core.items k) (sym m) none)))
+    c.of_core.ensures.core

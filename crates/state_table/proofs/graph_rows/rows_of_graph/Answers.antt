@@ -12,9 +12,9 @@ pub states-init : goal.states-init
 states-init g c =
     let number = g.S.IndexStorage.number in
     let G = c.args.grm.now.grammar in
-    let r = c.new-rows.ensures in
+    let r = c.in_ok-rows.ensures in
     record {
-      rows = rows_begun G (precedences_of c.args.grm.now) (parts_in G c.args.sg.now) (targets_in c.args.sg.now) (rows_of number c.new-rows.result)
+      rows = rows_begun G (precedences_of c.args.grm.now) (parts_in G c.args.sg.now) (targets_in c.args.sg.now) (rows_of number c.in_ok-rows.rows)
           (ap (λ l. action_rows_of number l) r.actions) (ap (λ l. target_rows_of number l) r.gotos) (ap (λ l. pairs_of number l) r.pairs) (ap (λ l. shifts_of number l) r.shifts);
       quiet = λ s p lt. absurd (omega (arith, lt));
     }
@@ -38,7 +38,7 @@ returns-clause-rows g c =
     let G = c.args.grm.now.grammar in
     let test = c.states-test.false in
     let most = c.states.auto.number-end in
-    let value = c.to_usize-number-end.ensures.value in
+    let value = c.to_usize-count.ensures.value in
     let count = c.all_states_len.ensures.value in
     let e : c.states.number ≡ length c.args.sg.now.cores = omega (arith, test, most, value, count) in
     subst (λ k. AreRowsOf G (precedences_of c.args.grm.now) (parts_in G c.args.sg.now) (targets_in c.args.sg.now) k (rows_of number c.states.rows)) e c.states.invariant.rows
@@ -48,7 +48,7 @@ returns-clause-quiet g c =
     let G = c.args.grm.now.grammar in
     let test = c.states-test.false in
     let most = c.states.auto.number-end in
-    let value = c.to_usize-number-end.ensures.value in
+    let value = c.to_usize-count.ensures.value in
     let count = c.all_states_len.ensures.value in
     let e : c.states.number ≡ length c.args.sg.now.cores = omega (arith, test, most, value, count) in
     subst (λ k. (s p : ℕ) → s < k → IsContested G (parts_in G c.args.sg.now s) p → ⊥) e c.states.invariant.quiet

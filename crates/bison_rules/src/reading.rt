@@ -475,9 +475,9 @@ fn file_with(alloc: Global, tokens: &[Token<'_>]) -> Result<BisonFile, AllocErro
 fn file_with_actions(alloc: Global, tokens: &[Token<'_>]) -> Result<BisonFile, AllocError>
     ensures { IfOk result (λ file. file_of file ≡ spec.text_of (spec.with_actions false 0 (spec.with_heads (tokens_of tokens.now)))) }
 {
-    let mut headed = Vec::new(alloc);
+    let mut headed = Vec::with_capacity(alloc, tokens.len())?;
     push_heads(&mut headed, tokens)?;
-    let mut named = Vec::new(alloc);
+    let mut named = Vec::with_capacity(alloc, headed.len())?;
     push_actions(&mut named, headed.as_slice())?;
     drop(headed);
     file_with(alloc, named.as_slice())

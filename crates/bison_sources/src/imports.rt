@@ -26,11 +26,7 @@ pub struct BisonImport {
 fn places_of(alloc: Global, marks: &[Mark]) -> Result<Vec<usize>, AllocError>
     ensures { IfOk result (λ v. v.items ≡ places_of marks.now) }
 {
-    let mut places = Vec::new(alloc);
-    'marks: for mark in marks {
-        places.push(mark.place)?;
-    }
-    Ok(places)
+    marks.iter().map(|mark| mark.place).collect(alloc)
 }
 
 /// Imports a file. The rules that the text of the import reads as are those of the file.

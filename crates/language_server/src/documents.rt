@@ -56,32 +56,38 @@ fn with_part(
     Ok(changed)
 }
 
-/// Returns a text with a change.
+/// Returns a text with a change. Its lines are given, or found where a part is changed.
 fn with_change(
     alloc: Global,
     text: String,
+    lines: Option<Lines>,
     change: Change,
     encoding: Encoding,
 ) -> Result<String, AllocError> {
     let Some((start, end)) = change.range else {
         return Ok(change.text);
     };
-    let lines = Lines::of_text(alloc, text.as_str())?;
+    let lines = match lines {
+        Some(lines) => lines,
+        None => Lines::of_text(alloc, text.as_str())?,
+    };
     let first = offset_at(text.as_str(), &lines, start, encoding);
     let past = offset_at(text.as_str(), &lines, end, encoding).max(first);
     with_part(alloc, text, first, past, change.text.as_str())
 }
 
-/// Returns a text with changes, one after the other.
+/// Returns a text, of which these are the lines, with changes, one after the other.
 pub fn with_changes(
     alloc: Global,
     text: String,
+    lines: Lines,
     changes: Vec<Change>,
     encoding: Encoding,
 ) -> Result<String, AllocError> {
     let mut text = text;
+    let mut lines = Some(lines);
     'changes: for change in changes {
-        text = with_change(alloc, text, change, encoding)?;
+        text = with_change(alloc, text, lines.take(), change, encoding)?;
     }
     Ok(text)
 }

@@ -70,11 +70,9 @@ fn has_long(starts: &[usize], len: usize) -> bool {
 fn marks_of(alloc: Global, bytes: &[u8]) -> Result<Vec<u64>, AllocError> {
     let mut marks = Vec::new(alloc);
     let mut units: u64 = 0;
-    'bytes: for index in 0..bytes.len() {
-        if index % STEP == 0 {
-            marks.push(units)?;
-        }
-        units = units.saturating_add(units_of(bytes[index], Encoding::Utf16));
+    for chunk in bytes.chunks(STEP) {
+        marks.push(units)?;
+        units = units.saturating_add(units_in(chunk));
     }
     Ok(marks)
 }
@@ -125,6 +123,9 @@ fn units_of(byte: u8, encoding: Encoding) -> u64
 
 /// Returns how many units of UTF-16 bytes have.
 fn units_in(bytes: &[u8]) -> u64 {
+    if bytes.is_ascii() {
+        return bytes.len() as u64;
+    }
     let mut units: u64 = 0;
     'bytes: for byte in bytes {
         units = units.saturating_add(units_of(*byte, Encoding::Utf16));

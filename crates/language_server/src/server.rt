@@ -322,9 +322,8 @@ impl Server {
             return Ok(with_published(None));
         };
         let Document { text, lines, index } = document;
-        drop(lines);
         drop(index);
-        let text = with_changes(alloc, text, changes, self.encoding)?;
+        let text = with_changes(alloc, text, lines, changes, self.encoding)?;
         self.store(alloc, language, uri, version, text)
     }
 

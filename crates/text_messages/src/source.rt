@@ -414,6 +414,9 @@ fn first_past(places: &[usize], last: usize) -> Option<usize> {
 /// Returns where the characters of a text begin that take two units of UTF-16.
 fn wide_of(alloc: Global, text: &str) -> Result<Vec<usize>, AllocError> {
     let mut wide = Vec::new(alloc);
+    if text.is_ascii() {
+        return Ok(wide);
+    }
     let bytes = text.as_bytes();
     'bytes: for index in 0..bytes.len() {
         if bytes[index] >= 0xf0 {

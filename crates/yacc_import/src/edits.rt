@@ -248,7 +248,7 @@ pub(crate) fn notes_of<'a>(
     names: &Names<'a>,
     levels: u64,
 ) -> Result<Vec<Note>, ImportError> {
-    let Some(fresh) = names.fresh() else {
+    let Some(fresh) = names.fresh(found.list.as_slice()) else {
         return Err(ImportError::Refused(Fault::TakenName, 0));
     };
     place_levels(text.as_bytes(), found)?;

@@ -123,7 +123,7 @@ pub(crate) fn marks_for(
     ensures made { IfOk result (λ v. v.items ≡ changed source.now 0 notes.now) }
     ensures fits { OnOk result (Fits source.now 0 notes.now) }
 {
-    let mut out = Vec::new(alloc);
+    let mut out = Vec::with_capacity(alloc, source.len())?;
     let mut at = 0;
     'notes: for note in notes {
         push_kept(&mut out, source, at, note.start)?;
@@ -138,10 +138,7 @@ pub(crate) fn marks_for(
 pub(crate) fn text_of(alloc: Global, marks: &[Mark]) -> Result<String, ImportError>
     ensures { IfOk result (λ t. string_bytes t ≡ bytes_of marks.now) }
 {
-    let mut bytes = Vec::new(alloc);
-    'marks: for mark in marks {
-        bytes.push(mark.byte)?;
-    }
+    let bytes = marks.iter().map(|mark| mark.byte).collect(alloc)?;
     match String::from_utf8(bytes) {
         Ok(text) => Ok(text),
         Err(_) => Err(ImportError::Refused(Fault::NotUtf8, 0)),

@@ -17,7 +17,7 @@ pub(crate) struct Names<'a> {
     aliases: IndexMap<&'a str, &'a str, NameHasher>,
     /// Characters by their codes, each as it is spelled first.
     characters: IndexMap<u8, &'a str>,
-    /// All names of the file.
+    /// All names of the file, where one of them has a dash; else none.
     names: IndexSet<&'a str, NameHasher>,
     /// Names of rules.
     heads: IndexSet<&'a str, NameHasher>,
@@ -51,7 +51,8 @@ fn code_of_quoted(raw: &str) -> Option<u8> {
 
 /// Returns whether a name is one of Bison's own tokens.
 fn is_predefined(name: &str) -> bool {
-    matches!(name, "error" | "YYEOF" | "YYerror" | "YYUNDEF")
+    matches!(name.as_bytes().first(), Some(b'e' | b'Y'))
+        && matches!(name, "error" | "YYEOF" | "YYerror" | "YYUNDEF")
 }
 
 /// Returns whether a name has a dash.
@@ -97,7 +98,8 @@ impl<'a> Names<'a> {
 
     /// Returns whether a token is a name that the profile spells as the file does.
     pub(crate) fn is_plain(&self, token: Token) -> bool {
-        matches!(token.kind, Kind::Name | Kind::Head) && !has_dash(self.raw(token))
+        matches!(token.kind, Kind::Name | Kind::Head)
+            && (self.dashed.is_empty() || !has_dash(self.raw(token)))
     }
 
     /// Returns whether a token has a precedence.
@@ -108,6 +110,9 @@ impl<'a> Names<'a> {
 
     /// Leaves out these levels of `%precedence`, a bit for each.
     pub(crate) fn unsettle(&mut self, levels: u64, parts: &[Part]) {
+        if levels == 0 {
+            return;
+        }
         for part in parts {
             if part.is_in_level() && levels & part.bit != 0 {
                 let key = self.key(part.token);
@@ -128,8 +133,8 @@ impl<'a> Names<'a> {
         Ok(())
     }
 
-    /// Takes the names and characters of a token.
-    fn take_name(&mut self, token: Token, role: Role) -> Result<(), ImportError> {
+    /// Takes what a token heads or declares, and a character.
+    fn take_token(&mut self, token: Token, role: Role) -> Result<(), ImportError> {
         let raw = self.raw(token);
         match role {
             Role::Leave(_) => return Ok(()),
@@ -144,12 +149,8 @@ impl<'a> Names<'a> {
             }
             _ => {}
         }
-        match token.kind {
-            Kind::Character => self.take_character(token)?,
-            Kind::Name | Kind::Head => {
-                self.names.insert(raw)?;
-            }
-            _ => {}
+        if token.kind == Kind::Character {
+            return self.take_character(token);
         }
         Ok(())
     }
@@ -164,7 +165,7 @@ impl<'a> Names<'a> {
                 let name = self.raw(of.token);
                 self.aliases.insert(alias, name)?;
             }
-            self.take_name(part.token, part.role)?;
+            self.take_token(part.token, part.role)?;
         }
         for part in parts {
             if part.is_in_level() {
@@ -183,7 +184,8 @@ impl<'a> Names<'a> {
     /// Takes a symbol, and declares it where the file does so by a precedence, or not at all.
     fn take_symbol(&mut self, token: Token) -> Result<(), ImportError> {
         let key = self.key(token);
-        let is_token = self.leveled.contains(&key) || is_predefined(key);
+        let has_level = !self.leveled.is_empty() && self.leveled.contains(&key);
+        let is_token = has_level || is_predefined(key);
         if !is_token || key.starts_with('"') || key.starts_with('\'') {
             return Ok(());
         }
@@ -211,15 +213,37 @@ impl<'a> Names<'a> {
         Ok(())
     }
 
-    /// Takes all names, and the spellings of those with dashes.
-    fn fill(&mut self, alloc: Global, parts: &[Part]) -> Result<(), ImportError> {
-        self.take_all(parts)?;
+    /// Returns whether a name of the file has a dash.
+    fn has_dashes(&self, parts: &[Part]) -> bool {
         for part in parts {
-            if !matches!(part.role, Role::Leave(_))
-                && matches!(part.token.kind, Kind::Name | Kind::Head)
-            {
+            if part.is_name() && has_dash(self.raw(part.token)) {
+                return true;
+            }
+        }
+        false
+    }
+
+    /// Takes all names, and the spellings of those with dashes.
+    fn take_names(&mut self, alloc: Global, parts: &[Part]) -> Result<(), ImportError> {
+        for part in parts {
+            if part.is_name() {
+                let raw = self.raw(part.token);
+                self.names.insert(raw)?;
+            }
+        }
+        for part in parts {
+            if part.is_name() {
                 self.take_dashed(alloc, part.token)?;
             }
+        }
+        Ok(())
+    }
+
+    /// Takes aliases, declarations and levels, and all names where one of them has a dash.
+    fn fill(&mut self, alloc: Global, parts: &[Part]) -> Result<(), ImportError> {
+        self.take_all(parts)?;
+        if self.has_dashes(parts) {
+            return self.take_names(alloc, parts);
         }
         Ok(())
     }
@@ -281,10 +305,20 @@ impl<'a> Names<'a> {
         with_underscores(alloc, key).map(Some)
     }
 
+    /// Returns whether a name of the file begins so.
+    fn has_beginning(&self, parts: &[Part], prefix: &str) -> bool {
+        for part in parts {
+            if part.is_name() && self.raw(part.token).starts_with(prefix) {
+                return true;
+            }
+        }
+        false
+    }
+
     /// Returns a beginning of names that no name of the file has; none where all are taken.
-    pub(crate) fn fresh(&self) -> Option<&'static str> {
+    pub(crate) fn fresh(&self, parts: &[Part]) -> Option<&'static str> {
         for prefix in ["mid_", "midrule_", "action_"] {
-            if !self.names.iter().any(|name| name.starts_with(prefix)) {
+            if !self.has_beginning(parts, prefix) {
                 return Some(prefix);
             }
         }

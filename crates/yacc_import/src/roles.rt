@@ -74,6 +74,11 @@ impl Part {
     pub(crate) fn is_in_level(&self) -> bool {
         matches!(self.role, Role::Level | Role::MovedLevel)
     }
+
+    /// Returns whether it is a name that isn't left out.
+    pub(crate) fn is_name(&self) -> bool {
+        matches!(self.token.kind, Kind::Name | Kind::Head) && !matches!(self.role, Role::Leave(_))
+    }
 }
 
 /// The parts of a file.
@@ -515,7 +520,7 @@ impl Roles<'_> {
         let bytes = self.text.as_bytes();
         let mut last = 0;
         for (at, token) in tokens.iter().enumerate() {
-            if line_end(bytes, last, token.start) < token.start {
+            if self.is_level_line && line_end(bytes, last, token.start) < token.start {
                 self.is_level_line = false;
             }
             last = token.start;
@@ -534,7 +539,7 @@ pub(crate) fn parts_of(alloc: Global, text: &str, tokens: &[Token]) -> Result<Pa
     let mut roles = Roles {
         text,
         found: Parts {
-            list: Vec::new(alloc),
+            list: Vec::with_capacity(alloc, tokens.len())?,
             last: None,
             midrules: 0,
             last_level: None,

@@ -190,11 +190,11 @@ impl Reading {
 
     /// Reads all tokens.
     fn read_all(&mut self, bytes: &[u8]) -> Result<(), ImportError> {
-        let mut past: usize = 0;
-        for (at, byte) in bytes.iter().enumerate() {
-            if at < past {
-                continue;
-            }
+        let mut at: usize = 0;
+        for _ in 0..bytes.len() {
+            let Some(byte) = bytes.get(at) else {
+                return Ok(());
+            };
             if self.sections == 2 {
                 return self.push(Kind::Epilogue, at, bytes.len());
             }
@@ -202,7 +202,7 @@ impl Reading {
             if kind != Kind::Gap {
                 self.push(kind, at, end)?;
             }
-            past = end;
+            at = end;
         }
         Ok(())
     }

@@ -128,7 +128,7 @@ fn outline_of(
     }
 }
 
-// Adds the tree of a line without errors, by its outline. Out of line, so that its loop has the registers.
+// Adds the tree of a line without errors, by its outline. It is not inlined into the loop over lines.
 #[inline(never)]
 fn write_faultless<W: Sink>(
     answers: &Answers<'_>,

@@ -23,8 +23,8 @@ const CAP: u16 = 1000;
 /// Writes, for each line, its errors and then its tree, if it has a value. It answers whether some line has an error.
 ///
 /// It reads the grammar and makes its parser, reads the repairs and then all lines, each input to its end and at most one
-/// byte more than 67,108,864; only then it writes, at least 65,536 bytes at once until the last. At most the number of bytes that
-/// `write` tells is out.
+/// byte more than 67,108,864; only then it writes, at least 65,536 bytes at once until the last. No more bytes are out than
+/// `write` returns.
 pub fn run<G: Source, L: Source, R: Source, W: Sink>(
     alloc: Global,
     grammar: &mut G,

@@ -10,19 +10,19 @@ use Rattle.lr_theory.specs.Canonical.{Present}
 use Rattle.lr_theory.specs.Graph.{Graph}
 use Rattle.lr_theory.specs.Itemset.{ItemSet, HasItem, HasLook, Closure, ClosureLook, Is, FitsGrammar}
 use Rattle.lr_theory.proofs.GraphLaws.{finished_law}
+use Rattle.state_table.specs.GraphViews.{edge_seen, edges_seen}
 use Rattle.state_table.specs.Graphs.{GraphValue, target_in, graph_of, AreInOrder, IsGraphValue, IsGraphOf, SymBefore}
 use Rattle.lrtable.specs.FinalStates.{AreClosures, AreFinal, pair_of_edge, edge_pairs_of}
 use Rattle.lrtable.specs.Pruning.{graph_of_states}
 use Rattle.vob.specs.Packed.{Contents}
 use Rattle.state_table.specs.declared.cores.CoreSet.{CoreSet}
 use Rattle.state_table.specs.declared.shared_sets.SharedSets.{SharedSets}
-use Rattle.lrtable.specs.declared.states.EdgeTo.{EdgeTo}
 use Rattle.lrtable.specs.declared.states.State.{State}
 use Rattle.state_table.specs.ItemRows.{Core, Ascends, IsCoreOf, map_of}
 use Rattle.state_table.specs.Meeting.{rows_in}
 use Rattle.state_table.specs.Sharing.{shared_core, PointIn, IsShared}
 use Rattle.state_table.specs.CoreViews.{item_of, core_of_set}
-use Rattle.lrtable.specs.StateViews.{edge_of_pair, edges_of, value_of}
+use Rattle.lrtable.specs.StateViews.{EdgeTo, edge_of_pair, edges_of, value_of}
 use Rattle.lrtable.specs.States.{Edge, AscendEdges, StateValue, edge_in, edge_of, state_at, no_state}
 use Rattle.state_table.proofs.EdgeLists.{found_at}
 use Rattle.lrtable.proofs.Exact.{dot_within}
@@ -173,17 +173,6 @@ module _ {S : Type 0} (number : S → ℕ) (xs : List (State S)) (k : ℕ) (x : 
   pub core_is : (state_at (map (value_of number) xs) k).core ≡ core_of_set number (get_or xs k x).core
   core_is = ap (λ (s : StateValue). s.core) state_is
 
-  pub edges_fit : (top : ℕ) (slice : List (EdgeTo S)) → slice ≡ (get_or xs k x).edges.items → All (λ e. e.1 ≤ top) (get_or (map edge_pairs_of (map (value_of number) xs)) k []) → All (λ e. e.1 ≤ top) (map pair_of_edge (edges_of number slice))
-  edges_fit top slice e h = subst (λ (l : List (Sym × ℕ)). All (λ e. e.1 ≤ top) l) (map_any edge_pairs_of (map (value_of number) xs) k no_state ∙ ap edge_pairs_of state_is ∙ ap (λ (l : List (EdgeTo S)). map pair_of_edge (edges_of number l)) (sym e)) h
-
-pub target_fits : {S : Type 0} (number : S → ℕ) (es : List (EdgeTo S)) (k top : ℕ) (x : EdgeTo S) → k < length es → All (λ e. e.1 ≤ top) (map pair_of_edge (edges_of number es)) → (get_or es k x).target ≤ top
-target_fits number es k top x lt h =
-    let n = length-map es (edge_of_pair number) in
-    let m = length-map (edges_of number es) pair_of_edge in
-    let e = edge_of_pair number x in
-    let is = get_or-map pair_of_edge (edges_of number es) k e (pair_of_edge e) (omega (arith, lt, n)) ∙ ap pair_of_edge (get_or-map (edge_of_pair number) es k x e lt) in
-    subst (λ (p : Sym × ℕ). p.1 ≤ top) is (h k (pair_of_edge e) (omega (arith, lt, n, m)))
-
 pub core_counts : {S : Type 0} (number : S → ℕ) (tokens : ℕ) (c : CoreSet S) → IsCoreOf tokens (core_of_set number c) → length c.looks.items ≡ length c.items.items
 core_counts number tokens c good = sym (length-map c.looks.items (λ (v : Contents). v.bits)) ∙ good.count ∙ length-map c.items.items (item_of number)
 
@@ -193,12 +182,14 @@ core_shared number tokens c s good e within = record { ascends = subst (λ (x : 
 pub mapped_next : {X Y Z : Type 0} (f : Y → Z) (h : X → Y) (xs : List X) (k : ℕ) (x : X) → k < length xs → map f (map h (take (k + 1) xs)) ≡ map f (map h (take k xs)) ++ f (h (get_or xs k x)) ∷ []
 mapped_next f h xs k x lt = ap (λ l. map f (map h l)) (take_more xs k x lt) ∙ ap (map f) (map_push h (take k xs) (get_or xs k x)) ∙ map_push f (map h (take k xs)) (h (get_or xs k x))
 
-pub targets_fit : (n top : ℕ) (es : List (Sym × ℕ)) → n ≤ top → All (λ e. e.1 < n) es → All (λ e. e.1 ≤ top) es
-targets_fit n top es le h = λ k d lt. (let b = h k d lt in omega (arith, b, le))
+-- what the first states have, and the next
+pub mapped_state : {S Z : Type 0} (f : StateValue → Z) (number : S → ℕ) (xs : List (State S)) (k : ℕ) → k < length xs →
+    map f (map (value_of number) (take (k + 1) xs)) ≡ map f (map (value_of number) (take k xs)) ++ f (state_at (map (value_of number) xs) k) ∷ []
+mapped_state f number [] k lt = absurd (omega (arith, lt))
+mapped_state f number (x ∷ xs) k lt = mapped_next f (value_of number) (x ∷ xs) k x lt ∙
+    ap (λ (s : StateValue). map f (map (value_of number) (take k (x ∷ xs))) ++ f s ∷ []) (sym (get_or-map (value_of number) (x ∷ xs) k x no_state lt))
 
--- the cores of the first states and of the next
-pub mapped_core : {S : Type 0} (number : S → ℕ) (xs : List (State S)) (k : ℕ) → k < length xs →
-    map (λ (s : StateValue). map_of s.core) (map (value_of number) (take (k + 1) xs)) ≡ map (λ (s : StateValue). map_of s.core) (map (value_of number) (take k xs)) ++ map_of (state_at (map (value_of number) xs) k).core ∷ []
-mapped_core number [] k lt = absurd (omega (arith, lt))
-mapped_core number (x ∷ xs) k lt = mapped_next (λ (s : StateValue). map_of s.core) (value_of number) (x ∷ xs) k x lt ∙
-    ap (λ (s : StateValue). map (λ (s : StateValue). map_of s.core) (map (value_of number) (take k (x ∷ xs))) ++ map_of s.core ∷ []) (sym (get_or-map (value_of number) (x ∷ xs) k x no_state lt))
+-- edges as a graph has them
+pub pairs_seen : {S : Type 0} (number : S → ℕ) (es : List (EdgeTo S)) → edges_seen number es ≡ map pair_of_edge (edges_of number es)
+pairs_seen number [] = refl
+pairs_seen number (e ∷ es) = ap (λ (l : List (Sym × ℕ)). edge_seen number e ∷ l) (pairs_seen number es)

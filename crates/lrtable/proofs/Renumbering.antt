@@ -1,19 +1,7 @@
 -- Edges to new numbers in a state, and the states taken out in order.
 use Rattle.std.proofs.Common.{◌≡◌, ℕ, zero, suc, ◌+◌, ◌<◌, ◌≤◌, List, [], ◌∷◌, ◌++◌, length, get_or, map, take, drop, refl, ap, ◌∙◌, arith}
 use Rattle.std.specs.List.{AllPairs}
-use Rattle.lrtable.specs.Pruning.{renumbered}
-use Rattle.lrtable.specs.States.{Edge, StateValue, state_at}
-use Rattle.lrtable.specs.StateViews.{edge_of_pair, edges_of}
-use Rattle.lrtable.specs.declared.states.EdgeTo.{EdgeTo}
-
--- an edge to the new number of its target
-abbrev pub edge_to : {S : Type 0} → List ℕ → EdgeTo S → EdgeTo S
-edge_to numbers e = record { symbol = e.symbol; target = get_or numbers e.target 0 }
-
--- as contracts see them
-pub edges_to : {S : Type 0} (number : S → ℕ) (numbers : List ℕ) (es : List (EdgeTo S)) → edges_of number (map (edge_to numbers) es) ≡ map (renumbered numbers) (edges_of number es)
-edges_to number numbers [] = refl
-edges_to number numbers (e ∷ es) = ap (λ (l : List Edge). renumbered numbers (edge_of_pair number e) ∷ l) (edges_to number numbers es)
+use Rattle.lrtable.specs.States.{StateValue, state_at}
 
 -- what is read where the first i elements were changed
 pub not_yet : {X : Type 0} (f : X → X) (xs ys : List X) (i : ℕ) (d : X) → i < length xs → ys ≡ map f (take i xs) ++ drop i xs → get_or ys i d ≡ get_or xs i d

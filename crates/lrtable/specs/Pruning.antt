@@ -49,6 +49,7 @@ pub record AreMarking (states : List StateValue) (marked : List Bool) (waiting :
 pub record AreNumbered (flags : List Bool) (count : ℕ) (kept numbers : List ℕ) : Type 0 where
   pub size : length numbers ≡ count
   pub few : length kept ≤ count
+  pub low : (s : ℕ) → get_or numbers s 0 ≤ length kept
   pub ascends : AllPairs (λ j k. j < k) kept
   pub marked : (k : ℕ) → Contains kept k → (k < count) × IsTrue (is_set flags k)
   pub number : (s : ℕ) → s < count → IsTrue (is_set flags s) → (get_or numbers s 0 < length kept) × (get_or kept (get_or numbers s 0) 0 ≡ s)

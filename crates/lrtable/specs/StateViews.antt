@@ -2,14 +2,18 @@
 use Rattle.std.specs.Prelude.{ℕ, List, map}
 use Rattle.std.specs.declared.alloc.Global.{Global}
 use Rattle.std.specs.declared.vec.Vec.{Vec}
+use Rattle.cfg_base.specs.declared.symbol.Symbol.{Symbol}
 use Rattle.cfg_numbered.specs.Symbols.{sym_of}
-use Rattle.lrtable.specs.declared.states.EdgeTo.{EdgeTo}
 use Rattle.lrtable.specs.declared.states.State.{State}
 use Rattle.lrtable.specs.States.{Edge, StateValue}
 use Rattle.state_table.specs.CoreViews.{core_of_set}
+use Rattle.state_table.specs.declared.stidx.StIdx.{StIdx}
+
+abbrev pub EdgeTo : Type 0 → Type 0
+EdgeTo S = Symbol S × StIdx S
 
 abbrev pub edge_of_pair : {S : Type 0} → (S → ℕ) → EdgeTo S → Edge
-edge_of_pair number e = record { symbol = sym_of number e.symbol; target = e.target }
+edge_of_pair number e = record { symbol = sym_of number e.0; target = number e.1.0 }
 
 abbrev pub edges_of : {S : Type 0} → (S → ℕ) → List (EdgeTo S) → List Edge
 edges_of number edges = map (edge_of_pair number) edges

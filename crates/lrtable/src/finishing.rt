@@ -7,14 +7,14 @@ ghost use Rattle.lr_theory.specs.Sizes.{StaysWithin};
 ghost use Rattle.lrtable.specs.Builders.{AreClear};
 ghost use Rattle.lrtable.specs.Closers.{IsReady};
 ghost use Rattle.lrtable.specs.Closes.{AreFronts};
-ghost use Rattle.lrtable.specs.FinalStates.{AreClosures, AreFinal, pair_of_edge, edge_pairs_of};
+ghost use Rattle.lrtable.specs.FinalStates.{AreClosures, AreFinal, edge_pairs_of};
 ghost use Rattle.state_table.specs.Graphs.{IsGraphOf};
 ghost use Rattle.state_table.specs.GraphViews.{edges_seen};
 ghost use Rattle.lrtable.specs.Handling.{TooManyStand};
 ghost use Rattle.state_table.specs.ItemRows.{IsCoreOf, map_of, FitsCore};
 ghost use Rattle.lrtable.specs.States.{state_at};
 ghost use Rattle.state_table.specs.CoreViews.{core_of_set};
-ghost use Rattle.lrtable.specs.StateViews.{edges_of, value_of};
+ghost use Rattle.lrtable.specs.StateViews.{value_of};
 ghost use Rattle.lrtable.specs.declared.states.BuildError.TheVariants as faults;
 
 use crate::capacities::rules_behind;
@@ -26,83 +26,51 @@ use crate::pager;
 use crate::pager::Buffers;
 use crate::states::{BuildError, EdgeTo, State};
 use cfg_base::index::IndexStorage;
-use cfg_base::symbol::Symbol;
 use cfg_numbered::yacc::NumberedGrammar;
 use cfg_sets::YaccFirsts;
 use state_table::cores::CoreSet;
 use state_table::itemset::{Itemset, of_shared};
 use state_table::shared_sets::SharedSets;
 use state_table::stategraph::{StateGraph, of_lists};
-use state_table::stidx::StIdx;
 use std::alloc::{AllocError, Global};
 use std::mem;
 
-/// Returns the edges of a state with the indices of their targets.
-fn edge_list<S: IndexStorage>(
-    alloc: Global,
-    edges: &[EdgeTo<S>],
-) -> Result<Vec<(Symbol<S>, StIdx<S>)>, AllocError>
-    requires { All (λ e. e.1 ≤ S.MAX) (map pair_of_edge (edges_of S.number edges.now)) }
-    ensures { IfOk result (λ v. edges_seen S.number v.items ≡ map pair_of_edge (edges_of S.number edges.now)) }
-{
-    let mut list = Vec::with_capacity(alloc, edges.len())?;
-    'edges: for i in 0..edges.len() {
-        let target = StIdx(S::from_usize(edges[i].target).unwrap());
-        list.push((edges[i].symbol, target))?;
-    }
-    Ok(list)
-}
-
-/// Returns the edges of each state.
-fn edge_lists<S: IndexStorage>(
-    alloc: Global,
-    states: &[State<S>],
-) -> Result<Vec<Vec<(Symbol<S>, StIdx<S>)>>, AllocError>
-    requires { (s : ℕ) → All (λ e. e.1 ≤ S.MAX) (get_or (map edge_pairs_of (map (value_of S.number) states.now)) s []) }
-    ensures { IfOk result (λ v. map (λ l. edges_seen S.number l.items) v.items ≡ map edge_pairs_of (map (value_of S.number) states.now)) }
-{
-    let mut lists = Vec::with_capacity(alloc, states.len())?;
-    'states: for number in 0..states.len() {
-        lists.push(edge_list(alloc, states[number].edges.as_slice())?)?;
-    }
-    Ok(lists)
-}
-
-/// Takes the core of a state out.
-fn take_core<S: IndexStorage>(
+/// Takes a state out.
+fn take_state<S: IndexStorage>(
     alloc: Global,
     states: &mut Vec<State<S>>,
     number: usize,
-) -> CoreSet<S>
+) -> State<S>
     requires { number < length states.old.items }
-    ensures core { core_of_set S.number result ≡ (state_at (map (value_of S.number) states.old.items) number).core }
+    ensures state { value_of S.number result ≡ state_at (map (value_of S.number) states.old.items) number }
     ensures left { (r : ℕ) → (r ≡ number → ⊥) → state_at (map (value_of S.number) states.new.items) r ≡ state_at (map (value_of S.number) states.old.items) r }
     ensures count { length states.new.items ≡ length states.old.items }
 {
-    let state = mem::replace(&mut states[number], State::empty(alloc));
-    let State {
-        core,
-        edges: _,
-        todo: _,
-    } = state;
-    core
+    mem::replace(&mut states[number], State::empty(alloc))
 }
 
-/// Returns the cores of the states, taken out, as item sets.
-fn core_sets<S: IndexStorage>(
+/// Returns the cores of the states as item sets, and the edges of each, taken out.
+fn take_parts<S: IndexStorage>(
     alloc: Global,
     states: &mut Vec<State<S>>,
-) -> Result<Vec<Itemset<S>>, AllocError>
+) -> Result<(Vec<Itemset<S>>, Vec<Vec<EdgeTo<S>>>), AllocError>
     requires { (tokens : ℕ) × ((s : ℕ) → s < length states.old.items → IsCoreOf tokens (state_at (map (value_of S.number) states.old.items) s).core) }
-    ensures { IfOk result (λ v. v.items ≡ map (λ s. map_of s.core) (map (value_of S.number) states.old.items)) }
+    ensures cores { IfOk result (λ v. v.0.items ≡ map (λ s. map_of s.core) (map (value_of S.number) states.old.items)) }
+    ensures edges { IfOk result (λ v. map (λ l. edges_seen S.number l.items) v.1.items ≡ map edge_pairs_of (map (value_of S.number) states.old.items)) }
 {
     let mut sets = Vec::with_capacity(alloc, states.len())?;
+    let mut lists = Vec::with_capacity(alloc, states.len())?;
     'states: for number in 0..states.len() {
-        let core = take_core(alloc, states, number);
+        let State {
+            core,
+            edges,
+            todo: _,
+        } = take_state(alloc, states, number);
+        lists.push(edges)?;
         let set = SharedSets::from_core(alloc, core)?;
         sets.push(of_shared(set))?;
     }
-    Ok(sets)
+    Ok((sets, lists))
 }
 
 /// Returns the closures of the states.
@@ -141,8 +109,7 @@ fn from_states<S: IndexStorage>(
 {
     grm.start_prod();
     let closed = closed_sets(alloc, grm, closer, states.as_slice())?;
-    let edges = edge_lists(alloc, states.as_slice())?;
-    let cores = core_sets(alloc, states)?;
+    let (cores, edges) = take_parts(alloc, states)?;
     Ok(of_lists(cores, closed, edges))
 }
 

@@ -1,14 +1,15 @@
 //! Selects the states that edges reach from the first, in order and with new numbers.
 
-ghost use Rattle.std.specs.Prelude.{◌≡◌, ℕ, ◌+◌, ◌<◌, ◌↔◌, true, IsTrue, length, map, slice_set, IfOk, OnOk};
+ghost use Rattle.std.specs.Prelude.{◌≡◌, ℕ, ◌+◌, ◌<◌, ◌≤◌, ◌↔◌, true, IsTrue, length, map, get_or, slice_set, IfOk, OnOk};
 ghost use Rattle.std.specs.List.{Contains, AllPairs};
 ghost use Rattle.vob.specs.Sets.{is_set};
 ghost use Rattle.lrtable.specs.Pruning.{AreLinked, Flagged, IsLed, IsTargetOf, Marks, AreNumbered, IsCut, renumbered, renumbered_state};
 ghost use Rattle.lrtable.specs.States.{Edge, state_at};
-ghost use Rattle.lrtable.specs.StateViews.{edges_of, value_of};
+ghost use Rattle.lrtable.specs.StateViews.{edge_of_pair, edges_of, value_of};
 
 use crate::states::{EdgeTo, State};
 use cfg_base::index::IndexStorage;
+use state_table::stidx::StIdx;
 use std::alloc::{AllocError, Global};
 use std::mem;
 use vob::Vob;
@@ -38,7 +39,7 @@ fn mark_targets<S: IndexStorage>(
     ensures { OnOk result (Marks (IsTargetOf (edges_of S.number edges.now)) marked.old.bits marked.new.bits waiting.old.items waiting.new.items) }
 {
     'edges: for edge in edges {
-        mark(marked, waiting, edge.target)?;
+        mark(marked, waiting, edge.1.0.to_usize())?;
     }
     Ok(())
 }
@@ -57,7 +58,7 @@ fn flag_targets<S: IndexStorage>(edges: &[EdgeTo<S>], flags: &mut Vec<bool>)
     ensures { Flagged (IsTargetOf (edges_of S.number edges.now)) flags.old.items flags.new.items }
 {
     'edges: for edge in edges {
-        flag(flags, edge.target);
+        flag(flags, edge.1.0.to_usize());
     }
 }
 
@@ -133,14 +134,26 @@ fn number_all(alloc: Global, marked: &Vob) -> Result<(Vec<usize>, Vec<usize>), A
     Ok((kept, numbers))
 }
 
+/// Returns an edge with the new number of its target.
+fn renumbered_edge<S: IndexStorage>(edge: EdgeTo<S>, numbers: &[usize]) -> EdgeTo<S>
+    requires target { S.number edge.1.0 < length numbers.now }
+    requires low { (k : ℕ) → get_or numbers.now k 0 ≤ S.MAX }
+    ensures { edge_of_pair S.number result ≡ renumbered numbers.now (edge_of_pair S.number edge) }
+{
+    let (symbol, target) = edge;
+    let number = numbers[target.0.to_usize()];
+    (symbol, StIdx(S::from_usize(number).unwrap()))
+}
+
 /// Gives edges the new numbers of their targets.
 fn renumber<S: IndexStorage>(edges: &mut Vec<EdgeTo<S>>, numbers: &[usize])
-    requires { (e : Edge) → Contains (edges_of S.number edges.old.items) e → e.target < length numbers.now }
+    requires targets { (e : Edge) → Contains (edges_of S.number edges.old.items) e → e.target < length numbers.now }
+    requires low { (k : ℕ) → get_or numbers.now k 0 ≤ S.MAX }
     ensures { edges_of S.number edges.new.items ≡ map (renumbered numbers.now) (edges_of S.number edges.old.items) }
 {
     'each: for i in 0..edges.len() {
-        let edge = &mut edges[i];
-        edge.target = numbers[edge.target];
+        let edge = edges[i];
+        edges[i] = renumbered_edge(edge, numbers);
     }
 }
 
@@ -153,6 +166,7 @@ fn take_out<S: IndexStorage>(
 ) -> State<S>
     requires number { number < length states.old.items }
     requires targets { (e : Edge) → Contains (state_at (map (value_of S.number) states.old.items) number).edges e → e.target < length numbers.now }
+    requires low { (k : ℕ) → get_or numbers.now k 0 ≤ S.MAX }
     ensures state { value_of S.number result ≡ renumbered_state numbers.now (state_at (map (value_of S.number) states.old.items) number) }
     ensures left { (r : ℕ) → (r ≡ number → ⊥) → state_at (map (value_of S.number) states.new.items) r ≡ state_at (map (value_of S.number) states.old.items) r }
     ensures count { length states.new.items ≡ length states.old.items }
@@ -172,6 +186,7 @@ fn take_all<S: IndexStorage>(
     requires ascends { AllPairs (λ j k. j < k) kept.now }
     requires within { (k : ℕ) → Contains kept.now k → k < length states.old.items }
     requires targets { (k : ℕ) (e : Edge) → Contains kept.now k → Contains (state_at (map (value_of S.number) states.old.items) k).edges e → e.target < length numbers.now }
+    requires low { (k : ℕ) → get_or numbers.now k 0 ≤ S.MAX }
     ensures { IfOk result (λ v. map (value_of S.number) v.items ≡ map (λ k. renumbered_state numbers.now (state_at (map (value_of S.number) states.old.items) k)) kept.now) }
 {
     let mut new = Vec::new(alloc);
@@ -190,6 +205,7 @@ fn cut<S: IndexStorage>(
 ) -> Result<Vec<State<S>>, AllocError>
     requires some { 0 < length states.old.items }
     requires linked { AreLinked (map (value_of S.number) states.old.items) }
+    requires few { length states.old.items ≤ S.MAX }
     ensures { IfOk result (λ v. IsCut (map (value_of S.number) states.old.items) (map (value_of S.number) v.items)) }
 {
     let marked = marks(alloc, states.as_slice())?;
@@ -212,6 +228,7 @@ pub(crate) fn prune<S: IndexStorage>(
 ) -> Result<Vec<State<S>>, AllocError>
     requires some { 0 < length states.old.items }
     requires linked { AreLinked (map (value_of S.number) states.old.items) }
+    requires few { length states.old.items ≤ S.MAX }
     ensures { IfOk result (λ v. IsCut (map (value_of S.number) states.old.items) (map (value_of S.number) v.items)) }
 {
     let led = are_led(alloc, states.as_slice())?;

@@ -221,12 +221,13 @@ fn retake_edge<S: IndexStorage>(
     ensures goes { OnOk result (GoesOn S.number builder.old builder.new) }
     ensures states { OnOk result (AreStates grm.now.grammar.tokens (states_in S.number builder.new)) }
     ensures items { OnOk result ((k : ℕ) → k < length builder.old.states.items → (state_at (states_in S.number builder.new) k).core.items ≡ (state_at (states_in S.number builder.old) k).core.items) }
-    ensures edges { OnOk result ((Y : Sym) → same_symbol Y (sym_of S.number edge.symbol) ≡ false → edge_of (states_in S.number builder.new) builder.old.from Y ≡ edge_of (states_in S.number builder.old) builder.old.from Y) }
-    ensures handled { OnOk result ((before : Building) → core_of before.graph builder.old.from ≡ map_of (core_noted S.number was.now rows.now) → AreHandled grm.now.grammar before builder.old.from (rank grm.now.grammar (sym_of S.number edge.symbol)) (states_in S.number builder.old) → AreHandled grm.now.grammar before builder.old.from (rank grm.now.grammar (sym_of S.number edge.symbol) + 1) (states_in S.number builder.new)) }
-    ensures many { IsErrOf result faults.TooManyStates → (before : Building) → IsNextTaken grm.now.grammar before builder.old.from → core_of before.graph builder.old.from ≡ map_of (core_noted S.number was.now rows.now) → AreHandled grm.now.grammar before builder.old.from (rank grm.now.grammar (sym_of S.number edge.symbol)) (states_in S.number builder.old) → TooManyStand grm.now.grammar S.MAX }
+    ensures edges { OnOk result ((Y : Sym) → same_symbol Y (sym_of S.number edge.0) ≡ false → edge_of (states_in S.number builder.new) builder.old.from Y ≡ edge_of (states_in S.number builder.old) builder.old.from Y) }
+    ensures handled { OnOk result ((before : Building) → core_of before.graph builder.old.from ≡ map_of (core_noted S.number was.now rows.now) → AreHandled grm.now.grammar before builder.old.from (rank grm.now.grammar (sym_of S.number edge.0)) (states_in S.number builder.old) → AreHandled grm.now.grammar before builder.old.from (rank grm.now.grammar (sym_of S.number edge.0) + 1) (states_in S.number builder.new)) }
+    ensures many { IsErrOf result faults.TooManyStates → (before : Building) → IsNextTaken grm.now.grammar before builder.old.from → core_of before.graph builder.old.from ≡ map_of (core_noted S.number was.now rows.now) → AreHandled grm.now.grammar before builder.old.from (rank grm.now.grammar (sym_of S.number edge.0)) (states_in S.number builder.old) → TooManyStand grm.now.grammar S.MAX }
 {
     grm.start_prod();
-    let target = edge.target;
+    let (symbol, target) = edge;
+    let target = target.0.to_usize();
     if stays(
         grm,
         builder.states.as_slice(),
@@ -239,7 +240,7 @@ fn retake_edge<S: IndexStorage>(
     }
     let items = builder.states[target].core.items.as_slice();
     let set = goto_of_items(alloc, grm, was, rows, items)?;
-    place(alloc, builder, edge.symbol, set.as_slice(), rows)?;
+    place(alloc, builder, symbol, set.as_slice(), rows)?;
     Ok(())
 }
 

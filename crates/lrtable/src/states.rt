@@ -20,17 +20,14 @@ use crate::state_lists::{numbers_at, put_number};
 use crate::weak_compatibility::{hold_all, weakly_compatible};
 use cfg_base::index::IndexStorage;
 use cfg_base::symbol::Symbol;
-use state_table::cores::{CoreSet, put_in};
+use state_table::cores::CoreSet;
 use state_table::stategraph::same_symbols;
+use state_table::stidx::StIdx;
 use std::alloc::{AllocError, AllocFailed, Global};
 use vob::Vob;
 
-/// An edge on a symbol.
-#[derive(Clone, Copy)]
-pub(crate) struct EdgeTo<S> {
-    pub symbol: Symbol<S>,
-    pub target: usize,
-}
+/// An edge: its symbol and its target.
+pub(crate) type EdgeTo<S> = (Symbol<S>, StIdx<S>);
 
 /// A state of a building.
 #[derive(Drop)]
@@ -125,7 +122,7 @@ fn edge_index<S: IndexStorage>(edges: &[EdgeTo<S>], symbol: Symbol<S>) -> usize
     ensures stop { (d : Edge) → result < length edges.now → SymBefore (get_or (edges_of S.number edges.now) result d).symbol (sym_of S.number symbol) → ⊥ }
 {
     'each: for i in 0..edges.len() {
-        if !comes_before(edges[i].symbol, symbol) {
+        if !comes_before(edges[i].0, symbol) {
             return i;
         }
     }
@@ -140,7 +137,7 @@ fn is_on<S: IndexStorage>(edges: &[EdgeTo<S>], index: usize, symbol: Symbol<S>) 
     if index >= edges.len() {
         return false;
     }
-    same_symbols(edges[index].symbol, symbol)
+    same_symbols(edges[index].0, symbol)
 }
 
 /// Returns whether all edges come before a symbol, as they do where the last does.
@@ -152,7 +149,7 @@ fn all_before<S: IndexStorage>(edges: &[EdgeTo<S>], symbol: Symbol<S>) -> bool
     if count == 0 {
         return true;
     }
-    comes_before(edges[count - 1].symbol, symbol)
+    comes_before(edges[count - 1].0, symbol)
 }
 
 /// Returns the index of the first edge whose symbol doesn't come before this one, which is looked for at the end, and
@@ -169,34 +166,43 @@ fn edge_place<S: IndexStorage>(edges: &[EdgeTo<S>], symbol: Symbol<S>) -> usize
     edge_index(edges, symbol)
 }
 
-/// Puts an edge in the place of that on its symbol, or before those on later symbols.
-fn put_among<S: IndexStorage>(edges: &mut Vec<EdgeTo<S>>, edge: EdgeTo<S>) -> Result<(), AllocError>
+/// Puts an edge in the place of that on its symbol, which may be at `near`, or before those on later symbols.
+#[inline(never)]
+fn put_among<S: IndexStorage>(
+    edges: &mut Vec<EdgeTo<S>>,
+    near: usize,
+    edge: EdgeTo<S>,
+) -> Result<(), AllocError>
     requires { AscendEdges (edges_of S.number edges.old.items) }
-    ensures { OnOk result (IsPut (edges_of S.number edges.old.items) (sym_of S.number edge.symbol) edge.target (edges_of S.number edges.new.items)) }
+    ensures { OnOk result (IsPut (edges_of S.number edges.old.items) (sym_of S.number edge.0) (S.number edge.1.0) (edges_of S.number edges.new.items)) }
 {
-    let index = edge_place(edges.as_slice(), edge.symbol);
-    if is_on(edges.as_slice(), index, edge.symbol) {
+    if is_on(edges.as_slice(), near, edge.0) {
+        edges[near] = edge;
+        return Ok(());
+    }
+    let index = edge_place(edges.as_slice(), edge.0);
+    if is_on(edges.as_slice(), index, edge.0) {
         edges[index] = edge;
         return Ok(());
     }
-    put_in(edges, index, edge)?;
+    edges.insert(index, edge)?;
     Ok(())
 }
 
-/// Puts an edge in the place of that on its symbol, which may be at `near`, or before those on later symbols.
+/// Puts an edge behind those on earlier symbols, as `put_among` does; mostly it is the last.
+#[inline(always)]
 fn put_edge<S: IndexStorage>(
     edges: &mut Vec<EdgeTo<S>>,
     near: usize,
     edge: EdgeTo<S>,
 ) -> Result<(), AllocError>
     requires { AscendEdges (edges_of S.number edges.old.items) }
-    ensures { OnOk result (IsPut (edges_of S.number edges.old.items) (sym_of S.number edge.symbol) edge.target (edges_of S.number edges.new.items)) }
+    ensures { OnOk result (IsPut (edges_of S.number edges.old.items) (sym_of S.number edge.0) (S.number edge.1.0) (edges_of S.number edges.new.items)) }
 {
-    if is_on(edges.as_slice(), near, edge.symbol) {
-        edges[near] = edge;
-        return Ok(());
+    if !all_before(edges.as_slice(), edge.0) {
+        return put_among(edges, near, edge);
     }
-    put_among(edges, edge)?;
+    edges.push(edge)?;
     Ok(())
 }
 
@@ -272,6 +278,7 @@ fn grow<S: IndexStorage>(
 }
 
 /// Puts an edge to the state `target` with those of the state `number`; one on its symbol may be at `near`.
+#[inline(never)]
 fn link<S: IndexStorage>(
     states: &mut Vec<State<S>>,
     number: usize,
@@ -280,11 +287,13 @@ fn link<S: IndexStorage>(
     target: usize,
 ) -> Result<(), AllocError>
     requires number { number < length states.old.items }
+    requires target { target ≤ S.MAX }
     requires ascends { AscendEdges (state_at (map (value_of S.number) states.old.items) number).edges }
     ensures { OnOk result (IsLinked (map (value_of S.number) states.old.items) number (sym_of S.number symbol) target (map (value_of S.number) states.new.items)) }
 {
     let state = &mut states[number];
-    put_edge(&mut state.edges, near, EdgeTo { symbol, target })?;
+    let target = StIdx(S::from_usize(target).unwrap());
+    put_edge(&mut state.edges, near, (symbol, target))?;
     Ok(())
 }
 
@@ -350,6 +359,7 @@ fn push_state<S: IndexStorage>(
 }
 
 /// Makes the goto set of a symbol a state, and puts it last in the list of its first item.
+#[inline(never)]
 fn add<S: IndexStorage>(
     alloc: Global,
     builder: &mut Builder<S>,

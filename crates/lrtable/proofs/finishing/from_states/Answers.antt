@@ -1,5 +1,4 @@
 use Rattle.std.proofs.Common.{ℕ, ◌<◌, ◌≤◌, List, [], length, get_or, map, refl, sym, ap, ◌∙◌, subst, arith}
-use Rattle.std.specs.Prelude.{All}
 use Rattle.std.proofs.lemmas.List.{length-map}
 use Rattle.lr_theory.specs.Itemset.{FitsGrammar}
 use Rattle.lrtable.specs.FinalStates.{AreClosures, edge_pairs_of}
@@ -9,11 +8,11 @@ use Rattle.state_table.specs.ItemRows.{map_of, FitsCore}
 use Rattle.lrtable.specs.States.{StateValue, state_at}
 use Rattle.lrtable.specs.StateViews.{value_of}
 use Rattle.lrtable.specs.declared.states.State.{State}
-use Rattle.lrtable.proofs.FinalStates.{final_targets, final_fits, final_graph, final_value, targets_fit}
+use Rattle.lrtable.proofs.FinalStates.{final_fits, final_graph, final_value}
 use Rattle.lrtable.proofs.finishing.from_states.Goals as goal
 
-pub core_sets-requires : goal.core_sets-requires
-core_sets-requires g c =
+pub take_parts-requires : goal.take_parts-requires
+take_parts-requires g c =
     let n = length-map c.args.states.now.items (value_of g.S.IndexStorage.number) in
     (c.args.grm.now.grammar.tokens, λ s lt. (c.requires.ready.cores s (omega (arith, lt, n))).good)
 
@@ -30,31 +29,23 @@ closed_sets-requires-clause-dots g c =
     subst (λ (l : List (State g.row.S.Denot)). (s : ℕ) → s < length l → FitsGrammar c.args.grm.now.grammar (map_of (state_at (map (value_of number) l) s).core)) (sym c.as_slice.ensures.value)
     (λ s lt. final_fits c.args.grm.now.grammar c.start_prod.ensures.well_formed (map (value_of number) c.args.states.now.items) c.requires.ready s (omega (arith, lt, n)))
 
-pub edge_lists-requires : goal.edge_lists-requires
-edge_lists-requires g c =
-    let number = g.S.IndexStorage.number in
-    let n = length-map c.args.states.now.items (value_of number) in
-    let few = c.requires.few in
-    subst (λ (l : List (State g.row.S.Denot)). (s : ℕ) → All (λ e. e.1 ≤ g.S.IndexStorage.MAX) (get_or (map edge_pairs_of (map (value_of number) l)) s [])) (sym c.as_slice-2.ensures.value)
-    (λ s. targets_fit (length (map (value_of number) c.args.states.now.items)) g.S.IndexStorage.MAX _ (omega (arith, n, few)) (final_targets c.args.grm.now.grammar (map (value_of number) c.args.states.now.items) c.requires.ready s))
-
 pub of_lists-requires : goal.of_lists-requires
 of_lists-requires g c =
     let number = g.S.IndexStorage.number in
     let n = length-map c.args.states.now.items (value_of number) in
     let few = c.requires.few in
-    final_value c.args.grm.now.grammar c.start_prod.ensures.well_formed g.S.IndexStorage.MAX (map (value_of number) c.args.states.now.items) (graph_seen number c.in_ok-cores.cores.items c.in_ok-closed.closed.items c.in_ok-edges.edges.items) (omega (arith, n, few)) c.requires.ready c.in_ok-cores.ensures refl (c.in_ok-edges.ensures ∙ ap (λ (l : List (State g.row.S.Denot)). map edge_pairs_of (map (value_of number) l)) c.as_slice-2.ensures.value)
-    (subst (λ l. AreClosures c.args.grm.now.grammar l c.in_ok-closed.closed.items) (sym c.in_ok-cores.ensures) (subst (λ (l : List (State g.row.S.Denot)). AreClosures c.args.grm.now.grammar (map (λ (s : StateValue). map_of s.core) (map (value_of number) l)) c.in_ok-closed.closed.items) c.as_slice.ensures.value c.in_ok-closed.ensures))
+    final_value c.args.grm.now.grammar c.start_prod.ensures.well_formed g.S.IndexStorage.MAX (map (value_of number) c.args.states.now.items) (graph_seen number c.in_ok-cores.cores.items c.in_ok-closed.closed.items c.in_ok-cores.edges.items) (omega (arith, n, few)) c.requires.ready c.in_ok-cores.ensures.cores refl c.in_ok-cores.ensures.edges
+    (subst (λ l. AreClosures c.args.grm.now.grammar l c.in_ok-closed.closed.items) (sym c.in_ok-cores.ensures.cores) (subst (λ (l : List (State g.row.S.Denot)). AreClosures c.args.grm.now.grammar (map (λ (s : StateValue). map_of s.core) (map (value_of number) l)) c.in_ok-closed.closed.items) c.as_slice.ensures.value c.in_ok-closed.ensures))
 
 pub returns-clause-graph : goal.returns-clause-graph
 returns-clause-graph g c =
     let number = g.S.IndexStorage.number in
     let G = c.args.grm.now.grammar in
     subst (IsGraphOf G) (sym c.of_lists.ensures)
-    (final_graph G c.start_prod.ensures.well_formed (map (value_of number) c.args.states.now.items) (graph_seen number c.in_ok-cores.cores.items c.in_ok-closed.closed.items c.in_ok-edges.edges.items) c.requires.ready c.in_ok-cores.ensures refl (c.in_ok-edges.ensures ∙ ap (λ (l : List (State g.row.S.Denot)). map edge_pairs_of (map (value_of number) l)) c.as_slice-2.ensures.value)
-    (subst (λ l. AreClosures G l c.in_ok-closed.closed.items) (sym c.in_ok-cores.ensures) (subst (λ (l : List (State g.row.S.Denot)). AreClosures c.args.grm.now.grammar (map (λ (s : StateValue). map_of s.core) (map (value_of number) l)) c.in_ok-closed.closed.items) c.as_slice.ensures.value c.in_ok-closed.ensures)))
+    (final_graph G c.start_prod.ensures.well_formed (map (value_of number) c.args.states.now.items) (graph_seen number c.in_ok-cores.cores.items c.in_ok-closed.closed.items c.in_ok-cores.edges.items) c.requires.ready c.in_ok-cores.ensures.cores refl c.in_ok-cores.ensures.edges
+    (subst (λ l. AreClosures G l c.in_ok-closed.closed.items) (sym c.in_ok-cores.ensures.cores) (subst (λ (l : List (State g.row.S.Denot)). AreClosures c.args.grm.now.grammar (map (λ (s : StateValue). map_of s.core) (map (value_of number) l)) c.in_ok-closed.closed.items) c.as_slice.ensures.value c.in_ok-closed.ensures)))
 
 pub returns-clause-edges : goal.returns-clause-edges
 returns-clause-edges g c =
     let number = g.S.IndexStorage.number in
-    ap (λ (v : GraphValue). v.edges) c.of_lists.ensures ∙ (c.in_ok-edges.ensures ∙ ap (λ (l : List (State g.row.S.Denot)). map edge_pairs_of (map (value_of number) l)) c.as_slice-2.ensures.value)
+    ap (λ (v : GraphValue). v.edges) c.of_lists.ensures ∙ c.in_ok-cores.ensures.edges

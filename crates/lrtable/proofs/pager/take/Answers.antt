@@ -2,8 +2,7 @@ use Rattle.std.proofs.Common.{List, false, map, set, ap, ◌∙◌, sym}
 use Rattle.std.proofs.lemmas.List.{map-set}
 use Rattle.lrtable.specs.States.{StateValue, no_state}
 use Rattle.state_table.specs.CoreViews.{core_of_set}
-use Rattle.lrtable.specs.StateViews.{edges_of, value_of}
-use Rattle.lrtable.specs.declared.states.EdgeTo.{EdgeTo}
+use Rattle.lrtable.specs.StateViews.{EdgeTo, edges_of, value_of}
 use Rattle.state_table.proofs.CoreSteps.{map_at}
 use Rattle.lrtable.proofs.pager.take.Goals as goal
 

@@ -5,8 +5,7 @@ use Rattle.std.proofs.lemmas.List.{get_or-map, length-map}
 use Rattle.vob.specs.Sets.{is_set}
 use Rattle.lrtable.specs.Pruning.{Flagged, IsTargetOf}
 use Rattle.lrtable.specs.States.{Edge, StateValue, no_state}
-use Rattle.lrtable.specs.StateViews.{edges_of, value_of}
-use Rattle.lrtable.specs.declared.states.EdgeTo.{EdgeTo}
+use Rattle.lrtable.specs.StateViews.{EdgeTo, edges_of, value_of}
 use Rattle.lrtable.proofs.Marking.{target_within}
 use Rattle.lrtable.proofs.Whole.{led_begins, led_on}
 use Rattle.lrtable.proofs.pruning.are_led.Goals as goal

@@ -1,4 +1,4 @@
-use Rattle.std.proofs.Common.{◌≡◌, ℕ, List, length, map, sym, ap, subst, subst₂, arith}
+use Rattle.std.proofs.Common.{◌≡◌, ℕ, ◌≤◌, List, length, get_or, map, sym, ap, subst, subst₂, arith}
 use Rattle.std.specs.Prelude.{IsTrue, ◌↔◌}
 use Rattle.std.specs.List.{Contains}
 use Rattle.vob.specs.Sets.{is_set}
@@ -36,6 +36,15 @@ take_all-requires-clause-targets g c = λ k e x y.
     let lt = (n.marked k (subst (λ (l : List ℕ). Contains l k) c.as_slice-2.ensures.value x)).0 in
     let target = target_within (map (value_of number) xs) k e c.requires.linked (omega (arith, lt, w, s, m)) y in
     omega (arith, target, w, s, t, z, m)
+
+pub take_all-requires-clause-low : goal.take_all-requires-clause-low
+take_all-requires-clause-low g c =
+    let n = c.in_ok-numbered.ensures in
+    let w = c.in_ok-marked.ensures.width in
+    let s = ap length c.as_slice.ensures.value in
+    let f = n.few in
+    let top = c.requires.few in
+    subst (λ (l : List ℕ). (k : ℕ) → get_or l k 0 ≤ g.S.IndexStorage.MAX) (sym c.as_slice-3.ensures.value) (λ k. let l = n.low k in omega (arith, l, f, w, s, top))
 
 pub returns : goal.returns
 returns g c =

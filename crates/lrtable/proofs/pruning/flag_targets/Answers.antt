@@ -1,4 +1,4 @@
-use Rattle.std.proofs.Common.{arith}
+use Rattle.std.proofs.Common.{◌≡◌, true, set, arith, subst}
 use Rattle.lrtable.specs.StateViews.{edge_of_pair}
 use Rattle.lrtable.proofs.OpenLaws.{mapped}
 use Rattle.lrtable.proofs.Whole.{flagged_none, flagged_more}
@@ -22,4 +22,4 @@ edges-preserved g c =
     let lt = c.requires (edge_of_pair number x) (mapped (edge_of_pair number) c.args.edges.now c.edges.edge-index x c.edges-test.true c.edge-item.is) in
     let n = c.edges.invariant.size in
     flagged_more (edge_of_pair number) c.args.edges.now c.edges.edge-index x c.args.flags.now.items c.edges.flags.items c.flag.new.flags.items
-    c.edges-test.true c.edge-item.is (omega (arith, lt, n)) c.flag.ensures c.edges.invariant
+    c.edges-test.true c.edge-item.is (omega (arith, lt, n)) (subst (λ k. c.flag.new.flags.items ≡ set c.edges.flags.items k true) c.to_usize.ensures.value c.flag.ensures) c.edges.invariant

@@ -1,4 +1,5 @@
-use Rattle.std.proofs.Common.{arith}
+use Rattle.std.proofs.Common.{◌≡◌, arith, subst}
+use Rattle.lrtable.specs.Pruning.{Marks}
 use Rattle.lrtable.specs.StateViews.{edge_of_pair}
 use Rattle.lrtable.proofs.OpenLaws.{mapped}
 use Rattle.lrtable.proofs.Marking.{targets_more}
@@ -15,4 +16,4 @@ mark-requires g c =
 pub edges-preserved : goal.edges-preserved
 edges-preserved g c =
     targets_more (edge_of_pair g.S.IndexStorage.number) c.args.edges.now c.edges.edge-index c.edge-item.result c.args.marked.now.bits c.edges.marked.bits c.mark.new.marked.bits c.args.waiting.now.items c.edges.waiting.items c.mark.new.waiting.items
-    c.edges-test.true c.edge-item.is c.edges.invariant c.in_ok-mark.ensures
+    c.edges-test.true c.edge-item.is c.edges.invariant (subst (λ n. Marks (λ s. n ≡ s) c.edges.marked.bits c.mark.new.marked.bits c.edges.waiting.items c.mark.new.waiting.items) c.to_usize.ensures.value c.in_ok-mark.ensures)

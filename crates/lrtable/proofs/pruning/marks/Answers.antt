@@ -4,8 +4,7 @@ use Rattle.std.proofs.lemmas.List.{get_or-map, length-map, length-replicate}
 use Rattle.std.proofs.lemmas.List.Elements.{Contains-push}
 use Rattle.lrtable.specs.Pruning.{AreMarking, Marks, IsTargetOf}
 use Rattle.lrtable.specs.States.{Edge, StateValue, no_state}
-use Rattle.lrtable.specs.StateViews.{value_of, edges_of}
-use Rattle.lrtable.specs.declared.states.EdgeTo.{EdgeTo}
+use Rattle.lrtable.specs.StateViews.{EdgeTo, edges_of, value_of}
 use Rattle.lrtable.proofs.Marking.{flag_within, marking_begins, target_within, marking_goes_on, marking_ends}
 use Rattle.lrtable.proofs.pruning.marks.Goals as goal
 

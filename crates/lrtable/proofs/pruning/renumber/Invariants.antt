@@ -1,6 +1,9 @@
 use Rattle.std.proofs.Common.{◌≡◌, ◌++◌, map, take, drop}
-use Rattle.lrtable.proofs.Renumbering.{edge_to}
+use Rattle.lrtable.specs.Pruning.{renumbered}
+use Rattle.lrtable.specs.StateViews.{edges_of}
 use Rattle.lrtable.proofs.pruning.renumber.Given as goal
 
 abbrev pub invariant-each : goal.invariant-each
-invariant-each g l = l.edges.items ≡ map (edge_to l.numbers) (take l.i l.initial.edges.items) ++ drop l.i l.initial.edges.items
+invariant-each g l =
+    let first = edges_of g.S.IndexStorage.number l.initial.edges.items in
+    edges_of g.S.IndexStorage.number l.edges.items ≡ map (renumbered l.numbers) (take l.i first) ++ drop l.i first

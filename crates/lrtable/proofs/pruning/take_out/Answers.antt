@@ -8,8 +8,8 @@ use Rattle.state_table.specs.CoreViews.{core_of_set}
 use Rattle.state_table.proofs.CoreSteps.{map_at}
 use Rattle.lrtable.proofs.pruning.take_out.Goals as goal
 
-pub renumber-requires : goal.renumber-requires
-renumber-requires g c =
+pub renumber-requires-clause-targets : goal.renumber-requires-clause-targets
+renumber-requires-clause-targets g c =
     let number = g.S.IndexStorage.number in
     let at = map_at (value_of number) c.args.states.now.items c.args.number c.index_mut.result.now no_state c.requires.number c.index_mut.ensures.value ∙ ap (value_of number) (sym c.replace-state.ensures.value) in
     λ e x. c.requires.targets e (subst (λ (s : StateValue). Contains s.edges e) (sym at) x)

@@ -1,12 +1,13 @@
 use Rattle.std.proofs.Common.{◌≡◌, ◌<◌, ℕ, List, length, map, refl, sym, ap, ◌∙◌, subst, subst₂, arith, rules}
 use Rattle.std.proofs.lemmas.List.{length-map}
+use Rattle.cfg_numbered.specs.Symbols.{sym_of}
 use Rattle.lrtable.specs.Handling.{rank}
 use Rattle.state_table.specs.ItemRows.{Item}
 use Rattle.lrtable.specs.MovedItems.{moved_item, core_of_moved}
-use Rattle.lrtable.specs.States.{StateValue, AreBuckets, no_state, state_at}
+use Rattle.lrtable.specs.States.{Edge, StateValue, AreBuckets, no_state, state_at}
 use Rattle.state_table.specs.CoreViews.{items_of}
-use Rattle.lrtable.specs.StateViews.{edge_of_pair, lists_of, value_of}
-use Rattle.lrtable.specs.Revisits.{core_noted, AreMoved, AreHeld}
+use Rattle.lrtable.specs.StateViews.{lists_of, value_of}
+use Rattle.lrtable.specs.Revisits.{core_noted, AreMoved, AreHeld, LeadsOn}
 use Rattle.lrtable.specs.declared.states.State.{State}
 use Rattle.state_table.proofs.CoreSteps.{map_at}
 use Rattle.lrtable.proofs.Builders.{goes_none}
@@ -21,8 +22,8 @@ stays-requires-clause-moved g c =
     let G = c.args.grm.now.grammar in
     let own = core_noted number c.args.was.now c.args.rows.now in
     let states = map (value_of number) c.args.builder.now.states.items in
-    let e = edge_of_pair number c.args.edge in
-    let leads = c.requires.leads in
+    let e : Edge = record { symbol = sym_of number c.args.edge.0; target = c.to_usize-target.result } in
+    let leads : LeadsOn G own states c.args.builder.now.from e = subst (λ t. LeadsOn G own states c.args.builder.now.from (record { symbol = sym_of number c.args.edge.0; target = t })) (sym c.to_usize-target.ensures.value) c.requires.leads in
     let led = (state_at states e.target).core in
     subst (λ (l : List (State g.row.S.Denot)). AreMoved G own (state_at (map (value_of number) l) e.target).core.items) (sym c.as_slice.ensures.value)
     (all_moved G own e.symbol led (c.requires.states.cores e.target leads.target) leads.items)
@@ -40,10 +41,11 @@ returns-then-stays-clause-handled g c = λ before core h.
     let states = map (value_of number) c.args.builder.now.states.items in
     let n = length-map c.args.builder.now.states.items (value_of number) in
     let low = c.requires.builder.from in
-    let e = edge_of_pair number c.args.edge in
+    let e : Edge = record { symbol = sym_of number c.args.edge.0; target = c.to_usize-target.result } in
+    let leads : LeadsOn G own states c.args.builder.now.from e = subst (λ t. LeadsOn G own states c.args.builder.now.from (record { symbol = sym_of number c.args.edge.0; target = t })) (sym c.to_usize-target.ensures.value) c.requires.leads in
     let held = subst (λ (l : List (State g.row.S.Denot)). AreHeld G own (state_at (map (value_of number) l) e.target).core.items (length (state_at (map (value_of number) l) e.target).core.items) (state_at (map (value_of number) l) e.target).core.rows) c.as_slice.ensures.value (c.stays.ensures.held c.if-stays.true) in
     let alone = subst (λ (l : List (State g.row.S.Denot)). (j : ℕ) → j < e.target → (state_at (map (value_of number) l) j).core.items ≡ (state_at (map (value_of number) l) e.target).core.items → ⊥) c.as_slice.ensures.value (c.stays.ensures.alone c.if-stays.true) in
-    edge_kept G before c.args.builder.now.from own core states c.requires.states (omega (arith, n, low)) e c.requires.leads held alone h
+    edge_kept G before c.args.builder.now.from own core states c.requires.states (omega (arith, n, low)) e leads held alone h
 
 pub goto_of_items-requires-clause-moved : goal.goto_of_items-requires-clause-moved
 goto_of_items-requires-clause-moved g c =
@@ -52,8 +54,8 @@ goto_of_items-requires-clause-moved g c =
     let own = core_noted number c.args.was.now c.args.rows.now in
     let states = map (value_of number) c.args.builder.now.states.items in
     let n = length-map c.args.builder.now.states.items (value_of number) in
-    let e = edge_of_pair number c.args.edge in
-    let leads = c.requires.leads in
+    let e : Edge = record { symbol = sym_of number c.args.edge.0; target = c.to_usize-target.result } in
+    let leads : LeadsOn G own states c.args.builder.now.from e = subst (λ t. LeadsOn G own states c.args.builder.now.from (record { symbol = sym_of number c.args.edge.0; target = t })) (sym c.to_usize-target.ensures.value) c.requires.leads in
     let led = (state_at states e.target).core in
     let good = c.requires.states.cores e.target leads.target in
     let at = map_at (value_of number) c.args.builder.now.states.items e.target c.index.result.now no_state (let t = leads.target in omega (arith, t, n)) c.index.ensures in
@@ -70,8 +72,8 @@ place-requires g c =
     let own = core_noted number c.args.was.now c.args.rows.now in
     let states = map (value_of number) c.args.builder.now.states.items in
     let n = length-map c.args.builder.now.states.items (value_of number) in
-    let e = edge_of_pair number c.args.edge in
-    let leads = c.requires.leads in
+    let e : Edge = record { symbol = sym_of number c.args.edge.0; target = c.to_usize-target.result } in
+    let leads : LeadsOn G own states c.args.builder.now.from e = subst (λ t. LeadsOn G own states c.args.builder.now.from (record { symbol = sym_of number c.args.edge.0; target = t })) (sym c.to_usize-target.ensures.value) c.requires.leads in
     let led = (state_at states e.target).core in
     let good = c.requires.states.cores e.target leads.target in
     let given = core_of_moved number c.args.rows.now c.as_slice-3.result.now in
@@ -93,8 +95,8 @@ returns-in_err-place-clause-many g c = λ err before next core h.
     let own = core_noted number c.args.was.now c.args.rows.now in
     let states = map (value_of number) c.args.builder.now.states.items in
     let n = length-map c.args.builder.now.states.items (value_of number) in
-    let e = edge_of_pair number c.args.edge in
-    let leads = c.requires.leads in
+    let e : Edge = record { symbol = sym_of number c.args.edge.0; target = c.to_usize-target.result } in
+    let leads : LeadsOn G own states c.args.builder.now.from e = subst (λ t. LeadsOn G own states c.args.builder.now.from (record { symbol = sym_of number c.args.edge.0; target = t })) (sym c.to_usize-target.ensures.value) c.requires.leads in
     let led = (state_at states e.target).core in
     let good = c.requires.states.cores e.target leads.target in
     let given = core_of_moved number c.args.rows.now c.as_slice-3.result.now in
@@ -115,8 +117,8 @@ returns-clause-states g c =
     let own = core_noted number c.args.was.now c.args.rows.now in
     let states = map (value_of number) c.args.builder.now.states.items in
     let n = length-map c.args.builder.now.states.items (value_of number) in
-    let e = edge_of_pair number c.args.edge in
-    let leads = c.requires.leads in
+    let e : Edge = record { symbol = sym_of number c.args.edge.0; target = c.to_usize-target.result } in
+    let leads : LeadsOn G own states c.args.builder.now.from e = subst (λ t. LeadsOn G own states c.args.builder.now.from (record { symbol = sym_of number c.args.edge.0; target = t })) (sym c.to_usize-target.ensures.value) c.requires.leads in
     let led = (state_at states e.target).core in
     let good = c.requires.states.cores e.target leads.target in
     let given = core_of_moved number c.args.rows.now c.as_slice-3.result.now in
@@ -134,8 +136,8 @@ returns-clause-handled g c = λ before core h.
     let own = core_noted number c.args.was.now c.args.rows.now in
     let states = map (value_of number) c.args.builder.now.states.items in
     let n = length-map c.args.builder.now.states.items (value_of number) in
-    let e = edge_of_pair number c.args.edge in
-    let leads = c.requires.leads in
+    let e : Edge = record { symbol = sym_of number c.args.edge.0; target = c.to_usize-target.result } in
+    let leads : LeadsOn G own states c.args.builder.now.from e = subst (λ t. LeadsOn G own states c.args.builder.now.from (record { symbol = sym_of number c.args.edge.0; target = t })) (sym c.to_usize-target.ensures.value) c.requires.leads in
     let led = (state_at states e.target).core in
     let good = c.requires.states.cores e.target leads.target in
     let given = core_of_moved number c.args.rows.now c.as_slice-3.result.now in

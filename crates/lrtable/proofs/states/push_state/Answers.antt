@@ -1,7 +1,6 @@
 use Rattle.std.proofs.Common.{List, true, ap₂}
 use Rattle.state_table.specs.ItemRows.{Core}
-use Rattle.lrtable.specs.StateViews.{value_of, edges_of}
-use Rattle.lrtable.specs.declared.states.EdgeTo.{EdgeTo}
+use Rattle.lrtable.specs.StateViews.{EdgeTo, edges_of, value_of}
 use Rattle.lrtable.proofs.StateSteps.{pushed}
 use Rattle.lrtable.proofs.states.push_state.Goals as goal
 

@@ -1,18 +1,17 @@
 -- The states of a finished building as a state graph.
-use Rattle.std.proofs.Common.{◌≡◌, ℕ, zero, suc, ◌+◌, ◌<◌, ◌≤◌, inl, inr, cond, List, [], ◌∷◌, ◌++◌, length, get_or, map, take, Option, Some, refl, sym, ap, ◌∙◌, subst, subst₂, arith}
+use Rattle.std.proofs.Common.{◌≡◌, ℕ, zero, suc, ◌+◌, ◌<◌, ◌≤◌, inl, inr, cond, List, [], ◌∷◌, ◌++◌, length, get_or, map, take, Option, Some, None, refl, sym, ap, ◌∙◌, subst, subst₂, arith}
 use Rattle.std.specs.Prelude.{All}
 use Rattle.std.proofs.lemmas.Bool.{cases_eq, cases_lt}
 use Rattle.std.proofs.lemmas.List.{get_or_past, map_push, take_more, get_or-map, get_or_default, get_or_append_left, get_or_push, length-map, length_push}
-use Rattle.std.proofs.lemmas.List.Elements.{All-push}
 use Rattle.cfg_theory.specs.Grammar.{Sym, Grammar, body_of, WellFormed}
 use Rattle.lr_theory.specs.Building.{Pruned, IsGraph, same_symbol}
 use Rattle.lr_theory.specs.Canonical.{Present}
 use Rattle.lr_theory.specs.Graph.{Graph}
-use Rattle.lr_theory.specs.Itemset.{ItemSet, HasItem, HasLook, Closure, ClosureLook, Is, FitsGrammar}
+use Rattle.lr_theory.specs.Itemset.{ItemSet, HasItem, FitsGrammar}
 use Rattle.lr_theory.proofs.GraphLaws.{finished_law}
 use Rattle.state_table.specs.GraphViews.{edge_seen, edges_seen}
 use Rattle.state_table.specs.Graphs.{GraphValue, target_in, graph_of, AreInOrder, IsGraphValue, IsGraphOf, SymBefore}
-use Rattle.lrtable.specs.FinalStates.{AreClosures, AreFinal, pair_of_edge, edge_pairs_of}
+use Rattle.lrtable.specs.FinalStates.{IsClosure, IsClosureBeside, AreClosures, AreFinal, pair_of_edge, edge_pairs_of}
 use Rattle.lrtable.specs.Pruning.{graph_of_states}
 use Rattle.vob.specs.Packed.{Contents}
 use Rattle.state_table.specs.declared.cores.CoreSet.{CoreSet}
@@ -24,7 +23,9 @@ use Rattle.state_table.specs.Sharing.{shared_core, PointIn, IsShared}
 use Rattle.state_table.specs.CoreViews.{item_of, core_of_set}
 use Rattle.lrtable.specs.StateViews.{EdgeTo, edge_of_pair, edges_of, value_of}
 use Rattle.lrtable.specs.States.{Edge, AscendEdges, StateValue, edge_in, edge_of, state_at, no_state}
+use Rattle.state_table.specs.GraphViews.{closures_seen}
 use Rattle.state_table.proofs.EdgeLists.{found_at}
+use Rattle.state_table.proofs.GraphClosures.{closures_length, closure_is}
 use Rattle.lrtable.proofs.Exact.{dot_within}
 use Rattle.state_table.proofs.Fitting.{fits_by}
 
@@ -107,7 +108,7 @@ module _ (G : Grammar) (good : WellFormed G) where
   final_graph states g final cores start edges closed = record {
     graph = graph_as G (graph_of_states states) (graph_of g) cores start (λ s X. ap (λ (l : List (List (Sym × ℕ))). target_in (get_or l s []) X) edges ∙ edge_is states s X) final.graph;
     closes = closed.count;
-    closed = closed.each;
+    closed = λ s lt. (closed.each s lt).is;
     fits = (
       λ s d lt. (
           let n = length-map states (λ (x : StateValue). map_of x.core) in
@@ -115,7 +116,7 @@ module _ (G : Grammar) (good : WellFormed G) where
           let within : s < length states = omega (arith, lt, m, n) in
           let is : get_or g.cores s d ≡ map_of (state_at states s).core = get_or_default g.cores s d [] lt ∙ ap (λ (l : List ItemSet). get_or l s []) cores ∙ map_any (λ (x : StateValue). map_of x.core) states s no_state in
           subst (FitsGrammar G) (sym is) (final_fits states final s within)),
-      closed.fit,
+      λ s d lt. subst (FitsGrammar G) (get_or_default g.closed s [] d lt) (closed.each s (let m = closed.count in omega (arith, lt, m))).fit,
     );
     lists = ap length edges ∙ length-map states edge_pairs_of ∙ sym (ap length cores ∙ length-map states (λ (x : StateValue). map_of x.core));
     ascend = λ s. subst (λ (l : List (List (Sym × ℕ))). AreInOrder (get_or l s [])) (sym edges) (final_ascend G states final s);
@@ -138,30 +139,31 @@ module _ (G : Grammar) (good : WellFormed G) where
 -- ---- closures, one after another
 
 -- those of the first n states
-pub record ClosesFirst (G : Grammar) (states : List StateValue) (n : ℕ) (closed : List ItemSet) : Type 0 where
+pub record ClosesFirst (G : Grammar) (states : List StateValue) (n : ℕ) (closed : List (Option ItemSet)) : Type 0 where
   pub count : length closed ≡ n
-  pub each : (s : ℕ) → s < n → Is (get_or closed s []) (Closure G (HasItem (map_of (state_at states s).core))) (ClosureLook G (HasItem (map_of (state_at states s).core)) (HasLook (map_of (state_at states s).core)))
-  pub fit : All (FitsGrammar G) closed
+  pub each : (s : ℕ) → s < n → IsClosureBeside G (map_of (state_at states s).core) (get_or closed s None)
 
-pub closes_next : (G : Grammar) (states : List StateValue) (n : ℕ) (old new : List ItemSet) (c : Core) (set : ItemSet) → ClosesFirst G states n old → new ≡ old ++ set ∷ [] → (state_at states n).core ≡ c → Is set (Closure G (HasItem (map_of c))) (ClosureLook G (HasItem (map_of c)) (HasLook (map_of c))) → FitsGrammar G set → ClosesFirst G states (n + 1) new
-closes_next G states n old new c set h e core is fit = record {
-  count = ap length e ∙ length_push old set ∙ ap (λ m. m + 1) h.count;
+pub closes_next : (G : Grammar) (states : List StateValue) (n : ℕ) (old new : List (Option ItemSet)) (c : Core) (o : Option ItemSet) → ClosesFirst G states n old → new ≡ old ++ o ∷ [] → (state_at states n).core ≡ c → IsClosureBeside G (map_of c) o → ClosesFirst G states (n + 1) new
+closes_next G states n old new c o h e core is = record {
+  count = ap length e ∙ length_push old o ∙ ap (λ m. m + 1) h.count;
   each = λ s lt. elim (cases_eq s n) [
-    | inl q ↦ subst (λ m. Is (get_or new m []) (Closure G (HasItem (map_of (state_at states m).core))) (ClosureLook G (HasItem (map_of (state_at states m).core)) (HasLook (map_of (state_at states m).core)))) (sym q)
-        (subst₂ (λ (x : ItemSet) (d : Core). Is x (Closure G (HasItem (map_of d))) (ClosureLook G (HasItem (map_of d)) (HasLook (map_of d)))) (sym (ap (λ (l : List ItemSet). get_or l n []) e ∙ get_or_push old set [] n h.count)) (sym core) is)
-    | inr ne ↦ subst (λ (x : ItemSet). Is x (Closure G (HasItem (map_of (state_at states s).core))) (ClosureLook G (HasItem (map_of (state_at states s).core)) (HasLook (map_of (state_at states s).core))))
-        (sym (ap (λ (l : List ItemSet). get_or l s []) e ∙ get_or_append_left old (set ∷ []) [] s (let k = h.count in omega (arith, lt, ne, k)))) (h.each s (omega (arith, lt, ne)))
+    | inl q ↦ subst (λ m. IsClosureBeside G (map_of (state_at states m).core) (get_or new m None)) (sym q)
+        (subst₂ (λ (x : Option ItemSet) (d : Core). IsClosureBeside G (map_of d) x) (sym (ap (λ (l : List (Option ItemSet)). get_or l n None) e ∙ get_or_push old o None n h.count)) (sym core) is)
+    | inr ne ↦ subst (IsClosureBeside G (map_of (state_at states s).core))
+        (sym (ap (λ (l : List (Option ItemSet)). get_or l s None) e ∙ get_or_append_left old (o ∷ []) None s (let k = h.count in omega (arith, lt, ne, k)))) (h.each s (omega (arith, lt, ne)))
   ];
-  fit = subst (λ (l : List ItemSet). All (FitsGrammar G) l) (sym e) (All-push (FitsGrammar G) old set h.fit fit);
 }
 
-pub closes_all : (G : Grammar) (states : List StateValue) (n : ℕ) (closed : List ItemSet) → ClosesFirst G states n closed → n ≡ length states → AreClosures G (map (λ s. map_of s.core) states) closed
+pub closes_all : (G : Grammar) (states : List StateValue) (n : ℕ) (closed : List (Option ItemSet)) → ClosesFirst G states n closed → n ≡ length states → AreClosures G (map (λ s. map_of s.core) states) (closures_seen (map (λ s. map_of s.core) states) closed)
 closes_all G states n closed h e =
+    let cores = map (λ (x : StateValue). map_of x.core) states in
     let m = length-map states (λ (x : StateValue). map_of x.core) in
+    let k = h.count in
+    let both = closures_length cores closed in
     record {
-      count = h.count ∙ e ∙ sym m;
-      each = λ s lt. subst (λ (x : ItemSet). Is (get_or closed s []) (Closure G (HasItem x)) (ClosureLook G (HasItem x) (HasLook x))) (sym (map_any (λ (x : StateValue). map_of x.core) states s no_state)) (h.each s (omega (arith, lt, m, e)));
-      fit = h.fit;
+      count = omega (arith, both, m, k, e);
+      each = λ s lt. subst (IsClosure G (get_or cores s [])) (sym (closure_is cores closed s [] lt (omega (arith, lt, m, k, e))))
+          (subst (λ (x : ItemSet). IsClosureBeside G x (get_or closed s None)) (sym (map_any (λ (x : StateValue). map_of x.core) states s no_state)) (h.each s (omega (arith, lt, m, e))));
     }
 
 -- ---- states as a program keeps them

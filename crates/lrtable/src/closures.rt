@@ -15,7 +15,7 @@ ghost use Rattle.state_table.specs.CoreViews.{core_of_set};
 use crate::capacities::opened_room;
 use crate::moves::dot_behind;
 use crate::opening::{Closer, Opening};
-use crate::tails::{any_incomplete, symbol_after};
+use crate::tails::symbol_after;
 use cfg_base::index::IndexStorage;
 use cfg_base::symbol::{PIdx, RIdx, SIdx, Symbol};
 use cfg_numbered::yacc::NumberedGrammar;
@@ -41,10 +41,6 @@ pub(crate) fn closed_by<S: IndexStorage>(
     ensures within { IfOk result (λ s. PointIn (rows_in s.sets.items) s.entries.items) }
 {
     grm.start_prod();
-    // A core of complete items is its own closure.
-    if !any_incomplete(grm, core.items.as_slice()) {
-        return SharedSets::of_core(alloc, core, 0, 0);
-    }
     closer.close(grm, core)?;
     let (rules, productions) = opened_room(closer.counts.as_slice(), &closer.opening);
     let mut set = SharedSets::of_core(alloc, core, rules, productions)?;

@@ -7,9 +7,9 @@ ghost use Rattle.lr_theory.specs.Sizes.{StaysWithin};
 ghost use Rattle.lrtable.specs.Builders.{AreClear};
 ghost use Rattle.lrtable.specs.Closers.{IsReady};
 ghost use Rattle.lrtable.specs.Closes.{AreFronts};
-ghost use Rattle.lrtable.specs.FinalStates.{AreClosures, AreFinal, edge_pairs_of};
+ghost use Rattle.lrtable.specs.FinalStates.{IsClosureBeside, AreClosures, AreFinal, edge_pairs_of};
 ghost use Rattle.state_table.specs.Graphs.{IsGraphOf};
-ghost use Rattle.state_table.specs.GraphViews.{edges_seen};
+ghost use Rattle.state_table.specs.GraphViews.{closures_seen, edges_seen};
 ghost use Rattle.lrtable.specs.Handling.{TooManyStand};
 ghost use Rattle.state_table.specs.ItemRows.{IsCoreOf, map_of, FitsCore};
 ghost use Rattle.lrtable.specs.States.{state_at};
@@ -25,6 +25,7 @@ use crate::opening::Closer;
 use crate::pager;
 use crate::pager::Buffers;
 use crate::states::{BuildError, EdgeTo, State};
+use crate::tails::any_incomplete;
 use cfg_base::index::IndexStorage;
 use cfg_numbered::yacc::NumberedGrammar;
 use cfg_sets::YaccFirsts;
@@ -73,22 +74,42 @@ fn take_parts<S: IndexStorage>(
     Ok((sets, lists))
 }
 
-/// Returns the closures of the states.
+/// Returns the closure of a core, but none if all its items are complete: such a core is its own closure.
+fn closed_beside<S: IndexStorage>(
+    alloc: Global,
+    grm: &NumberedGrammar<S>,
+    closer: &mut Closer<'_, S>,
+    core: &CoreSet<S>,
+) -> Result<Option<Itemset<S>>, AllocError>
+    requires ready { IsReady grm.now.grammar closer.old }
+    requires fits { FitsCore grm.now.grammar (core_of_set S.number core.now) }
+    requires dots { FitsGrammar grm.now.grammar (map_of (core_of_set S.number core.now)) }
+    ensures ready { OnOk result (IsReady grm.now.grammar closer.new) }
+    ensures closure { IfOk result (IsClosureBeside grm.now.grammar (map_of (core_of_set S.number core.now))) }
+{
+    if !any_incomplete(grm, core.items.as_slice()) {
+        return Ok(None);
+    }
+    let set = closed_by(alloc, grm, closer, core)?;
+    Ok(Some(of_shared(set)))
+}
+
+/// Returns the closures of the states, but none for those that are their own closures.
 fn closed_sets<S: IndexStorage>(
     alloc: Global,
     grm: &NumberedGrammar<S>,
     closer: &mut Closer<'_, S>,
     states: &[State<S>],
-) -> Result<Vec<Itemset<S>>, AllocError>
+) -> Result<Vec<Option<Itemset<S>>>, AllocError>
     requires ready { IsReady grm.now.grammar closer.old }
     requires fit { (s : ℕ) → s < length states.now → FitsCore grm.now.grammar (state_at (map (value_of S.number) states.now) s).core }
     requires dots { (s : ℕ) → s < length states.now → FitsGrammar grm.now.grammar (map_of (state_at (map (value_of S.number) states.now) s).core) }
-    ensures { IfOk result (λ v. AreClosures grm.now.grammar (map (λ s. map_of s.core) (map (value_of S.number) states.now)) v.items) }
+    ensures { IfOk result (λ v. AreClosures grm.now.grammar (map (λ s. map_of s.core) (map (value_of S.number) states.now)) (closures_seen (map (λ s. map_of s.core) (map (value_of S.number) states.now)) v.items)) }
 {
     let mut sets = Vec::with_capacity(alloc, states.len())?;
     'states: for number in 0..states.len() {
         let core = &states[number].core;
-        sets.push(of_shared(closed_by(alloc, grm, closer, core)?))?;
+        sets.push(closed_beside(alloc, grm, closer, core)?)?;
     }
     Ok(sets)
 }

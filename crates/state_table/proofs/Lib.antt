@@ -25,6 +25,7 @@ pub mod FilledCounts
 pub mod LeastReduced
 pub mod Edges
 pub mod EdgeLists
+pub mod GraphClosures
 pub mod GraphParts
 pub mod GraphTables
 pub mod CanonicalTables

@@ -30,7 +30,8 @@ pub fn state_index_is_its_number<S: IndexOrder>()
 #[derive(Drop)]
 pub struct StateGraph<S: IndexStorage> {
     cores: Vec<Itemset<S>>,
-    closed: Vec<Itemset<S>>,
+    /// The closure of each state, but none for a core that is its own closure.
+    closed: Vec<Option<Itemset<S>>>,
     edges: Vec<Vec<(Symbol<S>, StIdx<S>)>>,
 }
 
@@ -46,10 +47,10 @@ impl<S: IndexStorage> Model for StateGraph<S> {
 }
 
 /// Returns the graph of these cores, closures and edges, whose first state is the start state, for crates that build
-/// states.
+/// states. `None` among the closures is for a core that is its own closure.
 pub fn of_lists<S: IndexStorage>(
     cores: Vec<Itemset<S>>,
-    closed: Vec<Itemset<S>>,
+    closed: Vec<Option<Itemset<S>>>,
     edges: Vec<Vec<(Symbol<S>, StIdx<S>)>>,
 ) -> StateGraph<S>
     requires { IsGraphValue S.MAX (graph_seen S.number cores.items closed.items edges.items) }
@@ -122,7 +123,11 @@ impl<S: IndexStorage> StateGraph<S> {
         requires { S.number stidx.0 < length self.now.cores }
         ensures { result.now ≡ get_or self.now.closed (S.number stidx.0) [] }
     {
-        &self.closed[stidx.0.to_usize()]
+        let number = stidx.0.to_usize();
+        match &self.closed[number] {
+            Some(closure) => closure,
+            None => &self.cores[number],
+        }
     }
 
     /// Returns the edges of a state: symbols with the states that they lead to, ascending by symbol.
@@ -163,10 +168,13 @@ impl<S: IndexStorage> StateGraph<S> {
     }
 
     /// Walks over the closures of the states, in order.
-    pub fn iter_closed_states(&self) -> Iter<'_, Itemset<S>>
-        ensures { iter_rest result ≡ self.now.closed }
+    pub fn iter_closed_states(&self) -> ClosedStates<'_, S>
+        ensures { result ≡ self.now.closed }
     {
-        self.closed.iter()
+        ClosedStates {
+            graph: self,
+            next: 0,
+        }
     }
 }
 
@@ -229,5 +237,41 @@ impl<S: IndexStorage> Iterator for StIdxs<S> {
         let number = self.next;
         self.next += 1;
         Some(StIdx(S::from_usize(number).unwrap()))
+    }
+}
+
+/// The closures of a graph's states, in order. Contracts see those that are left.
+#[derive(Drop)]
+pub struct ClosedStates<'a, S: IndexStorage> {
+    graph: &'a StateGraph<S>,
+    next: usize,
+}
+
+impl<'a, S: IndexStorage> Model for ClosedStates<'a, S> {
+    ghost use Rattle.std.specs.Prelude.{List, length, drop, ◌≤◌};
+    ghost use Rattle.lr_theory.specs.Itemset.{ItemSet};
+
+    ghost Value = { List ItemSet };
+
+    ghost view = { λ w. drop w.next w.graph.now.closed };
+
+    ghost invariant = { λ w. w.next ≤ length w.graph.now.closed };
+}
+
+impl<'a, S: IndexStorage> Iterator for ClosedStates<'a, S> {
+    type Item = &'a Itemset<S>;
+
+    ghost next_gives = { YieldsFirstBy (λ s. s.now) (λ w. w) };
+
+    ghost remaining = { item_count (λ w. w) };
+
+    fn next(&mut self) -> Option<&'a Itemset<S>> {
+        let graph = self.graph;
+        let number = self.next;
+        if number == graph.all_states_len().0.to_usize() {
+            return None;
+        }
+        self.next = number + 1;
+        Some(graph.closed_state(graph.state_at(number)))
     }
 }

@@ -36,14 +36,3 @@ returns-clause-core g c = subst (IsCoreOf c.args.grm.now.grammar.tokens) (sym c.
 
 pub returns-clause-within : goal.returns-clause-within
 returns-clause-within g c = c.fit.ensures.within c.in_ok-open_rules.ensures.within
-
-pub returns-then-not-any_incomplete-clause-is : goal.returns-then-not-any_incomplete-clause-is
-returns-then-not-any_incomplete-clause-is g c =
-    let number = g.S.IndexStorage.number in
-    let G = c.args.grm.now.grammar in
-    let core = core_of_set number c.args.core.now in
-    let m = length-map c.args.core.now.items.items (item_of number) in
-    let none = subst (λ (l : List (CoreItem g.row.S.Denot)). HaveNoNext G (items_of number l) (length l)) c.as_slice.ensures.value (c.any_incomplete.ensures c.if-not-any_incomplete.true) in
-    IfOk-weaker c.of_core.result _ _
-    (λ s e. subst (λ (x : Core). Is (map_of x) (Closure G (HasItem (map_of core))) (ClosureLook G (HasItem (map_of core)) (HasLook (map_of core)))) (sym e) (own_closure G core c.requires.fits.good (subst (λ k. HaveNoNext G core.items k) (sym m) none)))
-    c.of_core.ensures.core

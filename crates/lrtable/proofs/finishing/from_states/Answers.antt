@@ -3,7 +3,7 @@ use Rattle.std.proofs.lemmas.List.{length-map}
 use Rattle.lr_theory.specs.Itemset.{FitsGrammar}
 use Rattle.lrtable.specs.FinalStates.{AreClosures, edge_pairs_of}
 use Rattle.state_table.specs.Graphs.{GraphValue, IsGraphOf}
-use Rattle.state_table.specs.GraphViews.{graph_seen}
+use Rattle.state_table.specs.GraphViews.{closures_seen, graph_seen}
 use Rattle.state_table.specs.ItemRows.{map_of, FitsCore}
 use Rattle.lrtable.specs.States.{StateValue, state_at}
 use Rattle.lrtable.specs.StateViews.{value_of}
@@ -35,7 +35,7 @@ of_lists-requires g c =
     let n = length-map c.args.states.now.items (value_of number) in
     let few = c.requires.few in
     final_value c.args.grm.now.grammar c.start_prod.ensures.well_formed g.S.IndexStorage.MAX (map (value_of number) c.args.states.now.items) (graph_seen number c.in_ok-cores.cores.items c.in_ok-closed.closed.items c.in_ok-cores.edges.items) (omega (arith, n, few)) c.requires.ready c.in_ok-cores.ensures.cores refl c.in_ok-cores.ensures.edges
-    (subst (λ l. AreClosures c.args.grm.now.grammar l c.in_ok-closed.closed.items) (sym c.in_ok-cores.ensures.cores) (subst (λ (l : List (State g.row.S.Denot)). AreClosures c.args.grm.now.grammar (map (λ (s : StateValue). map_of s.core) (map (value_of number) l)) c.in_ok-closed.closed.items) c.as_slice.ensures.value c.in_ok-closed.ensures))
+    (subst (λ l. AreClosures c.args.grm.now.grammar l (closures_seen l c.in_ok-closed.closed.items)) (sym c.in_ok-cores.ensures.cores) (subst (λ (l : List (State g.row.S.Denot)). AreClosures c.args.grm.now.grammar (map (λ (s : StateValue). map_of s.core) (map (value_of number) l)) (closures_seen (map (λ (s : StateValue). map_of s.core) (map (value_of number) l)) c.in_ok-closed.closed.items)) c.as_slice.ensures.value c.in_ok-closed.ensures))
 
 pub returns-clause-graph : goal.returns-clause-graph
 returns-clause-graph g c =
@@ -43,7 +43,7 @@ returns-clause-graph g c =
     let G = c.args.grm.now.grammar in
     subst (IsGraphOf G) (sym c.of_lists.ensures)
     (final_graph G c.start_prod.ensures.well_formed (map (value_of number) c.args.states.now.items) (graph_seen number c.in_ok-cores.cores.items c.in_ok-closed.closed.items c.in_ok-cores.edges.items) c.requires.ready c.in_ok-cores.ensures.cores refl c.in_ok-cores.ensures.edges
-    (subst (λ l. AreClosures G l c.in_ok-closed.closed.items) (sym c.in_ok-cores.ensures.cores) (subst (λ (l : List (State g.row.S.Denot)). AreClosures c.args.grm.now.grammar (map (λ (s : StateValue). map_of s.core) (map (value_of number) l)) c.in_ok-closed.closed.items) c.as_slice.ensures.value c.in_ok-closed.ensures)))
+    (subst (λ l. AreClosures G l (closures_seen l c.in_ok-closed.closed.items)) (sym c.in_ok-cores.ensures.cores) (subst (λ (l : List (State g.row.S.Denot)). AreClosures c.args.grm.now.grammar (map (λ (s : StateValue). map_of s.core) (map (value_of number) l)) (closures_seen (map (λ (s : StateValue). map_of s.core) (map (value_of number) l)) c.in_ok-closed.closed.items)) c.as_slice.ensures.value c.in_ok-closed.ensures)))
 
 pub returns-clause-edges : goal.returns-clause-edges
 returns-clause-edges g c =

@@ -152,20 +152,6 @@ fn all_before<S: IndexStorage>(edges: &[EdgeTo<S>], symbol: Symbol<S>) -> bool
     comes_before(edges[count - 1].0, symbol)
 }
 
-/// Returns the index of the first edge whose symbol doesn't come before this one, which is looked for at the end, and
-/// then among all.
-fn edge_place<S: IndexStorage>(edges: &[EdgeTo<S>], symbol: Symbol<S>) -> usize
-    requires { AscendEdges (edges_of S.number edges.now) }
-    ensures within { result ≤ length edges.now }
-    ensures before { (k : ℕ) → k < result → (d : Edge) → SymBefore (get_or (edges_of S.number edges.now) k d).symbol (sym_of S.number symbol) }
-    ensures stop { (d : Edge) → result < length edges.now → SymBefore (get_or (edges_of S.number edges.now) result d).symbol (sym_of S.number symbol) → ⊥ }
-{
-    if all_before(edges, symbol) {
-        return edges.len();
-    }
-    edge_index(edges, symbol)
-}
-
 /// Puts an edge in the place of that on its symbol, which may be at `near`, or before those on later symbols.
 #[inline(never)]
 fn put_among<S: IndexStorage>(
@@ -180,7 +166,7 @@ fn put_among<S: IndexStorage>(
         edges[near] = edge;
         return Ok(());
     }
-    let index = edge_place(edges.as_slice(), edge.0);
+    let index = edge_index(edges.as_slice(), edge.0);
     if is_on(edges.as_slice(), index, edge.0) {
         edges[index] = edge;
         return Ok(());
@@ -189,7 +175,7 @@ fn put_among<S: IndexStorage>(
     Ok(())
 }
 
-/// Puts an edge behind those on earlier symbols, as `put_among` does; mostly it is the last.
+/// Puts an edge as `put_among` does. Mostly it comes last, and `take` made room for it.
 #[inline(always)]
 fn put_edge<S: IndexStorage>(
     edges: &mut Vec<EdgeTo<S>>,

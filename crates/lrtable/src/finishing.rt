@@ -37,11 +37,7 @@ use std::alloc::{AllocError, Global};
 use std::mem;
 
 /// Takes a state out.
-fn take_state<S: IndexStorage>(
-    alloc: Global,
-    states: &mut Vec<State<S>>,
-    number: usize,
-) -> State<S>
+fn take_state<S: IndexStorage>(alloc: Global, states: &mut Vec<State<S>>, number: usize) -> State<S>
     requires { number < length states.old.items }
     ensures state { value_of S.number result ≡ state_at (map (value_of S.number) states.old.items) number }
     ensures left { (r : ℕ) → (r ≡ number → ⊥) → state_at (map (value_of S.number) states.new.items) r ≡ state_at (map (value_of S.number) states.old.items) r }

@@ -23,7 +23,8 @@ use lrpar::{FlatTree, Lexer, Outline, ParseError, ParseRefusal};
 use parser_kit::GrammarKit;
 use std::alloc::{AllocError, Global};
 use word_lines::laws::{
-    flat_parses_can_be_shown, items_are_parts_of_their_line, parses_can_be_shown,
+    flat_parses_can_be_shown, items_are_parts_of_their_line, lexemes_of_lines_are_named,
+    parses_can_be_shown,
 };
 use word_lines::shown::{push_errors, push_fault};
 use word_lines::{LexerRoom, RepairLines, WordLexError, WordLexeme, WordLexer, WordLexerTypes};
@@ -148,6 +149,7 @@ fn write_faultless<W: Sink>(
 {
     parses_can_be_shown::<WordLexerTypes<u32>, RepairLines<u32>>();
     items_are_parts_of_their_line::<u32>();
+    lexemes_of_lines_are_named::<u32>();
     answers.kit.stays_tabled();
     write_outline(answers, line, read.iter().as_slice(), outline, text, out)
 }

@@ -14,6 +14,7 @@ ghost use Rattle.parse_trees.specs.OutlineLines.{CanShowSymbols, symbol_visit_li
 ghost use Rattle.parse_trees.specs.Outlines.{IsLeft, IsOutline, SymbolVisit};
 ghost use Rattle.word_lines.specs.Lexing.{lex_of};
 ghost use Rattle.word_lines.specs.LineTexts.{TreeCanBeShown, value_text};
+ghost use Rattle.word_lines.specs.NodeRows.{AreNamed};
 ghost use Rattle.lrkit.specs.Output.{Word, id};
 ghost use Rattle.lrkit.specs.Run.{IsLate, IsWriteCause};
 
@@ -72,7 +73,8 @@ pub(crate) fn write_outline<W: Sink>(
     text: &mut Vec<u8>,
     out: &mut W,
 ) -> Result<(), RunFault>
-    requires { (t : Tree Word) × AreItems items.now (yield t) × IsOutline t outline.now × CanShowTree answers.now.shown.now (lex_of id) line.now t }
+    requires named { AreNamed id answers.now.shown.now line.now items.now }
+    requires can { (t : Tree Word) × AreItems items.now (yield t) × IsOutline t outline.now × CanShowTree answers.now.shown.now (lex_of id) line.now t }
     ensures ok { (t : Tree Word) → AreItems items.now (yield t) → IsOutline t outline.now → OnOk result (IsOutBut (W.known out.old) (W.known out.new) (text.old.items ++ value_text id answers.now.shown.now line.now (Option.Some t)) text.new.items) }
     ensures late { IfErr result IsLate }
     ensures begins { (t : Tree Word) → AreItems items.now (yield t) → IsOutline t outline.now → OnErr result (BeginningWritten (W.known out.old) (W.known out.new) (text.old.items ++ value_text id answers.now.shown.now line.now (Option.Some t))) }
@@ -92,7 +94,8 @@ fn write_symbols<W: Sink>(
     text: &mut Vec<u8>,
     out: &mut W,
 ) -> Result<(), RunFault>
-    requires { (lexemes : List Word) × (rest : List SymbolVisit) × AreItems items.now lexemes × IsLeft Word id walk.old.nodes.now walk.old.waiting.items walk.old.seen rest × CanShowSymbols shown.now (lex_of id) line.now lexemes rest }
+    requires named { AreNamed id shown.now line.now items.now }
+    requires can { (lexemes : List Word) × (rest : List SymbolVisit) × AreItems items.now lexemes × IsLeft Word id walk.old.nodes.now walk.old.waiting.items walk.old.seen rest × CanShowSymbols shown.now (lex_of id) line.now lexemes rest }
     ensures ok { (lexemes : List Word) (rest : List SymbolVisit) → AreItems items.now lexemes → IsLeft Word id walk.old.nodes.now walk.old.waiting.items walk.old.seen rest →
         OnOk result (IsOutBut (W.known out.old) (W.known out.new) (text.old.items ++ flat_map (symbol_visit_line shown.now (lex_of id) line.now lexemes) rest) text.new.items) }
     ensures late { IfErr result IsLate }

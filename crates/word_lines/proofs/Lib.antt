@@ -1,4 +1,5 @@
 mod NamedTokens
+mod NamedWords
 mod LexedParts
 mod SaidEdits
 mod ReadLines

@@ -1,11 +1,11 @@
 -- Rows of names, and their parts from a depth on.
 use Rattle.std.proofs.Common.{◌≡◌, ℕ, zero, suc, ◌+◌, ◌-◌, ◌<◌, ◌≤◌, List, [], ◌∷◌, ◌++◌, drop, length, replicate, refl, sym, ap, ◌∙◌, append_assoc, arith}
-use Rattle.std.specs.Prelude.{slice_range}
 use Rattle.std.proofs.lemmas.List.{replicate-append-replicate}
 use Rattle.cfg_numbered.specs.Value.{GrammarValue, IsRuleNamed}
-use Rattle.parse_trees.specs.Lex.{Lex}
 use Rattle.parse_trees.specs.Shapes.{lexeme_line, rule_line, rule_text, text_or_none, token_text}
-use Rattle.word_lines.specs.NodeRows.{IsRuleRow, behind_spaces}
+use Rattle.word_lines.specs.NodeRows.{IsNamed, IsRuleRow, behind_spaces}
+use Rattle.word_lines.specs.Lexing.{lex_of}
+use Rattle.word_lines.specs.declared.lexeme.WordLexeme.{WordLexeme}
 
 pub rule_row : (g : GrammarValue) (r : ℕ) (name row : List ℕ) → IsRuleNamed g r name → row ≡ behind_spaces name 10 → IsRuleRow g r row
 rule_row g r name row named e = e ∙ ap (λ n. behind_spaces n 10) (sym (ap text_or_none named.at))
@@ -44,11 +44,10 @@ pub is_rule_line : (g : GrammarValue) (depth r : ℕ) → (replicate depth 32 ++
 unfolding rule_line
 is_rule_line g depth r = refl
 
--- a token's row, the lexeme's text and LF
-pub is_lexeme_line : {L : Type 0} (g : GrammarValue) (lex : L → Lex) (input : List ℕ) (depth : ℕ) (x : L) (old row new : List ℕ) → row ≡ old ++ ((replicate depth 32 ++ token_text g (lex x).token) ++ 32 ∷ []) →
-    new ≡ (row ++ slice_range input (lex x).places.start (lex x).places.end) ++ 10 ∷ [] → new ≡ old ++ lexeme_line g lex input depth x
+-- a token's row, if the lexeme is there by its name
+pub is_lexeme_line : {S : Type 0} (number : S → ℕ) (g : GrammarValue) (line : List ℕ) (depth : ℕ) (x : WordLexeme S) → IsNamed number g line x →
+    (replicate depth 32 ++ (token_text g (number x.token) ++ 32 ∷ token_text g (number x.token))) ++ 10 ∷ [] ≡ lexeme_line g (lex_of number) line depth x
 unfolding lexeme_line
-is_lexeme_line g lex input depth x old row new r n =
-    let name = (replicate depth 32 ++ token_text g (lex x).token) ++ 32 ∷ [] in
-    let text = slice_range input (lex x).places.start (lex x).places.end in
-    n ∙ ap (λ l. l ++ 10 ∷ []) (ap (λ l. l ++ text) r ∙ append_assoc old name text) ∙ append_assoc old (name ++ text) (10 ∷ [])
+is_lexeme_line number g line depth x named =
+    let name = token_text g (number x.token) in
+    ap (λ l. l ++ 10 ∷ []) (sym (append_assoc (replicate depth 32) name (32 ∷ name)) ∙ sym (append_assoc (replicate depth 32 ++ name) (32 ∷ []) name) ∙ ap (λ l. ((replicate depth 32 ++ name) ++ 32 ∷ []) ++ l) (sym named))

@@ -1,6 +1,6 @@
 -- What the words of a line say, one part after another.
 use Rattle.std.proofs.Common.{◌≡◌, ◌==◌, ℕ, ◌≤◌, ◌<◌, ◌+◌, Bool, true, false, Option, Some, None, List, [], ◌∷◌, ◌++◌, length, map, drop, get_or, filter, refl, sym, ap, ◌∙◌, append_assoc, append-nil, bytes_eq, if◌then◌else◌}
-use Rattle.std.proofs.lemmas.List.{at_drop_all, map-append}
+use Rattle.std.proofs.lemmas.List.{at_drop_all, at_drop_more, map-append}
 use Rattle.std.proofs.lemmas.Slice.Eq.{bytes_eq-Decides}
 use Rattle.lr_theory.specs.Repair.{Edit}
 use Rattle.cfg_numbered.specs.Value.{GrammarValue}
@@ -10,7 +10,11 @@ use Rattle.word_lines.specs.Words.{has_bytes, words_in}
 use Rattle.word_lines.specs.Repairs.{insert_word, edit_alone, edit_before, edits_said, repair_line}
 use Rattle.word_lines.specs.RepairReading.{edits_before, said_by, edit_at, TakesPart, ReadsWord}
 use Rattle.word_lines.specs.declared.repairs.WordRead.TheVariants as reads
-use Rattle.word_lines.proofs.LexedParts.{parts_of, next_part}
+use Rattle.word_lines.proofs.LexedParts.{parts_of}
+
+-- the parts from the kth on, which the walk yields next
+next_part : {Y : Type 0} (F : List (List ℕ) → Y) (line : List ℕ) (k : ℕ) (part : List ℕ) → (k < length (parts_of line)) × (part ≡ get_or (parts_of line) k part) → F (drop k (parts_of line)) ≡ F (part ∷ drop (k + 1) (parts_of line))
+next_part F line k part turn = at_drop_more F (parts_of line) k part turn.0 ∙ ap (λ p. F (p ∷ drop (k + 1) (parts_of line))) (sym turn.1)
 
 texts_of : (at : ℕ) (parts : List (List ℕ)) → map (λ w. w.text) (words_in at parts) ≡ filter has_bytes parts
 texts_of at [] = refl

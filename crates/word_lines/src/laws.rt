@@ -1,7 +1,7 @@
 //! What is so of the items of each line, and of what a parse of a text's lexemes tells: its errors and its tree can be shown over
 //! that text. Nothing here runs: a function names a law by a call, and its proof may use the clause from then on.
 
-ghost use Rattle.std.specs.Prelude.{ℕ, List};
+ghost use Rattle.std.specs.Prelude.{◌≡◌, ℕ, List};
 ghost use Rattle.std.specs.List.{AllByRecursion};
 ghost use Rattle.std.specs.Str.{IsUtf8};
 ghost use Rattle.cfg_numbered.specs.Value.{GrammarValue, IsGrammar};
@@ -9,6 +9,7 @@ ghost use Rattle.parse_trees.specs.ErrorTexts.{FitsInput};
 ghost use Rattle.parse_trees.specs.Lexemes.{AreItems, IsFirstLexError, Misfit, AreLexemes};
 ghost use Rattle.parse_trees.specs.Refusals.{HasMisfit};
 ghost use Rattle.word_lines.specs.Lexing.{lex_of, items_of};
+ghost use Rattle.word_lines.specs.NodeRows.{AreNamed};
 ghost use Rattle.word_lines.specs.ShownTexts.{FlatParsesCanBeShown, ParsesCanBeShown};
 ghost use Rattle.word_lines.specs.declared.lexeme.WordLexeme.{WordLexeme};
 ghost use Rattle.word_lines.specs.declared.lexeme.WordLexError.{WordLexError};
@@ -30,6 +31,11 @@ pub fn lexemes_of_lines_are_taken<S: IndexStorage>()
 pub fn items_are_parts_of_their_line<S: IndexStorage>()
     ensures lexemes { (g : GrammarValue) (line : List ℕ) (lexemes : List (WordLexeme S)) → IsUtf8 line → AreItems (items_of S.of_number g line) lexemes → AllByRecursion (λ x. FitsInput line x.span.start x.span.end) lexemes }
     ensures errors { (g : GrammarValue) (line : List ℕ) (e : WordLexError) → IsUtf8 line → IsFirstLexError (items_of S.of_number g line) e → FitsInput line e.span.start e.span.end }
+{}
+
+/// Proves that the text of each lexeme of a line is the name of its token, if the storage type holds each number.
+pub fn lexemes_of_lines_are_named<S: IndexStorage>()
+    ensures { (g : GrammarValue) (line : List ℕ) → ((t : ℕ) → S.number (S.of_number t) ≡ t) → AreNamed S.number g line (items_of S.of_number g line) }
 {}
 
 /// Shows that each error of a parse lies within the text, that its repairs show parts of the text, and so do the lexemes of the

@@ -1,7 +1,7 @@
 //! The words of a line as the list of a lexer.
 
-ghost use Rattle.std.specs.Prelude.{◌≡◌, ◌+◌, ◌<◌, ◌≤◌, ◌^◌, List, [], ◌∷◌, ◌++◌, IfOk, OnOk, length};
-ghost use Rattle.std.specs.List.{AllByRecursion};
+ghost use Rattle.std.specs.Prelude.{◌≡◌, ◌==◌, ◌+◌, ◌<◌, ◌≤◌, ◌^◌, List, [], ◌∷◌, ◌++◌, IfOk, OnOk, length};
+ghost use Rattle.std.specs.List.{AllByRecursion, position_or_len};
 ghost use Rattle.parse_trees.specs.Lexemes.{AreItems, Misfit, AreLexemes};
 ghost use Rattle.parse_trees.specs.Refusals.{HasMisfit};
 ghost use Rattle.word_lines.specs.Lexing.{IsInside, items_of, items_in, item_of, lex_of};
@@ -148,17 +148,24 @@ fn lex_line<S: IndexStorage>(
     ensures items { IfOk result (λ v. v.items ≡ items_of S.of_number grm.now line.now) }
     ensures inside { IfOk result (λ v. AllByRecursion (IsInside S.number grm.now.grammar) v.items) }
 {
-    // So the place behind the last part is a number too.
-    let length = line.len();
-    prove!(length < usize::MAX);
     let mut items = room;
-    let mut start = 0;
-    'parts: for part in line.split(' ') {
-        let end = start + part.len();
-        push_part(grm, part, start, &mut items)?;
-        start = end + 1;
+    let mut rest = line;
+    'parts: loop {
+        let len = part_len(rest.as_bytes());
+        push_part(grm, &rest[..len], line.len() - rest.len(), &mut items)?;
+        if len == rest.len() {
+            return Ok(items);
+        }
+        rest = &rest[len + 1..];
     }
-    Ok(items)
+}
+
+/// Counts the bytes before the first space.
+fn part_len(bytes: &[u8]) -> usize
+    ensures value { result ≡ position_or_len (λ b. b == 32) bytes.now }
+    ensures within { result ≤ length bytes.now }
+{
+    bytes.iter().take_while(|b| **b != b' ').count()
 }
 
 /// Puts the item of a part between spaces, if it is a word.

@@ -29,10 +29,11 @@
 //! A line is words with spaces between them. `WordLexer::new` makes its list of lexemes, by contract the items of
 //! `specs/Lexing` (`items_of`): a word that is a token's name is a lexeme, any other a lexing error. No such list is refused by
 //! a parse, and its items are parts of the line (`laws::items_are_parts_of_their_line`), so that the errors and the tree of its
-//! parse can be shown over it (`laws::flat_parses_can_be_shown`, over `specs/ShownTexts`). `read_repairs` reads a text of lines
-//! of repairs (`specs/Repairs`), which `RepairLines` hands in, all of them, at each error. `shown` adds the texts of a line's
-//! errors to a text (`specs/LineTexts`); `trees` adds that of its tree node by node, so that a caller may let it go a part at a
-//! time.
+//! parse can be shown over it (`laws::flat_parses_can_be_shown`, over `specs/ShownTexts`). The text of each lexeme is the name of
+//! its token (`laws::lexemes_of_lines_are_named`), so `NodeLines` has the lines of lexemes ready. `read_repairs` reads a text of
+//! lines of repairs (`specs/Repairs`), which `RepairLines` hands in, all of them, at each error. `shown` adds the texts of a
+//! line's errors to a text (`specs/LineTexts`); `trees` adds that of its tree node by node, so that a caller may let it go a part
+//! at a time.
 #![tactic(auto)]
 
 pub mod laws;

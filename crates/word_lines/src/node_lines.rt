@@ -1,16 +1,15 @@
 //! The lines of nodes, whose names are made once for a grammar.
 
-ghost use Rattle.std.specs.Prelude.{◌≡◌, ◌<◌, ◌≤◌, ◌++◌, ◌∷◌, [], List, ℕ, Some, drop, length, replicate, slice_get, slice_range, IfOk, IsCharBoundary, OnOk};
+ghost use Rattle.std.specs.Prelude.{◌≡◌, ◌<◌, ◌≤◌, ◌++◌, ◌∷◌, [], List, ℕ, Some, drop, length, replicate, slice_get, IfOk, OnOk};
 ghost use Rattle.cfg_theory.specs.Grammar.{end_token, head_of};
 ghost use Rattle.lrpar.specs.FullTables.{AreRows};
-ghost use Rattle.parse_trees.specs.Shapes.{HasText, lexeme_line, rule_line};
+ghost use Rattle.parse_trees.specs.Shapes.{lexeme_line, rule_line};
 ghost use Rattle.word_lines.specs.Lexing.{lex_of};
-ghost use Rattle.word_lines.specs.NodeRows.{IsRuleRow, IsTokenRow, behind_spaces};
+ghost use Rattle.word_lines.specs.NodeRows.{IsNamed, IsRuleRow, IsTokenRow, behind_spaces};
 
 use crate::lexeme::WordLexeme;
 use crate::trees::{push_spaces, token_name};
 use cfg_base::index::IndexStorage;
-use cfg_base::span::Span;
 use cfg_base::symbol::{PIdx, RIdx, TIdx};
 use cfg_numbered::yacc::grammar::NumberedGrammar;
 use std::alloc::{AllocError, Global};
@@ -19,8 +18,8 @@ use std::marker::Model;
 // The number of spaces before each name: few nodes are deeper.
 const SPACES: usize = 64;
 
-/// The names of a grammar's rules and tokens as lines of nodes show them, each behind spaces. A line is a part of such a row from
-/// the node's depth on. Contracts see the grammar.
+/// The lines of a grammar's rules, and of lexemes by their tokens, each behind spaces. A node's line is a part of such a row, from
+/// its depth on. Contracts see the grammar.
 #[derive(Drop)]
 pub struct NodeLines<'g, S: IndexStorage> {
     grm: &'g NumberedGrammar<S>,
@@ -52,6 +51,16 @@ fn row_of(alloc: Global, name: &str, last: u8) -> Result<Vec<u8>, AllocError>
     Ok(row)
 }
 
+/// Makes the row of a token: its name, a space, the name again as the text of a lexeme, and LF.
+fn token_row(alloc: Global, name: &str) -> Result<Vec<u8>, AllocError>
+    ensures { IfOk result (λ row. row.items ≡ behind_spaces (name.now ++ 32 ∷ name.now) 10) }
+{
+    let mut row = row_of(alloc, name, b' ')?;
+    row.extend_from_slice(name.as_bytes())?;
+    row.push(b'\n')?;
+    Ok(row)
+}
+
 /// Makes the rows of all rules.
 fn rule_rows<S: IndexStorage>(
     alloc: Global,
@@ -78,7 +87,7 @@ fn token_rows<S: IndexStorage>(
     let count = grm.eof_token_idx().0.to_usize();
     let mut rows = Vec::with_capacity(alloc, count)?;
     'tokens: for number in 0..count {
-        let row = row_of(alloc, token_name(grm, grm.token_at(number)), b' ')?;
+        let row = token_row(alloc, token_name(grm, grm.token_at(number)))?;
         rows.push(row)?;
     }
     Ok(rows)
@@ -124,18 +133,6 @@ fn push_row(row: &[u8], depth: usize, text: &mut Vec<u8>) -> Result<(), AllocErr
     push_part(row, SPACES - depth, text)
 }
 
-/// Adds a part of a line, and LF.
-#[inline(always)]
-fn push_text(line: &str, span: Span, text: &mut Vec<u8>) -> Result<(), AllocError>
-    requires start { IsCharBoundary line.now span.start }
-    requires end { IsCharBoundary line.now span.end }
-    ensures { OnOk result (text.new.items ≡ (text.old.items ++ slice_range line.now span.start span.end) ++ 10 ∷ []) }
-{
-    text.extend_from_slice((&line[span.start()..span.end()]).as_bytes())?;
-    text.push(b'\n')?;
-    Ok(())
-}
-
 impl<'g, S: IndexStorage> NodeLines<'g, S> {
     /// Makes the rows of a grammar.
     pub fn new(alloc: Global, grm: &'g NumberedGrammar<S>) -> Result<NodeLines<'g, S>, AllocError>
@@ -167,7 +164,7 @@ impl<'g, S: IndexStorage> NodeLines<'g, S> {
         )
     }
 
-    /// Adds the line of a lexeme.
+    /// Adds the line of a lexeme whose text is the name of its token. The contract alone reads the line.
     #[inline(always)]
     pub(crate) fn push_lexeme(
         &self,
@@ -176,14 +173,14 @@ impl<'g, S: IndexStorage> NodeLines<'g, S> {
         lexeme: WordLexeme<S>,
         text: &mut Vec<u8>,
     ) -> Result<(), AllocError>
-        requires { HasText self.now (lex_of S.number) line.now lexeme }
+        requires inside { S.number lexeme.token < end_token self.now.grammar }
+        requires named { IsNamed S.number self.now line.now lexeme }
         ensures { OnOk result (text.new.items ≡ text.old.items ++ lexeme_line self.now (lex_of S.number) line.now depth lexeme) }
     {
         push_row(
             row_at(self.tokens.as_slice(), lexeme.token.to_usize()).as_slice(),
             depth,
             text,
-        )?;
-        push_text(line, lexeme.span, text)
+        )
     }
 }

@@ -1,6 +1,6 @@
 //! The text of an outline over a line, node by node.
 
-ghost use Rattle.std.specs.Prelude.{◌≡◌, ◌<◌, ◌++◌, List, length, Some, IfOk, OnOk, slice_get};
+ghost use Rattle.std.specs.Prelude.{◌≡◌, ◌<◌, ◌++◌, List, length, Ok, Some, IfOk, OnOk, slice_get};
 ghost use Rattle.std.specs.List.{flat_map};
 ghost use Rattle.cfg_theory.specs.Tree.{Tree, yield};
 ghost use Rattle.parse_trees.specs.FlatLines.{CanShowTree};
@@ -9,6 +9,7 @@ ghost use Rattle.parse_trees.specs.OutlineLines.{CanShowSymbol, CanShowSymbols, 
 ghost use Rattle.parse_trees.specs.Outlines.{IsLeft, IsOutline, symbol_of, symbols, visit_of};
 ghost use Rattle.word_lines.specs.Lexing.{lex_of};
 ghost use Rattle.word_lines.specs.LineTexts.{value_text};
+ghost use Rattle.word_lines.specs.NodeRows.{AreNamed};
 
 use crate::lexeme::{WordLexError, WordLexeme};
 use crate::node_lines::NodeLines;
@@ -48,7 +49,8 @@ fn lexeme_at<S: IndexStorage>(
     number: usize,
 ) -> WordLexeme<S>
     requires { (lexemes : List (WordLexeme S)) × (x : WordLexeme S) × AreItems items.now lexemes × (slice_get lexemes number ≡ Some x) }
-    ensures { (lexemes : List (WordLexeme S)) → AreItems items.now lexemes → slice_get lexemes number ≡ Some result }
+    ensures lexeme { (lexemes : List (WordLexeme S)) → AreItems items.now lexemes → slice_get lexemes number ≡ Some result }
+    ensures item { slice_get items.now number ≡ Some (Ok result) }
 {
     match item_at(items, number) {
         Ok(lexeme) => lexeme,
@@ -63,7 +65,7 @@ fn symbol_at<S: IndexStorage>(visit: OutlineVisit<S>) -> OutlineSymbol<S>
     visit.symbol
 }
 
-/// Adds the line of a node of an outline. The lexemes of the line are its leaves.
+/// Adds the line of a node of an outline. The lexemes of the line are its leaves, and the text of each is its token's name.
 #[inline(always)]
 pub fn push_symbol<S: IndexStorage>(
     shown: &NodeLines<'_, S>,
@@ -72,7 +74,8 @@ pub fn push_symbol<S: IndexStorage>(
     visit: OutlineVisit<S>,
     text: &mut Vec<u8>,
 ) -> Result<(), AllocError>
-    requires { (lexemes : List (WordLexeme S)) × AreItems items.now lexemes × CanShowSymbol shown.now (lex_of S.number) line.now lexemes (symbol_of S.number visit.symbol) }
+    requires named { AreNamed S.number shown.now line.now items.now }
+    requires can { (lexemes : List (WordLexeme S)) × AreItems items.now lexemes × CanShowSymbol shown.now (lex_of S.number) line.now lexemes (symbol_of S.number visit.symbol) }
     ensures { (lexemes : List (WordLexeme S)) → AreItems items.now lexemes → OnOk result (text.new.items ≡ text.old.items ++ symbol_visit_line shown.now (lex_of S.number) line.now lexemes (visit_of S.number visit)) }
 {
     let depth = visit.depth;

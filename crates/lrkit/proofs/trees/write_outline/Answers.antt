@@ -5,9 +5,9 @@ use Rattle.cfg_theory.specs.Tree.{yield}
 use Rattle.parse_trees.specs.Outlines.{symbols}
 use Rattle.lrkit.proofs.trees.write_outline.Goals as goal
 
-pub write_symbols-requires : goal.write_symbols-requires
-write_symbols-requires g c =
-    let r = c.requires in
+pub write_symbols-requires-clause-can : goal.write_symbols-requires-clause-can
+write_symbols-requires-clause-can g c =
+    let r = c.requires.can in
     (yield r.0, symbols 0 0 r.0, r.1, c.in_ok-walk.ensures.left r.0 r.2, c.in_ok-walk.ensures.can r.0 r.3)
 
 pub returns-clause-ok : goal.returns-clause-ok

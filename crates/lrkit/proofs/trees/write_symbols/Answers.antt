@@ -10,12 +10,12 @@ use Rattle.lrkit.proofs.trees.write_symbols.Goals as goal
 
 pub step-requires : goal.step-requires
 step-requires g c =
-    let r = c.requires in
+    let r = c.requires.can in
     (drop c.nodes.counter r.1, (c.nodes.invariant.0 r.0 r.1 r.2 r.3).0)
 
-pub push_symbol-requires : goal.push_symbol-requires
-push_symbol-requires g c =
-    let r = c.requires in
+pub push_symbol-requires-clause-can : goal.push_symbol-requires-clause-can
+push_symbol-requires-clause-can g c =
+    let r = c.requires.can in
     let inv = c.nodes.invariant.0 r.0 r.1 r.2 r.3 in
     let n = next_symbol r.1 c.nodes.counter c.in_ok-visit.field-0 (IsLeft Word id c.step.new.self.nodes.now c.step.new.self.waiting.items c.step.new.self.seen) (c.in_ok-visit.ensures (drop c.nodes.counter r.1) inv.0) c.in-Some.visit c.in-Some.is in
     (r.0, r.2, r.4 c.nodes.counter (visit_of id c.in-Some.visit) n.1)

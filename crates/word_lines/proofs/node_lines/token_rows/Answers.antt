@@ -1,4 +1,4 @@
-use Rattle.std.proofs.Common.{◌∙◌, ap, subst, arith}
+use Rattle.std.proofs.Common.{◌∙◌, ◌++◌, ◌∷◌, ap, subst, arith}
 use Rattle.lrpar.proofs.FullSteps.{rows_more, rows_none}
 use Rattle.word_lines.specs.NodeRows.{IsTokenRow, behind_spaces}
 use Rattle.word_lines.proofs.node_lines.token_rows.Goals as goal
@@ -10,7 +10,7 @@ pub tokens-preserved : goal.tokens-preserved
 tokens-preserved g c =
     let number = g.S.IndexStorage.number in
     let P = IsTokenRow c.args.grm.now in
-    let row = c.in_ok-row.ensures ∙ ap (λ n. behind_spaces n 32) c.token_name.ensures in
+    let row = c.in_ok-row.ensures ∙ ap (λ n. behind_spaces (n ++ 32 ∷ n) 10) c.token_name.ensures in
     rows_more P c.tokens.number c.tokens.rows.items c.push.new.self.items c.in_ok-row.row c.tokens.invariant (subst (λ k. P k c.in_ok-row.row.items) c.token_at.ensures row) c.in_ok-push.ensures.items
 
 pub returns : goal.returns

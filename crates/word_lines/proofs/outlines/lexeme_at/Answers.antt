@@ -39,5 +39,5 @@ item_at-requires g c = let r = c.requires in within c.args.items.now r.0 r.2 c.a
 pub unreachable-requires : goal.unreachable-requires
 unreachable-requires g c = let r = c.requires in no_fault c.args.items.now r.0 r.2 c.args.number c.item_at.result r.1 _ r.3 c.item_at.ensures c.in-Err.is
 
-pub returns : goal.returns
-returns g c = λ lexemes are. lexeme c.args.items.now lexemes are c.args.number c.item_at.result c.in-Ok.lexeme c.item_at.ensures c.in-Ok.is
+pub returns-clause-lexeme : goal.returns-clause-lexeme
+returns-clause-lexeme g c = λ lexemes are. lexeme c.args.items.now lexemes are c.args.number c.item_at.result c.in-Ok.lexeme c.item_at.ensures c.in-Ok.is

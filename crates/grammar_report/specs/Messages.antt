@@ -1,14 +1,16 @@
 -- The messages of a report.
-use Rattle.std.specs.Prelude.{◌≡◌, ℕ, suc, ◌+◌, ◌≤◌, Bool, true, false, List, [], ◌∷◌, ◌++◌, ◌&&◌, Option, None, Some, IfSome, codes, cond, drop, length, map, nat_le, not, slice_get, slice_range, take, IsCharBoundary, ⊤}
-use Rattle.std.specs.List.{All}
+use Rattle.std.specs.Prelude.{◌≡◌, ℕ, suc, ◌+◌, ◌≤◌, Bool, true, false, List, [], ◌∷◌, ◌++◌, ◌&&◌, Option, None, Some, IfSome, codes, cond, drop, length, map, max, min, nat_le, not, slice_get, slice_range, take, IsCharBoundary, ⊤}
+use Rattle.std.specs.List.{All, sum_by}
 use Rattle.std.specs.Str.{bytes_eq}
 use Rattle.cfg_base.specs.SpanModel.{SpanModel}
 use Rattle.cfg_base.specs.declared.symbol.PIdx.{PIdx}
 use Rattle.cfg_theory.specs.Derivation.{IsProductive}
 use Rattle.cfg_read.specs.Asts.{Ast, ProductionAst, RuleAst}
-use Rattle.cfg_read.specs.ErrorModels.{failure_of}
+use Rattle.cfg_read.specs.ErrorModels.{failure_of, failures_in}
 use Rattle.cfg_read.specs.ErrorTexts.{failure_text}
+use Rattle.cfg_read.specs.Files.{FailsToTell}
 use Rattle.cfg_read.specs.SyntaxTexts.{WordText}
+use Rattle.cfg_read.specs.Validity.{FailureText}
 use Rattle.cfg_read.specs.ValidityInfo.{CheckedAst, IsChecked, is_valid}
 use Rattle.cfg_read.specs.WarningModels.{warning_text}
 use Rattle.cfg_read.specs.Warnings as unused
@@ -29,6 +31,8 @@ use Rattle.text_messages.specs.declared.source.Severity.{Severity}
 use Rattle.text_messages.specs.declared.source.Severity.TheVariants.{Error, Note, Warning}
 use Rattle.grammar_report.specs.Outcomes.{IsKitIn, TellsExpected, TellsOutcome}
 use Rattle.grammar_report.specs.Places.{production_place}
+use Rattle.grammar_report.specs.declared.large.Untabled.{Untabled}
+use Rattle.grammar_report.specs.declared.large.Untabled.TheVariants.{Errors, Neither, Warnings}
 use Rattle.grammar_report.specs.declared.outcome.Outcome.{Outcome}
 use Rattle.grammar_report.specs.declared.outcome.Outcome.TheVariants.{Barren, Expected, Invalid, Unexpected}
 
@@ -80,6 +84,17 @@ IsKeptOf text c = (kind : YaccKind) × IsChecked kind text c
 abbrev pub ExplainRefusal : List ℕ → KitError ℕ → List Said → Type 0
 ExplainRefusal text e these = (c : CheckedAst) × IsKeptOf text c × AreOfRefusal text c.ast e these
 
+-- how many places errors have, and at least one each
+abbrev pub place_count : YaccGrammarError → ℕ
+place_count e = max (length e.spans.items) 1
+
+abbrev pub places_len : List YaccGrammarError → ℕ
+places_len es = sum_by place_count es
+
+-- the messages of the first errors of a text, and how many places the others have
+abbrev pub AreFirstErrors : List ℕ → ℕ → CheckedAst → ℕ → List Said → Type 0
+AreFirstErrors text most k left these = (es : List YaccGrammarError) × (failures_in es ≡ k.errors) × AreOfErrors text (take most es) these × (left ≡ min (places_len (drop most es)) 18446744073709551615)
+
 -- the rule of this name derives no list of tokens
 abbrev pub IsUnproductive : GrammarValue → List ℕ → Type 0
 IsUnproductive v name = (A : ℕ) × IsRuleNamed v A name × (IsProductive v.grammar A → ⊥)
@@ -116,6 +131,13 @@ AreOfUnused text ast these = (ws : List WarningText) × unused.AreWarnings ast w
 abbrev pub AreOfWarnings : List ℕ → Ast → List Said → Type 0
 AreOfWarnings text ast these = (names more : List Said) × AreOfUnused text ast names × AreWarnings more × (these ≡ names ++ more)
 
+-- those of the first unused names, further warnings, and how many unused names are left
+abbrev pub AreOfFirstUnused : List ℕ → ℕ → Ast → ℕ → List Said → Type 0
+AreOfFirstUnused text most ast left these = (ws : List WarningText) × unused.AreWarnings ast ws × OneForEach (λ w. ⊤) (SaysUnused text) (take most ws) these × (left ≡ length (drop most ws))
+
+abbrev pub AreFirstWarnings : List ℕ → ℕ → Ast → ℕ → List Said → Type 0
+AreFirstWarnings text most ast left these = (names more : List Said) × AreOfFirstUnused text most ast left names × AreWarnings more × (these ≡ names ++ more)
+
 -- how many productions there are, and symbols in them
 abbrev pub size_of : List ProductionAst → ℕ
 size_of [] = 0
@@ -125,21 +147,34 @@ size_of (p ∷ ps) = suc (length p.symbols) + size_of ps
 abbrev pub is_large : ℕ → CheckedAst → Bool
 is_large most k = is_valid k.errors && not (nat_le (size_of k.ast.productions) most)
 
--- the warnings of a large one, and nothing of another
-abbrev pub AreOfLarge : List ℕ → Ast → Bool → List Said → Type 0
-AreOfLarge text ast true these = AreOfWarnings text ast these
-AreOfLarge text ast false these = these ≡ []
+-- what is found without a table: errors, or warnings of a large text
+abbrev pub is_large_found : Untabled → Option Bool
+is_large_found Neither = None
+is_large_found (Errors left) = Some false
+is_large_found (Warnings left) = Some true
 
--- whether a text is large
-abbrev pub DecidesLarge : ℕ → List ℕ → Bool → Type 0
-DecidesLarge most text large = (k : CheckedAst) × IsKeptOf text k × (large ≡ is_large most k)
+-- errors of a text in which something is wrong, warnings of a large one, and nothing of another
+abbrev pub found_of : ℕ → CheckedAst → Option Bool
+found_of size k = cond (is_valid k.errors) (cond (is_large size k) (Some true) None) (Some false)
+
+-- the first of these, with how many are left
+abbrev pub AreOfUntabled : List ℕ → ℕ → CheckedAst → Untabled → List Said → Type 0
+AreOfUntabled text most k Neither these = these ≡ []
+AreOfUntabled text most k (Errors left) these = AreFirstErrors text most k left these
+AreOfUntabled text most k (Warnings left) these = AreFirstWarnings text most k.ast left these
+
+-- a text whose section names no kind has nothing; of another it is what is kept of it that decides
+pub data DecidesUntabled (size : ℕ) (text : List ℕ) (found : Option Bool) : Type 0 where
+  untold : (fs : List FailureText) → FailsToTell text fs → found ≡ None → DecidesUntabled size text found
+  told : (k : CheckedAst) → IsKeptOf text k → found ≡ found_of size k → DecidesUntabled size text found
 
 -- the same of what is kept of it, and what is added
-abbrev pub AddsOfChecked : ℕ → CheckedAst → Bool → MessagesValue → MessagesValue → Type 0
-AddsOfChecked most k large old new = (large ≡ is_large most k) × AddsSome (AreOfLarge old.text k.ast large) old new
+abbrev pub AddsOfChecked : ℕ → ℕ → CheckedAst → Untabled → MessagesValue → MessagesValue → Type 0
+AddsOfChecked size most k u old new = (is_large_found u ≡ found_of size k) × AddsSome (AreOfUntabled old.text most k u) old new
 
-abbrev pub AddsOfLarge : ℕ → Bool → MessagesValue → MessagesValue → Type 0
-AddsOfLarge most large old new = (k : CheckedAst) × IsKeptOf old.text k × AddsOfChecked most k large old new
+pub data AddsOfUntabled (size most : ℕ) (u : Untabled) (old new : MessagesValue) : Type 0 where
+  of_untold : (fs : List FailureText) → FailsToTell old.text fs → u ≡ Neither → new ≡ old → AddsOfUntabled size most u old new
+  of_told : (k : CheckedAst) → IsKeptOf old.text k → AddsOfChecked size most k u old new → AddsOfUntabled size most u old new
 
 -- what a conflict begins with in words
 abbrev pub kind_text : Option (PIdx ℕ) → List ℕ

@@ -1,6 +1,8 @@
 //! Why no parser is made of a grammar with a production that may be reduced where a text has ended.
 
-ghost use Rattle.std.specs.Prelude.{IfOk, OnOk, codes};
+ghost use Rattle.std.specs.Prelude.{◌≡◌, IfOk, List, None, OnOk, codes};
+ghost use Rattle.cfg_read.specs.Files.{FailsToTell};
+ghost use Rattle.cfg_read.specs.Validity.{FailureText};
 ghost use Rattle.text_messages.specs.Added.{AddsOne};
 ghost use Rattle.grammar_report.specs.Places.{production_place};
 ghost use Rattle.grammar_report.specs.Messages.{IsError, IsKeptOf};
@@ -18,15 +20,28 @@ use refused_tables::{push_derivation, push_example};
 use std::alloc::{AllocError, Global};
 use text_messages::{Message, Messages, Severity};
 
+/// Yacc's own syntax with trees.
+const DEFAULT: YaccKind = YaccKind::Original(YaccOriginalActionKind::GenericParseTree);
+
+/// Returns the kind that a text's section names, else that of Yacc's own syntax with trees; none where the section is faulty.
+pub(crate) fn told_kind(alloc: Global, text: &str) -> Result<Option<YaccKind>, AllocError>
+    ensures { IfOk result (λ o. o ≡ None → (fs : List FailureText) × FailsToTell text.now fs) }
+{
+    match kind_of(alloc, text) {
+        Ok(Some(kind)) => Ok(Some(kind)),
+        Ok(None) => Ok(Some(DEFAULT)),
+        Err(YaccGrammarFailure::Memory(e)) => Err(e),
+        Err(YaccGrammarFailure::Invalid(errors)) => {
+            drop(errors);
+            Ok(None)
+        }
+    }
+}
+
 /// Returns the kind that a text's section names, else that of Yacc's own syntax with trees.
 fn kind_or_default(alloc: Global, text: &str) -> Result<YaccKind, AllocError> {
-    match kind_of(alloc, text) {
-        Ok(Some(kind)) => return Ok(kind),
-        Ok(None) => {}
-        Err(YaccGrammarFailure::Memory(e)) => return Err(e),
-        Err(YaccGrammarFailure::Invalid(errors)) => drop(errors),
-    }
-    Ok(YaccKind::Original(YaccOriginalActionKind::GenericParseTree))
+    let told = told_kind(alloc, text)?;
+    Ok(told.unwrap_or(DEFAULT))
 }
 
 /// Returns what is kept of a text, of the kind that its section names, else of Yacc's own syntax with trees.

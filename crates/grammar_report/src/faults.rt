@@ -1,9 +1,9 @@
 //! Errors and warnings of a text.
 
-ghost use Rattle.std.specs.Prelude.{◌≡◌, IfOk, OnOk, drop, map, slice_get, string_bytes, ⊤};
+ghost use Rattle.std.specs.Prelude.{◌≡◌, IfOk, OnOk, drop, map, min, slice_get, string_bytes, take, ⊤};
 ghost use Rattle.cfg_read.specs.WarningModels.{warning_of};
 ghost use Rattle.text_messages.specs.Added.{AddsOne, AddsSaid, AddsSome, AddsWarnings, OneForEach};
-ghost use Rattle.grammar_report.specs.Messages.{AreOfError, AreOfErrors, AreOfRefusal, AreOfUnused, AreOfWarnings, ExplainRefusal, IsNamed, NamesPart, SaysUnused, again_at, at_places};
+ghost use Rattle.grammar_report.specs.Messages.{AreFirstWarnings, AreOfError, AreOfErrors, AreOfFirstUnused, AreOfRefusal, AreOfUnused, AreOfWarnings, ExplainRefusal, IsNamed, NamesPart, SaysUnused, again_at, at_places, places_len};
 
 use crate::accept_reduce::{kept_of, push_ending};
 use crate::long_chains::push_long_chain;
@@ -112,6 +112,33 @@ fn push_errors(
         compared = compared.saturating_add(names);
     }
     Ok(())
+}
+
+/// Returns how many places errors have, and at least one each.
+fn places_len(errors: &[YaccGrammarError]) -> usize
+    ensures { result ≡ min (places_len errors.now) usize.MAX }
+{
+    let mut count: usize = 0;
+    'errors: for index in 0..errors.len() {
+        count = count.saturating_add(errors[index].spans.len().max(1));
+    }
+    count
+}
+
+/// Adds the first errors, as many as `most`, each with its notes, and returns how many places the others have.
+pub(crate) fn push_first_errors(
+    alloc: Global,
+    messages: &mut Messages<'_>,
+    ast: &GrammarAST,
+    errors: &[YaccGrammarError],
+    most: usize,
+) -> Result<usize, AllocError>
+    ensures added { OnOk result (AddsSome (AreOfErrors messages.old.text (take most errors.now)) messages.old messages.new) }
+    ensures left { IfOk result (λ n. n ≡ min (places_len (drop most errors.now)) usize.MAX) }
+{
+    let (first, others) = errors.split_at(most.min(errors.len()));
+    push_errors(alloc, messages, ast, first)?;
+    Ok(places_len(others))
 }
 
 /// Adds why a text gives no parser, by what is kept of it.
@@ -224,6 +251,21 @@ fn push_unused(
     push_unused_names(alloc, messages, warnings.as_slice())
 }
 
+/// Adds a warning for each of the first unused rules and tokens, as many as `most`, and returns how many are left.
+fn push_first_unused(
+    alloc: Global,
+    messages: &mut Messages<'_>,
+    ast: &GrammarAST,
+    most: usize,
+) -> Result<usize, AllocError>
+    ensures { IfOk result (λ left. AddsSome (AreOfFirstUnused messages.old.text most ast.now left) messages.old messages.new) }
+{
+    let warnings = ast.warnings(alloc)?;
+    let (first, others) = warnings.as_slice().split_at(most.min(warnings.len()));
+    push_unused_names(alloc, messages, first)?;
+    Ok(others.len())
+}
+
 /// Adds what of the declared tokens means something else than it seems to.
 fn push_token_warnings(alloc: Global, messages: &mut Messages<'_>) -> Result<(), AllocError>
     ensures { OnOk result (AddsWarnings messages.old messages.new) }
@@ -246,4 +288,18 @@ pub(crate) fn push_warnings(
 {
     push_unused(alloc, messages, ast)?;
     push_token_warnings(alloc, messages)
+}
+
+/// Adds the warnings of `push_warnings`, but of unused names the first `most` alone, and returns how many of these are left.
+pub(crate) fn push_first_warnings(
+    alloc: Global,
+    messages: &mut Messages<'_>,
+    ast: &GrammarAST,
+    most: usize,
+) -> Result<usize, AllocError>
+    ensures { IfOk result (λ left. AddsSome (AreFirstWarnings messages.old.text most ast.now left) messages.old messages.new) }
+{
+    let left = push_first_unused(alloc, messages, ast, most)?;
+    push_token_warnings(alloc, messages)?;
+    Ok(left)
 }

@@ -1,15 +1,26 @@
-//! Texts of grammars that are too large for their tables to be made at each change.
+//! What is found of a text without a table: errors, or warnings of a grammar that is too large for its table to be made at each change.
 
 ghost use Rattle.std.specs.Prelude.{◌≡◌, IfOk, map, nat_le, not};
 ghost use Rattle.cfg_read.specs.AstModels.{production_of};
-ghost use Rattle.grammar_report.specs.Messages.{AddsOfChecked, AddsOfLarge, size_of};
+ghost use Rattle.grammar_report.specs.Messages.{AddsOfChecked, AddsOfUntabled, size_of};
 
-use crate::accept_reduce::kept_of;
-use crate::faults::push_warnings;
-use cfg_read::yacc::ASTWithValidityInfo;
+use crate::accept_reduce::told_kind;
+use crate::faults::{push_first_errors, push_first_warnings};
 use cfg_read::yacc::ast::Production;
+use cfg_read::yacc::{ASTWithValidityInfo, YaccKind};
 use std::alloc::{AllocError, Global};
 use text_messages::Messages;
+
+/// What is found of a text without a table.
+#[derive(Clone, Copy, Debug, PartialEq, Eq)]
+pub enum Untabled {
+    /// Neither errors nor warnings: its section names no kind; or nothing is wrong with it, and it is small.
+    Neither,
+    /// Something is wrong with it. The number is of the places of the errors that got no message.
+    Errors(usize),
+    /// It is large. The number is of the unused names that got no message.
+    Warnings(usize),
+}
 
 /// Returns whether productions are more than `most`, together with the symbols in them.
 fn are_many(prods: &[Production], most: usize) -> bool
@@ -26,33 +37,56 @@ fn are_many(prods: &[Production], most: usize) -> bool
     false
 }
 
-/// Adds the warnings of what is kept of a text, where that is large, and returns whether it is.
+/// Adds the first errors or warnings of what is kept of a text.
 fn push_checked(
     alloc: Global,
     messages: &mut Messages<'_>,
     kept: &ASTWithValidityInfo,
+    size: usize,
     most: usize,
-) -> Result<bool, AllocError>
-    ensures { IfOk result (λ large. AddsOfChecked most kept.now large messages.old messages.new) }
+) -> Result<Untabled, AllocError>
+    ensures { IfOk result (λ u. AddsOfChecked size most kept.now u messages.old messages.new) }
 {
-    if !kept.is_valid() || !are_many(kept.ast().prods(), most) {
-        return Ok(false);
+    if !kept.is_valid() {
+        let left = push_first_errors(alloc, messages, kept.ast(), kept.errors(), most)?;
+        return Ok(Untabled::Errors(left));
     }
-    push_warnings(alloc, messages, kept.ast())?;
-    Ok(true)
+    if !are_many(kept.ast().prods(), size) {
+        return Ok(Untabled::Neither);
+    }
+    let left = push_first_warnings(alloc, messages, kept.ast(), most)?;
+    Ok(Untabled::Warnings(left))
 }
 
-/// Adds the warnings of a text in which nothing is wrong and that has more than `most` productions and symbols in them, and returns
-/// whether it is such a text. No table is made.
-pub fn push_large(
+/// Adds what is found of a text of a kind without a table.
+fn push_told(
     alloc: Global,
     messages: &mut Messages<'_>,
+    kind: YaccKind,
+    size: usize,
     most: usize,
-) -> Result<bool, AllocError>
-    ensures { IfOk result (λ large. AddsOfLarge most large messages.old messages.new) }
+) -> Result<Untabled, AllocError>
+    ensures { IfOk result (λ u. AddsOfUntabled size most u messages.old messages.new) }
 {
-    let kept = kept_of(alloc, messages.text())?;
-    let pushed = push_checked(alloc, messages, &kept, most);
+    let kept = ASTWithValidityInfo::new(alloc, kind, messages.text())?;
+    let pushed = push_checked(alloc, messages, &kept, size, most);
     drop(kept);
     pushed
+}
+
+/// Adds what is found of a text without a table: where something is wrong with it, the messages of the first `most` errors; else, where
+/// it has more than `size` productions and symbols in them, its warnings, with those of the first `most` unused names.
+pub fn push_untabled(
+    alloc: Global,
+    messages: &mut Messages<'_>,
+    size: usize,
+    most: usize,
+) -> Result<Untabled, AllocError>
+    ensures { IfOk result (λ u. AddsOfUntabled size most u messages.old messages.new) }
+{
+    let told = told_kind(alloc, messages.text())?;
+    match told {
+        Some(kind) => push_told(alloc, messages, kind, size, most),
+        None => Ok(Untabled::Neither),
+    }
 }

@@ -2,14 +2,14 @@
 
 ghost use Rattle.std.specs.Prelude.{◌≡◌, [], IfOk, OnErr, OnOk, map, string_bytes};
 ghost use Rattle.text_messages.specs.Added.{AddsSome, said};
-ghost use Rattle.grammar_report.specs.Messages.{AreOfConflicts, AreOfKit, AreOfText, AreOfWarnings, AreUnproductive, ExplainRefusal, Shows, ShowsSome, source_of};
+ghost use Rattle.grammar_report.specs.Messages.{AreFirstWarnings, AreOfConflicts, AreOfKit, AreOfText, AreOfWarnings, AreUnproductive, ExplainRefusal, Shows, ShowsSome, source_of};
 ghost use Rattle.grammar_report.specs.Outcomes.{IsKitIn, IsOutcome, TellsOutcome};
 ghost use Rattle.grammar_report.specs.declared.outcome.Outcome.TheVariants.{Invalid};
 
 use crate::asked::Asked;
 use crate::conflicts::push_conflicts;
 use crate::counts::{counts_of, counts_text};
-use crate::faults::{push_refusal, push_warnings};
+use crate::faults::{push_first_warnings, push_refusal, push_warnings};
 use crate::idle::push_idle;
 use crate::next::push_next;
 use crate::outcome::{Outcome, Report};
@@ -43,6 +43,21 @@ pub fn push_kit_warnings(
     push_warnings(alloc, messages, kit.ast())?;
     let pairs = all_pairs(alloc, kit)?;
     push_idle(alloc, messages, kit, pairs.as_slice())
+}
+
+/// Adds the warnings of `push_kit_warnings`, but of unused names the first `most` alone, and returns how many of these are left.
+pub fn push_first_kit_warnings(
+    alloc: Global,
+    messages: &mut Messages<'_>,
+    kit: &ParserKit<u32>,
+    most: usize,
+) -> Result<usize, AllocError>
+    ensures { IfOk result (λ left. AddsSome (AreFirstWarnings messages.old.text most kit.now.kept.ast left) messages.old messages.new) }
+{
+    let left = push_first_warnings(alloc, messages, kit.ast(), most)?;
+    let pairs = all_pairs(alloc, kit)?;
+    push_idle(alloc, messages, kit, pairs.as_slice())?;
+    Ok(left)
 }
 
 /// Adds messages.

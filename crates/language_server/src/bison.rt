@@ -7,9 +7,15 @@ use crate::diagnostics::{View, push_findings, push_source};
 use crate::fault::ServeFault;
 use bison_sources::{BisonFile, BisonImport, import_file, refusal_message};
 use checked_import::CheckedError;
-use report_values::findings_of_error;
+use report_values::{LeftOut, findings_of_error};
 use std::alloc::Global;
 use text_messages::Source;
+
+/// No message is left out.
+const NONE_LEFT: LeftOut = LeftOut {
+    errors: 0,
+    warnings: 0,
+};
 
 /// Adds what is found of the import of a file.
 fn push_import(
@@ -40,7 +46,7 @@ fn push_refusal(
     let source = Source::new(alloc, view.text, view.uri)?;
     let read = findings_of_error(alloc, &source, message)?;
     drop(source);
-    let pushed = push_findings(alloc, view, found, &read.findings);
+    let pushed = push_findings(alloc, view, found, &read.findings, NONE_LEFT);
     drop(read);
     pushed?;
     Ok(())

@@ -9,7 +9,7 @@ use crate::fault::{ServeFault, fault_of};
 use crate::places::{Encoding, Lines, Position, position_at};
 use bison_sources::bison_file;
 use report_forms::{Conflict, Findings, Range as Reported, Said};
-use report_values::{Wanted, findings_on, warnings_of_large};
+use report_values::{FirstSaid, LeftOut, Wanted, first_findings_on, untabled_on};
 use std::alloc::{AllocError, Global};
 use text_messages::Source;
 
@@ -176,19 +176,20 @@ fn push_count(
     push_note(alloc, found, message)
 }
 
-/// Adds the first messages, and how many there are.
+/// Adds the first messages of a list, and how many there are with `left` others.
 fn push_all_said(
     alloc: Global,
     view: &View<'_>,
     found: &mut Vec<Diagnostic>,
     list: &[Said],
+    left: usize,
 ) -> Result<(), AllocError>
     ensures { OnOk result (length found.new.items ≤ length found.old.items + 1001) }
 {
     'messages: for index in 0..list.len().min(MOST_SHOWN) {
         push_said(alloc, view, found, &list[index])?;
     }
-    push_count(alloc, found, list.len(), "messages")
+    push_count(alloc, found, list.len().saturating_add(left), "messages")
 }
 
 /// Returns what a conflict is, in words.
@@ -273,18 +274,25 @@ fn push_conflicts(
     push_count(alloc, found, conflicts.len(), "conflicts")
 }
 
-/// Adds what is found of a document. Conflicts that are expected are no warnings.
+/// Adds what is found of a document, of which these messages are left out. Conflicts that are expected are no warnings.
 pub(crate) fn push_findings(
     alloc: Global,
     view: &View<'_>,
     found: &mut Vec<Diagnostic>,
     findings: &Findings,
+    left: LeftOut,
 ) -> Result<(), AllocError>
     ensures { OnOk result (length found.new.items ≤ length found.old.items + 3003) }
 {
     let object = &findings.object;
-    push_all_said(alloc, view, found, object.errors.as_slice())?;
-    push_all_said(alloc, view, found, object.warnings.as_slice())?;
+    push_all_said(alloc, view, found, object.errors.as_slice(), left.errors)?;
+    push_all_said(
+        alloc,
+        view,
+        found,
+        object.warnings.as_slice(),
+        left.warnings,
+    )?;
     let severity = if object.status == 0 {
         INFORMATION
     } else {
@@ -293,16 +301,20 @@ pub(crate) fn push_findings(
     push_conflicts(alloc, view, found, object.conflicts.as_slice(), severity)
 }
 
-/// Adds the warnings about a grammar that no table is made of.
-fn push_warnings(
+/// Adds what is said of a grammar that no table is made of.
+fn push_first_said(
     alloc: Global,
     view: &View<'_>,
     found: &mut Vec<Diagnostic>,
-    warnings: &[Said],
+    said: &FirstSaid,
 ) -> Result<(), AllocError>
     ensures { OnOk result (length found.new.items ≤ length found.old.items + 1002) }
 {
-    push_all_said(alloc, view, found, warnings)?;
+    let left = said.len.saturating_sub(said.list.len());
+    push_all_said(alloc, view, found, said.list.as_slice(), left)?;
+    if !said.is_large {
+        return Ok(());
+    }
     let message = format!(in alloc;
         "more than {MOST_SYMBOLS} productions and symbols in them: lrkit-check lists the conflicts"
     )?;
@@ -310,20 +322,20 @@ fn push_warnings(
 }
 
 /// Adds what is found of a source without its table, if that isn't made, and returns whether it isn't.
-fn push_large(
+fn push_untabled(
     alloc: Global,
     view: &View<'_>,
     found: &mut Vec<Diagnostic>,
     source: &Source<'_>,
 ) -> Result<bool, AllocError>
     ensures count { OnOk result (length found.new.items ≤ length found.old.items + 1002) }
-    ensures rest { IfOk result (λ large. large ≡ false → found.new ≡ found.old) }
+    ensures rest { IfOk result (λ pushed. pushed ≡ false → found.new ≡ found.old) }
 {
-    let Some(warnings) = warnings_of_large(alloc, source, MOST_SYMBOLS)? else {
+    let Some(said) = untabled_on(alloc, source, MOST_SYMBOLS, MOST_SHOWN)? else {
         return Ok(false);
     };
-    let pushed = push_warnings(alloc, view, found, warnings.as_slice());
-    drop(warnings);
+    let pushed = push_first_said(alloc, view, found, &said);
+    drop(said);
     pushed?;
     Ok(true)
 }
@@ -337,9 +349,9 @@ fn push_tabled(
 ) -> Result<(), ServeFault>
     ensures { OnOk result (length found.new.items ≤ length found.old.items + 3003) }
 {
-    match findings_on(alloc, source, WANTED) {
+    match first_findings_on(alloc, source, WANTED, MOST_SHOWN) {
         Ok(read) => {
-            let pushed = push_findings(alloc, view, found, &read.findings);
+            let pushed = push_findings(alloc, view, found, &read.found.findings, read.left);
             drop(read);
             pushed?;
             Ok(())
@@ -357,7 +369,7 @@ pub(crate) fn push_source(
 ) -> Result<(), ServeFault>
     ensures { OnOk result (length found.new.items ≤ length found.old.items + 3003) }
 {
-    if push_large(alloc, view, found, source)? {
+    if push_untabled(alloc, view, found, source)? {
         return Ok(());
     }
     push_tabled(alloc, view, found, source)

@@ -1,5 +1,7 @@
 //! The documents that the client has open, and their changes.
 
+ghost use Rattle.std.specs.Prelude.{◌≡◌, OnOk, is_some, true};
+
 use crate::languages::Language;
 use crate::messages::Change;
 use crate::places::{Encoding, Lines, offset_at};
@@ -14,27 +16,40 @@ pub struct Document {
     pub text: String,
     /// Its lines.
     pub lines: Lines,
-    /// Where the text names its rules and tokens; nothing of one that is too long, in Bison's syntax, or no grammar.
-    pub index: GrammarIndex,
+    /// Where the text names its rules and tokens, once that was asked for.
+    pub index: Option<GrammarIndex>,
 }
 
-/// Returns the document of a text with these lines.
-pub fn document_of<L: Language>(
+/// Returns where a text names its rules and tokens: nowhere, if it is too long.
+fn index_of<L: Language>(
     alloc: Global,
     language: &L,
-    text: String,
-    lines: Lines,
-) -> Result<Document, AllocError> {
+    text: &str,
+) -> Result<GrammarIndex, AllocError> {
     if text.len() > MOST_BYTES {
-        let index = GrammarIndex::empty(alloc);
-        return Ok(Document { text, lines, index });
+        return Ok(GrammarIndex::empty(alloc));
     }
-    match language.index(alloc, text.as_str()) {
-        Ok(index) => Ok(Document { text, lines, index }),
-        Err(e) => {
-            drop(lines);
-            Err(e)
+    language.index(alloc, text)
+}
+
+impl Document {
+    /// Makes the document of a text with these lines.
+    pub fn new(text: String, lines: Lines) -> Document {
+        Document {
+            text,
+            lines,
+            index: None,
         }
+    }
+
+    /// Makes the index if there is none: nothing names anything in a text that is too long, in Bison's syntax, or no grammar.
+    pub fn make_index<L: Language>(&mut self, alloc: Global, language: &L) -> Result<(), AllocError>
+        ensures { OnOk result (is_some self.new.index ≡ true) }
+    {
+        if self.index.is_none() {
+            self.index = Some(index_of(alloc, language, self.text.as_str())?);
+        }
+        Ok(())
     }
 }
 

@@ -1,6 +1,6 @@
 //! The outline of a document: its rules and declared tokens, and what can be folded.
 
-ghost use Rattle.std.specs.Prelude.{◌≡◌, IfOk, None};
+ghost use Rattle.std.specs.Prelude.{◌≡◌, ◌≤◌, ◌+◌, IfOk, None, OnOk, length, min};
 ghost use Rattle.language_server.specs.Protocol.{error_in};
 
 use crate::answers::{Answer, Fold, Range, Symbol};
@@ -13,6 +13,9 @@ const RULE: u8 = 12;
 
 const TOKEN: u8 = 14;
 
+/// Of the declared tokens, and of the rules, not more than these are shown.
+const MOST_SYMBOLS: usize = 10000;
+
 /// Adds a symbol.
 fn push_symbol(
     alloc: Global,
@@ -21,7 +24,9 @@ fn push_symbol(
     one: Occurrence,
     kind: u8,
     range: Range,
-) -> Result<(), AllocError> {
+) -> Result<(), AllocError>
+    ensures { OnOk result (length list.new.items ≡ length list.old.items + 1) }
+{
     let name = String::from_str(alloc, asked.part(one.start, one.end))?;
     let selection_range = asked.range_of(one);
     list.push(Symbol {
@@ -33,14 +38,20 @@ fn push_symbol(
     Ok(())
 }
 
-/// Adds the declared tokens.
+/// Adds the first declared tokens.
 fn push_tokens(
     alloc: Global,
     asked: &Asked<'_>,
     list: &mut Vec<Symbol>,
     names: &[Occurrence],
-) -> Result<(), AllocError> {
+) -> Result<(), AllocError>
+    requires { length list.old.items ≡ 0 }
+    ensures { OnOk result (length list.new.items ≤ 10000) }
+{
     'names: for index in 0..names.len() {
+        if list.len() == MOST_SYMBOLS {
+            return Ok(());
+        }
         let one = names[index];
         if one.role == Role::Declared {
             push_symbol(alloc, asked, list, one, TOKEN, asked.range_of(one))?;
@@ -49,14 +60,16 @@ fn push_tokens(
     Ok(())
 }
 
-/// Adds the rules.
+/// Adds the first rules.
 fn push_rules(
     alloc: Global,
     asked: &Asked<'_>,
     list: &mut Vec<Symbol>,
     headings: &[Heading],
-) -> Result<(), AllocError> {
-    'headings: for index in 0..headings.len() {
+) -> Result<(), AllocError>
+    ensures { OnOk result (length list.new.items ≡ length list.old.items + min (length headings.now) 10000) }
+{
+    'headings: for index in 0..headings.len().min(MOST_SYMBOLS) {
         let one = headings[index];
         let range = asked.range(one.name.start, one.end);
         push_symbol(alloc, asked, list, one.name, RULE, range)?;
@@ -64,17 +77,16 @@ fn push_rules(
     Ok(())
 }
 
-/// Adds the declared tokens and the rules.
-fn push_symbols(
-    alloc: Global,
-    asked: &Asked<'_>,
-    list: &mut Vec<Symbol>,
-) -> Result<(), AllocError> {
+/// Adds the first declared tokens and the first rules.
+fn push_symbols(alloc: Global, asked: &Asked<'_>, list: &mut Vec<Symbol>) -> Result<(), AllocError>
+    requires { length list.old.items ≡ 0 }
+    ensures { OnOk result (length list.new.items ≤ 20000) }
+{
     push_tokens(alloc, asked, list, asked.index.names())?;
     push_rules(alloc, asked, list, asked.index.headings())
 }
 
-/// Answers the declared tokens and the rules.
+/// Answers the declared tokens and the rules, the first 10000 of each.
 pub fn symbols_answer(alloc: Global, asked: &Asked<'_>) -> Result<Answer, AllocError>
     ensures { IfOk result (λ a. error_in a ≡ None) }
 {

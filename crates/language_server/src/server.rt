@@ -7,13 +7,13 @@ ghost use Rattle.language_server.specs.declared.answers.Response.{Response};
 use crate::answers::{Answer, Offers, Published, Response};
 use crate::asked::Asked;
 use crate::diagnostics::{View, push_too_long};
-use crate::documents::{Document, document_of, with_changes};
+use crate::documents::{Document, with_changes};
 use crate::fault::ServeFault;
 use crate::languages::Language;
 use crate::messages::{Change, ErrorCode, Id, Message, Method, Notice, Params, Query};
 use crate::places::{Encoding, Lines};
 use byte_streams::MOST_BYTES;
-use std::alloc::Global;
+use std::alloc::{AllocError, Global};
 use std::collections::BTreeMap;
 
 /// How far the session has come.
@@ -140,30 +140,64 @@ impl Server {
         }
     }
 
-    /// Answers what is asked of a document. One that isn't open has nothing.
-    fn ask<L: Language>(
+    /// Makes the index of a document, if it is open and has none.
+    fn make_index<L: Language>(
+        &mut self,
+        alloc: Global,
+        language: &L,
+        uri: &str,
+    ) -> Result<(), AllocError>
+        ensures { self.new.phase ≡ self.old.phase }
+    {
+        match self.documents.get_mut(uri) {
+            Some(document) => document.make_index(alloc, language),
+            None => Ok(()),
+        }
+    }
+
+    /// Answers what is asked of a document with an index. One that isn't open has nothing.
+    fn ask_of<L: Language>(
         &self,
         alloc: Global,
         language: &L,
+        uri: &str,
         query: Query,
         params: &Params,
     ) -> Result<Answer, ServeFault>
         ensures { IfOk result (λ a. MayFail (error_in a) query) }
     {
-        let Some(uri) = &params.uri else {
+        let Some(document) = self.documents.get(uri) else {
             return Ok(Answer::Done);
         };
-        let Some(document) = self.documents.get(uri.as_str()) else {
+        let Some(index) = &document.index else {
             return Ok(Answer::Done);
         };
         let asked = Asked {
-            uri: uri.as_str(),
+            uri,
             text: document.text.as_str(),
-            index: &document.index,
+            index,
             lines: &document.lines,
             encoding: self.encoding,
         };
         language.answer(alloc, &asked, query, params)
+    }
+
+    /// Answers what is asked of a document. The first query of a version makes its index.
+    fn ask<L: Language>(
+        &mut self,
+        alloc: Global,
+        language: &L,
+        query: Query,
+        params: &Params,
+    ) -> Result<Answer, ServeFault>
+        ensures answer { IfOk result (λ a. MayFail (error_in a) query) }
+        ensures phase { self.new.phase ≡ self.old.phase }
+    {
+        let Some(uri) = &params.uri else {
+            return Ok(Answer::Done);
+        };
+        self.make_index(alloc, language, uri.as_str())?;
+        self.ask_of(alloc, language, uri.as_str(), query, params)
     }
 
     /// Answers a request within the session.
@@ -277,25 +311,17 @@ impl Server {
             drop(published);
             return Err(e);
         }
-        if let Err(e) = self.put(alloc, language, uri, text, lines) {
+        if let Err(e) = self.put(uri, Document::new(text, lines)) {
             drop(published);
             return Err(e);
         }
         Ok(with_published(Some(published)))
     }
 
-    /// Puts a document's text in the place of what was there.
-    fn put<L: Language>(
-        &mut self,
-        alloc: Global,
-        language: &L,
-        uri: String,
-        text: String,
-        lines: Lines,
-    ) -> Result<(), ServeFault>
+    /// Puts a document in the place of what was there.
+    fn put(&mut self, uri: String, document: Document) -> Result<(), ServeFault>
         ensures { OnOk result (self.new.phase ≡ self.old.phase) }
     {
-        let document = document_of(alloc, language, text, lines)?;
         match self.documents.insert(uri, document) {
             Ok(old) => {
                 drop(old);

@@ -1,19 +1,19 @@
 //! From a grammar's text to the plain values of its report.
 
-ghost use Rattle.std.specs.Prelude.{◌≡◌, ◌+◌, length, None, IsSomeAnd, IfOk, OnOk, IfErr, is_some};
+ghost use Rattle.std.specs.Prelude.{◌≡◌, ◌+◌, length, None, Some, IsSomeAnd, IfOk, OnOk, IfErr, option_map};
 ghost use Rattle.grammar_report.specs.declared.outcome.Outcome.TheVariants.{Invalid};
-ghost use Rattle.grammar_report.specs.Messages.{DecidesLarge};
+ghost use Rattle.grammar_report.specs.Messages.{DecidesUntabled, is_large_found};
 ghost use Rattle.grammar_report.specs.Outcomes.{IsOutcome, status_of};
 ghost use Rattle.report_values.specs.Drawn.{Draws, Fits, IsTooMany, drawn_len, state_count};
 
 use crate::conflicts::{View, push_conflicts};
 use crate::findings_error::FindingsError;
-use crate::ranges::push_messages;
+use crate::ranges::{LeftOut, first_messages, push_messages};
 use crate::rules::push_rules;
 use crate::states::{push_states, states_len};
 use grammar_report::{
-    Outcome, Reading, counts_of, push_kit_warnings, push_large, push_refusal, push_unproductive,
-    read_grammar, status,
+    Outcome, Reading, Untabled, counts_of, push_first_kit_warnings, push_refusal,
+    push_unproductive, push_untabled, read_grammar, status,
 };
 use parser_kit::{KitError, ParserKit};
 use report_forms::{Counts, Findings, Object, Said, said_of};
@@ -47,6 +47,26 @@ pub struct Wanted {
     pub states: Option<usize>,
 }
 
+/// What is found of a grammar's text, with the first errors and warnings alone.
+#[derive(Drop)]
+pub struct FirstFound {
+    /// What is found, with the first of the messages.
+    pub found: Found,
+    /// How many messages are left out.
+    pub left: LeftOut,
+}
+
+/// The first messages about a text without a table.
+#[derive(Drop)]
+pub struct FirstSaid {
+    /// The messages.
+    pub list: Vec<Said>,
+    /// How many messages there are, those that aren't in the list too.
+    pub len: usize,
+    /// Whether they are the warnings of a large text; else they are errors.
+    pub is_large: bool,
+}
+
 /// Returns the counts of a kit.
 fn object_counts(kit: &ParserKit<u32>) -> Counts
     ensures { result.states ≡ state_count kit.now }
@@ -64,28 +84,36 @@ fn object_counts(kit: &ParserKit<u32>) -> Counts
     }
 }
 
-/// Adds the messages about a kit's text.
+/// Adds the messages about a kit's text, but of unused names the first `most` alone, and returns how many of these are left.
 fn push_kit_messages(
     alloc: Global,
     messages: &mut Messages<'_>,
     kit: &ParserKit<u32>,
-) -> Result<(), AllocError> {
-    push_kit_warnings(alloc, messages, kit)?;
-    push_unproductive(alloc, messages, kit)
+    most: usize,
+) -> Result<usize, AllocError> {
+    let left = push_first_kit_warnings(alloc, messages, kit, most)?;
+    push_unproductive(alloc, messages, kit)?;
+    Ok(left)
 }
 
-/// Puts messages that were collected into the errors and warnings.
+/// Puts messages that were collected into the errors and warnings, until a list has `most`, and returns how many are left out, with the
+/// warnings that were not collected.
 fn put_messages(
     object: &mut Object,
     source: &Source<'_>,
     messages: Messages<'_>,
-    collected: Result<(), AllocError>,
-) -> Result<(), AllocError>
+    collected: Result<usize, AllocError>,
+    most: usize,
+) -> Result<LeftOut, AllocError>
     ensures status { OnOk result (object.new.status ≡ object.old.status) }
     ensures counts { OnOk result (object.new.counts ≡ object.old.counts) }
 {
     match collected {
-        Ok(()) => push_messages(object, source, messages.into_vec()),
+        Ok(more) => {
+            let mut left = push_messages(object, source, messages.into_vec(), most)?;
+            left.warnings = left.warnings.saturating_add(more);
+            Ok(left)
+        }
         Err(e) => {
             drop(messages);
             Err(e)
@@ -111,20 +139,22 @@ fn fill_object(
     source: &Source<'_>,
     kit: &ParserKit<u32>,
     wanted: Wanted,
-) -> Result<(), AllocError>
+    most: usize,
+) -> Result<LeftOut, AllocError>
     ensures status { OnOk result (object.new.status ≡ object.old.status) }
     ensures counts { OnOk result (IsSomeAnd object.new.counts (λ counts. counts.states ≡ state_count kit.now)) }
 {
     let mut messages = Messages::new(alloc, source.text());
-    let collected = push_kit_messages(alloc, &mut messages, kit);
-    put_messages(object, source, messages, collected)?;
+    let collected = push_kit_messages(alloc, &mut messages, kit, most);
+    let left = put_messages(object, source, messages, collected, most)?;
     object.counts = Some(object_counts(kit));
     if !wanted.conflicts {
-        return Ok(());
+        return Ok(left);
     }
     let full = wanted.full;
     let view = View { source, kit, full };
-    push_conflicts(alloc, &mut object.conflicts, &view, wanted.each)
+    push_conflicts(alloc, &mut object.conflicts, &view, wanted.each)?;
+    Ok(left)
 }
 
 /// Fills in the rules and the states, as far as they are wanted.
@@ -153,7 +183,8 @@ fn fill_of_kit(
     source: &Source<'_>,
     kit: &ParserKit<u32>,
     wanted: Wanted,
-) -> Result<(), FindingsError>
+    most: usize,
+) -> Result<LeftOut, FindingsError>
     ensures status { OnOk result (findings.new.object.status ≡ findings.old.object.status) }
     ensures counts { OnOk result (IsSomeAnd findings.new.object.counts (λ counts. counts.states ≡ state_count kit.now)) }
     ensures states { OnOk result (length findings.new.states.items ≡ length findings.old.states.items + drawn_len wanted.states (state_count kit.now)) }
@@ -161,9 +192,9 @@ fn fill_of_kit(
     ensures refusal { IfErr result (IsTooMany wanted.states) }
 {
     refuse_states(states_len(kit), wanted.states)?;
-    fill_object(alloc, &mut findings.object, source, kit, wanted)?;
+    let left = fill_object(alloc, &mut findings.object, source, kit, wanted, most)?;
     fill_drawn(alloc, findings, kit, wanted)?;
-    Ok(())
+    Ok(left)
 }
 
 /// Fills in why a text gives no parser.
@@ -172,13 +203,17 @@ fn fill_of_refusal(
     object: &mut Object,
     source: &Source<'_>,
     refusal: &KitError<u32>,
-) -> Result<(), AllocError>
+    most: usize,
+) -> Result<LeftOut, AllocError>
     ensures status { OnOk result (object.new.status ≡ object.old.status) }
     ensures counts { OnOk result (object.new.counts ≡ object.old.counts) }
 {
     let mut messages = Messages::new(alloc, source.text());
-    let collected = push_refusal(alloc, &mut messages, refusal);
-    put_messages(object, source, messages, collected)
+    let collected = match push_refusal(alloc, &mut messages, refusal) {
+        Ok(()) => Ok(0),
+        Err(e) => Err(e),
+    };
+    put_messages(object, source, messages, collected, most)
 }
 
 /// Fills in what is found of what a source's text gives.
@@ -188,7 +223,8 @@ fn fill(
     source: &Source<'_>,
     reading: &Reading,
     wanted: Wanted,
-) -> Result<(), FindingsError>
+    most: usize,
+) -> Result<LeftOut, FindingsError>
     requires no_counts { findings.old.object.counts ≡ None }
     requires no_states { length findings.old.states.items ≡ 0 }
     ensures status { OnOk result (findings.new.object.status ≡ findings.old.object.status) }
@@ -196,10 +232,10 @@ fn fill(
     ensures refusal { IfErr result (IsTooMany wanted.states) }
 {
     match &reading.kit {
-        Ok(kit) => fill_of_kit(alloc, findings, source, kit, wanted),
+        Ok(kit) => fill_of_kit(alloc, findings, source, kit, wanted, most),
         Err(refusal) => {
-            fill_of_refusal(alloc, &mut findings.object, source, refusal)?;
-            Ok(())
+            let left = fill_of_refusal(alloc, &mut findings.object, source, refusal, most)?;
+            Ok(left)
         }
     }
 }
@@ -226,20 +262,21 @@ fn no_findings(alloc: Global, outcome: Outcome) -> Findings
     }
 }
 
-/// Returns what is found of what a source's text gives.
+/// Returns what is found of what a source's text gives, with the first `most` errors and warnings.
 fn findings_of(
     alloc: Global,
     source: &Source<'_>,
     reading: &Reading,
     wanted: Wanted,
-) -> Result<Findings, FindingsError>
-    ensures status { IfOk result (λ f. f.object.status ≡ status_of reading.now.outcome) }
-    ensures states { IfOk result (Draws wanted.states) }
+    most: usize,
+) -> Result<(Findings, LeftOut), FindingsError>
+    ensures status { IfOk result (λ r. r.0.object.status ≡ status_of reading.now.outcome) }
+    ensures states { IfOk result (λ r. Draws wanted.states r.0) }
     ensures refusal { IfErr result (IsTooMany wanted.states) }
 {
     let mut findings = no_findings(alloc, reading.outcome);
-    match fill(alloc, &mut findings, source, reading, wanted) {
-        Ok(()) => Ok(findings),
+    match fill(alloc, &mut findings, source, reading, wanted, most) {
+        Ok(left) => Ok((findings, left)),
         Err(e) => {
             drop(findings);
             Err(e)
@@ -277,40 +314,87 @@ pub fn findings_of_error(
     }
 }
 
-/// Returns messages about a source's text as values.
-fn said_in(
+/// Returns the first messages about a source's text, at most `most`, with `left` others that were not collected.
+fn first_said(
     alloc: Global,
     source: &Source<'_>,
-    messages: Vec<Message>,
-) -> Result<Vec<Said>, AllocError> {
-    let mut list = Vec::new(alloc);
-    'messages: for message in messages {
-        list.push(said_of(source, message))?;
-    }
-    Ok(list)
+    messages: Messages<'_>,
+    most: usize,
+    left: usize,
+    is_large: bool,
+) -> Result<Option<FirstSaid>, AllocError>
+    ensures { IfOk result (λ o. option_map (λ x. x.is_large) o ≡ Some is_large) }
+{
+    let messages = messages.into_vec();
+    let len = messages.len().saturating_add(left);
+    let list = first_messages(alloc, source, messages, most)?;
+    Ok(Some(FirstSaid {
+        list,
+        len,
+        is_large,
+    }))
 }
 
-/// Returns the warnings about a source's text with more than `most` productions and symbols in them in which nothing is wrong; `None`
-/// of another. No table is made.
-pub fn warnings_of_large(
+/// Returns what is found of a source's text without a table, by the messages that were collected.
+fn said_untabled(
     alloc: Global,
     source: &Source<'_>,
+    messages: Messages<'_>,
     most: usize,
-) -> Result<Option<Vec<Said>>, AllocError>
-    ensures { IfOk result (λ o. DecidesLarge most source.now.text (is_some o)) }
+    untabled: Untabled,
+) -> Result<Option<FirstSaid>, AllocError>
+    ensures { IfOk result (λ o. option_map (λ x. x.is_large) o ≡ is_large_found untabled) }
 {
-    let mut messages = Messages::new(alloc, source.text());
-    match push_large(alloc, &mut messages, most) {
-        Ok(true) => Ok(Some(said_in(alloc, source, messages.into_vec())?)),
-        Ok(false) => {
+    match untabled {
+        Untabled::Errors(left) => first_said(alloc, source, messages, most, left, false),
+        Untabled::Warnings(left) => first_said(alloc, source, messages, most, left, true),
+        Untabled::Neither => {
             drop(messages);
             Ok(None)
         }
+    }
+}
+
+/// Returns what is found of a source's text without a table, with the first `most` messages: the errors of a text in which something is
+/// wrong; the warnings of another one with more than `size` productions and symbols in them. Else there is nothing, and so where its
+/// section names no kind.
+pub fn untabled_on(
+    alloc: Global,
+    source: &Source<'_>,
+    size: usize,
+    most: usize,
+) -> Result<Option<FirstSaid>, AllocError>
+    ensures { IfOk result (λ o. DecidesUntabled size source.now.text (option_map (λ x. x.is_large) o)) }
+{
+    let mut messages = Messages::new(alloc, source.text());
+    match push_untabled(alloc, &mut messages, size, most) {
+        Ok(untabled) => said_untabled(alloc, source, messages, most, untabled),
         Err(e) => {
             drop(messages);
             Err(e)
         }
     }
+}
+
+/// Returns what `findings_on` does, with the first `most` errors and the first `most` warnings.
+pub fn first_findings_on(
+    alloc: Global,
+    source: &Source<'_>,
+    wanted: Wanted,
+    most: usize,
+) -> Result<FirstFound, FindingsError>
+    ensures outcome { IfOk result (λ f. IsOutcome source.now.text f.found.outcome) }
+    ensures status { IfOk result (λ f. f.found.findings.object.status ≡ status_of f.found.outcome) }
+    ensures states { IfOk result (λ f. Draws wanted.states f.found.findings) }
+    ensures refusal { IfErr result (IsTooMany wanted.states) }
+{
+    let reading = read_grammar(alloc, source.text())?;
+    let outcome = reading.outcome;
+    let found = findings_of(alloc, source, &reading, wanted, most);
+    drop(reading);
+    let (findings, left) = found?;
+    let found = Found { outcome, findings };
+    Ok(FirstFound { found, left })
 }
 
 /// Returns what is found of a source's text, as `grammar_report::read_grammar` reads it. Places are those of the source. Where
@@ -325,10 +409,6 @@ pub fn findings_on(
     ensures states { IfOk result (λ f. Draws wanted.states f.findings) }
     ensures refusal { IfErr result (IsTooMany wanted.states) }
 {
-    let reading = read_grammar(alloc, source.text())?;
-    let outcome = reading.outcome;
-    let found = findings_of(alloc, source, &reading, wanted);
-    drop(reading);
-    let findings = found?;
-    Ok(Found { outcome, findings })
+    let first = first_findings_on(alloc, source, wanted, usize::MAX)?;
+    Ok(first.found)
 }

@@ -32,5 +32,9 @@ mod ranges;
 mod rules;
 mod states;
 
-pub use findings::{Found, Wanted, findings_of_error, findings_on, warnings_of_large};
+pub use findings::{
+    FirstFound, FirstSaid, Found, Wanted, findings_of_error, findings_on, first_findings_on,
+    untabled_on,
+};
 pub use findings_error::FindingsError;
+pub use ranges::LeftOut;

@@ -1,7 +1,0 @@
-use Rattle.std.proofs.lemmas.Result.{IfOk-weaker}
-use Rattle.grammar_report.proofs.large.push_large.Goals as goal
-
-pub returns : goal.returns
-returns c =
-    let kept = rw c.text.ensures at c.in_ok-kept.ensures in
-    IfOk-weaker c.push_checked-pushed.result _ _ (λ large h. (c.in_ok-kept.kept, kept, h)) c.push_checked-pushed.ensures

@@ -1,5 +1,5 @@
 -- The messages of a report.
-use Rattle.std.specs.Prelude.{◌≡◌, ℕ, suc, ◌+◌, ◌≤◌, Bool, true, false, List, [], ◌∷◌, ◌++◌, ◌&&◌, Option, None, Some, IfSome, codes, cond, drop, length, map, max, min, nat_le, not, slice_get, slice_range, take, IsCharBoundary, ⊤}
+use Rattle.std.specs.Prelude.{◌≡◌, ℕ, suc, ◌+◌, ◌≤◌, Bool, true, false, List, [], ◌∷◌, ◌++◌, ◌&&◌, ◌||◌, Option, None, Some, IfSome, codes, cond, drop, length, map, max, min, nat_le, not, slice_get, slice_range, take, IsCharBoundary, ⊤}
 use Rattle.std.specs.List.{All, sum_by}
 use Rattle.std.specs.Str.{bytes_eq}
 use Rattle.cfg_base.specs.SpanModel.{SpanModel}
@@ -143,9 +143,9 @@ abbrev pub size_of : List ProductionAst → ℕ
 size_of [] = 0
 size_of (p ∷ ps) = suc (length p.symbols) + size_of ps
 
--- a text in which nothing is wrong, with more productions and symbols in them than this
+-- a text in which nothing is wrong, with more productions and symbols in them, or more tokens, than this
 abbrev pub is_large : ℕ → CheckedAst → Bool
-is_large most k = is_valid k.errors && not (nat_le (size_of k.ast.productions) most)
+is_large most k = is_valid k.errors && (not (nat_le (size_of k.ast.productions) most) || not (nat_le (length k.ast.tokens) most))
 
 -- what is found without a table: errors, or warnings of a large text
 abbrev pub is_large_found : Untabled → Option Bool

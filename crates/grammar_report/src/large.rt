@@ -51,7 +51,7 @@ fn push_checked(
         let left = push_first_errors(alloc, messages, kept.ast(), kept.errors(), most)?;
         return Ok(Untabled::Errors(left));
     }
-    if !are_many(kept.ast().prods(), size) {
+    if !are_many(kept.ast().prods(), size) && kept.ast().tokens().len() <= size {
         return Ok(Untabled::Neither);
     }
     let left = push_first_warnings(alloc, messages, kept.ast(), most)?;
@@ -75,7 +75,7 @@ fn push_told(
 }
 
 /// Adds what is found of a text without a table: where something is wrong with it, the messages of the first `most` errors; else, where
-/// it has more than `size` productions and symbols in them, its warnings, with those of the first `most` unused names.
+/// it has more than `size` productions and symbols in them, or as many tokens, its warnings, with those of the first `most` unused names.
 pub fn push_untabled(
     alloc: Global,
     messages: &mut Messages<'_>,

@@ -23,7 +23,7 @@ const WARNING: u8 = 2;
 
 const INFORMATION: u8 = 3;
 
-/// A table is made of no grammar that has more productions, and symbols in them, than these.
+/// A table is made of no grammar that has more productions and symbols in them, or more tokens, than these.
 const MOST_SYMBOLS: usize = 12000;
 
 /// Of each list of messages, and of conflicts, not more than these are shown.
@@ -316,7 +316,7 @@ fn push_first_said(
         return Ok(());
     }
     let message = format!(in alloc;
-        "more than {MOST_SYMBOLS} productions and symbols in them: lrkit-check lists the conflicts"
+        "more than {MOST_SYMBOLS} productions and symbols in them, or tokens: lrkit-check lists the conflicts"
     )?;
     push_note(alloc, found, message)
 }
@@ -385,8 +385,8 @@ fn push_plain(alloc: Global, view: &View<'_>, found: &mut Vec<Diagnostic>) -> Re
     pushed
 }
 
-/// Adds the diagnostics of a document. Of a grammar of more than 12000 productions and symbols in them these are its errors, else the
-/// warnings that need no table, and a note that says so: a table may take seconds, and a change comes with each key.
+/// Adds the diagnostics of a document. Of a grammar of more than 12000 productions and symbols in them, or tokens, these are its errors,
+/// else the warnings that need no table, and a note that says so: a table may take seconds, and a change comes with each key.
 pub fn push_diagnostics(
     alloc: Global,
     view: &View<'_>,

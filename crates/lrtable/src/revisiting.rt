@@ -21,7 +21,7 @@ ghost use Rattle.lrtable.specs.Stepping.{IsNextTaken};
 ghost use Rattle.lrtable.specs.declared.states.BuildError.TheVariants as faults;
 
 use crate::moved_items::{MovedItem, Rows, Source};
-use crate::state_lists::numbers_at;
+use crate::state_lists::{Numbers, numbers_at};
 use crate::states::{BuildError, Builder, EdgeTo, State, place};
 use cfg_base::index::IndexStorage;
 use cfg_base::symbol::SIdx;
@@ -183,7 +183,7 @@ fn is_first<S: IndexStorage>(states: &[State<S>], bucket: &[usize], number: usiz
 fn stays<S: IndexStorage>(
     grm: &NumberedGrammar<S>,
     states: &[State<S>],
-    begins: &[Vec<Vec<usize>>],
+    begins: &[Vec<Numbers>],
     was: &Retaken<S>,
     rows: &Rows<'_>,
     target: usize,

@@ -16,7 +16,7 @@ ghost use Rattle.state_table.specs.CoreViews.{item_of, items_of, core_of_set};
 ghost use Rattle.lrtable.specs.StateViews.{edge_of_pair, edges_of, value_of};
 
 use crate::moved_items::{MovedItem, Rows, same_items, to_core};
-use crate::state_lists::{numbers_at, put_number};
+use crate::state_lists::{Numbers, numbers_at, put_number};
 use crate::weak_compatibility::{hold_all, weakly_compatible};
 use cfg_base::index::IndexStorage;
 use cfg_base::symbol::Symbol;
@@ -43,7 +43,7 @@ pub(crate) struct State<S> {
 pub(crate) struct Builder<S> {
     pub states: Vec<State<S>>,
     /// For each production and dot the states whose first item they are, ascending.
-    pub begins: Vec<Vec<Vec<usize>>>,
+    pub begins: Vec<Vec<Numbers>>,
     /// No state below it is to be taken.
     pub cursor: usize,
     /// The state that is taken: the goto sets are its own.

@@ -11,6 +11,7 @@ pub mod Placed
 pub mod Handling
 pub mod Buckets
 pub mod Exact
+pub mod MadeAhead
 pub mod Fronts
 pub mod Ranks
 pub mod Gaining

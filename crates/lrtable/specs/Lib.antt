@@ -11,6 +11,7 @@ pub mod Gaining
 pub mod Stepping
 pub mod Pruning
 pub mod FinalStates
+pub mod MadeTails
 pub mod Closers
 pub mod RefusalViews
 pub mod Waits

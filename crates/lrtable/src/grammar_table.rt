@@ -15,6 +15,7 @@ ghost use Rattle.state_table.specs.Tables.{AreContested, CountsAgree, HasCanonic
 ghost use Rattle.lrtable.specs.declared.grammar_table.FromYaccError.TheVariants as refusals;
 
 use crate::finishing::graph_of_grammar;
+use crate::least_room::try_room;
 use crate::states::BuildError;
 use cfg_base::index::IndexStorage;
 use cfg_numbered::yacc::NumberedGrammar;
@@ -128,6 +129,7 @@ fn by_pager<S: IndexStorage>(
     ensures states { OnOk result (StaysWithin grm.now.grammar S.MAX) }
     ensures refused { IfErr result (λ e. IsRefusal S.MAX grm.now (refusal_of S.number e)) }
 {
+    try_room(alloc, grm)?;
     let graph = make_graph(alloc, grm)?;
     let table = make_table(alloc, grm, &graph)?;
     Ok((graph, table))

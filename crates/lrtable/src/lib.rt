@@ -42,6 +42,7 @@ mod grammar_table;
 mod insertion_list;
 pub mod itemset;
 pub mod laws;
+mod least_room;
 mod left_corners;
 mod moved_items;
 mod moves;

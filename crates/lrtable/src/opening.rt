@@ -17,13 +17,14 @@ ghost use Rattle.lrtable.specs.Stepping.{IsSized, IsClosureOf};
 ghost use Rattle.lrtable.specs.Closers.{IsReady};
 ghost use Rattle.lrtable.specs.Opening.{AreNoted, Front, RuleSets, IsTidy, IsOpen, HasRuleLook, room, FitsIn, AllFit, Brings, Comes, Follows, FrontStep, NamedIn, BroughtBy, GainsOwn, SameSizes, Underway, AreOpened};
 ghost use Rattle.lrtable.specs.Reaching.{AreListed, IsAlone};
+ghost use Rattle.lrtable.specs.MadeTails.{AreTails};
 ghost use Rattle.lrtable.specs.Waits.{WaitsToo};
 
 use crate::capacities::production_counts;
 use crate::insertion_list::Noted;
 use crate::openers::{Opener, Openers};
 use crate::rule_rows::RuleRows;
-use crate::tails::{Rest, fill_rest, rule_after};
+use crate::tails::{Rest, Tails, rule_after};
 use cfg_base::index::IndexStorage;
 use cfg_numbered::yacc::NumberedGrammar;
 use cfg_sets::YaccFirsts;
@@ -456,13 +457,13 @@ impl Opening {
     fn seed_one<S: IndexStorage>(
         &mut self,
         grm: &NumberedGrammar<S>,
-        firsts: &YaccFirsts<S>,
+        tails: &Tails<'_, S>,
         pair: (&CoreItem<S>, &Vob),
         rest: &mut Rest,
         waiting: &mut Vec<usize>,
     ) -> Result<(), AllocError>
         requires production { S.number pair.0.now.pidx.0 < length grm.now.grammar.productions }
-        requires firsts { AreFirsts grm.now.grammar firsts.now }
+        requires tails { AreTails grm.now.grammar tails.now }
         requires sizes { IsSized grm.now.grammar self.old }
         requires width { length pair.1.now.bits ≡ grm.now.grammar.tokens }
         requires room { length rest.old.first.bits ≡ grm.now.grammar.tokens }
@@ -474,7 +475,7 @@ impl Opening {
         let dot = item.dot.0.to_usize();
         match rule_after(grm, item.pidx, dot) {
             Some(ridx) => {
-                fill_rest(grm, firsts, item.pidx, dot, rest);
+                tails.fill(grm, item.pidx, dot, rest);
                 self.follow(ridx.0.to_usize(), rest, looks, waiting)?;
                 Ok(())
             }
@@ -486,13 +487,13 @@ impl Opening {
     fn seed<S: IndexStorage>(
         &mut self,
         grm: &NumberedGrammar<S>,
-        firsts: &YaccFirsts<S>,
+        tails: &Tails<'_, S>,
         set: &CoreSet<S>,
         rest: &mut Rest,
         waiting: &mut Vec<usize>,
     ) -> Result<(), AllocError>
         requires fits { FitsCore grm.now.grammar (core_of_set S.number set.now) }
-        requires firsts { AreFirsts grm.now.grammar firsts.now }
+        requires tails { AreTails grm.now.grammar tails.now }
         requires sizes { IsSized grm.now.grammar self.old }
         requires room { length rest.old.first.bits ≡ grm.now.grammar.tokens }
         ensures room { length rest.new.first.bits ≡ grm.now.grammar.tokens }
@@ -501,7 +502,7 @@ impl Opening {
         'items: for k in 0..set.items.len() {
             let item = &set.items[k];
             let looks = &set.looks[k];
-            self.seed_one(grm, firsts, (item, looks), rest, waiting)?;
+            self.seed_one(grm, tails, (item, looks), rest, waiting)?;
         }
         Ok(())
     }
@@ -510,7 +511,7 @@ impl Opening {
 /// Closes one core after another, in buffers that it reuses.
 #[derive(Drop)]
 pub(crate) struct Closer<'a, S: IndexStorage> {
-    pub firsts: &'a YaccFirsts<S>,
+    pub tails: Tails<'a, S>,
     pub openers: &'a Openers,
     /// The open rules.
     pub opening: Opening,
@@ -539,7 +540,7 @@ impl<'a, S: IndexStorage> Closer<'a, S> {
         let rules = grm.rules_len().0.to_usize();
         let tokens = grm.tokens_len().0.to_usize();
         Ok(Closer {
-            firsts,
+            tails: Tails::new(alloc, grm, firsts)?,
             openers,
             opening: Opening::empty(alloc, rules, tokens)?,
             looks: Vob::from_elem(alloc, false, tokens)?,
@@ -562,7 +563,7 @@ impl<'a, S: IndexStorage> Closer<'a, S> {
     {
         self.opening.clear();
         self.opening
-            .seed(grm, self.firsts, set, &mut self.rest, &mut self.waiting)?;
+            .seed(grm, &self.tails, set, &mut self.rest, &mut self.waiting)?;
         self.opening
             .close(self.openers, &mut self.looks, &mut self.waiting)?;
         Ok(())

@@ -1,13 +1,16 @@
 //! Tails: what follows a symbol in a production.
 
-ghost use Rattle.std.specs.Prelude.{◌≡◌, ◌<◌, ℕ, false, length, get_or, IfOk, MatchOption};
+ghost use Rattle.std.specs.Prelude.{◌≡◌, ◌<◌, ◌+◌, ℕ, false, length, get_or, IfOk, IfSome, IsTrue, OnOk, MatchOption, ◌↔◌};
 ghost use Rattle.cfg_theory.specs.Grammar.{Sym, rule, body_of, IsNext};
-ghost use Rattle.cfg_sets.specs.Firsts.{AreFirsts};
+ghost use Rattle.cfg_sets.specs.Firsts.{AreFirsts, HasEpsilon};
 ghost use Rattle.cfg_numbered.specs.Symbols.{sym_of};
+ghost use Rattle.vob.specs.Sets.{is_set};
 ghost use Rattle.state_table.specs.CoreViews.{items_of};
 ghost use Rattle.state_table.specs.ItemRows.{Item};
 ghost use Rattle.lrtable.specs.Closes.{IsRest};
 ghost use Rattle.lrtable.specs.Stepping.{HaveNoNext};
+ghost use Rattle.lrtable.specs.MadeTails.{AreTails};
+ghost use Rattle.lrtable.specs.declared.tails.Tail.{Tail};
 
 use cfg_base::index::IndexStorage;
 use cfg_base::symbol::{PIdx, RIdx, Symbol};
@@ -98,6 +101,68 @@ pub(crate) fn any_incomplete<S: IndexStorage>(
     false
 }
 
+/// What follows the symbol behind a dot of a production, as it was made beforehand.
+#[derive(Drop)]
+pub(crate) struct Tail {
+    pub production: usize,
+    pub dot: usize,
+    pub rest: Rest,
+}
+
+/// What follows the rules in productions. Where a nullable rule comes next it is made beforehand, from the production's end on: it has
+/// the tokens of each symbol up to the first that isn't nullable, so to join these for each dot would take the square of a body's
+/// length.
+#[derive(Drop)]
+pub(crate) struct Tails<'a, S: IndexStorage> {
+    pub firsts: &'a YaccFirsts<S>,
+    /// In the order of the productions, those of one from its end on.
+    pub made: Vec<Tail>,
+}
+
+/// Returns where what follows the symbol behind a dot was made, if it was.
+fn place_of(made: &[Tail], production: usize, dot: usize) -> Option<usize>
+    ensures within { IfSome result (λ k. k < length made.now) }
+    ensures production { IfSome result (λ k. (t : Tail) → (get_or made.now k t).production ≡ production) }
+    ensures dot { IfSome result (λ k. (t : Tail) → (get_or made.now k t).dot ≡ dot) }
+{
+    let k = made.partition_point(|it| {
+        it.production < production || it.production == production && it.dot > dot
+    });
+    if k >= made.len() {
+        return None;
+    }
+    let it = &made[k];
+    if it.production != production || it.dot != dot {
+        return None;
+    }
+    Some(k)
+}
+
+/// Returns the rule at a place of a production, if one is there and it is nullable.
+fn nullable_at<S: IndexStorage>(
+    grm: &NumberedGrammar<S>,
+    firsts: &YaccFirsts<S>,
+    pidx: PIdx<S>,
+    at: usize,
+) -> Option<RIdx<S>>
+    requires production { S.number pidx.0 < length grm.now.grammar.productions }
+    requires firsts { AreFirsts grm.now.grammar firsts.now }
+    ensures next { IfSome result (λ r. IsNext grm.now.grammar (S.number pidx.0) at (rule (S.number r.0))) }
+    ensures nullable { IfSome result (λ r. HasEpsilon firsts.now (S.number r.0)) }
+{
+    grm.start_prod();
+    match rule_after(grm, pidx, at) {
+        Some(ridx) => {
+            if firsts.is_epsilon_set(ridx) {
+                Some(ridx)
+            } else {
+                None
+            }
+        }
+        None => None,
+    }
+}
+
 /// Writes what follows the symbol behind a dot over what followed another.
 pub(crate) fn fill_rest<S: IndexStorage>(
     grm: &NumberedGrammar<S>,
@@ -116,4 +181,138 @@ pub(crate) fn fill_rest<S: IndexStorage>(
     let symbols = grm.prod(pidx);
     let nullable = firsts.first_of(&symbols[dot + 1..], &mut rest.first);
     rest.nullable = nullable;
+}
+
+impl Rest {
+    /// Becomes another tail.
+    fn copy_of(&mut self, other: &Rest)
+        requires { length self.old.first.bits ≡ length other.now.first.bits }
+        ensures width { length self.new.first.bits ≡ length other.now.first.bits }
+        ensures bits { (t : ℕ) → IsTrue (is_set self.new.first.bits t) ↔ IsTrue (is_set other.now.first.bits t) }
+        ensures nullable { self.new.nullable ≡ other.now.nullable }
+    {
+        self.first.set_all(false);
+        self.first.or(&other.first);
+        self.nullable = other.nullable;
+    }
+}
+
+impl<'a, S: IndexStorage> Tails<'a, S> {
+    /// Makes what follows a rule where a nullable rule comes next.
+    pub(crate) fn new(
+        alloc: Global,
+        grm: &NumberedGrammar<S>,
+        firsts: &'a YaccFirsts<S>,
+    ) -> Result<Tails<'a, S>, AllocError>
+        requires { AreFirsts grm.now.grammar firsts.now }
+        ensures { IfOk result (AreTails grm.now.grammar) }
+    {
+        let mut rest = Rest::empty(alloc, grm.tokens_len().0.to_usize())?;
+        let mut tails = Tails {
+            firsts,
+            made: Vec::new(alloc),
+        };
+        match tails.put_all(grm, &mut rest) {
+            Ok(()) => Ok(tails),
+            Err(e) => {
+                drop(tails);
+                Err(e)
+            }
+        }
+    }
+
+    /// Makes those of all productions.
+    fn put_all(&mut self, grm: &NumberedGrammar<S>, rest: &mut Rest) -> Result<(), AllocError>
+        requires tails { AreTails grm.now.grammar self.old }
+        requires width { length rest.old.first.bits ≡ grm.now.grammar.tokens }
+        ensures { OnOk result (AreTails grm.now.grammar self.new) }
+    {
+        'prods: for number in 0..grm.prods_len().0.to_usize() {
+            self.put_prod(grm, grm.prod_at(number), rest)?;
+        }
+        Ok(())
+    }
+
+    /// Makes those of a production, from its end on.
+    fn put_prod(
+        &mut self,
+        grm: &NumberedGrammar<S>,
+        pidx: PIdx<S>,
+        rest: &mut Rest,
+    ) -> Result<(), AllocError>
+        requires production { S.number pidx.0 < length grm.now.grammar.productions }
+        requires tails { AreTails grm.now.grammar self.old }
+        requires width { length rest.old.first.bits ≡ grm.now.grammar.tokens }
+        ensures tails { OnOk result (AreTails grm.now.grammar self.new) }
+        ensures width { OnOk result (length rest.new.first.bits ≡ grm.now.grammar.tokens) }
+    {
+        let len = grm.prod(pidx).len();
+        'places: for back in 0..len {
+            self.put_before(grm, pidx, len - 1 - back, rest)?;
+        }
+        Ok(())
+    }
+
+    /// Makes what follows the symbol before a place, if a nullable rule is at that.
+    fn put_before(
+        &mut self,
+        grm: &NumberedGrammar<S>,
+        pidx: PIdx<S>,
+        at: usize,
+        rest: &mut Rest,
+    ) -> Result<(), AllocError>
+        requires production { S.number pidx.0 < length grm.now.grammar.productions }
+        requires tails { AreTails grm.now.grammar self.old }
+        requires width { length rest.old.first.bits ≡ grm.now.grammar.tokens }
+        ensures tails { OnOk result (AreTails grm.now.grammar self.new) }
+        ensures width { OnOk result (length rest.new.first.bits ≡ grm.now.grammar.tokens) }
+    {
+        let Some(ridx) = nullable_at(grm, self.firsts, pidx, at) else {
+            return Ok(());
+        };
+        if at == 0 {
+            return Ok(());
+        }
+        self.fill(grm, pidx, at, rest);
+        self.firsts.put_before(Symbol::Rule(ridx), &mut rest.first);
+        let first = rest.first.clone()?;
+        let nullable = rest.nullable;
+        let rest = Rest { first, nullable };
+        let production = pidx.0.to_usize();
+        let dot = at - 1;
+        self.made.push(Tail {
+            production,
+            dot,
+            rest,
+        })?;
+        Ok(())
+    }
+
+    /// Returns where what follows the symbol behind a dot was made, if it was.
+    fn made_at(&self, grm: &NumberedGrammar<S>, pidx: PIdx<S>, dot: usize) -> Option<usize>
+        requires production { S.number pidx.0 < length grm.now.grammar.productions }
+        requires firsts { AreFirsts grm.now.grammar self.now.firsts.now }
+        ensures within { IfSome result (λ k. k < length self.now.made.items) }
+        ensures production { IfSome result (λ k. (t : Tail) → (get_or self.now.made.items k t).production ≡ S.number pidx.0) }
+        ensures dot { IfSome result (λ k. (t : Tail) → (get_or self.now.made.items k t).dot ≡ dot) }
+    {
+        if nullable_at(grm, self.firsts, pidx, dot.saturating_add(1)).is_none() {
+            return None;
+        }
+        place_of(self.made.as_slice(), pidx.0.to_usize(), dot)
+    }
+
+    /// Writes what follows the symbol behind a dot over what followed another.
+    pub(crate) fn fill(&self, grm: &NumberedGrammar<S>, pidx: PIdx<S>, dot: usize, rest: &mut Rest)
+        requires production { S.number pidx.0 < length grm.now.grammar.productions }
+        requires dot { dot < length (body_of grm.now.grammar (S.number pidx.0)) }
+        requires tails { AreTails grm.now.grammar self.now }
+        requires width { length rest.old.first.bits ≡ grm.now.grammar.tokens }
+        ensures { IsRest grm.now.grammar (S.number pidx.0) dot rest.new.first.bits rest.new.nullable }
+    {
+        match self.made_at(grm, pidx, dot) {
+            Some(k) => rest.copy_of(&self.made[k].rest),
+            None => fill_rest(grm, self.firsts, pidx, dot, rest),
+        }
+    }
 }

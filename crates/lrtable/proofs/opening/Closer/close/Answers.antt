@@ -58,7 +58,7 @@ returns-clause-ready g c =
       opened = c.in_ok-close.ensures.opened;
     } in
     record {
-      firsts = c.requires.ready.firsts;
+      tails = c.requires.ready.tails;
       openers = c.requires.ready.openers;
       sizes = sized_on G c.seed.new.self c.close.new.self seeded c.in_ok-close.ensures.sizes;
       tidy = look_open G c.args.self.now.openers.now (core_of_set number c.args.set.now) c.close.new.self c.requires.ready.openers closed;

@@ -9,11 +9,11 @@ returns g c =
     let rules = c.to_usize-rules.ensures.value ∙ c.rules_len.ensures in
     let tokens = c.to_usize-tokens.ensures.value ∙ c.tokens_len.ensures in
     record {
-      firsts = c.requires.firsts;
+      tails = c.in_ok-new.ensures;
       openers = c.requires.openers;
       sizes = empty_sized G c.in_ok-empty.field-0 c.to_usize-rules.result c.to_usize-tokens.result rules tokens c.in_ok-empty.ensures;
       tidy = λ A t h. absurd (no_look G c.in_ok-empty.field-0 c.to_usize-rules.result c.to_usize-tokens.result rules tokens c.in_ok-empty.ensures A t h);
       width = ap length c.in_ok-from_elem.ensures.bits ∙ length-replicate c.to_usize-tokens.result false ∙ tokens;
       rest = c.in_ok-empty-2.ensures ∙ tokens;
-      none_waits = c.new.ensures.items;
+      none_waits = c.new-2.ensures.items;
     }

@@ -29,7 +29,7 @@ seed_one-requires g c =
     let test = c.items-test.true in
     record {
       production = production_below number c.args.set.now.items.items c.items.k (length G.productions) c.index-item.result.now (omega (arith, test)) c.index-item.ensures c.requires.fits.productions;
-      firsts = c.requires.firsts;
+      tails = c.requires.tails;
       room = c.items.invariant.room;
       sizes = sized_on G c.args.self.now c.items.self c.requires.sizes c.items.invariant.follows.comes.sizes;
       width = sym (ap length (row_at c.args.set.now.looks.items c.items.k c.index-looks.result.now (omega (arith, n, m, e, test)) c.index-looks.ensures)) ∙ c.requires.fits.good.width c.items.k (omega (arith, n, m, e, test));

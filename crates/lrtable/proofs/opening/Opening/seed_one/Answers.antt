@@ -24,13 +24,13 @@ follow-requires-clause-within g c =
     omega (arith, lt, n, e)
 
 pub follow-requires-clause-first : goal.follow-requires-clause-first
-follow-requires-clause-first g c = c.fill_rest.ensures.width ∙ sym c.requires.sizes.tokens
+follow-requires-clause-first g c = c.fill.ensures.width ∙ sym c.requires.sizes.tokens
 
 pub follow-requires-clause-width : goal.follow-requires-clause-width
 follow-requires-clause-width g c = c.requires.width ∙ sym c.requires.sizes.tokens
 
-pub fill_rest-requires-clause-dot : goal.fill_rest-requires-clause-dot
-fill_rest-requires-clause-dot g c =
+pub fill-requires-clause-dot : goal.fill-requires-clause-dot
+fill-requires-clause-dot g c =
     let number = g.S.IndexStorage.number in
     dot_within c.args.grm.now.grammar (number c.args.pair.0.now.pidx.0) c.to_usize-dot.result (rule (number c.in-Some.ridx.0)) c.in-Some.ensures
 
@@ -40,13 +40,13 @@ returns-in_ok-follow-in-Some-clause-follows g c =
     let G = c.args.grm.now.grammar in
     let p = number c.args.pair.0.now.pidx.0 in
     let looks = c.args.pair.1.now.bits in
-    let first = c.fill_rest.new.rest.first.bits in
-    let nullable = c.fill_rest.new.rest.nullable in
+    let first = c.fill.new.rest.first.bits in
+    let nullable = c.fill.new.rest.nullable in
     let rule_is = c.to_usize.ensures.value in
     let d_is = c.to_usize-dot.ensures.value in
     let n = subst (λ A. IsNext G p c.to_usize-dot.result (rule A)) (sym rule_is) c.in-Some.ensures in
     subst (λ d. Follows (Seeds G (SingleItem p d)) (SeedsLook G (SingleItem p d) (OneLooks p d looks)) c.args.self.now c.follow.new.self c.args.waiting.now.items c.follow.new.waiting.items) d_is
-    (seeds_one G p c.to_usize-dot.result c.to_usize.result looks first nullable n c.fill_rest.ensures c.args.self.now c.follow.new.self c.args.waiting.now.items c.follow.new.waiting.items c.in_ok-follow-in-Some.ensures)
+    (seeds_one G p c.to_usize-dot.result c.to_usize.result looks first nullable n c.fill.ensures c.args.self.now c.follow.new.self c.args.waiting.now.items c.follow.new.waiting.items c.in_ok-follow-in-Some.ensures)
 
 pub returns-in-None-clause-follows : goal.returns-in-None-clause-follows
 returns-in-None-clause-follows g c =

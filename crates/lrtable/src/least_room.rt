@@ -23,7 +23,7 @@ fn place_of<S: IndexStorage>(grm: &NumberedGrammar<S>, symbol: Symbol<S>) -> usi
     }
 }
 
-/// Returns a list of so many zeros.
+/// Returns a list of this length with zeros alone.
 fn zeros(alloc: Global, count: usize) -> Result<Vec<usize>, AllocError> {
     let mut list = Vec::with_capacity(alloc, count)?;
     'items: for _ in 0..count {
@@ -195,7 +195,7 @@ fn least_edges<S: IndexStorage>(
     Ok(edges)
 }
 
-/// Asks for the least room that the states of a grammar and their table take, and gives it back: each edge stands in the graph, has an
+/// Asks for the least room that the states of a grammar and their table take, and gives it back: each edge is in the graph, has an
 /// item of a closure, and is a cell of the table.
 pub(crate) fn try_room<S: IndexStorage>(
     alloc: Global,

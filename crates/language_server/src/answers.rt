@@ -25,13 +25,13 @@ pub enum Answer {
     /// Why a rename is refused, in words.
     Refused(String),
     /// Places of a name.
-    Locations(Vec<Location>),
+    Locations(Places),
     /// Ranges to highlight.
-    Highlights(Vec<Highlight>),
+    Highlights(Highlights),
     /// The range of what may be renamed.
     Range(Range),
-    /// The edits of a rename, and their document.
-    Edits(String, Vec<Edit>),
+    /// The edits of a rename.
+    Edits(Edits),
     /// The symbols of a document.
     Symbols(Vec<Symbol>),
     /// The symbols of a document, some below others.
@@ -108,20 +108,30 @@ pub struct Published {
     pub diagnostics: Vec<Diagnostic>,
 }
 
-/// A range to highlight.
-#[derive(Clone, Copy, Debug, Serialize)]
-pub struct Highlight {
-    /// The range.
-    pub range: Range,
+/// Places of a name in a document.
+#[derive(Debug, Drop)]
+pub struct Places {
+    /// The document.
+    pub uri: String,
+    /// The ranges.
+    pub ranges: Vec<Range>,
 }
 
-/// A part of a document, and what replaces it.
-#[derive(Debug, Drop, Serialize)]
-#[serde(rename_all = "camelCase")]
-pub struct Edit {
-    /// The part.
-    pub range: Range,
-    /// What replaces it.
+/// Ranges to highlight.
+#[derive(Debug, Drop)]
+pub struct Highlights {
+    /// The ranges.
+    pub ranges: Vec<Range>,
+}
+
+/// Parts of a document, and what replaces each of them.
+#[derive(Debug, Drop)]
+pub struct Edits {
+    /// The document.
+    pub uri: String,
+    /// The parts.
+    pub ranges: Vec<Range>,
+    /// What replaces each.
     pub new_text: String,
 }
 

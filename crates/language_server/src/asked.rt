@@ -1,6 +1,6 @@
 //! What a query is about: a document, and places in it.
 
-use crate::answers::{Location, Range};
+use crate::answers::Range;
 use crate::places::{Encoding, Lines, Position, offset_at, position_at};
 use grammar_index::{GrammarIndex, Occurrence};
 use std::alloc::{AllocError, Global};
@@ -50,10 +50,12 @@ impl<'a> Asked<'a> {
         self.index.at(self.offset(place))
     }
 
-    /// Returns the location of a name.
-    pub fn location(&self, alloc: Global, one: Occurrence) -> Result<Location, AllocError> {
-        let uri = String::from_str(alloc, self.uri)?;
-        let range = self.range_of(one);
-        Ok(Location { uri, range })
+    /// Returns the ranges of names.
+    pub fn ranges_of(&self, alloc: Global, names: &[Occurrence]) -> Result<Vec<Range>, AllocError> {
+        let mut ranges = Vec::with_capacity(alloc, names.len())?;
+        'names: for index in 0..names.len() {
+            ranges.push(self.range_of(names[index]))?;
+        }
+        Ok(ranges)
     }
 }

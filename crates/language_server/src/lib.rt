@@ -33,6 +33,7 @@ mod messages;
 mod naming;
 mod nested;
 mod outline;
+mod place_lists;
 mod places;
 mod queries;
 mod reading;
@@ -40,8 +41,8 @@ mod server;
 mod texts;
 
 pub use answers::{
-    Answer, Contents, Diagnostic, Edit, Fold, Highlight, Hover, Item, Location, Nested, Offers,
-    Outline, Published, Range, Related, Response, Symbol,
+    Answer, Contents, Diagnostic, Edits, Fold, Highlights, Hover, Item, Location, Nested, Offers,
+    Outline, Places, Published, Range, Related, Response, Symbol,
 };
 pub use asked::Asked;
 pub use diagnostics::{View, diagnostic};

@@ -4,37 +4,19 @@ ghost use Rattle.std.specs.Prelude.{◌≡◌, IfOk, None};
 ghost use Rattle.language_server.specs.Protocol.{MayFail, error_in};
 ghost use Rattle.language_server.specs.declared.messages.Query.TheVariants.{Rename};
 
-use crate::answers::{Answer, Edit, Highlight, Location};
+use crate::answers::{Answer, Edits, Highlights, Places};
 use crate::asked::Asked;
 use crate::messages::Params;
 use grammar_index::{Occurrence, RenameFault, check_rename, definitions, references};
 use std::alloc::{AllocError, Global};
 
-/// Adds the locations of names.
-fn push_locations(
-    alloc: Global,
-    asked: &Asked<'_>,
-    list: &mut Vec<Location>,
-    names: &[Occurrence],
-) -> Result<(), AllocError> {
-    'names: for index in 0..names.len() {
-        list.push(asked.location(alloc, names[index])?)?;
-    }
-    Ok(())
-}
-
 /// Returns the locations of names.
 fn locations(alloc: Global, asked: &Asked<'_>, names: &[Occurrence]) -> Result<Answer, AllocError>
     ensures { IfOk result (λ a. error_in a ≡ None) }
 {
-    let mut list = Vec::new(alloc);
-    match push_locations(alloc, asked, &mut list, names) {
-        Ok(()) => Ok(Answer::Locations(list)),
-        Err(e) => {
-            drop(list);
-            Err(e)
-        }
-    }
+    let uri = String::from_str(alloc, asked.uri)?;
+    let ranges = asked.ranges_of(alloc, names)?;
+    Ok(Answer::Locations(Places { uri, ranges }))
 }
 
 /// Answers where what is named at a place is defined.
@@ -79,12 +61,8 @@ pub fn highlights_answer(
         return Ok(Answer::Done);
     };
     let found = references(alloc, asked.text, asked.index.names(), one)?;
-    let mut list = Vec::new(alloc);
-    'names: for index in 0..found.len() {
-        let range = asked.range_of(found[index]);
-        list.push(Highlight { range })?;
-    }
-    Ok(Answer::Highlights(list))
+    let ranges = asked.ranges_of(alloc, found.as_slice())?;
+    Ok(Answer::Highlights(Highlights { ranges }))
 }
 
 /// Answers the range of the name at a place, which may be renamed.
@@ -105,41 +83,7 @@ fn refusal(alloc: Global, name: &str, fault: RenameFault) -> Result<String, Allo
     }
 }
 
-/// Adds the edits that give names another text.
-fn push_edits(
-    alloc: Global,
-    asked: &Asked<'_>,
-    edits: &mut Vec<Edit>,
-    names: &[Occurrence],
-    text: &str,
-) -> Result<(), AllocError> {
-    'names: for index in 0..names.len() {
-        let new_text = String::from_str(alloc, text)?;
-        let range = asked.range_of(names[index]);
-        edits.push(Edit { range, new_text })?;
-    }
-    Ok(())
-}
-
 /// Returns the edits that rename what is named at an occurrence.
-fn edits(
-    alloc: Global,
-    asked: &Asked<'_>,
-    one: Occurrence,
-    name: &str,
-) -> Result<Vec<Edit>, AllocError> {
-    let found = references(alloc, asked.text, asked.index.names(), one)?;
-    let mut edits = Vec::new(alloc);
-    match push_edits(alloc, asked, &mut edits, found.as_slice(), name) {
-        Ok(()) => Ok(edits),
-        Err(e) => {
-            drop(edits);
-            Err(e)
-        }
-    }
-}
-
-/// Returns the edits that rename what is named at an occurrence, by their document.
 fn rename_edits(
     alloc: Global,
     asked: &Asked<'_>,
@@ -148,9 +92,15 @@ fn rename_edits(
 ) -> Result<Answer, AllocError>
     ensures { IfOk result (λ a. error_in a ≡ None) }
 {
+    let found = references(alloc, asked.text, asked.index.names(), one)?;
     let uri = String::from_str(alloc, asked.uri)?;
-    let edits = edits(alloc, asked, one, name)?;
-    Ok(Answer::Edits(uri, edits))
+    let ranges = asked.ranges_of(alloc, found.as_slice())?;
+    let new_text = String::from_str(alloc, name)?;
+    Ok(Answer::Edits(Edits {
+        uri,
+        ranges,
+        new_text,
+    }))
 }
 
 /// Answers the edits that rename what is named at a place, or why it can't have the name.

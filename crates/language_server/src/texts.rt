@@ -1,10 +1,10 @@
 //! What is sent, as JSON with its heading.
 
-ghost use Rattle.std.specs.Prelude.{◌≡◌, IfOk, OnOk, codes, string_bytes, ⊤};
+ghost use Rattle.std.specs.Prelude.{◌≡◌, IfOk, OnOk, codes, string_bytes};
 ghost use Rattle.language_server.specs.Frames.{IsFrame, IsFrameOf, frame};
 ghost use Rattle.language_server.specs.Texts.{Member, WritesAnswer, WritesRefusal, WritesResponse};
 
-use crate::answers::{Answer, Edit, Offers, Published, Response};
+use crate::answers::{Answer, Offers, Published, Response};
 use crate::fault::ServeFault;
 use crate::messages::{ErrorCode, Id};
 use crate::places::Encoding;
@@ -205,29 +205,16 @@ fn write_answer<S: Serializer>(answer: &Answer, out: &mut S) -> Result<(), S::Er
         Answer::Done => write_member("result", &(), out),
         Answer::Error(code) => write_member("error", code, out),
         Answer::Refused(words) => write_refusal(words.as_str(), out),
-        Answer::Locations(list) => write_member("result", list, out),
-        Answer::Highlights(list) => write_member("result", list, out),
+        Answer::Locations(places) => write_member("result", places, out),
+        Answer::Highlights(highlights) => write_member("result", highlights, out),
         Answer::Range(range) => write_member("result", range, out),
-        Answer::Edits(uri, edits) => write_edits(uri.as_str(), edits, out),
+        Answer::Edits(edits) => write_member("result", edits, out),
         Answer::Symbols(list) => write_member("result", list, out),
         Answer::Outline(outline) => write_member("result", outline, out),
         Answer::Folds(list) => write_member("result", list, out),
         Answer::Items(list) => write_member("result", list, out),
         Answer::Hover(hover) => write_member("result", hover, out),
     }
-}
-
-/// Writes the member with the edits of a document.
-fn write_edits<S: Serializer>(uri: &str, edits: &Vec<Edit>, out: &mut S) -> Result<(), S::Error>
-    ensures { OnOk result (Member (codes "result") (λ old new. ⊤) (S.written out.old) (S.written out.new)) }
-{
-    out.key_cased("result", Case::AsIs)?;
-    out.begin_map(None)?;
-    out.key_cased("changes", Case::AsIs)?;
-    out.begin_map(None)?;
-    write_member(uri, edits, out)?;
-    out.end_map()?;
-    out.end_map()
 }
 
 /// Writes the member with the error of a refusal.

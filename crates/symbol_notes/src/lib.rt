@@ -14,7 +14,8 @@
 //! ```
 //!
 //! For `%start S %% S: 'a' S | 'b';` it returns the lines `S: a S`, `S: b`, `FIRST: a b`, `FOLLOW: $` and `cheapest sentence: b`. It
-//! returns `None` where the text is no grammar, or has no such rule.
+//! returns `None` where the text is no grammar, or has no such rule. Of a grammar of more than 12000 productions or tokens it returns
+//! the productions alone, and a line that says so: FIRST, FOLLOW and costs of all its rules would be made for one.
 #![tactic(auto)]
 
 mod notes;

@@ -29,7 +29,7 @@ fn note_on_rule(alloc: Global, grm: &Grammar, name: &str) -> Result<Option<Strin
 }
 
 /// Returns what the grammar of a text says of the rule of a name, a line each: its productions, FIRST, FOLLOW, and a sentence with
-/// as few tokens as can be.
+/// as few tokens as can be. Of a grammar of more than 12000 productions or tokens these are the productions, and a line that says so.
 pub fn rule_note(
     alloc: Global,
     kind: YaccKind,

@@ -1,6 +1,6 @@
 //! The lines of a rule.
 
-ghost use Rattle.std.specs.Prelude.{◌<◌};
+ghost use Rattle.std.specs.Prelude.{◌<◌, ◌≡◌, ◌||◌, length, nat_lt};
 ghost use Rattle.cfg_sets.specs.Firsts.{AreFirsts};
 ghost use Rattle.cfg_sets.specs.Follows.{AreFollows};
 
@@ -9,6 +9,21 @@ use cfg_sentences::{SentenceError, SentenceGenerator};
 use cfg_sets::{YaccFirsts, YaccFollows};
 use grammar_names::{Grammar, push_prod, push_token, push_word};
 use std::alloc::{AllocError, Global};
+
+/// FIRST, FOLLOW and sentences are made of no grammar that has more productions, or more tokens, than these.
+const MOST: usize = 12000;
+
+/// The last line on a rule of such a grammar.
+const NOT_MADE: &str =
+    "FIRST, FOLLOW and cheapest sentence: not of more than 12000 productions or tokens";
+
+/// Returns whether a grammar has too many productions, or too many tokens, for FIRST, FOLLOW and sentences. The start's production
+/// and the end token count too.
+fn is_large(grm: &Grammar) -> bool
+    ensures { result ≡ (nat_lt 12000 (length grm.now.grammar.productions) || nat_lt 12000 grm.now.grammar.tokens) }
+{
+    usize::from(grm.prods_len()) > MOST || usize::from(grm.tokens_len()) > MOST
+}
 
 /// Adds the productions, a line each.
 fn push_prods(text: &mut String, grm: &Grammar, prods: &[PIdx<u32>]) -> Result<(), AllocError> {
@@ -115,7 +130,23 @@ fn push_sets(
     pushed
 }
 
-/// Adds the lines of a rule.
+/// Adds the sets of a rule and a sentence.
+fn push_derived(
+    alloc: Global,
+    text: &mut String,
+    grm: &Grammar,
+    ridx: RIdx<u32>,
+) -> Result<(), AllocError>
+    requires { ridx.0 < grm.now.grammar.rules }
+{
+    push_sets(alloc, text, grm, ridx)?;
+    let costs = SentenceGenerator::new(alloc, grm, |_token| 1)?;
+    let pushed = push_cheapest(alloc, text, grm, &costs, ridx);
+    drop(costs);
+    pushed
+}
+
+/// Adds the lines of a rule: of a large grammar its productions, and that there is no more.
 pub(crate) fn push_rule(
     alloc: Global,
     text: &mut String,
@@ -125,9 +156,8 @@ pub(crate) fn push_rule(
     requires { ridx.0 < grm.now.grammar.rules }
 {
     push_prods(text, grm, grm.rule_to_prods(ridx))?;
-    push_sets(alloc, text, grm, ridx)?;
-    let costs = SentenceGenerator::new(alloc, grm, |_token| 1)?;
-    let pushed = push_cheapest(alloc, text, grm, &costs, ridx);
-    drop(costs);
-    pushed
+    if is_large(grm) {
+        return text.push_str(NOT_MADE);
+    }
+    push_derived(alloc, text, grm, ridx)
 }

@@ -1,4 +1,4 @@
-use Rattle.std.proofs.Common.{get_or, sym, refl, arith}
+use Rattle.std.proofs.Common.{get_or, sym}
 use Rattle.std.proofs.lemmas.Grind.{get_or_default_zero}
 use Rattle.lrtable.proofs.FlagWalks.{least_next}
 use Rattle.lrtable.proofs.flags.least_from.Goals as goal

@@ -1,4 +1,4 @@
-use Rattle.std.proofs.Common.{◌≡◌, ℕ, ◌+◌, true, List, [], ◌∷◌, ◌++◌, length, sym, ap, ◌∙◌, arith, rules}
+use Rattle.std.proofs.Common.{ℕ, ◌+◌, true, List, ◌∷◌, ◌++◌, length, sym, ap, ◌∙◌, arith, rules}
 use Rattle.vob.specs.Walk.{indices_of}
 use Rattle.lrtable.proofs.FlagWalks.{least_first, none_from, end_from}
 use Rattle.lrtable.proofs.flags.SetFlagsIterator.next.Goals as goal

@@ -39,6 +39,7 @@ pub mod Emptying
 pub mod MarkedSets
 pub mod Waiting
 pub mod Noting
+pub mod FlagWalks
 pub mod TakenStates
 pub mod Revisits
 pub mod Reaching

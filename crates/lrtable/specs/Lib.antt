@@ -1,5 +1,6 @@
 pub mod Opening
 pub mod Fronts
+pub mod FlagWalks
 pub mod Closes
 pub mod Reaching
 pub mod States

@@ -11,6 +11,8 @@ use std::alloc::{AllocError, Global};
 pub(crate) struct Noted {
     pub order: Vec<usize>,
     pub count: usize,
+    /// How many further numbers came.
+    pub missed: usize,
 }
 
 impl Noted {
@@ -19,7 +21,11 @@ impl Noted {
         ensures { IfOk result (λ n. n.count ≡ 0) }
     {
         let order = vec![in alloc; 0; room.saturating_add(1)]?;
-        Ok(Noted { order, count: 0 })
+        Ok(Noted {
+            order,
+            count: 0,
+            missed: 0,
+        })
     }
 
     /// Writes a number behind the others, if there is room.
@@ -28,6 +34,7 @@ impl Noted {
     {
         let count = self.count;
         if count >= self.order.len() {
+            self.missed = self.missed.wrapping_add(1);
             return;
         }
         self.order[count] = number;
@@ -54,5 +61,11 @@ impl Noted {
         ensures { self.new.count ≡ 0 }
     {
         self.count = 0;
+        self.missed = 0;
+    }
+
+    /// Returns how many numbers came.
+    pub(crate) fn total(&self) -> usize {
+        self.count.saturating_add(self.missed)
     }
 }

@@ -38,6 +38,7 @@
 mod capacities;
 mod closures;
 mod finishing;
+mod flags;
 mod grammar_table;
 mod insertion_list;
 pub mod itemset;

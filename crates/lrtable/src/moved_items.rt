@@ -8,6 +8,7 @@ ghost use Rattle.lrtable.specs.MovedItems.{AreWide, core_of_moved, moved_item, m
 ghost use Rattle.lrtable.specs.Opening.{IsOpen};
 ghost use Rattle.state_table.specs.CoreViews.{core_of_set, item_of, items_of};
 
+use crate::flags::Flags;
 use crate::opening::Opening;
 use cfg_base::index::IndexStorage;
 use state_table::cores::{CoreItem, CoreSet, comes_before, put_in, same_item};
@@ -82,7 +83,7 @@ impl<'a> Rows<'a> {
     }
 
     /// Returns a flag for each rule: whether it is open.
-    pub(crate) fn open_flags(&self) -> &Vob
+    pub(crate) fn open_flags(&self) -> &Flags
         ensures { result.now.bits ≡ self.now.opening.opened }
     {
         self.opening.open_flags()

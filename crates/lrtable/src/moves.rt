@@ -16,6 +16,7 @@ ghost use Rattle.lrtable.specs.MovedItems.{AreEmpty, HaveNone, IsKernel, row_fro
 ghost use Rattle.state_table.specs.CoreViews.{core_of_set};
 ghost use Rattle.lrtable.specs.Stepping.{IsSized, IsClosureOf, OfRule, OfRuleLooks, OpenAt, OpenLooksAt, OpenBelow, OpenLooksBelow, AreGotos};
 
+use crate::flags::Flags;
 use crate::moved_items::{MovedItem, Rows, Source, insert_moved, put_moved};
 use crate::tails::symbol_after;
 use cfg_base::index::IndexStorage;
@@ -23,7 +24,6 @@ use cfg_base::symbol::{PIdx, RIdx, SIdx, Symbol};
 use cfg_numbered::yacc::NumberedGrammar;
 use state_table::cores::{CoreItem, CoreSet};
 use std::alloc::{AllocError, Global};
-use vob::Vob;
 
 /// Returns the rank of a symbol among all: rules before tokens.
 pub(crate) fn rank_of<S: IndexStorage>(grm: &NumberedGrammar<S>, symbol: Symbol<S>) -> usize
@@ -67,7 +67,7 @@ pub(crate) fn dot_behind<S: IndexStorage>(
 fn move_over<S: IndexStorage>(
     grm: &NumberedGrammar<S>,
     sets: &mut Vec<Vec<MovedItem<S>>>,
-    marks: &mut Vob,
+    marks: &mut Flags,
     rows: &Rows<'_>,
     item: &CoreItem<S>,
     source: Source,
@@ -89,7 +89,7 @@ fn move_over<S: IndexStorage>(
                 dot: dot_behind(grm, pidx, dot),
             };
             let number = rank_of(grm, symbol);
-            marks.set(number, true);
+            marks.set(number);
             let set = &mut sets[number];
             insert_moved(set, MovedItem { item, source })?;
             Ok(())
@@ -102,7 +102,7 @@ fn move_over<S: IndexStorage>(
 fn move_first<S: IndexStorage>(
     grm: &NumberedGrammar<S>,
     sets: &mut Vec<Vec<MovedItem<S>>>,
-    marks: &mut Vob,
+    marks: &mut Flags,
     rows: &Rows<'_>,
     pidx: PIdx<S>,
     source: Source,
@@ -122,7 +122,7 @@ fn move_first<S: IndexStorage>(
                 dot: dot_behind(grm, pidx, 0),
             };
             let rank = rank_of(grm, symbol);
-            marks.set(rank, true);
+            marks.set(rank);
             let set = &mut sets[rank];
             put_moved(set, MovedItem { item, source })?;
             Ok(())
@@ -135,7 +135,7 @@ fn move_first<S: IndexStorage>(
 fn move_core<S: IndexStorage>(
     grm: &NumberedGrammar<S>,
     sets: &mut Vec<Vec<MovedItem<S>>>,
-    marks: &mut Vob,
+    marks: &mut Flags,
     rows: &Rows<'_>,
     core: &CoreSet<S>,
 ) -> Result<(), AllocError>
@@ -158,7 +158,7 @@ fn move_core<S: IndexStorage>(
 fn move_rule<S: IndexStorage>(
     grm: &NumberedGrammar<S>,
     sets: &mut Vec<Vec<MovedItem<S>>>,
-    marks: &mut Vob,
+    marks: &mut Flags,
     rows: &Rows<'_>,
     ridx: RIdx<S>,
     source: Source,
@@ -181,7 +181,7 @@ fn move_rule<S: IndexStorage>(
 fn move_if_open<S: IndexStorage>(
     grm: &NumberedGrammar<S>,
     sets: &mut Vec<Vec<MovedItem<S>>>,
-    marks: &mut Vob,
+    marks: &mut Flags,
     rows: &Rows<'_>,
     number: usize,
 ) -> Result<(), AllocError>
@@ -211,7 +211,7 @@ fn move_if_open<S: IndexStorage>(
 fn move_open<S: IndexStorage>(
     grm: &NumberedGrammar<S>,
     sets: &mut Vec<Vec<MovedItem<S>>>,
-    marks: &mut Vob,
+    marks: &mut Flags,
     rows: &Rows<'_>,
 ) -> Result<(), AllocError>
     requires sizes { IsSized grm.now.grammar rows.now.opening }
@@ -220,7 +220,7 @@ fn move_open<S: IndexStorage>(
     ensures gains { OnOk result (Gains grm.now.grammar (OpenBelow grm.now.grammar rows.now.opening grm.now.grammar.rules) (OpenLooksBelow grm.now.grammar rows.now.opening grm.now.grammar.rules) (map (set_of_moved S.number rows.now) sets.old.items) (map (set_of_moved S.number rows.now) sets.new.items)) }
     ensures marks { OnOk result (KeepsMarks marks.old.bits (map (set_of_moved S.number rows.now) sets.old.items) marks.new.bits (map (set_of_moved S.number rows.now) sets.new.items)) }
 {
-    'rules: for number in rows.open_flags().iter_set_bits(..) {
+    'rules: for number in rows.open_flags().iter() {
         move_if_open(grm, sets, marks, rows, number)?;
     }
     Ok(())
@@ -245,7 +245,7 @@ pub(crate) fn goto_sets<S: IndexStorage>(
     grm: &NumberedGrammar<S>,
     core: &CoreSet<S>,
     sets: &mut Vec<Vec<MovedItem<S>>>,
-    marks: &mut Vob,
+    marks: &mut Flags,
     rows: &Rows<'_>,
 ) -> Result<(), AllocError>
     requires own { rows.now.own ≡ rows_in core.now.looks.items }

@@ -15,25 +15,23 @@ ghost use Rattle.state_table.specs.Meeting.{rows_in};
 ghost use Rattle.state_table.specs.CoreViews.{core_of_set};
 ghost use Rattle.lrtable.specs.Stepping.{IsSized, IsClosureOf};
 ghost use Rattle.lrtable.specs.Closers.{IsReady};
-ghost use Rattle.lrtable.specs.Opening.{AreNoted, Front, RuleSets, IsTidy, IsOpen, HasRuleLook, room, FitsIn, AllFit, Brings, Comes, Follows, FrontStep, NamedIn, BroughtBy, GainsOwn, SameSizes, Underway, AreOpened};
+ghost use Rattle.lrtable.specs.Opening.{Front, RuleSets, IsTidy, IsOpen, HasRuleLook, room, FitsIn, AllFit, Brings, Comes, Follows, FrontStep, NamedIn, BroughtBy, GainsOwn, SameSizes, Underway, AreOpened};
 ghost use Rattle.lrtable.specs.Reaching.{AreListed, IsAlone};
 ghost use Rattle.lrtable.specs.MadeTails.{AreTails};
 ghost use Rattle.lrtable.specs.Waits.{WaitsToo};
 
 use crate::capacities::production_counts;
-use crate::insertion_list::Noted;
+use crate::flags::{Flags, SetFlags};
 use crate::openers::{Opener, Openers};
 use crate::rule_rows::RuleRows;
 use crate::tails::{Rest, Tails, rule_after};
 use cfg_base::index::IndexStorage;
 use cfg_numbered::yacc::NumberedGrammar;
 use cfg_sets::YaccFirsts;
-use state_table::capacities::bits_set;
 use state_table::cores::{CoreItem, CoreSet};
 use std::alloc::{AllocError, Global};
 use std::marker::Model;
 use vob::Vob;
-use vob::iter::IterSetBits;
 
 /// Returns whether a rule is one of those that wait.
 fn waits(waiting: &[usize], rule: usize) -> bool
@@ -60,29 +58,18 @@ fn put_to_wait(waiting: &mut Vec<usize>, rule: usize) -> Result<(), AllocError>
 }
 
 /// Empties the sets of the open rules.
-fn empty_rows(looks: &mut RuleRows, opened: &Vob, noted: &Noted)
-    requires size { length opened.now.bits ≡ length looks.old.rows }
-    requires noted { AreNoted opened.now.bits noted.now.count noted.now.order.items }
+fn empty_rows(looks: &mut RuleRows, opened: &Flags)
+    requires { length opened.now.bits ≡ length looks.old.rows }
     ensures width { looks.new.width ≡ looks.old.width }
     ensures count { length looks.new.rows ≡ length looks.old.rows }
     ensures kept { (A t : ℕ) → IsTrue (is_set_in looks.new.rows A t) → IsTrue (is_set_in looks.old.rows A t) }
     ensures emptied { (A t : ℕ) → IsTrue (is_set opened.now.bits A) → IsTrue (is_set_in looks.new.rows A t) → ⊥ }
 {
-    if noted.is_full() {
+    if opened.is_full() {
         looks.clear_all(opened);
         return;
     }
-    looks.clear_each(noted.numbers());
-}
-
-/// Notes a rule that was opened, if it is a new one.
-fn note_if(noted: &mut Noted, rule: usize, new: bool)
-    ensures { (flags : List Bool) → rule < length flags → (is_set flags rule ≡ false → new ≡ true) → AreNoted flags noted.old.count noted.old.order.items → AreNoted (slice_set flags rule true) noted.new.count noted.new.order.items }
-{
-    if !new {
-        return;
-    }
-    noted.put(rule);
+    looks.clear_each(opened.noted_numbers());
 }
 
 /// The open rules with their lookaheads.
@@ -91,20 +78,18 @@ pub(crate) struct Opening {
     /// A set of tokens for each rule.
     looks: RuleRows,
     /// A flag for each rule: whether it is open.
-    opened: Vob,
-    /// The open rules in the order in which they were opened, as far as there is room.
-    noted: Noted,
+    opened: Flags,
 }
 
 impl Model for Opening {
     ghost use Rattle.std.specs.Prelude.{◌≡◌, length};
-    ghost use Rattle.lrtable.specs.Opening.{RuleSets, AreNoted};
+    ghost use Rattle.lrtable.specs.Opening.{RuleSets};
 
     ghost Value = { RuleSets };
 
     ghost view = { λ s. record { tokens = s.looks.width; rows = s.looks.rows; opened = s.opened.bits } };
 
-    ghost invariant = { λ s. (length s.looks.rows ≡ length s.opened.bits) × AreNoted s.opened.bits s.noted.count s.noted.order.items };
+    ghost invariant = { λ s. (length s.looks.rows ≡ length s.opened.bits) };
 }
 
 impl Opening {
@@ -113,13 +98,8 @@ impl Opening {
         ensures { IfOk result (λ s. s ≡ record { tokens = tokens; rows = replicate rules (replicate tokens false); opened = replicate rules false }) }
     {
         let looks = RuleRows::empty(alloc, rules, tokens)?;
-        let opened = Vob::from_elem(alloc, false, rules)?;
-        let noted = Noted::empty(alloc, rules)?;
-        Ok(Opening {
-            looks,
-            opened,
-            noted,
-        })
+        let opened = Flags::empty(alloc, rules, rules)?;
+        Ok(Opening { looks, opened })
     }
 
     /// Proves that there are as many sets as flags, for calls that require it.
@@ -136,9 +116,8 @@ impl Opening {
         ensures none_open { (A : ℕ) → IsOpen self.new A → ⊥ }
         ensures no_look { (A t : ℕ) → HasRuleLook self.new A t → ⊥ }
     {
-        empty_rows(&mut self.looks, &self.opened, &self.noted);
-        self.opened.set_all(false);
-        self.noted.clear();
+        empty_rows(&mut self.looks, &self.opened);
+        self.opened.clear();
     }
 
     /// Opens a rule.
@@ -149,9 +128,7 @@ impl Opening {
         ensures opened { self.new.opened ≡ slice_set self.old.opened rule true }
         ensures steps { PassStep room (λ s. IsOpen s rule) self.old self.new result }
     {
-        let new = self.opened.set(rule, true);
-        note_if(&mut self.noted, rule, new);
-        new
+        self.opened.set(rule)
     }
 
     /// Returns whether a rule is open.
@@ -163,19 +140,19 @@ impl Opening {
     }
 
     /// Walks over the open rules.
-    pub(crate) fn open_rules(&self) -> IterSetBits<'_, usize>
+    pub(crate) fn open_rules(&self) -> SetFlags<'_>
         ensures { (A : ℕ) → Contains result A ↔ IsOpen self.now A }
     {
-        self.opened.iter_set_bits(..)
+        self.opened.iter()
     }
 
     /// Returns the open rules as they were opened, or most of them.
     pub(crate) fn noted_rules(&self) -> &[usize] {
-        self.noted.numbers()
+        self.opened.noted_numbers()
     }
 
     /// Returns a flag for each rule: whether it is open.
-    pub(crate) fn open_flags(&self) -> &Vob
+    pub(crate) fn open_flags(&self) -> &Flags
         ensures { result.now.bits ≡ self.now.opened }
     {
         &self.opened
@@ -421,7 +398,7 @@ impl Opening {
         ensures { IfOk result (λ v. AreListed self.now passed.now.bits (map front_of v.items)) }
     {
         self.counts_agree();
-        let mut list = Vec::with_capacity(alloc, bits_set(&self.opened))?;
+        let mut list = Vec::with_capacity(alloc, self.opened.count())?;
         'rules: for rule in self.open_rules() {
             list.push(self.opener_at(passed, rule)?)?;
         }

@@ -20,6 +20,7 @@ ghost use Rattle.state_table.specs.CoreViews.{core_of_set};
 ghost use Rattle.lrtable.specs.Stepping.{AreGotos, AreGotosOf, HaveNoNext, IsGotoAt, IsNextTaken, set_off};
 ghost use Rattle.lrtable.specs.declared.states.BuildError.TheVariants as faults;
 
+use crate::flags::Flags;
 use crate::moved_items::{MovedItem, Rows};
 use crate::moves::{empty_sets, goto_sets, symbol_at};
 use crate::opening::Closer;
@@ -31,10 +32,12 @@ use crate::tails::any_incomplete;
 use cfg_base::index::IndexStorage;
 use cfg_base::symbol::SIdx;
 use cfg_numbered::yacc::NumberedGrammar;
-use state_table::capacities::bits_set;
 use state_table::cores::{CoreItem, CoreSet};
 use std::alloc::{AllocError, Global};
 use vob::Vob;
+
+// How many symbols there are for each mark that is to be noted. Where there are few symbols, it is faster to note none.
+const SYMBOLS_A_NUMBER: usize = 2048;
 
 /// What the steps of a building are made with.
 #[derive(Drop)]
@@ -45,7 +48,7 @@ pub(crate) struct Buffers<'a, S: IndexStorage> {
     /// The goto sets of the state that is taken, one for each symbol.
     pub sets: Vec<Vec<MovedItem<S>>>,
     /// A flag for each goto set: whether it has items.
-    pub marks: Vob,
+    pub marks: Flags,
     /// The lookaheads of the state that is taken.
     pub own: Vec<Vob>,
 }
@@ -61,7 +64,7 @@ impl<'a, S: IndexStorage> Buffers<'a, S> {
         ensures { IfOk result (λ b. AreClear grm.now.grammar b) }
     {
         let sets = symbol_sets(alloc, grm)?;
-        let marks = Vob::from_elem(alloc, false, sets.len())?;
+        let marks = Flags::empty(alloc, sets.len(), sets.len() / SYMBOLS_A_NUMBER)?;
         let was = Retaken::empty(alloc, grm)?;
         Ok(Buffers {
             closer,
@@ -112,7 +115,7 @@ fn place_all<S: IndexStorage>(
     grm: &NumberedGrammar<S>,
     builder: &mut Builder<S>,
     sets: &mut Vec<Vec<MovedItem<S>>>,
-    marks: &Vob,
+    marks: &Flags,
     rows: &Rows<'_>,
 ) -> Result<(), BuildError>
     requires count { length sets.old.items ≡ grm.now.grammar.rules + grm.now.grammar.tokens }
@@ -128,7 +131,7 @@ fn place_all<S: IndexStorage>(
     ensures handled { OnOk result ((before : Building) → AreGotosOf grm.now.grammar before builder.old.from (map (set_of_moved S.number rows.now) sets.old.items) → AreHandled grm.now.grammar before builder.old.from 0 (states_in S.number builder.old) → AreHandled grm.now.grammar before builder.old.from (grm.now.grammar.rules + grm.now.grammar.tokens) (states_in S.number builder.new)) }
     ensures many { IsErrOf result faults.TooManyStates → (before : Building) → IsNextTaken grm.now.grammar before builder.old.from → AreGotosOf grm.now.grammar before builder.old.from (map (set_of_moved S.number rows.now) sets.old.items) → AreHandled grm.now.grammar before builder.old.from 0 (states_in S.number builder.old) → TooManyStand grm.now.grammar S.MAX }
 {
-    'ranks: for number in marks.iter_set_bits(..) {
+    'ranks: for number in marks.iter() {
         place_rank(alloc, grm, builder, sets, rows, number)?;
     }
     Ok(())
@@ -140,7 +143,7 @@ fn gotos<S: IndexStorage>(
     closer: &mut Closer<'_, S>,
     core: &CoreSet<S>,
     sets: &mut Vec<Vec<MovedItem<S>>>,
-    marks: &mut Vob,
+    marks: &mut Flags,
 ) -> Result<(), AllocError>
     requires ready { IsReady grm.now.grammar closer.old }
     requires fits { FitsCore grm.now.grammar (core_of_set S.number core.now) }
@@ -153,16 +156,16 @@ fn gotos<S: IndexStorage>(
     ensures gotos { OnOk result (AreGotos grm.now.grammar (Closure grm.now.grammar (HasItem (map_of (core_of_set S.number core.now)))) (ClosureLook grm.now.grammar (HasItem (map_of (core_of_set S.number core.now))) (HasLook (map_of (core_of_set S.number core.now)))) (map (set_of_moved S.number (record { own = rows_in core.now.looks.items; opening = closer.new.opening })) sets.new.items)) }
 {
     closer.close(grm, core)?;
-    marks.set_all(false);
+    marks.clear();
     let rows = Rows::new(core.looks.as_slice(), &closer.opening);
     goto_sets(grm, core, sets, marks, &rows)?;
     Ok(())
 }
 
 /// Returns how many edges a state is to have room for: one for each mark, if it has none yet.
-fn edges_wanted<S: IndexStorage>(edges: &[EdgeTo<S>], marks: &Vob) -> usize {
+fn edges_wanted<S: IndexStorage>(edges: &[EdgeTo<S>], marks: &Flags) -> usize {
     if edges.is_empty() {
-        return bits_set(marks);
+        return marks.count();
     }
     0
 }
@@ -171,7 +174,7 @@ fn edges_wanted<S: IndexStorage>(edges: &[EdgeTo<S>], marks: &Vob) -> usize {
 fn take<S: IndexStorage>(
     states: &mut Vec<State<S>>,
     number: usize,
-    marks: &Vob,
+    marks: &Flags,
 ) -> Result<(), AllocError>
     requires { number < length states.old.items }
     ensures { OnOk result (map (value_of S.number) states.new.items ≡ set_off (map (value_of S.number) states.old.items) number) }

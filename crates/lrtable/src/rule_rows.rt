@@ -5,6 +5,7 @@ ghost use Rattle.std.specs.List.{Contains};
 ghost use Rattle.vob.specs.Sets.{SetRows, is_set, is_set_in, missing_in, joined_to, HasAllOf};
 ghost use Rattle.vob.specs.Passes.{PassStep};
 
+use crate::flags::Flags;
 use std::alloc::{AllocError, Global};
 use std::marker::Model;
 use vob::Vob;
@@ -83,14 +84,14 @@ impl RuleRows {
     }
 
     /// Empties the sets of the rules whose flags are set.
-    pub(crate) fn clear_all(&mut self, rules: &Vob)
+    pub(crate) fn clear_all(&mut self, rules: &Flags)
         requires { length rules.now.bits ≡ length self.old.rows }
         ensures width { self.new.width ≡ self.old.width }
         ensures count { length self.new.rows ≡ length self.old.rows }
         ensures kept { (A t : ℕ) → IsTrue (is_set_in self.new.rows A t) → IsTrue (is_set_in self.old.rows A t) }
         ensures emptied { (A t : ℕ) → IsTrue (is_set rules.now.bits A) → IsTrue (is_set_in self.new.rows A t) → ⊥ }
     {
-        'rules: for rule in rules.iter_set_bits(..) {
+        'rules: for rule in rules.iter() {
             self.clear(rule);
         }
     }

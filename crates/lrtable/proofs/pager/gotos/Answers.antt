@@ -23,7 +23,7 @@ goto_sets-requires g c =
       fits = c.requires.fits;
       sizes = subst (IsSized G) opening c.in_ok-close.ensures.ready.sizes;
       closed = (fronts, c.requires.ready.openers, subst (IsClosureOf G fronts core) opening c.in_ok-close.ensures.closed);
-      wide = ap length c.set_all.ensures.bits ∙ (length-replicate (length c.args.marks.now.bits) false ∙ c.requires.wide);
+      wide = ap length c.clear.ensures ∙ (length-replicate (length c.args.marks.now.bits) false ∙ c.requires.wide);
       empty = c.requires.empty;
     }
 

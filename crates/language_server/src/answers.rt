@@ -54,7 +54,7 @@ pub struct Response {
 }
 
 /// From where to where.
-#[derive(Clone, Copy, Debug, Serialize)]
+#[derive(Clone, Copy, Debug)]
 pub struct Range {
     /// Where it begins.
     pub start: Position,
@@ -136,8 +136,7 @@ pub struct Edits {
 }
 
 /// A rule or a token of an outline.
-#[derive(Debug, Drop, Serialize)]
-#[serde(rename_all = "camelCase")]
+#[derive(Debug, Drop)]
 pub struct Symbol {
     /// Its name.
     pub name: String,
@@ -166,8 +165,7 @@ pub struct Outline {
 }
 
 /// Lines that can be folded.
-#[derive(Clone, Copy, Debug, Serialize)]
-#[serde(rename_all = "camelCase")]
+#[derive(Clone, Copy, Debug)]
 pub struct Fold {
     /// The first line, which stays.
     pub start_line: u64,
@@ -176,7 +174,7 @@ pub struct Fold {
 }
 
 /// A text that may be written.
-#[derive(Debug, Drop, Serialize)]
+#[derive(Debug, Drop)]
 pub struct Item {
     /// The text.
     pub label: String,
@@ -185,7 +183,7 @@ pub struct Item {
 }
 
 /// A text that is shown as it is.
-#[derive(Debug, Drop, Serialize)]
+#[derive(Debug, Drop)]
 pub struct Contents {
     /// `plaintext`.
     pub kind: &'static str,
@@ -194,7 +192,7 @@ pub struct Contents {
 }
 
 /// What there is to say of a name.
-#[derive(Debug, Drop, Serialize)]
+#[derive(Debug, Drop)]
 pub struct Hover {
     /// The text.
     pub contents: Contents,

@@ -32,6 +32,8 @@ pub mod laws;
 mod messages;
 mod naming;
 mod nested;
+mod objects;
+mod offers;
 mod outline;
 mod place_lists;
 mod places;

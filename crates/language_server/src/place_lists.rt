@@ -9,7 +9,11 @@ use crate::places::Position;
 use serde::{Case, Described, Serialize, Serializer};
 
 /// Writes the member with a place.
-fn write_place<S: Serializer>(key: &str, place: Position, out: &mut S) -> Result<(), S::Error>
+pub(crate) fn write_place<S: Serializer>(
+    key: &str,
+    place: Position,
+    out: &mut S,
+) -> Result<(), S::Error>
     ensures { OnOk result (Member key.now (WritesPlace place) (S.written out.old) (S.written out.new)) }
 {
     out.key_cased(key, Case::AsIs)?;

@@ -3,11 +3,10 @@
 ghost use Rattle.std.specs.Prelude.{◌≡◌, ◌≤◌, length, IfOk};
 ghost use Rattle.language_server.specs.Lines.{ends_line, starts_upto};
 
-use serde::Serialize;
 use std::alloc::{AllocError, Global};
 
 /// A place in a document. Both count from 0.
-#[derive(Clone, Copy, Debug, PartialEq, Eq, Drop, Serialize)]
+#[derive(Clone, Copy, Debug, PartialEq, Eq, Drop)]
 pub struct Position {
     /// The line.
     pub line: u64,

@@ -4,89 +4,12 @@ ghost use Rattle.std.specs.Prelude.{◌≡◌, IfOk, OnOk, codes, string_bytes};
 ghost use Rattle.language_server.specs.Frames.{IsFrame, IsFrameOf, frame};
 ghost use Rattle.language_server.specs.Texts.{Member, WritesAnswer, WritesRefusal, WritesResponse};
 
-use crate::answers::{Answer, Offers, Published, Response};
+use crate::answers::{Answer, Published, Response};
 use crate::fault::ServeFault;
 use crate::messages::{ErrorCode, Id};
-use crate::places::Encoding;
+use crate::offers::write_begun;
 use serde::{Case, Described, Serialize, Serializer};
 use std::alloc::Global;
-
-/// What the server can do with documents.
-#[derive(Clone, Copy, Debug, Serialize)]
-#[serde(rename_all = "camelCase")]
-struct Sync {
-    open_close: bool,
-    change: u8,
-}
-
-/// What the server can do.
-#[derive(Debug, Drop, Serialize)]
-#[serde(rename_all = "camelCase")]
-struct Capabilities {
-    position_encoding: &'static str,
-    text_document_sync: Sync,
-    document_symbol_provider: bool,
-    folding_range_provider: bool,
-    definition_provider: bool,
-    references_provider: bool,
-    document_highlight_provider: bool,
-    rename_provider: Renames,
-    completion_provider: Completes,
-    hover_provider: bool,
-}
-
-/// Which names can be renamed, the client may ask first.
-#[derive(Debug, Drop, Serialize)]
-#[serde(rename_all = "camelCase")]
-struct Renames {
-    prepare_provider: bool,
-}
-
-/// What is completed as it is written.
-#[derive(Debug, Drop, Serialize)]
-#[serde(rename_all = "camelCase")]
-struct Completes {
-    trigger_characters: [&'static str; 1],
-}
-
-/// What the server can do with texts of a language.
-#[derive(Debug, Drop, Serialize)]
-#[serde(rename_all = "camelCase")]
-struct TextCapabilities {
-    position_encoding: &'static str,
-    text_document_sync: Sync,
-    document_symbol_provider: bool,
-    completion_provider: Bare,
-}
-
-/// What is completed where it is asked for alone.
-#[derive(Debug, Drop, Serialize)]
-#[serde(rename_all = "camelCase")]
-struct Bare {
-    resolve_provider: bool,
-}
-
-/// Who the server is.
-#[derive(Debug, Drop, Serialize)]
-struct Info {
-    name: &'static str,
-}
-
-/// The answer to `initialize`.
-#[derive(Debug, Drop, Serialize)]
-#[serde(rename_all = "camelCase")]
-struct Begun {
-    capabilities: Capabilities,
-    server_info: Info,
-}
-
-/// The answer to `initialize`, where texts are served.
-#[derive(Debug, Drop, Serialize)]
-#[serde(rename_all = "camelCase")]
-struct TextBegun {
-    capabilities: TextCapabilities,
-    server_info: Info,
-}
 
 /// Diagnostics as a notification.
 #[derive(Debug, Drop, Serialize)]
@@ -94,58 +17,6 @@ struct Note<'a> {
     jsonrpc: &'static str,
     method: &'static str,
     params: &'a Published,
-}
-
-/// Documents come as they are opened, with changes of their parts.
-const SYNC: Sync = Sync {
-    open_close: true,
-    change: 2,
-};
-
-/// Returns the protocol's name for an encoding.
-fn encoding_name(encoding: Encoding) -> &'static str {
-    match encoding {
-        Encoding::Utf8 => "utf-8",
-        Encoding::Utf16 => "utf-16",
-    }
-}
-
-/// Returns what the server can do.
-fn begun_with(encoding: Encoding) -> Begun {
-    Begun {
-        capabilities: Capabilities {
-            position_encoding: encoding_name(encoding),
-            text_document_sync: SYNC,
-            document_symbol_provider: true,
-            folding_range_provider: true,
-            definition_provider: true,
-            references_provider: true,
-            document_highlight_provider: true,
-            rename_provider: Renames {
-                prepare_provider: true,
-            },
-            completion_provider: Completes {
-                trigger_characters: ["%"],
-            },
-            hover_provider: true,
-        },
-        server_info: Info { name: "lrkit-lsp" },
-    }
-}
-
-/// Returns what the server can do with texts.
-fn text_begun_with(encoding: Encoding) -> TextBegun {
-    TextBegun {
-        capabilities: TextCapabilities {
-            position_encoding: encoding_name(encoding),
-            text_document_sync: SYNC,
-            document_symbol_provider: true,
-            completion_provider: Bare {
-                resolve_provider: false,
-            },
-        },
-        server_info: Info { name: "lrkit-lsp" },
-    }
 }
 
 /// Writes a member: its key, and then its value.
@@ -196,12 +67,7 @@ fn write_answer<S: Serializer>(answer: &Answer, out: &mut S) -> Result<(), S::Er
     ensures { OnOk result (WritesAnswer answer.now (S.written out.old) (S.written out.new)) }
 {
     match answer {
-        Answer::Initialized(Offers::Grammars, encoding) => {
-            write_member("result", &begun_with(*encoding), out)
-        }
-        Answer::Initialized(Offers::Texts, encoding) => {
-            write_member("result", &text_begun_with(*encoding), out)
-        }
+        Answer::Initialized(offers, encoding) => write_begun(*offers, *encoding, out),
         Answer::Done => write_member("result", &(), out),
         Answer::Error(code) => write_member("error", code, out),
         Answer::Refused(words) => write_refusal(words.as_str(), out),

@@ -91,19 +91,3 @@ module _ (e : Front) (looks : List Bool) (a b c d : RuleSets) (x y z : Bool) (lt
         still = r.still;
         fewer = r.fewer;
       }
-
--- a rule to which something came is put with those that wait
-pub put_last : (e : Front) (looks : List Bool) (old new : RuleSets) (waiting : List ℕ) → e.rule < length old.opened → FrontStep looks e old new true → Follows (λ A. e.rule ≡ A) (λ A t. (e.rule ≡ A) × Brings looks e t) old new waiting (waiting ++ e.rule ∷ [])
-put_last e looks old new waiting lt s = record {
-  comes = s.comes;
-  still_waits = λ A h. Contains-append_left waiting (e.rule ∷ []) A h;
-  told = λ A. elim (cases_eq e.rule A) [ inl q ↦ inl (subst (λ B. Contains (waiting ++ e.rule ∷ []) B) q (Contains-push waiting e.rule)) | inr ne ↦ inr (others A ne) ];
-  new_open = λ A h. elim (Contains-push_cases waiting e.rule A h) [ inl u ↦ inl u | inr q ↦ inr (s.comes.rules A q, subst (λ B. B < length new.opened) q (let n = s.comes.sizes.opened in omega (arith, n, lt))) ];
-  fewer = let q = s.fewer refl in let n = length-append waiting (e.rule ∷ []) in omega (arith, q, n);
-}
-  where
-    others : (A : ℕ) → (e.rule ≡ A → ⊥) → StaysAt A old new
-    others A ne = record {
-      rules = λ h. elim (s.comes.only_rules A h) [ inl u ↦ u | inr q ↦ absurd (ne q) ];
-      looks = λ t h. elim (s.comes.only_looks A t h) [ inl u ↦ u | inr q ↦ absurd (ne q.0) ];
-    }

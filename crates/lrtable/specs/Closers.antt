@@ -15,4 +15,4 @@ pub record IsReady {S : Type 0} (G : Grammar) (c : Closer S) : Type 0 where
   pub tidy : IsTidy c.opening
   pub width : length c.looks.bits ≡ G.tokens
   pub rest : length c.rest.first.bits ≡ G.tokens
-  pub none_waits : c.waiting.items ≡ []
+  pub none_waits : c.waiting ≡ []

@@ -10,4 +10,5 @@ pub record HasReach (rules tokens : ℕ) (r : Reacher) : Type 0 where
   pub opened : length r.opening.opened ≡ rules
   pub passed : length r.passed.bits ≡ rules
   pub looks : length r.looks.bits ≡ tokens
-  pub none_waits : r.waiting.items ≡ []
+  pub none_marked : r.marked.items ≡ []
+  pub none_waits : r.waiting ≡ []

@@ -8,6 +8,15 @@ use cfg_numbered::yacc::NumberedGrammar;
 use std::alloc::{AllocError, Global};
 use vob::Vob;
 
+/// Returns a list of this length with zeros alone.
+pub(crate) fn zeros(alloc: Global, count: usize) -> Result<Vec<usize>, AllocError> {
+    let mut list = Vec::with_capacity(alloc, count)?;
+    'items: for _ in 0..count {
+        list.push(0)?;
+    }
+    Ok(list)
+}
+
 /// Returns how many productions each rule has.
 pub(crate) fn production_counts<S: IndexStorage>(
     alloc: Global,

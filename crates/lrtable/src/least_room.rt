@@ -7,6 +7,7 @@
 
 ghost use Rattle.std.specs.Prelude.{◌<◌};
 
+use crate::capacities::zeros;
 use crate::states::EdgeTo;
 use cfg_base::index::IndexStorage;
 use cfg_base::symbol::{RIdx, Symbol};
@@ -21,15 +22,6 @@ fn place_of<S: IndexStorage>(grm: &NumberedGrammar<S>, symbol: Symbol<S>) -> usi
         Symbol::Token(tidx) => tidx.0.to_usize(),
         Symbol::Rule(ridx) => tokens.saturating_add(ridx.0.to_usize()),
     }
-}
-
-/// Returns a list of this length with zeros alone.
-fn zeros(alloc: Global, count: usize) -> Result<Vec<usize>, AllocError> {
-    let mut list = Vec::with_capacity(alloc, count)?;
-    'items: for _ in 0..count {
-        list.push(0)?;
-    }
-    Ok(list)
 }
 
 /// Returns the symbols of a production of a rule: none past its last one.

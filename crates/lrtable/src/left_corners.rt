@@ -13,6 +13,7 @@ ghost use Rattle.lrtable.specs.Reaching.{AreReachedBy, IsReachedBy, MayBeReached
 use crate::openers::{Opener, Openers};
 use crate::opening::Opening;
 use crate::pruning::mark;
+use crate::rule_queue::RuleQueue;
 use std::alloc::{AllocError, Global};
 use vob::Vob;
 
@@ -75,10 +76,12 @@ pub(crate) struct Reacher {
     pub opening: Opening,
     /// The rules to which the rule passes its lookaheads on.
     pub passed: Vob,
+    /// Those of them that wait to be gone through.
+    pub marked: Vec<usize>,
     /// The lookaheads of the rule that is taken.
     pub looks: Vob,
     /// The rules that wait to be taken.
-    pub waiting: Vec<usize>,
+    pub waiting: RuleQueue,
 }
 
 impl Reacher {
@@ -89,8 +92,9 @@ impl Reacher {
         Ok(Reacher {
             opening: Opening::empty(alloc, rules, tokens)?,
             passed: Vob::from_elem(alloc, false, rules)?,
+            marked: Vec::new(alloc),
             looks: Vob::from_elem(alloc, false, tokens)?,
-            waiting: Vec::new(alloc),
+            waiting: RuleQueue::empty(alloc, rules)?,
         })
     }
 }
@@ -108,7 +112,7 @@ fn reached_by(
     ensures reached { IfOk result (λ v. IsReachedBy openers.now reacher.old.opening.tokens rule (map front_of v.items)) }
     ensures reacher { OnOk result (HasReach (length openers.now) reacher.old.opening.tokens reacher.new) }
 {
-    mark_reached(openers, &mut reacher.passed, &mut reacher.waiting, rule)?;
+    mark_reached(openers, &mut reacher.passed, &mut reacher.marked, rule)?;
     reacher
         .opening
         .open_from(openers, &mut reacher.looks, &mut reacher.waiting, rule)?;

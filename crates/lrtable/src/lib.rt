@@ -52,6 +52,7 @@ mod opening;
 mod pager;
 mod pruning;
 mod revisiting;
+mod rule_queue;
 mod rule_rows;
 mod state_lists;
 mod states;

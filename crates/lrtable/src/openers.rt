@@ -9,6 +9,7 @@ ghost use Rattle.lrtable.specs.Fronts.{front_of, front_with};
 ghost use Rattle.lrtable.specs.Opening.{Front};
 ghost use Rattle.lrtable.specs.Reaching.{AreReachedBy, IsReachedBy};
 
+use crate::capacities::zeros;
 use crate::tails::{Rest, fill_rest, rule_after};
 use cfg_base::index::IndexStorage;
 use cfg_base::symbol::{PIdx, RIdx};
@@ -46,16 +47,15 @@ impl Model for Openers {
     ghost invariant = { λ o. AreReachedBy (map (λ l. map front_of l.items) o.rules.items) o.tokens (map (λ l. map front_of l.items) o.reached.items) };
 }
 
-/// Returns the index of the opener of a rule, if it is there.
-fn opener_of(openers: &[Opener], rule: usize) -> Option<usize>
+/// Returns the index of the opener of a rule, if it is where the rule's last opener was put.
+fn opener_of(openers: &[Opener], places: &[usize], rule: usize) -> Option<usize>
     ensures { IfSome result (λ k. (k < length openers.now) × ((d : Front) → (get_or (map front_of openers.now) k d).rule ≡ rule)) }
 {
-    'each: for k in 0..openers.len() {
-        if openers[k].rule == rule {
-            return Some(k);
-        }
+    let place = *places.get(rule)?;
+    match openers.get(place) {
+        Some(opener) if opener.rule == rule => Some(place),
+        _ => None,
     }
-    None
 }
 
 /// Adds what may follow a rule in another production.
@@ -74,6 +74,7 @@ fn put_opener<S: IndexStorage>(
     firsts: &YaccFirsts<S>,
     pidx: PIdx<S>,
     openers: &mut Vec<Opener>,
+    places: &mut [usize],
 ) -> Result<(), AllocError>
     requires production { S.number pidx.0 < length grm.now.grammar.productions }
     requires firsts { AreFirsts grm.now.grammar firsts.now }
@@ -84,35 +85,45 @@ fn put_opener<S: IndexStorage>(
         Some(ridx) => {
             let mut rest = Rest::empty(alloc, grm.tokens_len().0.to_usize())?;
             fill_rest(grm, firsts, pidx, 0, &mut rest);
-            put_rest(openers, ridx.0.to_usize(), rest)
+            put_rest(openers, places, ridx.0.to_usize(), rest)
         }
         None => Ok(()),
     }
 }
 
 /// Puts a rule that comes first in a production with the others, and what follows it there.
-fn put_rest(openers: &mut Vec<Opener>, rule: usize, rest: Rest) -> Result<(), AllocError>
+fn put_rest(
+    openers: &mut Vec<Opener>,
+    places: &mut [usize],
+    rule: usize,
+    rest: Rest,
+) -> Result<(), AllocError>
     requires { (e : Front) → Contains (map front_of openers.old.items) e → length e.first ≡ length rest.first.bits }
     ensures { OnOk result (PutsAt (front_with rule rest) (map front_of openers.old.items) (map front_of openers.new.items)) }
 {
-    match opener_of(openers.as_slice(), rule) {
+    match opener_of(openers.as_slice(), places, rule) {
         Some(k) => {
             join_rest(&mut openers[k], &rest);
             Ok(())
         }
         None => {
+            if let Some(place) = places.get_mut(rule) {
+                *place = openers.len();
+            }
             openers.push(Opener { rule, rest })?;
             Ok(())
         }
     }
 }
 
-/// Returns the rules that come first in the productions of a rule.
+/// Returns the rules that come first in the productions of a rule. For each rule, `places` has the index that its last opener
+/// was put at: what is read there is checked, so these may be left from other rules.
 fn openers_of<S: IndexStorage>(
     alloc: Global,
     grm: &NumberedGrammar<S>,
     firsts: &YaccFirsts<S>,
     ridx: RIdx<S>,
+    places: &mut [usize],
 ) -> Result<Vec<Opener>, AllocError>
     requires rule { S.number ridx.0 < grm.now.grammar.rules }
     requires firsts { AreFirsts grm.now.grammar firsts.now }
@@ -121,7 +132,7 @@ fn openers_of<S: IndexStorage>(
     let mut openers = Vec::new(alloc);
     let prods = grm.rule_to_prods(ridx);
     'prods: for k in 0..prods.len() {
-        put_opener(alloc, grm, firsts, prods[k], &mut openers)?;
+        put_opener(alloc, grm, firsts, prods[k], &mut openers, places)?;
     }
     Ok(openers)
 }
@@ -138,8 +149,11 @@ impl Openers {
     {
         grm.start_prod();
         let mut rules = Vec::new(alloc);
-        'rules: for number in 0..grm.rules_len().0.to_usize() {
-            rules.push(openers_of(alloc, grm, firsts, grm.rule_at(number))?)?;
+        let count = grm.rules_len().0.to_usize();
+        let mut places = zeros(alloc, count)?;
+        'rules: for number in 0..count {
+            let ridx = grm.rule_at(number);
+            rules.push(openers_of(alloc, grm, firsts, ridx, &mut places)?)?;
         }
         Ok(Openers {
             rules,

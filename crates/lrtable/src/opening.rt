@@ -18,11 +18,11 @@ ghost use Rattle.lrtable.specs.Closers.{IsReady};
 ghost use Rattle.lrtable.specs.Opening.{Front, RuleSets, IsTidy, IsOpen, HasRuleLook, room, FitsIn, AllFit, Brings, Comes, Follows, FrontStep, NamedIn, BroughtBy, GainsOwn, SameSizes, Underway, AreOpened};
 ghost use Rattle.lrtable.specs.Reaching.{AreListed, IsAlone};
 ghost use Rattle.lrtable.specs.MadeTails.{AreTails};
-ghost use Rattle.lrtable.specs.Waits.{WaitsToo};
 
 use crate::capacities::production_counts;
 use crate::flags::{Flags, SetFlags};
 use crate::openers::{Opener, Openers};
+use crate::rule_queue::RuleQueue;
 use crate::rule_rows::RuleRows;
 use crate::tails::{Rest, Tails, rule_after};
 use cfg_base::index::IndexStorage;
@@ -32,30 +32,6 @@ use state_table::cores::{CoreItem, CoreSet};
 use std::alloc::{AllocError, Global};
 use std::marker::Model;
 use vob::Vob;
-
-/// Returns whether a rule is one of those that wait.
-fn waits(waiting: &[usize], rule: usize) -> bool
-    ensures { result ≡ true → Contains waiting.now rule }
-{
-    'each: for k in 0..waiting.len() {
-        if waiting[k] == rule {
-            return true;
-        }
-    }
-    false
-}
-
-/// Puts a rule with those that wait, unless it is one of them. The last of the list is taken first, so the rule goes first:
-/// those that wait are taken before it.
-fn put_to_wait(waiting: &mut Vec<usize>, rule: usize) -> Result<(), AllocError>
-    ensures { OnOk result (WaitsToo rule waiting.old.items waiting.new.items) }
-{
-    if waits(waiting.as_slice(), rule) {
-        return Ok(());
-    }
-    waiting.insert(0, rule)?;
-    Ok(())
-}
 
 /// Empties the sets of the open rules.
 fn empty_rows(looks: &mut RuleRows, opened: &Flags)
@@ -218,16 +194,16 @@ impl Opening {
         rule: usize,
         rest: &Rest,
         looks: &Vob,
-        waiting: &mut Vec<usize>,
+        waiting: &mut RuleQueue,
     ) -> Result<(), AllocError>
         requires rules { rule < length self.old.opened }
         requires within { rule < length self.old.rows }
         requires first { length rest.now.first.bits ≡ self.old.tokens }
         requires width { length looks.now.bits ≡ self.old.tokens }
-        ensures { OnOk result (Follows (λ A. rule ≡ A) (λ A t. (rule ≡ A) × Brings looks.now.bits (front_with rule rest.now) t) self.old self.new waiting.old.items waiting.new.items) }
+        ensures { OnOk result (Follows (λ A. rule ≡ A) (λ A t. (rule ≡ A) × Brings looks.now.bits (front_with rule rest.now) t) self.old self.new waiting.old waiting.new) }
     {
         if self.bring(rule, rest, looks) {
-            put_to_wait(waiting, rule)?;
+            waiting.put(rule)?;
         }
         Ok(())
     }
@@ -237,11 +213,11 @@ impl Opening {
         &mut self,
         openers: &[Opener],
         looks: &Vob,
-        waiting: &mut Vec<usize>,
+        waiting: &mut RuleQueue,
     ) -> Result<(), AllocError>
         requires fit { AllFit (length self.old.opened) self.old.tokens (map front_of openers.now) }
         requires width { length looks.now.bits ≡ self.old.tokens }
-        ensures { OnOk result (Follows (NamedIn (map front_of openers.now)) (BroughtBy looks.now.bits (map front_of openers.now)) self.old self.new waiting.old.items waiting.new.items) }
+        ensures { OnOk result (Follows (NamedIn (map front_of openers.now)) (BroughtBy looks.now.bits (map front_of openers.now)) self.old self.new waiting.old waiting.new) }
     {
         self.counts_agree();
         'openers: for opener in openers {
@@ -318,7 +294,7 @@ impl Opening {
         openers: &Openers,
         rule: usize,
         looks: &mut Vob,
-        waiting: &mut Vec<usize>,
+        waiting: &mut RuleQueue,
     ) -> Result<(), AllocError>
         requires rules { length openers.now ≡ length self.old.opened }
         requires rule { rule < length self.old.opened }
@@ -329,8 +305,8 @@ impl Opening {
         ensures sizes { OnOk result (SameSizes self.old self.new) }
         ensures tidy { OnOk result (IsTidy self.new) }
         ensures width { OnOk result (length looks.new.bits ≡ self.old.tokens) }
-        ensures waiting { OnOk result ((from : RuleSets) → Underway openers.now from self.old (waiting.old.items ++ rule ∷ []) → Underway openers.now from self.new waiting.new.items) }
-        ensures fewer { OnOk result (room self.new + length waiting.new.items ≤ room self.old + length waiting.old.items) }
+        ensures waiting { OnOk result ((from : RuleSets) → Underway openers.now from self.old (waiting.old ++ rule ∷ []) → Underway openers.now from self.new waiting.new) }
+        ensures fewer { OnOk result (room self.new + length waiting.new ≤ room self.old + length waiting.old) }
     {
         self.counts_agree();
         match openers.reached_from(rule, looks.len()) {
@@ -353,7 +329,7 @@ impl Opening {
         &mut self,
         openers: &Openers,
         looks: &mut Vob,
-        waiting: &mut Vec<usize>,
+        waiting: &mut RuleQueue,
         rule: usize,
     ) -> Result<(), AllocError>
         requires tidy { IsTidy self.old }
@@ -361,16 +337,16 @@ impl Opening {
         requires rule { rule < length openers.now }
         requires fit { (A : ℕ) → AllFit (length self.old.opened) self.old.tokens (get_or openers.now A []) }
         requires width { length looks.old.bits ≡ self.old.tokens }
-        requires none_waits { waiting.old.items ≡ [] }
+        requires none_waits { waiting.old ≡ [] }
         ensures opened { OnOk result ((from : RuleSets) × IsAlone rule from × AreOpened openers.now from self.new) }
         ensures tidy { OnOk result (IsTidy self.new) }
         ensures sizes { OnOk result (SameSizes self.old self.new) }
         ensures width { OnOk result (length looks.new.bits ≡ self.old.tokens) }
-        ensures none_waits { OnOk result (waiting.new.items ≡ []) }
+        ensures none_waits { OnOk result (waiting.new ≡ []) }
     {
         self.clear();
         self.open(rule);
-        waiting.push(rule)?;
+        waiting.put(rule)?;
         self.close(openers, looks, waiting)?;
         Ok(())
     }
@@ -411,20 +387,20 @@ impl Opening {
         &mut self,
         openers: &Openers,
         looks: &mut Vob,
-        waiting: &mut Vec<usize>,
+        waiting: &mut RuleQueue,
     ) -> Result<(), AllocError>
         requires rules { length openers.now ≡ length self.old.opened }
         requires fit { (A : ℕ) → AllFit (length self.old.opened) self.old.tokens (get_or openers.now A []) }
         requires width { length looks.old.bits ≡ self.old.tokens }
         requires tidy { IsTidy self.old }
-        requires waiting { Underway openers.now self.old self.old waiting.old.items }
+        requires waiting { Underway openers.now self.old self.old waiting.old }
         ensures tidy { OnOk result (IsTidy self.new) }
         ensures opened { OnOk result (AreOpened openers.now self.old self.new) }
         ensures sizes { OnOk result (SameSizes self.old self.new) }
         ensures width { OnOk result (length looks.new.bits ≡ self.old.tokens) }
-        ensures none_waits { OnOk result (waiting.new.items ≡ []) }
+        ensures none_waits { OnOk result (waiting.new ≡ []) }
     {
-        'waiting: while let Some(rule) = waiting.pop() {
+        'waiting: while let Some(rule) = waiting.take() {
             self.take_rule(openers, rule, looks, waiting)?;
         }
         Ok(())
@@ -437,7 +413,7 @@ impl Opening {
         tails: &Tails<'_, S>,
         pair: (&CoreItem<S>, &Vob),
         rest: &mut Rest,
-        waiting: &mut Vec<usize>,
+        waiting: &mut RuleQueue,
     ) -> Result<(), AllocError>
         requires production { S.number pair.0.now.pidx.0 < length grm.now.grammar.productions }
         requires tails { AreTails grm.now.grammar tails.now }
@@ -445,7 +421,7 @@ impl Opening {
         requires width { length pair.1.now.bits ≡ grm.now.grammar.tokens }
         requires room { length rest.old.first.bits ≡ grm.now.grammar.tokens }
         ensures room { length rest.new.first.bits ≡ grm.now.grammar.tokens }
-        ensures follows { OnOk result (Follows (Seeds grm.now.grammar (SingleItem (S.number pair.entry.0.now.pidx.0) (S.number pair.entry.0.now.dot.0))) (SeedsLook grm.now.grammar (SingleItem (S.number pair.entry.0.now.pidx.0) (S.number pair.entry.0.now.dot.0)) (OneLooks (S.number pair.entry.0.now.pidx.0) (S.number pair.entry.0.now.dot.0) pair.entry.1.now.bits)) self.old self.new waiting.old.items waiting.new.items) }
+        ensures follows { OnOk result (Follows (Seeds grm.now.grammar (SingleItem (S.number pair.entry.0.now.pidx.0) (S.number pair.entry.0.now.dot.0))) (SeedsLook grm.now.grammar (SingleItem (S.number pair.entry.0.now.pidx.0) (S.number pair.entry.0.now.dot.0)) (OneLooks (S.number pair.entry.0.now.pidx.0) (S.number pair.entry.0.now.dot.0) pair.entry.1.now.bits)) self.old self.new waiting.old waiting.new) }
     {
         grm.start_prod();
         let (item, looks) = pair;
@@ -467,14 +443,14 @@ impl Opening {
         tails: &Tails<'_, S>,
         set: &CoreSet<S>,
         rest: &mut Rest,
-        waiting: &mut Vec<usize>,
+        waiting: &mut RuleQueue,
     ) -> Result<(), AllocError>
         requires fits { FitsCore grm.now.grammar (core_of_set S.number set.now) }
         requires tails { AreTails grm.now.grammar tails.now }
         requires sizes { IsSized grm.now.grammar self.old }
         requires room { length rest.old.first.bits ≡ grm.now.grammar.tokens }
         ensures room { length rest.new.first.bits ≡ grm.now.grammar.tokens }
-        ensures follows { OnOk result (Follows (Seeds grm.now.grammar (HasItem (map_of (core_of_set S.number set.now)))) (SeedsLook grm.now.grammar (HasItem (map_of (core_of_set S.number set.now))) (HasLook (map_of (core_of_set S.number set.now)))) self.old self.new waiting.old.items waiting.new.items) }
+        ensures follows { OnOk result (Follows (Seeds grm.now.grammar (HasItem (map_of (core_of_set S.number set.now)))) (SeedsLook grm.now.grammar (HasItem (map_of (core_of_set S.number set.now))) (HasLook (map_of (core_of_set S.number set.now)))) self.old self.new waiting.old waiting.new) }
     {
         'items: for k in 0..set.items.len() {
             let item = &set.items[k];
@@ -497,7 +473,7 @@ pub(crate) struct Closer<'a, S: IndexStorage> {
     /// The tail behind the symbol that is looked at.
     pub rest: Rest,
     /// The rules that wait to be taken.
-    pub waiting: Vec<usize>,
+    pub waiting: RuleQueue,
     /// The number of productions of each rule.
     pub counts: Vec<usize>,
 }
@@ -522,7 +498,7 @@ impl<'a, S: IndexStorage> Closer<'a, S> {
             opening: Opening::empty(alloc, rules, tokens)?,
             looks: Vob::from_elem(alloc, false, tokens)?,
             rest: Rest::empty(alloc, tokens)?,
-            waiting: Vec::new(alloc),
+            waiting: RuleQueue::empty(alloc, rules)?,
             counts: production_counts(alloc, grm)?,
         })
     }

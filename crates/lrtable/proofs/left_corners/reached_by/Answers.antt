@@ -9,7 +9,7 @@ mark_reached-requires c = record {
   rule = c.requires.rule;
   width = c.requires.reacher.passed;
   fit = λ A e m. (c.requires.fit A e m).rule;
-  none_waits = c.requires.reacher.none_waits;
+  none_waits = c.requires.reacher.none_marked;
 }
 
 pub open_from-requires : goal.open_from-requires
@@ -21,7 +21,7 @@ open_from-requires c =
       rule = c.requires.rule;
       fit = λ A e m. let f = c.requires.fit A e m in record { rule = subst (λ n. e.rule < n) (sym r.opened) f.rule; first = f.first };
       width = r.looks;
-      none_waits = c.in_ok-mark_reached.ensures.none_waits;
+      none_waits = r.none_waits;
     }
 
 pub to_openers-requires : goal.to_openers-requires
@@ -44,5 +44,6 @@ returns-clause-reacher c =
       opened = o.sizes.opened ∙ r.opened;
       passed = c.in_ok-mark_reached.ensures.width;
       looks = o.width;
+      none_marked = c.in_ok-mark_reached.ensures.none_waits;
       none_waits = o.none_waits;
     }

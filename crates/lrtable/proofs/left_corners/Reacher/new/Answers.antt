@@ -13,5 +13,6 @@ returns c =
       opened = ap (λ (x : RuleSets). length x.opened) s ∙ length-replicate c.args.rules false;
       passed = ap length c.in_ok-from_elem.ensures.bits ∙ length-replicate c.args.rules false;
       looks = ap length c.in_ok-from_elem-2.ensures.bits ∙ length-replicate c.args.tokens false;
-      none_waits = c.new.ensures.items;
+      none_marked = c.new.ensures.items;
+      none_waits = c.in_ok-empty-2.ensures;
     }

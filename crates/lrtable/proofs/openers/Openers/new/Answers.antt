@@ -25,7 +25,7 @@ rules-preserved g c =
     let e = ap length pushed in
     let count = c.rules.invariant.count in
     let m = length-map c.rules.rules.items (λ (w : Vec Opener Global). map front_of w.items) in
-    let here = subst (λ k. AreFrontsOf G (productions_of G k) (map front_of v.items)) c.rule_at.ensures c.in_ok-openers_of.ensures in
+    let here = subst (λ k. AreFrontsOf G (productions_of G k) (map front_of v.items)) c.rule_at-ridx.ensures c.in_ok-openers_of.ensures in
     record {
       count = omega (arith, n, e, count);
       each = each_more G (views c.rules.rules.items) (views c.push.new.self.items) c.rules.number (map front_of v.items) (omega (arith, m, count)) (ap views pushed ∙ map_push (λ (w : Vec Opener Global). map front_of w.items) c.rules.rules.items v) c.rules.invariant.each here;
@@ -38,7 +38,7 @@ returns g c =
     let count = c.rules.invariant.count in
     let done = c.rules-test.false in
     let auto = c.rules.auto.number-end in
-    let end = c.to_usize-number-end.ensures.value ∙ c.rules_len.ensures in
+    let end = c.to_usize-count.ensures.value ∙ c.rules_len.ensures in
     fronts_all G _ c.start_prod.ensures.well_formed (listed G) (alone G) (omega (arith, m, count, done, auto, end)) (λ A lt. c.rules.invariant.each A (omega (arith, lt, done, end)))
 
 pub invariant_of-result : goal.invariant_of-result

@@ -31,8 +31,8 @@ close-requires-clause-waiting g c =
     let number = g.S.IndexStorage.number in
     let G = c.args.grm.now.grammar in
     let s = map_of (core_of_set number c.args.set.now) in
-    let follows = subst (λ l. Follows (Seeds G (HasItem s)) (SeedsLook G (HasItem s) (HasLook s)) c.clear.new.self c.seed.new.self l c.seed.new.waiting.items) c.requires.ready.none_waits c.in_ok-seed.ensures.follows in
-    seeded c.args.self.now.openers.now (Seeds G (HasItem s)) (SeedsLook G (HasItem s) (HasLook s)) c.clear.new.self c.seed.new.self c.seed.new.waiting.items follows c.clear.ensures.none_open
+    let follows = subst (λ l. Follows (Seeds G (HasItem s)) (SeedsLook G (HasItem s) (HasLook s)) c.clear.new.self c.seed.new.self l c.seed.new.waiting) c.requires.ready.none_waits c.in_ok-seed.ensures.follows in
+    seeded c.args.self.now.openers.now (Seeds G (HasItem s)) (SeedsLook G (HasItem s) (HasLook s)) c.clear.new.self c.seed.new.self c.seed.new.waiting follows c.clear.ensures.none_open
 
 pub returns-clause-closed : goal.returns-clause-closed
 returns-clause-closed g c =
@@ -41,7 +41,7 @@ returns-clause-closed g c =
     let s = map_of (core_of_set number c.args.set.now) in
     record {
       from = c.seed.new.self;
-      seeds = are_seeds G (HasItem s) (HasLook s) c.clear.new.self c.seed.new.self _ c.seed.new.waiting.items c.clear.ensures.none_open c.clear.ensures.no_look c.in_ok-seed.ensures.follows;
+      seeds = are_seeds G (HasItem s) (HasLook s) c.clear.new.self c.seed.new.self _ c.seed.new.waiting c.clear.ensures.none_open c.clear.ensures.no_look c.in_ok-seed.ensures.follows;
       opened = c.in_ok-close.ensures.opened;
     }
 
@@ -54,7 +54,7 @@ returns-clause-ready g c =
     let seeded = sized_on G c.clear.new.self c.seed.new.self empty c.in_ok-seed.ensures.follows.comes.sizes in
     let closed : IsClosureOf G c.args.self.now.openers.now (core_of_set number c.args.set.now) c.close.new.self = record {
       from = c.seed.new.self;
-      seeds = are_seeds G (HasItem s) (HasLook s) c.clear.new.self c.seed.new.self _ c.seed.new.waiting.items c.clear.ensures.none_open c.clear.ensures.no_look c.in_ok-seed.ensures.follows;
+      seeds = are_seeds G (HasItem s) (HasLook s) c.clear.new.self c.seed.new.self _ c.seed.new.waiting c.clear.ensures.none_open c.clear.ensures.no_look c.in_ok-seed.ensures.follows;
       opened = c.in_ok-close.ensures.opened;
     } in
     record {

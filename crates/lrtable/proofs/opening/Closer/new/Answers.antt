@@ -15,5 +15,5 @@ returns g c =
       tidy = λ A t h. absurd (no_look G c.in_ok-empty.field-0 c.to_usize-rules.result c.to_usize-tokens.result rules tokens c.in_ok-empty.ensures A t h);
       width = ap length c.in_ok-from_elem.ensures.bits ∙ length-replicate c.to_usize-tokens.result false ∙ tokens;
       rest = c.in_ok-empty-2.ensures ∙ tokens;
-      none_waits = c.new-2.ensures.items;
+      none_waits = c.in_ok-empty-3.ensures;
     }

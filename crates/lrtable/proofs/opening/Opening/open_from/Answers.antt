@@ -1,6 +1,6 @@
-use Rattle.std.proofs.Common.{ℕ, List, [], ◌∷◌, ◌++◌, true, sym, ap, ◌∙◌, subst, arith, length, length-set}
-use Rattle.lrtable.specs.Opening.{Underway}
+use Rattle.std.proofs.Common.{true, sym, ap, ◌∙◌, arith, length-set, length}
 use Rattle.lrtable.proofs.Reaching.{is_alone, alone_tidy, alone_waits}
+use Rattle.lrtable.proofs.Waiting.{waits_alone}
 use Rattle.lrtable.proofs.opening.Opening.open_from.Goals as goal
 
 pub close-requires-clause-fit : goal.close-requires-clause-fit
@@ -17,8 +17,7 @@ close-requires-clause-tidy c = alone_tidy c.args.rule c.clear.new.self c.open.ne
 
 pub close-requires-clause-waiting : goal.close-requires-clause-waiting
 close-requires-clause-waiting c =
-    let e = c.in_ok-push.ensures.items ∙ ap (λ (l : List ℕ). l ++ c.args.rule ∷ []) c.requires.none_waits in
-    subst (λ (l : List ℕ). Underway c.args.openers.now c.open.new.self c.open.new.self l) (sym e)
+    waits_alone c.args.openers.now c.open.new.self c.open.new.self c.args.rule c.args.waiting.now c.put.new.self c.requires.none_waits c.in_ok-put.ensures
     (alone_waits c.args.rule c.clear.new.self c.open.new.self (let n = c.clear.ensures.sizes.opened in let m = c.requires.rules in let lt = c.requires.rule in omega (arith, n, m, lt)) c.clear.ensures.none_open c.clear.ensures.no_look c.open.ensures.rows c.open.ensures.opened c.args.openers.now)
 
 pub returns-clause-opened : goal.returns-clause-opened

@@ -8,7 +8,7 @@ use Rattle.lrtable.proofs.Seeding.{seeds_begin, seeds_next, seeds_end}
 use Rattle.lrtable.proofs.opening.Opening.seed.Goals as goal
 
 pub items-init : goal.items-init
-items-init g c = record { room = c.requires.room; follows = seeds_begin c.args.grm.now.grammar (core_of_set g.S.IndexStorage.number c.args.set.now) c.args.self.now c.args.waiting.now.items }
+items-init g c = record { room = c.requires.room; follows = seeds_begin c.args.grm.now.grammar (core_of_set g.S.IndexStorage.number c.args.set.now) c.args.self.now c.args.waiting.now }
 
 pub index-looks-requires : goal.index-looks-requires
 index-looks-requires g c =
@@ -45,7 +45,7 @@ items-preserved g c =
     let e = c.requires.fits.good.count in
     let test = c.items-test.true in
     let x = c.index-item.result.now in
-    let next = seeds_next G set c.items.k (number x.pidx.0) (number x.dot.0) c.index-looks.result.now.bits c.args.self.now c.items.self c.seed_one.new.self c.args.waiting.now.items c.items.waiting.items c.seed_one.new.waiting.items
+    let next = seeds_next G set c.items.k (number x.pidx.0) (number x.dot.0) c.index-looks.result.now.bits c.args.self.now c.items.self c.seed_one.new.self c.args.waiting.now c.items.waiting c.seed_one.new.waiting
     (item_at number c.args.set.now.items.items c.items.k x (omega (arith, test)) c.index-item.ensures)
     (row_at c.args.set.now.looks.items c.items.k c.index-looks.result.now (omega (arith, n, m, e, test)) c.index-looks.ensures) c.items.invariant.follows c.in_ok-seed_one.ensures.follows in
     record { room = c.in_ok-seed_one.ensures.room; follows = next }
@@ -57,4 +57,4 @@ returns-clause-follows g c =
     let set = core_of_set number c.args.set.now in
     let n = length-map c.args.set.now.items.items (item_of number) in
     let done = c.items-test.false in
-    seeds_end G set c.items.k c.args.self.now c.items.self c.args.waiting.now.items c.items.waiting.items c.requires.fits.good (omega (arith, n, done)) c.items.invariant.follows
+    seeds_end G set c.items.k c.args.self.now c.items.self c.args.waiting.now c.items.waiting c.requires.fits.good (omega (arith, n, done)) c.items.invariant.follows

@@ -10,5 +10,5 @@ invariant-items g l =
     record {
       room : length l.rest.first.bits ≡ l.grm.grammar.tokens;
       follows : Follows (Seeds l.grm.grammar (ItemsBelow (core_of_set g.S.IndexStorage.number l.set) l.k)) (SeedsLook l.grm.grammar (ItemsBelow (core_of_set g.S.IndexStorage.number l.set) l.k) (LooksBelow (core_of_set g.S.IndexStorage.number l.set) l.k))
-          l.initial.self l.self l.initial.waiting.items l.waiting.items;
+          l.initial.self l.self l.initial.waiting l.waiting;
     }

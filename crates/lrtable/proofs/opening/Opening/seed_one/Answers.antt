@@ -45,8 +45,8 @@ returns-in_ok-follow-in-Some-clause-follows g c =
     let rule_is = c.to_usize.ensures.value in
     let d_is = c.to_usize-dot.ensures.value in
     let n = subst (λ A. IsNext G p c.to_usize-dot.result (rule A)) (sym rule_is) c.in-Some.ensures in
-    subst (λ d. Follows (Seeds G (SingleItem p d)) (SeedsLook G (SingleItem p d) (OneLooks p d looks)) c.args.self.now c.follow.new.self c.args.waiting.now.items c.follow.new.waiting.items) d_is
-    (seeds_one G p c.to_usize-dot.result c.to_usize.result looks first nullable n c.fill.ensures c.args.self.now c.follow.new.self c.args.waiting.now.items c.follow.new.waiting.items c.in_ok-follow-in-Some.ensures)
+    subst (λ d. Follows (Seeds G (SingleItem p d)) (SeedsLook G (SingleItem p d) (OneLooks p d looks)) c.args.self.now c.follow.new.self c.args.waiting.now c.follow.new.waiting) d_is
+    (seeds_one G p c.to_usize-dot.result c.to_usize.result looks first nullable n c.fill.ensures c.args.self.now c.follow.new.self c.args.waiting.now c.follow.new.waiting c.in_ok-follow-in-Some.ensures)
 
 pub returns-in-None-clause-follows : goal.returns-in-None-clause-follows
 returns-in-None-clause-follows g c =
@@ -54,5 +54,5 @@ returns-in-None-clause-follows g c =
     let G = c.args.grm.now.grammar in
     let p = number c.args.pair.0.now.pidx.0 in
     let looks = c.args.pair.1.now.bits in
-    subst (λ d. Follows (Seeds G (SingleItem p d)) (SeedsLook G (SingleItem p d) (OneLooks p d looks)) c.args.self.now c.args.self.now c.args.waiting.now.items c.args.waiting.now.items) c.to_usize-dot.ensures.value
-    (seeds_none G p c.to_usize-dot.result looks c.args.self.now c.args.waiting.now.items c.in-None.ensures)
+    subst (λ d. Follows (Seeds G (SingleItem p d)) (SeedsLook G (SingleItem p d) (OneLooks p d looks)) c.args.self.now c.args.self.now c.args.waiting.now c.args.waiting.now) c.to_usize-dot.ensures.value
+    (seeds_none G p c.to_usize-dot.result looks c.args.self.now c.args.waiting.now c.in-None.ensures)

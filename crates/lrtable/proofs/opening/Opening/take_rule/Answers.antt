@@ -24,7 +24,7 @@ returns-in-Some-clause-tidy c =
 
 pub returns-in-Some-clause-waiting : goal.returns-in-Some-clause-waiting
 returns-in-Some-clause-waiting c = λ from h.
-    reached_taken c.args.openers.now from c.args.self.now c.bring_all.new.self c.args.rule c.len.result (map front_of c.in-Some.reached.now) c.copy_looks.new.looks.bits c.args.waiting.now.items
+    reached_taken c.args.openers.now from c.args.self.now c.bring_all.new.self c.args.rule c.len.result (map front_of c.in-Some.reached.now) c.copy_looks.new.looks.bits c.args.waiting.now
     h c.requires.tidy c.in-Some.ensures c.copy_looks.ensures.bits c.bring_all.ensures.comes
 
 -- ---- it isn't
@@ -58,6 +58,6 @@ pub returns-in_ok-follow_all-in-None-clause-waiting : goal.returns-in_ok-follow_
 returns-in_ok-follow_all-in-None-clause-waiting c = λ from u.
     let A = c.args.rule in
     let k = subst (λ (l : List Front). GainsOwn l A c.args.self.now c.keep_own.new.self) c.of_rule.ensures c.keep_own.ensures in
-    let own = own_taken c.args.openers.now from c.args.self.now c.keep_own.new.self A c.args.waiting.now.items u k in
-    let f = subst (λ (l : List Front). Follows (NamedIn l) (BroughtBy c.copy_looks-in-None.new.looks.bits l) c.keep_own.new.self c.follow_all.new.self c.args.waiting.now.items c.follow_all.new.waiting.items) c.of_rule-in-None.ensures c.in_ok-follow_all-in-None.ensures in
-    taken_one c.args.openers.now from c.keep_own.new.self c.follow_all.new.self A c.copy_looks-in-None.new.looks.bits c.args.waiting.now.items c.follow_all.new.waiting.items own c.copy_looks-in-None.ensures.bits f
+    let own = own_taken c.args.openers.now from c.args.self.now c.keep_own.new.self A c.args.waiting.now u k in
+    let f = subst (λ (l : List Front). Follows (NamedIn l) (BroughtBy c.copy_looks-in-None.new.looks.bits l) c.keep_own.new.self c.follow_all.new.self c.args.waiting.now c.follow_all.new.waiting) c.of_rule-in-None.ensures c.in_ok-follow_all-in-None.ensures in
+    taken_one c.args.openers.now from c.keep_own.new.self c.follow_all.new.self A c.copy_looks-in-None.new.looks.bits c.args.waiting.now c.follow_all.new.waiting own c.copy_looks-in-None.ensures.bits f

@@ -221,34 +221,18 @@ impl<'a, S: IndexStorage> Tails<'a, S> {
         }
     }
 
-    /// Makes those of all productions.
+    /// Makes those of all productions, of each from its end on.
     fn put_all(&mut self, grm: &NumberedGrammar<S>, rest: &mut Rest) -> Result<(), AllocError>
         requires tails { AreTails grm.now.grammar self.old }
         requires width { length rest.old.first.bits ≡ grm.now.grammar.tokens }
         ensures { OnOk result (AreTails grm.now.grammar self.new) }
     {
         'prods: for number in 0..grm.prods_len().0.to_usize() {
-            self.put_prod(grm, grm.prod_at(number), rest)?;
-        }
-        Ok(())
-    }
-
-    /// Makes those of a production, from its end on.
-    fn put_prod(
-        &mut self,
-        grm: &NumberedGrammar<S>,
-        pidx: PIdx<S>,
-        rest: &mut Rest,
-    ) -> Result<(), AllocError>
-        requires production { S.number pidx.0 < length grm.now.grammar.productions }
-        requires tails { AreTails grm.now.grammar self.old }
-        requires width { length rest.old.first.bits ≡ grm.now.grammar.tokens }
-        ensures tails { OnOk result (AreTails grm.now.grammar self.new) }
-        ensures width { OnOk result (length rest.new.first.bits ≡ grm.now.grammar.tokens) }
-    {
-        let len = grm.prod(pidx).len();
-        'places: for back in 0..len {
-            self.put_before(grm, pidx, len - 1 - back, rest)?;
+            let pidx = grm.prod_at(number);
+            let len = grm.prod(pidx).len();
+            'places: for back in 0..len {
+                self.put_before(grm, pidx, len - 1 - back, rest)?;
+            }
         }
         Ok(())
     }
@@ -288,20 +272,6 @@ impl<'a, S: IndexStorage> Tails<'a, S> {
         Ok(())
     }
 
-    /// Returns where what follows the symbol behind a dot was made, if it was.
-    fn made_at(&self, grm: &NumberedGrammar<S>, pidx: PIdx<S>, dot: usize) -> Option<usize>
-        requires production { S.number pidx.0 < length grm.now.grammar.productions }
-        requires firsts { AreFirsts grm.now.grammar self.now.firsts.now }
-        ensures within { IfSome result (λ k. k < length self.now.made.items) }
-        ensures production { IfSome result (λ k. (t : Tail) → (get_or self.now.made.items k t).production ≡ S.number pidx.0) }
-        ensures dot { IfSome result (λ k. (t : Tail) → (get_or self.now.made.items k t).dot ≡ dot) }
-    {
-        if nullable_at(grm, self.firsts, pidx, dot.saturating_add(1)).is_none() {
-            return None;
-        }
-        place_of(self.made.as_slice(), pidx.0.to_usize(), dot)
-    }
-
     /// Writes what follows the symbol behind a dot over what followed another.
     pub(crate) fn fill(&self, grm: &NumberedGrammar<S>, pidx: PIdx<S>, dot: usize, rest: &mut Rest)
         requires production { S.number pidx.0 < length grm.now.grammar.productions }
@@ -310,9 +280,12 @@ impl<'a, S: IndexStorage> Tails<'a, S> {
         requires width { length rest.old.first.bits ≡ grm.now.grammar.tokens }
         ensures { IsRest grm.now.grammar (S.number pidx.0) dot rest.new.first.bits rest.new.nullable }
     {
-        match self.made_at(grm, pidx, dot) {
-            Some(k) => rest.copy_of(&self.made[k].rest),
-            None => fill_rest(grm, self.firsts, pidx, dot, rest),
+        if nullable_at(grm, self.firsts, pidx, dot.saturating_add(1)).is_some() {
+            if let Some(k) = place_of(self.made.as_slice(), pidx.0.to_usize(), dot) {
+                rest.copy_of(&self.made[k].rest);
+                return;
+            }
         }
+        fill_rest(grm, self.firsts, pidx, dot, rest);
     }
 }

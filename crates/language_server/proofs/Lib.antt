@@ -1,2 +1,3 @@
 pub mod Errors
+mod Positions
 mod Once

@@ -1,7 +1,8 @@
 //! From a document's text to its diagnostics.
 
-ghost use Rattle.std.specs.Prelude.{◌≡◌, ◌≤◌, ◌+◌, IfOk, OnOk, false, length};
+ghost use Rattle.std.specs.Prelude.{◌≡◌, ◌<◌, ◌≤◌, ◌+◌, ◌^◌, IfOk, IfSome, OnOk, false, length};
 ghost use Rattle.language_server.specs.Counts.{count_notes};
+ghost use Rattle.language_server.specs.Positions.{AreLinesOf, IsRangeOf};
 
 use crate::answers::{Diagnostic, Location, Range, Related};
 use crate::bison::push_bison;
@@ -59,13 +60,24 @@ const WANTED: Wanted = Wanted {
     states: None,
 };
 
+impl<'a> View<'a> {
+    /// Returns the range between two offsets.
+    pub fn range(&self, start: usize, end: usize) -> Range
+        ensures { length self.now.text.now < 2 ^ 63 → AreLinesOf self.now.text.now self.now.lines.now → IsRangeOf self.now.encoding self.now.text.now start end result }
+    {
+        Range {
+            start: position_at(self.text, self.lines, start, self.encoding),
+            end: position_at(self.text, self.lines, end, self.encoding),
+        }
+    }
+}
+
 /// Returns a range of the report as one of the document.
-fn range_in(view: &View<'_>, range: &Option<Reported>) -> Range {
+fn range_in(view: &View<'_>, range: &Option<Reported>) -> Range
+    ensures { length view.now.text.now < 2 ^ 63 → AreLinesOf view.now.text.now view.now.lines.now → IfSome range.now (λ r. IsRangeOf view.now.encoding view.now.text.now r.start.byte r.end.byte result) }
+{
     match range {
-        Some(range) => Range {
-            start: position_at(view.text, view.lines, range.start.byte, view.encoding),
-            end: position_at(view.text, view.lines, range.end.byte, view.encoding),
-        },
+        Some(range) => view.range(range.start.byte, range.end.byte),
         None => Range {
             start: BEGINNING,
             end: BEGINNING,
@@ -100,7 +112,11 @@ fn push_related(
 }
 
 /// Makes a diagnostic without more than its message. The numbers of `severity` are the protocol's.
-pub fn diagnostic(alloc: Global, range: Range, severity: u8, message: String) -> Diagnostic {
+pub fn diagnostic(alloc: Global, range: Range, severity: u8, message: String) -> Diagnostic
+    ensures range { result.range ≡ range }
+    ensures severity { result.severity ≡ severity }
+    ensures message { result.message ≡ message }
+{
     Diagnostic {
         range,
         severity,

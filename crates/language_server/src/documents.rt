@@ -1,6 +1,6 @@
 //! The documents that the client has open, and their changes.
 
-ghost use Rattle.std.specs.Prelude.{◌≡◌, OnOk, is_some, true};
+ghost use Rattle.std.specs.Prelude.{◌≡◌, None, OnOk, is_some, true};
 
 use crate::languages::Language;
 use crate::messages::Change;
@@ -34,7 +34,11 @@ fn index_of<L: Language>(
 
 impl Document {
     /// Makes the document of a text with these lines.
-    pub fn new(text: String, lines: Lines) -> Document {
+    pub fn new(text: String, lines: Lines) -> Document
+        ensures text { result.text ≡ text }
+        ensures lines { result.lines ≡ lines }
+        ensures index { result.index ≡ None }
+    {
         Document {
             text,
             lines,

@@ -53,7 +53,7 @@ pub use fault::ServeFault;
 pub use frames::{Frame, Frames, MOST_BYTES};
 pub use languages::{GrammarFiles, Language};
 pub use messages::{Change, ErrorCode, Id, Message, Method, Notice, Params, Query};
-pub use places::{Encoding, Lines, Position, position_at};
+pub use places::{Encoding, Lines, Position};
 pub use reading::read_message;
 pub use server::{Phase, Server, Taken};
 pub use texts::{published_text, response_text};

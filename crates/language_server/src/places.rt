@@ -1,7 +1,10 @@
 //! Places in a document: lines, and columns in units of UTF-16 or in bytes.
 
-ghost use Rattle.std.specs.Prelude.{◌≡◌, ◌≤◌, length, IfOk};
+ghost use Rattle.std.specs.Prelude.{◌≡◌, ◌<◌, ◌≤◌, ◌+◌, ◌^◌, ◌⊎◌, ℕ, false, true, length, min, nat_le, take, IfOk};
+ghost use Rattle.std.specs.List.Sorted.{IsNonDecreasing, IsPartitionPoint};
 ghost use Rattle.language_server.specs.Lines.{ends_line, starts_upto};
+ghost use Rattle.language_server.specs.Positions.{units_of, units, begins_character, AreMarks, AreLinesOf, IsPlaceOf, IsBetween, IsBehind};
+ghost use Rattle.language_server.specs.declared.places.Encoding.TheVariants.{Utf16};
 
 use std::alloc::{AllocError, Global};
 
@@ -41,7 +44,7 @@ pub struct Lines {
 impl Lines {
     /// Finds the lines of a text.
     pub fn of_text(alloc: Global, text: &str) -> Result<Lines, AllocError>
-        ensures { IfOk result (λ l. l.starts.items ≡ starts_upto text.now (length text.now)) }
+        ensures { length text.now < 2 ^ 63 → IfOk result (AreLinesOf text.now) }
     {
         let starts = line_starts(alloc, text)?;
         let marks = if has_long(starts.as_slice(), text.len()) {
@@ -66,12 +69,16 @@ fn has_long(starts: &[usize], len: usize) -> bool {
 }
 
 /// Returns how many units of UTF-16 come before each 1024th byte.
-fn marks_of(alloc: Global, bytes: &[u8]) -> Result<Vec<u64>, AllocError> {
+fn marks_of(alloc: Global, bytes: &[u8]) -> Result<Vec<u64>, AllocError>
+    ensures { length bytes.now < 2 ^ 63 → IfOk result (λ v. AreMarks bytes.now v.items) }
+{
     let mut marks = Vec::new(alloc);
     let mut units: u64 = 0;
-    for chunk in bytes.chunks(STEP) {
+    'marks: for number in 0..bytes.len() / STEP + 1 {
         marks.push(units)?;
-        units = units.saturating_add(units_in(chunk));
+        let from = number * STEP;
+        let past = from.saturating_add(STEP).min(bytes.len());
+        units = units.saturating_add(units_in(&bytes[from..past]));
     }
     Ok(marks)
 }
@@ -104,24 +111,28 @@ fn ends_line(bytes: &[u8], index: usize) -> bool
 
 /// Returns how many units the character has that a byte begins: none of a byte within a character.
 fn units_of(byte: u8, encoding: Encoding) -> u64
-    ensures { result ≤ 2 }
+    ensures { result ≡ units_of encoding byte }
 {
     match encoding {
         Encoding::Utf8 => 1,
         Encoding::Utf16 => {
-            if byte >= 0xf0 {
-                2
-            } else if byte & 0xc0 == 0x80 {
-                0
-            } else {
+            if byte < 0x80 {
                 1
+            } else if byte < 0xc0 {
+                0
+            } else if byte < 0xf0 {
+                1
+            } else {
+                2
             }
         }
     }
 }
 
 /// Returns how many units of UTF-16 bytes have.
-fn units_in(bytes: &[u8]) -> u64 {
+fn units_in(bytes: &[u8]) -> u64
+    ensures { length bytes.now < 2 ^ 63 → result ≡ units Utf16 bytes.now }
+{
     if bytes.is_ascii() {
         return bytes.len() as u64;
     }
@@ -133,80 +144,96 @@ fn units_in(bytes: &[u8]) -> u64 {
 }
 
 /// Returns how many units of UTF-16 come before an offset, on from the last mark.
-fn units_before(marks: &[u64], bytes: &[u8], at: usize) -> u64 {
+fn units_before(marks: &[u64], bytes: &[u8], at: usize) -> u64
+    requires { at ≤ length bytes.now }
+    ensures { length bytes.now < 2 ^ 63 → AreMarks bytes.now marks.now → result ≡ units Utf16 (take at bytes.now) }
+{
     let number = (at / STEP).min(marks.len().saturating_sub(1));
     let mark = marks.get(number).copied().unwrap_or(0);
-    let rest = bytes.get(number.saturating_mul(STEP)..at).unwrap_or(&[]);
-    mark.saturating_add(units_in(rest))
+    mark.saturating_add(units_in(&bytes[number * STEP..at]))
 }
 
 /// Returns how many units of UTF-16 lie between two offsets of a line.
-fn units_between(marks: &[u64], bytes: &[u8], start: usize, end: usize) -> u64 {
-    if marks.is_empty() || end.saturating_sub(start) <= STEP {
-        return units_in(bytes.get(start..end).unwrap_or(&[]));
+fn units_between(marks: &[u64], bytes: &[u8], start: usize, end: usize) -> u64
+    requires order { start ≤ end }
+    requires within { end ≤ length bytes.now }
+    ensures { length bytes.now < 2 ^ 63 → AreMarks bytes.now marks.now → units Utf16 (take start bytes.now) + result ≡ units Utf16 (take end bytes.now) }
+{
+    if marks.is_empty() || end - start <= STEP {
+        return units_in(&bytes[start..end]);
     }
     units_before(marks, bytes, end).saturating_sub(units_before(marks, bytes, start))
 }
 
+/// Returns how many lines begin at an offset or before it.
+fn lines_upto(starts: &[usize], offset: usize) -> usize
+    ensures bound { result ≤ length starts.now }
+    ensures point { IsNonDecreasing starts.now → IsPartitionPoint (λ p. nat_le p offset ≡ true) (λ p. nat_le p offset ≡ false) starts.now result }
+{
+    starts.partition_point(|start| *start <= offset)
+}
+
 /// Returns the place of an offset: of the end for one past it.
-pub fn position_at(text: &str, lines: &Lines, offset: usize, encoding: Encoding) -> Position {
+pub(crate) fn position_at(text: &str, lines: &Lines, offset: usize, encoding: Encoding) -> Position
+    ensures { length text.now < 2 ^ 63 → AreLinesOf text.now lines.now → IsPlaceOf encoding text.now (min offset (length text.now)) result }
+{
     let end = offset.min(text.len());
     let starts = lines.starts.as_slice();
-    let line = line_of(starts, end);
-    let start = starts.get(line).copied().unwrap_or(0);
+    let line = lines_upto(starts, end).saturating_sub(1);
+    let start = starts.get(line).copied().unwrap_or(0).min(end);
     let character = match encoding {
-        Encoding::Utf8 => end.saturating_sub(start) as u64,
+        Encoding::Utf8 => (end - start) as u64,
         Encoding::Utf16 => units_between(lines.marks.as_slice(), text.as_bytes(), start, end),
     };
     let line = line as u64;
     Position { line, character }
 }
 
-/// Returns the last line that begins at an offset or before it.
-fn line_of(starts: &[usize], offset: usize) -> usize {
-    let mut line = 0;
-    let mut past = starts.len();
-    'halves: for _ in 0..64 {
-        if past.saturating_sub(line) <= 1 {
-            return line;
-        }
-        let middle = line.saturating_add(past.saturating_sub(line) / 2);
-        match starts.get(middle) {
-            Some(start) if *start <= offset => line = middle,
-            _ => past = middle,
-        }
-    }
-    line
+/// Returns whether a byte isn't within a character.
+fn begins_character(byte: u8) -> bool
+    ensures { result ≡ begins_character byte }
+{
+    byte < 0x80 || byte >= 0xc0
 }
 
 /// Returns the offset of a place. One past the end of a line counts as that end, one past the text as the text's, and one within a
 /// character as where that begins.
-pub fn offset_at(text: &str, lines: &Lines, place: Position, encoding: Encoding) -> usize
-    ensures { result ≤ length text.now }
+pub(crate) fn offset_at(text: &str, lines: &Lines, place: Position, encoding: Encoding) -> usize
+    ensures bound { result ≤ length text.now }
+    ensures read_back { AreLinesOf text.now lines.now → (a : ℕ) → a ≤ length text.now → IsPlaceOf encoding text.now a place → IsBetween text.now a → result ≡ a }
 {
     let bytes = text.as_bytes();
-    let mut start = bytes.len();
-    for (index, at) in lines.starts.as_slice().iter().enumerate() {
-        if index as u64 == place.line {
-            start = (*at).min(bytes.len());
-        }
-    }
+    let start = lines
+        .starts
+        .get(place.line as usize)
+        .copied()
+        .unwrap_or(bytes.len());
     column_at(bytes, start, place.character, encoding)
+}
+
+/// Returns whether a column ends before a byte, with these units left and this many needed: at the end of a line, where too few are left,
+/// or where none are and a character begins.
+fn ends_before(byte: u8, begins: bool, left: u64, needed: u64) -> bool
+    ensures why { result ≡ true → (byte ≡ 10) ⊎ (byte ≡ 13) ⊎ (left < needed) ⊎ ((begins ≡ true) × (left ≡ 0)) }
+    ensures enough { result ≡ false → needed ≤ left }
+    ensures within { result ≡ false → left ≡ 0 → begins ≡ false }
+{
+    byte == b'\n' || byte == b'\r' || left < needed || begins && left == 0
 }
 
 /// Returns the offset so many units behind another one, on the same line.
 fn column_at(bytes: &[u8], start: usize, units: u64, encoding: Encoding) -> usize
-    ensures { result ≤ length bytes.now }
+    ensures bound { result ≤ length bytes.now }
+    ensures behind { (a : ℕ) → IsBehind encoding bytes.now start units a → result ≡ a }
 {
     let mut left = units;
     let mut begin = start.min(bytes.len());
     for index in start..bytes.len() {
         let byte = bytes[index];
-        if byte & 0xc0 != 0x80 {
-            begin = index;
-        }
+        let begins = begins_character(byte);
+        begin = if begins { index } else { begin };
         let needed = units_of(byte, encoding);
-        if byte == b'\n' || byte == b'\r' || left < needed || begin == index && left == 0 {
+        if ends_before(byte, begins, left, needed) {
             return begin;
         }
         left -= needed;

@@ -5,7 +5,7 @@ ghost use Rattle.lrlex.specs.Lexing.{bound_meanings, bound_rules};
 ghost use Rattle.text_parses.specs.Parses.{IsParsed};
 ghost use Rattle.text_server.specs.Found.{Finds, FindsIn, edits, error_count};
 
-use language_server::{Diagnostic, ServeFault, View, diagnostic, position_at};
+use language_server::{Diagnostic, ServeFault, View, diagnostic};
 use lrlex::BoundRules;
 use lrpar::ParseRefusal;
 use parser_kit::ParserKit;
@@ -59,10 +59,7 @@ fn push_error(
     ensures { OnOk result (length found.new.items ≡ length found.old.items + 1) }
 {
     let message = String::from_str(alloc, error.message.as_str())?;
-    let range = language_server::Range {
-        start: position_at(view.text, view.lines, error.range.start.byte, view.encoding),
-        end: position_at(view.text, view.lines, error.range.end.byte, view.encoding),
-    };
+    let range = view.range(error.range.start.byte, error.range.end.byte);
     found.push(diagnostic(alloc, range, ERROR, message))?;
     Ok(())
 }

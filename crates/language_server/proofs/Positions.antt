@@ -4,7 +4,7 @@ use Rattle.std.specs.Prelude.{slice_get, Option, None, Some, not, ◌&&◌, ◌=
 use Rattle.std.proofs.lemmas.Option.{slice_get-get_or}
 use Rattle.std.specs.List.{slice_range}
 use Rattle.std.specs.List.Sorted.{IsNonDecreasing, IsPartitionPoint}
-use Rattle.std.specs.Str.{IsAscii}
+use Rattle.std.specs.Str.{IsAscii, IsCharBoundary}
 use Rattle.std.proofs.lemmas.Bool.{cases_lt}
 use Rattle.std.proofs.lemmas.List.{take_all, take_more, get_or_append_left, get_or_push, length-take, length-drop}
 use Rattle.std.proofs.lemmas.List.Sorted.{IsNonDecreasingBy-from_default}
@@ -283,3 +283,15 @@ module _ (e : Encoding) (text : List ℕ) (a : ℕ) (p : Position) (within : a �
         | inl l ↦ no_end (k + 1) (omega (arith, ge)) l (lf_ends text (k + 1) (there (slice_get text (k + 1)) q))
         | inr le ↦ (let n : k + 1 ≡ a = omega (arith, lt, le) in between.line_end k n h (ap (slice_get text) (sym n) ∙ there (slice_get text (k + 1)) q))
       ]
+
+-- ---- boundaries
+
+other : (p q : Bool) → (p || q) ≡ true → (p ≡ true → ⊥) → q ≡ true
+other true q e never = absurd (never refl)
+other false q e never = e
+
+pub is_boundary : (text : List ℕ) (a : ℕ) → a ≤ length text → IsBetween text a → IsCharBoundary text a
+is_boundary text a le is = (le, λ lt high. upto 192 (get_or text a 0) (other (nat_lt (get_or text a 0) 128) (nat_le 192 (get_or text a 0)) (is.character (get_or text a 0) (slice_get-get_or text a 0 lt)) (λ low. let n = less (get_or text a 0) 128 low in omega (arith, n, high))))
+  where
+    less : (x c : ℕ) → nat_lt x c ≡ true → x < c
+    less x c e = grind arith

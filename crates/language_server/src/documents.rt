@@ -1,6 +1,8 @@
 //! The documents that the client has open, and their changes.
 
-ghost use Rattle.std.specs.Prelude.{◌≡◌, None, OnOk, is_some, true};
+ghost use Rattle.std.specs.Prelude.{◌≡◌, ◌<◌, ◌≤◌, ◌^◌, ◌++◌, ℕ, None, length, take, drop, string_bytes, IfOk, IfSome, OnOk, is_some, true};
+ghost use Rattle.std.specs.Str.{IsCharBoundary};
+ghost use Rattle.language_server.specs.Positions.{AreLinesOf, IsBetween, IsPlaceOf};
 
 use crate::languages::Language;
 use crate::messages::Change;
@@ -64,7 +66,9 @@ fn with_part(
     first: usize,
     past: usize,
     part: &str,
-) -> Result<String, AllocError> {
+) -> Result<String, AllocError>
+    ensures { IsCharBoundary (string_bytes text) first → IsCharBoundary (string_bytes text) past → IfOk result (λ s. string_bytes s ≡ take first (string_bytes text) ++ (part.now ++ drop past (string_bytes text))) }
+{
     let whole = text.as_str();
     let (Some(ahead), Some(behind)) = (whole.get(..first), whole.get(past..)) else {
         return Ok(text);
@@ -82,7 +86,10 @@ fn with_change(
     lines: Option<Lines>,
     change: Change,
     encoding: Encoding,
-) -> Result<String, AllocError> {
+) -> Result<String, AllocError>
+    ensures whole { change.range ≡ None → IfOk result (λ s. s ≡ change.text) }
+    ensures part { length (string_bytes text) < 2 ^ 63 → IfSome lines (AreLinesOf (string_bytes text)) → IfSome change.range (λ r. (a b : ℕ) → a ≤ b → b ≤ length (string_bytes text) → IsPlaceOf encoding (string_bytes text) a r.0 → IsPlaceOf encoding (string_bytes text) b r.1 → IsBetween (string_bytes text) a → IsBetween (string_bytes text) b → IfOk result (λ s. string_bytes s ≡ take a (string_bytes text) ++ (string_bytes change.text ++ drop b (string_bytes text)))) }
+{
     let Some((start, end)) = change.range else {
         return Ok(change.text);
     };

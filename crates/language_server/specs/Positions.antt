@@ -16,7 +16,7 @@ units_of Utf16 b = if nat_lt b 128 then 1 else (if nat_lt b 192 then 0 else (if 
 abbrev pub units : Encoding → List ℕ → ℕ
 units e text = sum_by (units_of e) text
 
--- each mark has how many units of UTF-16 come before so many times 1024 bytes
+-- a mark has how many units of UTF-16 come before its byte: the k-th is of byte k * 1024
 abbrev pub AreMarks : List ℕ → List ℕ → Type 0
 AreMarks text marks = (k : ℕ) → k < length marks → get_or marks k 0 ≡ units Utf16 (take (k * 1024) text)
 
@@ -29,7 +29,7 @@ pub record AreLinesOf (text : List ℕ) (l : Lines) : Type 0 where
 abbrev pub start_of : List ℕ → ℕ → ℕ
 start_of text line = get_or (starts_upto text (length text)) line 0
 
--- the place of an offset: in the last line that begins there or before it, and behind so many units of that line
+-- the place of an offset: the last line that begins there or before it, and how many units of that line come before it
 pub record IsPlaceOf (e : Encoding) (text : List ℕ) (offset : ℕ) (p : Position) : Type 0 where
   pub within : p.line < length (starts_upto text (length text))
   pub begins : start_of text p.line ≤ offset
@@ -50,7 +50,7 @@ pub record IsBetween (text : List ℕ) (offset : ℕ) : Type 0 where
   pub character : (b : ℕ) → slice_get text offset ≡ Some b → begins_character b ≡ true
   pub line_end : (k : ℕ) → k + 1 ≡ offset → slice_get text k ≡ Some 13 → slice_get text offset ≡ Some 10 → ⊥
 
--- so many units behind an offset, on its line, and between two characters
+-- a number of units behind an offset, on its line, and between two characters
 pub record IsBehind (e : Encoding) (text : List ℕ) (start count offset : ℕ) : Type 0 where
   pub within : offset ≤ length text
   pub order : start ≤ offset

@@ -221,7 +221,7 @@ fn ends_before(byte: u8, begins: bool, left: u64, needed: u64) -> bool
     byte == b'\n' || byte == b'\r' || left < needed || begins && left == 0
 }
 
-/// Returns the offset so many units behind another one, on the same line.
+/// Returns the offset that is a number of units behind another one, on the same line.
 fn column_at(bytes: &[u8], start: usize, units: u64, encoding: Encoding) -> usize
     ensures bound { result ≤ length bytes.now }
     ensures behind { (a : ℕ) → IsBehind encoding bytes.now start units a → result ≡ a }
